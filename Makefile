@@ -9,6 +9,13 @@
 SCRIPT ?= examples/1_page.txc
 MODE ?=
 
+# A word of the command line that nothing here knows is a slip of the pen.
+GIVEN := $(foreach it,$(.VARIABLES),$(if $(findstring command line,$(origin $(it))),$(it)))
+UNKNOWN := $(filter-out SCRIPT MODE SETTINGS CRATE TEST JOBS RT_JOBS SEED,$(GIVEN))
+ifneq ($(UNKNOWN),)
+$(error there is no $(firstword $(UNKNOWN))=: the words are SCRIPT=, MODE=, SETTINGS=, CRATE= and TEST=)
+endif
+
 .PHONY: try run test prove edits refusals soak docs
 
 try run:

@@ -9,15 +9,21 @@ import sources
 from sources import ROOT
 
 README = ROOT / "README.md"
-MOST_WORDS = 1_400
-MOST_WORDS_OF_A_SENTENCE = 40
+# How many words a document may have: what has a letter or a digit, so that no sign of a definition and no bar of a table is one.
+MOST_WORDS = {"README.md": 1_400, "docs/PROMISE.md": 3_000, "docs/GATE.md": 900, "docs/DECISIONS.md": 6_000}
+# Those that are written by hand, and how many words they may have together.
+BY_HAND = ["README.md", *(f"docs/{it}.md" for it in ("ARCHITECTURE", "SCRIPTS", "DECISIONS", "GATE", "CALLING", "EMBEDDING", "FIGURES"))]
+MOST_BY_HAND = 26_000
+# How many words a sentence may have: of a document that is written by hand, and of a source's comment.
+MOST_WORDS_OF_A_SENTENCE = 30
+MOST_WORDS_OF_A_COMMENT = 40
 # The commands of scripts, with which a line of a session begins.
 COMMANDS = set("put remove pin pins ro rw session call ask write step finish commit abort advance tidy counts insert lookup event sweep".split())
 
 
 def documents():
     """The documents of the repository, but for the template of one, and for one that is to take another's place."""
-    found = [README, ROOT / "CHANGELOG.md", *sorted((ROOT / "docs").glob("*.md")), *sorted((ROOT / "docs/crates").glob("*.md"))]
+    found = [README, ROOT / "CHANGELOG.md", *sorted((ROOT / "docs").glob("*.md")), *sorted((ROOT / "docs/crates").glob("*.md")), *sorted((ROOT / "docs/promise").glob("*.md"))]
     return [it for it in found if it.is_file() and not it.name.endswith((".in.md", ".proposed.md"))]
 
 
@@ -53,7 +59,7 @@ def links():
 def paths():
     """The paths that documents name in backticks; README has links in their place."""
     for document in documents():
-        if document == README or document.parent.name == "crates":
+        if document == README or document.parent.name in ("crates", "promise"):
             continue
         for name in re.findall(r"`((?:docs|crates|tests|scripts|examples|bench)/[^`\s]*)`", prose(document)):
             # a word in capitals stands for any name; what is built is there only once it is built
@@ -94,15 +100,24 @@ def counted():
                 yield document, f"counts {number} {what}, and there are {counts()[what]:,}"
 
 
+def count_words(text):
+    return len(re.findall(r"\S*\w\S*", text))
+
+
 def words():
-    count = len(README.read_text().split())
-    if count > MOST_WORDS:
-        yield README, f"has {count} words, and may have {MOST_WORDS}"
+    """No document has more words than it may have."""
+    for name, most in MOST_WORDS.items():
+        count = count_words((ROOT / name).read_text())
+        if count > most:
+            yield ROOT / name, f"has {count:,} words, and may have {most:,}"
+    count = sum(count_words((ROOT / name).read_text()) for name in BY_HAND)
+    if count > MOST_BY_HAND:
+        yield ROOT / "docs", f"has {count:,} words that are written by hand, and may have {MOST_BY_HAND:,}"
 
 
 def sentences(path):
     """The sentences of a document, each word of code as one word."""
-    text = re.sub(r"^(?:    .*| *\|.*|#.*|<!--.*|@.*)$", "", prose(path), flags=re.M)
+    text = re.sub(r"^(?:    .*| *\|.*|#.*|<!--.*|@.*)$", "", prose(path).replace("**", ""), flags=re.M)
     for block in re.split(r"\n\s*\n|\n\s*(?=- |\d+\. )", re.sub(r"`[^`\n]*`", "x", text)):
         yield from re.split(r"(?<=[.?!:])\s+(?=[A-Z`x(\[])", " ".join(block.split()))
 
@@ -110,7 +125,7 @@ def sentences(path):
 def long_sentences():
     """No sentence of a document that is written by hand, or of a comment, is too long."""
     for document in documents():
-        if document.parent.name == "crates" or document.name in ("PROMISE.md", "DEFINITIONS.md"):
+        if document.parent.name in ("crates", "promise") or document.name == "PROMISE.md":
             continue
         for sentence in sentences(document):
             if len(sentence.split()) > MOST_WORDS_OF_A_SENTENCE:
@@ -118,7 +133,7 @@ def long_sentences():
     files = ("crates/*/src/**/*.rt", "crates/*/specs/**/*.antt", "tests/*/src/**/*.rt.in", "tests/*/specs/**/*.antt.in")
     for path in sorted(path for it in files for path in ROOT.glob(it)):
         for sentence in comments(path):
-            if len(sentence.split()) > MOST_WORDS_OF_A_SENTENCE:
+            if len(sentence.split()) > MOST_WORDS_OF_A_COMMENT:
                 yield path, f"has a comment with a sentence of {len(sentence.split())} words: {sentence}"
 
 
@@ -212,6 +227,15 @@ def sessions():
                 yield document, f"shows a session that no example has: it begins with `{shown[0][0]}`"
 
 
+def quoted():
+    """Each line of a block in Rust that README heads by a file stands in that file."""
+    for file, block in re.findall(r"^```rust (\S+)\n(.*?)^```", README.read_text(), re.M | re.S):
+        there = {line.strip() for line in (ROOT / file).read_text().split("\n")}
+        for line in block.split("\n"):
+            if line.strip() not in there | {""}:
+                yield README, f"shows a line that {file} does not have: {line.strip()}"
+
+
 def commands():
     """Each `make` command that a document shows has its target, and the script that it names is there."""
     targets = {it for line in re.findall(r"^([a-z ]+):", (ROOT / "Makefile").read_text(), re.M) for it in line.split()}
@@ -279,7 +303,7 @@ def meanings():
 def faults():
     """What the documents claim that is not so, each as a line of text."""
     found = []
-    checks = (links, paths, counted, words, long_sentences, crate_tables, promised, help_shown, settings, sessions, commands, toolchain, version, names,
+    checks = (links, paths, counted, words, long_sentences, crate_tables, promised, help_shown, settings, sessions, quoted, commands, toolchain, version, names,
               meanings)
     for check in checks:
         found += [f"{document.relative_to(ROOT)} {said}" for document, said in check()]

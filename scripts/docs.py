@@ -1,29 +1,40 @@
 #!/usr/bin/env python3
 """Writes the parts of docs/ that are made by script:
 
-  PROMISE.md, crates/  from the crates' src/ and specs/, and docs/promise.in.md (scripts/promise.py, scripts/pages.py)
+  PROMISE.md, promise/, crates/
+                       from the crates' src/ and specs/, and docs/promise.in.md (scripts/promise.py, scripts/pages.py)
+  ../README.md         what a page buys and costs, from FIGURES.md, and how long the gate takes, from docs/gate.tsv
   WRONG_BODIES.md      its lists, from the crates' edits
   ARCHITECTURE.md      the table of proofs that other crates use
   GATE.md              the table of what the gate takes, from docs/gate.tsv
-  SCRIPTS.md           the examples, from examples/; the session of a world has to be that of its script
+  FIGURES.md           the table of wrong bodies that were seen refused, from docs/refused.tsv
+  EXAMPLES.md          from examples/
+  SCRIPTS.md           nothing of it; but the session of a world has to be that of its script
   CALLING.md           its code, from the tests
-  EMBEDDING.md         its code, from the auction
+  EMBEDDING.md         its code, from tests/txc_first, the shop and the auction
 
 usage: docs.py [--check]      --check writes nothing, and ends with 1 where a file is not what would be written, or where what
                               the documents claim is not so (scripts/claims.py)
 """
 import re, sys
 
-import claims, pages, promise
+import claims, pages, promise, refused, sources
 from sources import ROOT, crates
 
 LISTS = "## All of them, by crate"
 FIRST, SECOND = "## What no clause can refuse", "## The ones that break a cache"
-EXAMPLES = "## The examples, with the replies beside their lines"
+EXAMPLES = """# The examples, with the replies beside their lines
+
+<!-- Made by `make docs` from examples/. -->
+
+The scripts of `examples/`, to be read in order; [SCRIPTS.md](SCRIPTS.md) says what their lines mean. `make try SCRIPT=examples/NAME.txc` prints
+one with its replies. Those of mode world end in `.txw`; where a file beside one ends in `.settings`, these are its settings.
+"""
 SESSION = "### A world, line by line"
 # Of more commands in a row than this, only the first and the last are shown.
 MOST_SHOWN = 12
 PROOFS = "| Module | Says | Used by |\n|---|---|---|\n"
+BUYS = "| Pages may be so old | Plain cache: hits | Torn | Cost | This cache: hits | Torn | Cost |\n|---|---|---|---|---|---|---|\n"
 TAKES = "| Crate | Proof | By the clock | Built | `must-fail/` | `edits.txt` |\n|---|---|---|---|---|---|\n"
 
 
@@ -100,7 +111,7 @@ def example(script):
     """A script with its replies, and with its settings, if it has any."""
     settings = script.with_suffix(".settings")
     text = f"\nWith the settings `{settings.read_text().strip()}`.\n" if settings.is_file() else ""
-    return f"\n### {script.stem}\n{text}\n" + beside(script.read_text(), script.with_suffix(".out").read_text())
+    return f"\n## {script.stem}\n{text}\n" + beside(script.read_text(), script.with_suffix(".out").read_text())
 
 
 def check_session(text):
@@ -115,24 +126,33 @@ def check_session(text):
 
 def scripts(text):
     check_session(text)
-    start, _, after = text.partition(EXAMPLES)
-    text = start + EXAMPLES + after.partition("\n### ")[0].rstrip() + "\n"
-    folder = ROOT / "examples"
+    return text
+
+
+def examples():
+    """The page of the examples."""
+    text, folder = EXAMPLES, ROOT / "examples"
     for script in in_reading_order([*folder.glob("*.txc"), *folder.glob("*.txw")]):
         text += example(script)
-    text += "\n### Shorter worlds\n\nEach script of `examples/worlds/` shows what its name says. Its replies stand beside it, in the file that ends in `.out`.\n\n"
+    text += "\n## Shorter worlds\n\nEach script of `examples/worlds/` shows what its name says. Its replies stand beside it, in the file that ends in `.out`.\n\n"
     return text + "".join(f"- `{it.name}`\n" for it in sorted(folder.glob("worlds/*.txw")))
 
 
 def calling(text):
-    """Fills each block that is headed by a file with what the file has before its tests, its imports too."""
+    """Fills each block that is headed by a file with what the file has before its tests, its imports too; or with those of its
+    definitions that the head names."""
 
     def block(head):
-        lines = (ROOT / head[2]).read_text().partition("\n#[test]")[0].rstrip().split("\n")
-        code = [line for line in lines if not line.startswith("//!")]
-        return f"```{head[1]} {head[2]}\n" + "\n".join(code).strip() + "\n```"
+        crate, file = head[2].split("/")[1], head[2].split("/")[-1]
+        if head[3]:
+            found = sources.spec_file(crate, file.removesuffix(".antt"))
+            code = "\n\n".join(found[name].code for name in head[3].split())
+        else:
+            lines = (ROOT / head[2]).read_text().partition("\n#[test]")[0].rstrip().split("\n")
+            code = "\n".join(line for line in lines if not line.startswith("//!")).strip()
+        return f"```{head[1]} {head[2]}{': ' + head[3] if head[3] else ''}\n{code}\n```"
 
-    return re.sub(r"```(rust|antt) (\S+)\n.*?```", block, text, flags=re.S)
+    return re.sub(r"```(rust|antt) ([^\s:]+)(?:: ([^\n]+))?\n.*?```", block, text, flags=re.S)
 
 
 def used_proofs():
@@ -182,11 +202,43 @@ def gate(text):
     return start + TAKES + rows + re.sub(r"^(?:\|.*\n)*", "", after)
 
 
+def table_of(text, head):
+    """The rows of the table with this head, each as its cells."""
+    rows = text.partition(f"\n{head}\n")[2].split("\n")[1:]
+    return [[it.strip() for it in row.strip("|").split("|")] for row in rows[:next(n for n, it in enumerate(rows) if not it.startswith("|"))]]
+
+
+def readme(text):
+    """Fills what a page buys and costs, from FIGURES, and how long the gate and the tests take, from gate.tsv."""
+    shown = (ROOT / "docs/FIGURES.md").read_text()
+    pages = {row[0]: row for row in table_of(shown, "| Pages, and how old they may be | Hits | Torn | 1 query | 10 queries | 60 queries |")}
+    cost = lambda row: int(row[4].replace(",", ""))
+    none = cost(pages["no cache"])
+    rows = ""
+    for age in ("1 s", "5 s", "30 s"):
+        both = [pages[f"{name}, {age}"] for name in ("a plain cache", "the cache")]
+        rows += f"| {age} | {' | '.join(f'{it[1]} | {it[2]} | {cost(it) / none:.2f}' for it in both)} |\n"
+    start, _, after = text.partition(BUYS)
+    threads = {row[0]: row[1] for row in table_of(shown, "| At once | Threads of one process | Processes of one thread |")}
+    speed = f"The auction makes {threads['1']} pages a second on one thread, each with a bid after it, and {threads['4']} on four."
+    text = start + BUYS + rows + re.sub(r"\A(?:\|.*\n)*\n.*\n", f"\n{speed}\n", after)
+    taken = {tuple(line.split("\t")[:2]): line.split("\t")[2:] for line in (ROOT / "docs/gate.tsv").read_text().splitlines()}
+    text = re.sub(r"unproved: \d+ minutes of one core", f"unproved: {int(taken['all', 'tests'][0]) / 60:.0f} minutes of one core", text)
+    return re.sub(r"the gate: \d+ minutes", f"the gate: {int(taken['', 'all'][1]) / 60:.0f} minutes", text)
+
+
+def figures(text):
+    """Fills the table of wrong bodies that were seen refused."""
+    start, _, after = text.partition(refused.TABLE)
+    return start + refused.table() + re.sub(r"^(?:\|.*\n)*", "", after)
+
+
 def written():
     """Each file that is made by script, or has parts that are, beside its text."""
-    made = {"WRONG_BODIES.md": wrong_bodies, "SCRIPTS.md": scripts, "CALLING.md": calling, "EMBEDDING.md": calling, "ARCHITECTURE.md": architecture, "GATE.md": gate}
+    made = {"WRONG_BODIES.md": wrong_bodies, "SCRIPTS.md": scripts, "CALLING.md": calling, "EMBEDDING.md": calling, "ARCHITECTURE.md": architecture, "GATE.md": gate, "FIGURES.md": figures}
     texts = {ROOT / "docs" / name: make((ROOT / "docs" / name).read_text()) for name, make in made.items()}
-    return {**texts, **pages.written(), promise.PAGE: promise.written()}
+    texts[ROOT / "README.md"] = readme((ROOT / "README.md").read_text())
+    return {**texts, ROOT / "docs/EXAMPLES.md": examples(), **pages.written(), **promise.written()}
 
 
 def main():
@@ -197,9 +249,9 @@ def main():
             path.write_text(text)
         elif not path.is_file() or path.read_text() != text:
             sys.exit(f"{path.relative_to(ROOT)} is not what scripts/docs.py writes: run `make docs`")
-    for path in sorted(set(pages.FOLDER.glob("*.md")) - set(texts)):
+    for path in sorted({*pages.FOLDER.glob("*.md"), *promise.FOLDER.glob("*.md")} - set(texts)):
         if is_check:
-            sys.exit(f"{path.relative_to(ROOT)} is of no crate: run `make docs`")
+            sys.exit(f"{path.relative_to(ROOT)} is made no more: run `make docs`")
         path.unlink()
     found = claims.faults()
     print("".join(f"{it}\n" for it in found), end="", file=sys.stderr)

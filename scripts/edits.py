@@ -19,7 +19,8 @@ An edit has texts of several lines where a line after `old:` or `new:` begins wi
 that changes no function, but a constant, has a line `function: NAME`: the function that is to refuse it, by its name or the end of it. Of
 a function that the prover does not know by that name the edit is bad, and the others of its check are tried without it.
 
-It prints each wrong body that is not plainly refused, with --named and --kept each, and last `N refused, M proved`, with
+Of a crate of which it tried all, without --named, it writes how many were refused into docs/refused.tsv. It prints each wrong body that is not
+plainly refused, with --named and --kept each, and last `N refused, M proved`, with
 `, K bad` where some could not be tried. The exit status is 0 only if M and K are 0.
 """
 
@@ -33,6 +34,7 @@ import tempfile
 from concurrent.futures import ThreadPoolExecutor
 from itertools import accumulate
 
+import refused
 from check import check_words
 
 JOBS = int(os.environ.get("JOBS", os.cpu_count()))
@@ -355,6 +357,10 @@ def told(edits):
     """Prints what the edits came to, and returns the exit status."""
     count = lambda verdict: sum(it.verdict == verdict for it in edits)
     bad = len(edits) - count("refused") - count("proved")
+    for crate in dict.fromkeys(it.crate for it in edits):
+        own = [it for it in edits if it.crate == crate]
+        if len(own) == len(refused.bodies(crate, "more-edits")):
+            refused.note(crate, sum(it.verdict == "refused" for it in own))
     print(f"{count('refused')} refused, {count('proved')} proved" + (f", {bad} bad" if bad else ""))
     return int(count("refused") != len(edits))
 

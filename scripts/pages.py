@@ -7,9 +7,8 @@ from sources import ROOT
 
 FOLDER = ROOT / "docs/crates"
 HEAD = """
-Made by `make docs` from the crate's `src/` and `specs/`. A clause is shown as it is written. Below it stand its words, each a link to
-its definition, on the page of the crate that defines it. What is no link is of Rattle's own library:
-[how a clause is read](../PROMISE.md#how-a-clause-is-read).
+Made by `make docs` from the crate's `src/` and `specs/`. Below a clause stand its words, each a link to its definition. What is no link is of
+Rattle's own library: [how a clause is read](../promise/signs.md).
 """
 
 
@@ -112,10 +111,23 @@ def page(crate):
     return text.rstrip() + "\n"
 
 
+# Which pages a reader wants who does so, in the order in which to read them. What no list names, who changes the library reads.
+READERS = {
+    "write a service": "txc_site txc_definition txc_app txc_rows txc_tags txc_stamp txc_client txc_rw txc_txn txc_ports",
+    "use the cache or the database alone": "txc_node txc_db txc_carry txc_validity txc_stream",
+    "ask what holds in every interleaving": "txc_world txc_shared txc_cushion",
+    "run scripts and jobs": "txc_work txc_modes txc_settings txc_run txc_play txc_batch txc_script txc_words txc_arguments",
+}
+
+
 def index(names):
-    rows = "".join(f"| [`{it}`]({it}.md) | {sources.purpose(it)} |\n" for it in names)
-    return ("# The crates\n\nA page for each crate that hands something out: its public types and calls with their contracts, and the words of"
-            "\ncontracts that it defines. They are made by `make docs`.\n\n| Crate | Is |\n|---|---|\n" + rows)
+    text = ("# The crates\n\nA page for each crate that hands something out: its public types and calls with their contracts, and the words of"
+            "\ncontracts that it defines. They are made by `make docs`.\n")
+    left = [it for it in names if it not in " ".join(READERS.values()).split()]
+    for reader, wanted in [*((reader, crates.split()) for reader, crates in READERS.items()), ("change the library", left)]:
+        rows = "".join(f"| [`{it}`]({it}.md) | {sources.purpose(it)} |\n" for it in wanted if it in names)
+        text += f"\n## You {reader}\n\n| Crate | Is |\n|---|---|\n" + rows
+    return text
 
 
 def written():

@@ -18,7 +18,7 @@ import sys
 import tempfile
 import time
 
-from script_files import mode_of, refused, scripts_of, settings_of
+from script_files import mode_of, refused, say, scripts_of, settings_of
 
 ROOT = f"{os.path.dirname(os.path.abspath(__file__))}/.."
 PROGRAM = f"{ROOT}/crates/txcache/out/txcache"
@@ -37,7 +37,10 @@ def main():
     if not is_fresh():
         build()
     with open(scripts[0], "rb") as script:
-        status = subprocess.run([PROGRAM, mode, *(["--settings", settings] if settings else [])], stdin=script).returncode
+        ran = subprocess.run([PROGRAM, mode, *(["--settings", settings] if settings else [])], stdin=script, stderr=subprocess.PIPE,
+                             text=True, errors="replace")
+    say(ran.stderr)
+    status = ran.returncode
     if status:
         print(f"run: status {status} (docs/SCRIPTS.md has what it means)", file=sys.stderr)
     sys.exit(status)

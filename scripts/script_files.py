@@ -2,7 +2,10 @@
 
 import glob
 import os
+import re
 import sys
+
+KEYS = f"{os.path.dirname(os.path.abspath(__file__))}/../crates/txc_settings/src/keys.rt"
 
 # The modes of a script by the ending of its file, the usual one first.
 MODES = {".txc": ["node", "report"], ".txw": ["world"], ".txb": ["batch"]}
@@ -36,6 +39,17 @@ def settings_of(script, wanted):
         with open(beside, encoding="utf-8") as it:
             return it.read().strip()
     return wanted or ""
+
+
+def say(said):
+    """Prints what the program said on standard error, and of a key of the settings that there is none such."""
+    with open(KEYS, encoding="utf-8") as it:
+        keys = re.findall(r'"(\w+)" => Some\(', it.read())
+    for line in said.splitlines():
+        print(line, file=sys.stderr)
+        key = re.fullmatch(r"settings: (?!not TOML$)(.*)", line)
+        if key and key[1] not in keys:
+            print(f"there is no setting `{key[1]}`; there are {', '.join(keys)}", file=sys.stderr)
 
 
 def refused(why):

@@ -1,6 +1,6 @@
 #!/usr/bin/env python3
-"""Runs the tests of tests/ by `rt try --test`, each crate of them beside the others. It proves nothing: the tests are compiled
-with checks of the toolchain's own.
+"""Runs the tests of tests/ by `rt try --test`, and its programs by `rt try`, each crate beside the others. It proves nothing: they are
+compiled with checks of the toolchain's own.
 
 usage: [JOBS=N] scripts/test.py [--proved] [CRATE..]
        scripts/test.py --fmt
@@ -58,6 +58,14 @@ def run(room, crate):
     return sum(end == "ok" for end in ends.values()), failed, ran.stdout
 
 
+def run_program(room, crate):
+    """The same of a program: whether it ended well, and printed what its file stdout has."""
+    ran = told([f"{room}/kit/bin/rt", "try", *LIMITS], f"{room}/crates/{crate}")
+    with open(f"{room}/crates/{crate}/stdout", encoding="utf-8") as it:
+        is_right = it.read() in ran.stdout and "run=ended status=0" in ran.stdout
+    return int(is_right), [] if is_right else [crate], ran.stdout
+
+
 def prove(room, crate):
     """Whether it is proved, as `run` tells it."""
     ran = told(["rattle", "check", *check_words(room, crate), "--test"], f"{room}/crates/{crate}")
@@ -80,7 +88,8 @@ def prepare_proofs(room, crates):
 
 def main():
     do = prove if "--proved" in sys.argv[1:] else run
-    crates = [it for it in sys.argv[1:] if not it.startswith("--")] or with_tests.test_crates()
+    programs = with_tests.programs() if do == run else []
+    crates = [it for it in sys.argv[1:] if not it.startswith("--")] or [*with_tests.test_crates(), *programs]
     begun = time.time()
     with tempfile.TemporaryDirectory(prefix="tests-") as room:
         with_tests.copy(room)
@@ -96,7 +105,7 @@ def main():
         else:
             unproved.copy_of_kit(f"{room}/kit", OPTIMISES.format(kit=unproved.kit()))
         with ThreadPoolExecutor(int(os.environ.get("JOBS", os.cpu_count()))) as pool:
-            running = {pool.submit(do, room, it): it for it in crates}
+            running = {pool.submit(run_program if it in programs else do, room, it): it for it in crates}
             for done in as_completed(running):
                 well, failed, said = done.result()
                 passed, failures = passed + well, failures + len(failed)

@@ -21,6 +21,11 @@ def test_crates():
     return sorted((it for it in lines() if it.endswith("_tests")), key=size, reverse=True)
 
 
+def programs():
+    """The crates that are programs: each is tried, and prints what its file stdout has."""
+    return [it for it in lines() if os.path.exists(f"{ROOT}/tests/{it}/src/main.rt.in")]
+
+
 def named_tests(crate):
     """The name of each test of a crate, by the text of its files."""
     found, folder = [], f"{ROOT}/tests/{crate}/src"

@@ -1,5 +1,5 @@
 -- What is wrong with the words of a malformed line of a batch's script.
-use Rattle.std.proofs.Common.{◌≡◌, ℕ, ◌+◌, ◌≤◌, List, [], ◌∷◌, ◌++◌, Option, None, Some, IfNone, IfSome, map, length, take, refl, sym, ap, subst, ◌∙◌, inl, inr, append_assoc, arith}
+use Rattle.std.proofs.Common.{◌≡◌, ℕ, ◌+◌, ◌≤◌, List, [], ◌∷◌, ◌++◌, Option, None, Some, IfNone, IfSome, map, length, take, refl, sym, ap, subst, ◌∙◌, inl, inr, append_assoc, append-nil, arith}
 use Rattle.std.specs.Prelude.{codes}
 use Rattle.std.specs.List.{All}
 use Rattle.std.specs.Fmt.{decimal}
@@ -14,11 +14,11 @@ use Rattle.txc_script.specs.declared.line_fault.CommandFault.TheVariants as faul
 use Rattle.txc_script.specs.declared.line_fault.WordFault.{WordFault}
 use Rattle.txc_script.specs.declared.line_fault.WordKind.{WordKind}
 use Rattle.txc_script.specs.declared.line_fault.WordKind.TheVariants.{Key}
-use Rattle.txc_script.specs.declared.line_name.LineName.{LineName}
+use Rattle.txc_words.specs.declared.name.LineName.{LineName}
 use Rattle.txc_words.specs.Names.{name_text}
 use Rattle.txc_words.specs.Faults.{moment, IsFaultAfter}
 use Rattle.txc_work.specs.declared.job.Job.{Job}
-use Rattle.txc_batch.specs.BatchFaults.{job_kinds, IsBadKey, IsBatchFault, IsJobFault, IsPreparingFault}
+use Rattle.txc_batch.specs.BatchFaults.{job_kinds, IsBadKey, IsBatchFault, IsJobFault, IsMisplaced, IsPreparingFault}
 use Rattle.txc_batch.specs.Orders.{AreJobWords, IsPreparing}
 use Rattle.txc_batch.specs.Queueing.{QueuedValue}
 
@@ -34,24 +34,16 @@ pub record HasTestedKeys (words left : List (List ℕ)) (number : ℕ) : Type 0 
 pub none_tested : (words : List (List ℕ)) → HasTestedKeys words words 0
 none_tested words = record { good = []; words_are = refl; are_good = All-nil (IsOfKind Key); counted = refl }
 
-one_more : {X : Type 0} (xs : List X) (y : X) (ys : List X) → xs ++ y ∷ ys ≡ (xs ++ y ∷ []) ++ ys
-one_more [] y ys = refl
-one_more (x ∷ xs) y ys = ap (λ (zs : List _). x ∷ zs) (one_more xs y ys)
-
 pub more_tested : (words left others : List (List ℕ)) (word : List ℕ) (number : ℕ) → HasTestedKeys words left number → left ≡ word ∷ others → IsOfKind Key word → HasTestedKeys words others (number + 1)
 more_tested words left others word number h e is = record {
   good = h.good ++ word ∷ [];
-  words_are = h.words_are ∙ ap (λ (ws : List (List ℕ)). h.good ++ ws) e ∙ one_more h.good word others;
+  words_are = h.words_are ∙ ap (λ (ws : List (List ℕ)). h.good ++ ws) e ∙ sym (append_assoc h.good (word ∷ []) others);
   are_good = All-push (IsOfKind Key) h.good word h.are_good is;
   counted = omega (arith, h.counted, length-append h.good (word ∷ []));
 }
 
-append_none : {X : Type 0} (xs : List X) → xs ++ [] ≡ xs
-append_none [] = refl
-append_none (x ∷ xs) = ap (λ (zs : List _). x ∷ zs) (append_none xs)
-
 pub all_tested : (words left : List (List ℕ)) (number : ℕ) → HasTestedKeys words left number → length left ≡ 0 → All (IsOfKind Key) words
-all_tested words [] number h none = All-same (IsOfKind Key) words h.good (h.words_are ∙ append_none h.good) h.are_good
+all_tested words [] number h none = All-same (IsOfKind Key) words h.good (h.words_are ∙ append-nil h.good) h.are_good
 all_tested words (word ∷ left) number h none = absurd (omega (arith, none))
 
 -- ---- the words of a job
@@ -165,7 +157,7 @@ fault_of_job jobs all words word (faults.Usage line) e is h = absurd h
 fault_of_job jobs all words word (faults.Count wanted given) e is h = absurd h
 fault_of_job jobs all words word (faults.Word fault) e is h = inl (words, e ∙ ap (λ (w : List ℕ). w ∷ words) is, h)
 fault_of_job jobs all words word (faults.Few least given) e is h = inl (words, e ∙ ap (λ (w : List ℕ). w ∷ words) is, h)
-fault_of_job jobs all words word faults.AfterJob e is h = absurd h
+fault_of_job jobs all words word (faults.Misplaced text) e is h = absurd h
 
 -- a fault that is not that of an unknown name is in the words after a name, or in the place of the line
 known_fault : (jobs : List Job) (all words : List (List ℕ)) (name : LineName) (fault : CommandFault) → IsPreparing name → all ≡ name_text name ∷ words → IsPreparingFault jobs name words fault
@@ -175,7 +167,7 @@ known_fault jobs all words name (faults.Usage line) is e h known = inr (name, wo
 known_fault jobs all words name (faults.Count wanted given) is e h known = inr (name, words, is, e, h)
 known_fault jobs all words name (faults.Word fault) is e h known = inr (name, words, is, e, h)
 known_fault jobs all words name (faults.Few least given) is e h known = inr (name, words, is, e, h)
-known_fault jobs all words name faults.AfterJob is e h known = inr (name, words, is, e, h)
+known_fault jobs all words name (faults.Misplaced text) is e h known = inr (name, words, is, e, h)
 
 never_unknown : (name : LineName) (words : List (List ℕ)) (fault : CommandFault) (text : ExcerptValue) → IsFaultAfter name words fault → fault ≡ faults.Unknown text → ⊥
 never_unknown name words fault text h e = subst (IsFaultAfter name words) e h
@@ -186,14 +178,15 @@ pub fault_before : (jobs : List Job) (all words : List (List ℕ)) (word : List 
 fault_before jobs all words word name fault none is e named h =
     known_fault jobs all words name fault is (e ∙ ap (λ (w : List ℕ). w ∷ words) named) (subst (λ (js : List Job). IsPreparingFault js name words fault) (sym none) h) (λ text same. never_unknown name words fault text h same)
 
-after_some : (jobs : List Job) (name : LineName) (words : List (List ℕ)) → (jobs ≡ [] → ⊥) → IsPreparingFault jobs name words faults.AfterJob
-after_some [] name words some = absurd (some refl)
-after_some (job ∷ jobs) name words some = refl
+after_some : (jobs : List Job) (name : LineName) (words : List (List ℕ)) (fault : CommandFault) → (jobs ≡ [] → ⊥) → IsMisplaced fault → IsPreparingFault jobs name words fault
+after_some [] name words fault some h = absurd (some refl)
+after_some (job ∷ jobs) name words fault some h = h
 
 -- and after one
-pub fault_after : (jobs : List Job) (all words : List (List ℕ)) (word : List ℕ) (name : LineName) → (jobs ≡ [] → ⊥) → IsPreparing name → all ≡ word ∷ words → word ≡ name_text name
-    → IsBatchFault jobs all faults.AfterJob
-fault_after jobs all words word name some is e named = inr (name, words, is, e ∙ ap (λ (w : List ℕ). w ∷ words) named, after_some jobs name words some)
+pub fault_after : (jobs : List Job) (all words : List (List ℕ)) (word : List ℕ) (name : LineName) (fault : CommandFault) → (jobs ≡ [] → ⊥) → IsPreparing name → all ≡ word ∷ words → word ≡ name_text name
+    → IsMisplaced fault → IsBatchFault jobs all fault
+fault_after jobs all words word name fault some is e named h =
+    known_fault jobs all words name fault is (e ∙ ap (λ (w : List ℕ). w ∷ words) named) (after_some jobs name words fault some h) (λ text same. subst IsMisplaced same h)
 
 -- ---- the first two words, and the keys
 

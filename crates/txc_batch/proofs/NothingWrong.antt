@@ -10,7 +10,7 @@ use Rattle.txc_script.specs.Words.{words_of}
 use Rattle.txc_script.specs.declared.line_fault.CommandFault.{CommandFault}
 use Rattle.txc_script.specs.declared.line_fault.CommandFault.TheVariants as faults
 use Rattle.txc_script.specs.declared.line_fault.WordKind.TheVariants.{Key}
-use Rattle.txc_script.specs.declared.line_name.LineName.{LineName}
+use Rattle.txc_words.specs.declared.name.LineName.{LineName}
 use Rattle.txc_words.specs.Names.{name_text}
 use Rattle.txc_words.proofs.Offered.{HasKinds, none_after, none_bad}
 use Rattle.txc_work.specs.declared.job.Job.{Job}
@@ -44,7 +44,7 @@ no_job_fault words q (faults.Usage line) h f = f
 no_job_fault words q (faults.Count wanted given) h f = f
 no_job_fault words q (faults.Word fault) h f = none_bad (job_kinds words) words fault f.1 (all_kinds words q h)
 no_job_fault words q (faults.Few least given) h f = absurd (omega (arith, three_words words q h, f.0, f.1, f.2))
-no_job_fault words q faults.AfterJob h f = f
+no_job_fault words q (faults.Misplaced text) h f = f
 
 -- ---- words that are a change or a pin
 
@@ -70,4 +70,4 @@ nothing_wrong jobs line order (faults.Usage name) h f = none_after_name jobs lin
 nothing_wrong jobs line order (faults.Count wanted given) h f = none_after_name jobs line order (faults.Count wanted given) h f
 nothing_wrong jobs line order (faults.Word fault) h f = none_after_name jobs line order (faults.Word fault) h f
 nothing_wrong jobs line order (faults.Few least given) h f = none_after_name jobs line order (faults.Few least given) h f
-nothing_wrong jobs line order faults.AfterJob h f = none_after_name jobs line order faults.AfterJob h f
+nothing_wrong jobs line order (faults.Misplaced text) h f = none_after_name jobs line order (faults.Misplaced text) h f

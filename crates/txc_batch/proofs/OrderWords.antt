@@ -1,23 +1,20 @@
 -- What the lines of a batch's script ask for, by their first word.
-use Rattle.std.proofs.Common.{◌≡◌, ℕ, Bool, true, false, eqb, List, [], ◌∷◌, Some, length, Result, Ok, Err, IfErr, refl, sym, ap, subst, ◌∙◌, arith}
+use Rattle.std.proofs.Common.{◌≡◌, ℕ, Bool, true, false, eqb, List, [], ◌∷◌, Some, length, refl, sym, ap, subst, ◌∙◌, arith}
 use Rattle.std.proofs.lemmas.Bool.Decides.{nat_tests}
-use Rattle.std.specs.Prelude.{codes, IsErr, IsErrAnd}
+use Rattle.std.specs.Prelude.{codes}
 use Rattle.std.specs.Fmt.{decimal}
 use Rattle.txc_rows.specs.declared.query.Change.{Change}
 use Rattle.txc_rows.specs.declared.query.Change.TheVariants as changes
-use Rattle.txc_script.specs.Unread.{IsNone}
 use Rattle.txc_script.specs.Words.{HasNoBlank, words_of}
-use Rattle.txc_script.specs.declared.unread.Unread.{Unread}
-use Rattle.txc_script.specs.declared.unread.Unread.TheVariants as reasons
-use Rattle.txc_script.specs.declared.line_name.LineName.{LineName}
-use Rattle.txc_script.specs.declared.line_name.LineName.TheVariants as names
+use Rattle.txc_words.specs.declared.name.LineName.{LineName}
+use Rattle.txc_words.specs.declared.name.LineName.TheVariants as names
 use Rattle.txc_script.specs.declared.line_fault.WordKind.{WordKind}
 use Rattle.txc_script.specs.LineFaults.{AreOfKinds}
-use Rattle.txc_script.proofs.Offered.{words_alone}
-use Rattle.txc_words.specs.Faults.{kinds_after, moment, pair_kinds, row_kinds, second_of}
+use Rattle.txc_script.proofs.Offered.{HasTexts, has_texts, words_alone}
+use Rattle.txc_words.specs.Faults.{kinds_after_name, moment, pair_kinds, row_kinds, second_of}
 use Rattle.txc_words.specs.Names.{name_text}
 use Rattle.txc_words.specs.Parts.{AreChangeWords, ArePinWords, row_words}
-use Rattle.txc_words.proofs.Offered.{HasKinds, apart, first_is, has_one, has_pair, has_row, no_lone_change, of_kinds, others_are, pin_kinds, put_kinds, put_words, remove_kinds, remove_words}
+use Rattle.txc_words.proofs.Offered.{HasKinds, apart, first_is, has_row, no_lone_change, of_kinds, others_are, pin_kinds, put_kinds, put_words, remove_kinds, remove_words}
 use Rattle.txc_work.specs.declared.job.Job.{Job}
 use Rattle.txc_batch.specs.Orders.{AreJobWords, AsksFor, IsPreparing, SpellsJob}
 use Rattle.txc_batch.specs.Queueing.{QueuedValue}
@@ -106,30 +103,21 @@ no_name jobs line word words (Pin now) e other none h =
     none named.name named.preparing (first_is word (name_text named.name) words named.others (sym e ∙ named.words_are))
 no_name jobs line word words (Run q) e other none h = other (job_word line word words q e h)
 
--- ---- what was refused
-
--- what was refused for a reason is refused for it too where there would be what was asked for
-pub none_like : {T V W : Type 0} (r : Result T Unread) (e : Unread) (Is : V → Type 0) (Js : W → Type 0) → IsErr r × IsErrAnd r (λ x. x ≡ e) → IsNone Is e → ((w : W) → Js w → (v : V) × Is v)
-    → IfErr r (IsNone Js)
-none_like (Ok x) e Is Js h none there = tt
-none_like (Err x) reasons.Malformed Is Js h none there = subst (IsNone Js) (sym h.1) (λ w js. none (there w js).0 (there w js).1)
-none_like (Err x) reasons.Memory Is Js h none there = subst (IsNone Js) (sym h.1) tt
-
 -- ---- the words after the name of a change or of a pin
 
 -- those that are all of their kinds ask for something
-pub good_order : (line : List ℕ) (name : LineName) (words : List (List ℕ)) (kinds : List WordKind) → IsPreparing name → words_of line ≡ name_text name ∷ words → kinds_after name (second_of words) ≡ Some kinds
+pub good_order : (line : List ℕ) (name : LineName) (words : List (List ℕ)) (kinds : List WordKind) → IsPreparing name → words_of line ≡ name_text name ∷ words → kinds_after_name name (second_of words) ≡ Some kinds
     → AreOfKinds kinds words → (order : Order) × AsksFor [] line order
 good_order line names.Put words kinds is e known good =
     let row = has_row words (of_kinds kinds row_kinds words known good) in
     (Write (changes.Put row.row), (refl, put_words (words_of line) words (codes "put") row.row e refl row.are))
 good_order line names.Remove words kinds is e known good =
-    let pair = has_pair words (of_kinds kinds pair_kinds words known good) in
-    (Write (changes.Remove pair.t pair.n), (refl, remove_words (words_of line) words (codes "remove") pair.t pair.n e refl pair.are))
+    let said = has_texts pair_kinds words (of_kinds kinds pair_kinds words known good) in
+    let is = remove_words (words_of line) words (codes "remove") said.values.0 said.values.1.0 e refl (said.are, record { is_table = said.may.0; is_number = said.may.1.0 }) in
+    (Write (changes.Remove said.values.0 said.values.1.0), (refl, is))
 good_order line names.Pin words kinds is e known good =
-    let one = has_one moment words (of_kinds kinds (moment ∷ []) words known good) in
-    let pin : codes "pin" ∷ words ≡ codes "pin" ∷ decimal one.is.0 ∷ [] = ap (λ (ws : List (List ℕ)). codes "pin" ∷ ws) (one.words_are ∙ ap (λ (w : List ℕ). w ∷ []) one.is.1.1) in
-    (Pin one.is.0, (refl, (e ∙ pin, one.is.1.0)))
+    let said : HasTexts (moment ∷ []) words = has_texts (moment ∷ []) words (of_kinds kinds (moment ∷ []) words known good) in
+    (Pin said.values.0, (refl, (e ∙ ap (λ (ws : List (List ℕ)). codes "pin" ∷ ws) said.are, said.may.0)))
 good_order line name words kinds is e known good = absurd is
 
 -- and those of a line that asks for something are of known kinds

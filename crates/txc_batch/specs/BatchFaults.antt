@@ -7,7 +7,7 @@ use Rattle.txc_script.specs.declared.line_fault.CommandFault.TheVariants as faul
 use Rattle.txc_script.specs.declared.line_fault.WordFault.{WordFault}
 use Rattle.txc_script.specs.declared.line_fault.WordKind.{WordKind}
 use Rattle.txc_script.specs.declared.line_fault.WordKind.TheVariants.{Key}
-use Rattle.txc_script.specs.declared.line_name.LineName.{LineName}
+use Rattle.txc_words.specs.declared.name.LineName.{LineName}
 use Rattle.txc_words.specs.Names.{name_text}
 use Rattle.txc_words.specs.Faults.{moment, IsFaultAfter}
 use Rattle.txc_work.specs.declared.job.Job.{Job}
@@ -25,11 +25,16 @@ IsJobFault words (faults.Few least given) = (least ≡ LEAST_WORDS) × (given �
 IsJobFault words (faults.Word fault) = (LEAST_WORDS ≤ length words) × IsBadWord (job_kinds words) words fault
 IsJobFault words fault = ⊥
 
+-- it says where changes and pins stand
+abbrev pub IsMisplaced : CommandFault → Type 0
+IsMisplaced (faults.Misplaced text) = text.now ≡ codes "changes and pins stand before the first job"
+IsMisplaced fault = ⊥
+
 -- what is wrong with a change or a pin: before the first job, what is wrong with its words; after one, that it
 -- stands there
 abbrev pub IsPreparingFault : List Job → LineName → List (List ℕ) → CommandFault → Type 0
 IsPreparingFault [] name words fault = IsFaultAfter name words fault
-IsPreparingFault (job ∷ jobs) name words fault = fault ≡ faults.AfterJob
+IsPreparingFault (job ∷ jobs) name words fault = IsMisplaced fault
 
 -- What is wrong with a line's words after lines that asked for these jobs: the first is no line's name; else it
 -- is in the words after that name, or in the place of the line.

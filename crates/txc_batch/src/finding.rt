@@ -99,7 +99,7 @@ pub fn find_batch_fault(alloc: Global, jobs: &[Job], line: &[u8]) -> CommandFaul
         return CommandFault::Unknown(Excerpt::new(word));
     };
     if !jobs.is_empty() {
-        return CommandFault::AfterJob;
+        return CommandFault::Misplaced("changes and pins stand before the first job");
     }
     find_after_name(alloc, name, words, count)
 }

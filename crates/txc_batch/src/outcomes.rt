@@ -6,7 +6,7 @@ ghost use Rattle.txc_batch.specs.OutcomeTexts.{batch_text, is_refused_batch, is_
 use crate::ran::Ran;
 use std::alloc::{AllocError, Global};
 use std::fmt;
-use txc_words::OfTransaction;
+use txc_words::write_transaction;
 use txc_work::{BatchError, Outcome, Receipted};
 
 #[derive(Drop)]
@@ -28,8 +28,8 @@ impl fmt::Display for OfOutcome<'_> {
                 Ok(())
             }
             Outcome::Refused(error) => {
-                let error = OfTransaction(error);
-                write!(f, " refused {error}")
+                f.write_str(" refused ")?;
+                write_transaction(f, error)
             }
         }
     }

@@ -7,7 +7,7 @@ use std::fmt;
 use txc_cushion::AddError;
 use txc_db::DbError;
 use txc_stamp::Stamp;
-use txc_words::{OfAdd, OfDatabase};
+use txc_words::{write_add, write_database};
 
 /// Why a change was not made, or a pin.
 #[derive(Clone, Copy, Debug, PartialEq, Eq)]
@@ -31,12 +31,12 @@ impl fmt::Display for OfPrepared<'_> {
         match self.0 {
             Ok(stamp) => write!(f, "at {stamp}"),
             Err(PrepareError::Database(cause)) => {
-                let cause = OfDatabase(cause);
-                write!(f, "refused {cause}")
+                f.write_str("refused ")?;
+                write_database(f, cause)
             }
             Err(PrepareError::Pincushion(cause)) => {
-                let cause = OfAdd(cause);
-                write!(f, "refused {cause}")
+                f.write_str("refused ")?;
+                write_add(f, cause)
             }
         }
     }

@@ -2,15 +2,15 @@
 ghost use Rattle.std.specs.Prelude.{◌≡◌, IfOk, IfErr, IfSome, IfNone};
 ghost use Rattle.txc_script.specs.Unread.{IsNone};
 ghost use Rattle.txc_script.specs.Words.{words_of};
-ghost use Rattle.txc_script.specs.declared.line_name.LineName.{LineName};
+ghost use Rattle.txc_words.specs.declared.name.LineName.{LineName};
 ghost use Rattle.txc_words.specs.Names.{name_text};
 ghost use Rattle.txc_batch.specs.Orders.{AreJobWords, AreKeyWords, AsksFor, IsPreparing};
 
 use crate::order::{Order, Queued};
 use std::alloc::Global;
-use txc_script::{LineName, Unread, all_words, count_words, first_word};
+use txc_script::{Unread, all_words, count_words, first_word};
 use txc_tags::Key;
-use txc_words::{read_change, read_moment, read_pin};
+use txc_words::{LineName, read_change, read_moment, read_pin};
 use txc_work::Job;
 
 /// The keys that the words are.

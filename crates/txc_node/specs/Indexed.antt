@@ -1,5 +1,5 @@
 -- The entries of a node as they are held, and the indexes that find them. Proofs alone need it, but for
--- `entries_under`, of which a public contract speaks.
+-- `entries_under` and `IsSearchOf`, of which public contracts speak.
 use Rattle.std.specs.Prelude.{◌≡◌, ℕ, ◌+◌, ◌-◌, ◌<◌, ◌≤◌, Bool, true, false, ◌&&◌, ◌||◌, ◌==◌, nat_lt, nat_le, if◌then◌else◌, Option, Some, None, unwrap_or, List, [], ◌∷◌, map, length, slice_get}
 use Rattle.std.specs.List.{AllByRecursion, filter, find, list_any, count_by}
 use Rattle.std.specs.Map.{lookup, set_value}
@@ -15,10 +15,11 @@ use Rattle.txc_node.specs.declared.entry.Entry.{Entry}
 use Rattle.txc_node.specs.declared.hit.Shown.{Shown}
 use Rattle.txc_node.specs.declared.place.Place.{Place}
 use Rattle.txc_node.specs.declared.stored.Stored.{Stored}
+use Rattle.txc_node.specs.declared.search.Search.{Search}
 use Rattle.txc_node.specs.declared.versions.Found.{Found}
 use Rattle.txc_node.specs.Places.{place_of, equal_places}
 use Rattle.txc_node.specs.Entries.{same_place, others, AreApart}
-use Rattle.txc_node.specs.Cache.{is_invalidated, entry_after}
+use Rattle.txc_node.specs.Cache.{Cache, found, is_invalidated, entry_after}
 
 -- ---- entries at their places
 
@@ -99,6 +100,12 @@ in_stead new old = if old.lo == new.lo then new else old
 abbrev pub IsFound : List Entry → Option Entry → Option Found → Type 0
 IsFound es o None = o ≡ None
 IsFound es o (Some f) = (e : Entry) × (o ≡ Some e) × (slice_get es f.at ≡ Some e) × (f.reach ≡ e.reach)
+
+-- the search was one of the entries of the key in this cache: it says where the entry stands that a lookup
+-- finds at its stamps, if there is one, and how many entries the key has
+pub record IsSearchOf (c : Cache) (key : Call) (s : Search) : Type 0 where
+  pub stands : IsFound (entries_under key c.entries) (found c key s.lo s.hi) s.found
+  pub looked : s.looked ≡ length (entries_under key c.entries)
 
 -- an entry has the place of e, and stands there among those of its key
 abbrev pub StandsUnder : Entry → List Entry → ℕ → Type 0

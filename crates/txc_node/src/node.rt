@@ -7,13 +7,14 @@ ghost use Rattle.txc_node.specs.contracts.node.NodeCore.{the_row};
 ghost use Rattle.txc_node.specs.declared.entry.Entry.{Entry};
 ghost use Rattle.txc_node.specs.Cache.{ends_no_earlier, shown_of, empty_cache, found, lookup_answer, after_lookup, is_kept, after_insert, outcome, after_event, closed_count, after_sweep, swept_count};
 ghost use Rattle.txc_node.specs.Hit.{seen};
-ghost use Rattle.txc_node.specs.Indexed.{IsFound, entries_under, shown_as};
+ghost use Rattle.txc_node.specs.Indexed.{IsFound, IsSearchOf, entries_under, shown_as};
 
 use crate::entry::Entry;
 use crate::hit::Hit;
 use crate::indexed::IndexedEntries;
 use crate::place::Place;
 use crate::replay::replay_for;
+use crate::search::Search;
 use crate::stored::Stored;
 use crate::versions::Found;
 use circular_buffer::HeapCircularBuffer;
@@ -199,6 +200,48 @@ impl NodeCore {
         Ok(hit_of(entries.get(&place), self.processed))
     }
 
+    /// Searches for the entry that [`NodeCore::lookup`] lends, and changes nothing. [`NodeCore::hit`] lends it
+    /// then, and [`NodeCore::mark_used`] does the rest of the lookup. It takes no memory.
+    pub fn search(&self, key: &Key, lo: Stamp, hi: Stamp) -> Result<Search, EmptyRange>
+        ensures only_if { OnOk result (lo ≤ hi) }
+        ensures refused { OnErr result (hi < lo) }
+        ensures stamps { IfOk result (λ s. (s.lo ≡ lo) × (s.hi ≡ hi)) }
+        ensures found { IfOk result (IsSearchOf self.now key.now) }
+    {
+        check_range(lo, hi)?;
+        let (found, looked) = self.entries.keyed().best(self.processed, key, lo, hi);
+        Ok(Search {
+            lo,
+            hi,
+            found,
+            looked: looked as u64,
+        })
+    }
+
+    /// What [`NodeCore::lookup`] lends, after its search. It takes no memory.
+    pub fn hit(&self, key: &Key, search: &Search) -> Option<Hit<'_>>
+        requires { IsSearchOf self.now key.now search.now }
+        ensures { option_map seen result ≡ lookup_answer self.now key.now search.now.lo search.now.hi }
+    {
+        let Some(found) = search.found else {
+            return None;
+        };
+        let place = Place::new(key, found.reach.lo());
+        hit_of(self.entries.keyed().get(&place), self.processed)
+    }
+
+    /// Makes what a search found the most recently used, as [`NodeCore::lookup`] does after its search. It
+    /// takes no memory.
+    pub fn mark_used(&mut self, key: &Key, search: &Search)
+        requires { IsSearchOf self.old key.now search.now }
+        ensures { self.new ≡ after_lookup self.old key.now search.now.lo search.now.hi }
+    {
+        self.looked = search.looked;
+        if let Some(found) = search.found {
+            self.entries.bring_first(key, found);
+        }
+    }
+
     // Looks an entry up and moves it to the front, and says whether there is one, and how many entries were
     // looked at.
     fn touch(&mut self, key: &Key, lo: Stamp, hi: Stamp) -> Result<(bool, u64), EmptyRange>
@@ -210,17 +253,9 @@ impl NodeCore {
         ensures looked { IfOk result (λ r. r.1 ≡ length (entries_under key.now self.old.entries)) }
     {
         self.looked = 0;
-        check_range(lo, hi)?;
-        let (found, looked) = self.entries.keyed().best(self.processed, key, lo, hi);
-        let looked = looked as u64;
-        self.looked = looked;
-        match found {
-            None => Ok((false, looked)),
-            Some(found) => {
-                self.entries.bring_first(key, found);
-                Ok((true, looked))
-            }
-        }
+        let search = self.search(key, lo, hi)?;
+        self.mark_used(key, &search);
+        Ok((search.found.is_some(), search.looked))
     }
 
     /// Looks up the call of `key` at the stamps from `lo` to `hi`, both included. Of the entries of the key

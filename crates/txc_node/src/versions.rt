@@ -15,7 +15,7 @@ use txc_stamp::{Reach, Stamp};
 
 /// Where a reach stands among those of its key.
 #[derive(Clone, Copy, Debug)]
-pub(crate) struct Found {
+pub struct Found {
     pub(crate) at: usize,
     pub(crate) reach: Reach,
 }

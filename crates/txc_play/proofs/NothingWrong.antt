@@ -13,12 +13,12 @@ use Rattle.txc_script.specs.declared.line_fault.CommandFault.TheVariants as faul
 use Rattle.txc_script.specs.declared.line_fault.WordFault.{WordFault}
 use Rattle.txc_script.specs.declared.line_fault.WordKind.{WordKind}
 use Rattle.txc_script.specs.declared.line_fault.WordKind.TheVariants.{Key, Stamp, QueryName, ChangeName}
-use Rattle.txc_script.specs.declared.line_name.LineName.{LineName}
-use Rattle.txc_script.specs.declared.line_name.LineName.TheVariants as names
+use Rattle.txc_words.specs.declared.name.LineName.{LineName}
+use Rattle.txc_words.specs.declared.name.LineName.TheVariants as names
 use Rattle.txc_play.specs.Tasks.{AreAfterPlace, LineAsksFor}
 use Rattle.txc_words.specs.Parts.{AreChangeWords, IsChangeInRange, IsIdRange, IsPair, IsQueryInRange, change_words, query_words, row_words}
 use Rattle.txc_words.specs.Names.{name_text}
-use Rattle.txc_words.specs.Faults.{IsFaultAfter, IsFirstBad, change_line, function, kinds_after, moment, pair_kinds, place, query_line, range_kinds, row_kinds, second_of, table}
+use Rattle.txc_words.specs.Faults.{IsFaultAfter, IsFirstBad, change_line, function, kinds_after_name, moment, pair_kinds, place, query_line, range_kinds, row_kinds, second_of, table}
 use Rattle.txc_play.specs.WorldFaults.{IsWorldFault}
 use Rattle.txc_play.specs.declared.task.Task.{Task}
 use Rattle.txc_words.proofs.Offered.{same_name}
@@ -27,7 +27,7 @@ use Rattle.txc_words.proofs.Offered.{HasKinds, as_words, none_after, pin_kinds, 
 
 -- ---- words that ask for something are of known kinds
 
-only_place : (name : LineName) (words : List (List ℕ)) (n : ℕ) → kinds_after name [] ≡ Some (place ∷ []) → AreAfterPlace words n [] → HasKinds name words
+only_place : (name : LineName) (words : List (List ℕ)) (n : ℕ) → kinds_after_name name [] ≡ Some (place ∷ []) → AreAfterPlace words n [] → HasKinds name words
 only_place name words n known h = as_words name words (decimal n ∷ []) h.0 (record { kinds = place ∷ []; known = known; good = ((n, (h.1, refl)), tt) })
 
 pub has_kinds : (name : LineName) (words : List (List ℕ)) (task : Task) → LineAsksFor name words task → HasKinds name words
@@ -87,4 +87,4 @@ nothing_wrong all (faults.Usage line) name words h e k = none_said all h.0 name 
 nothing_wrong all (faults.Count wanted given) name words h e k = none_said all h.0 name h.1 words (faults.Count wanted given) h.2 h.3 e k
 nothing_wrong all (faults.Word fault) name words h e k = none_said all h.0 name h.1 words (faults.Word fault) h.2 h.3 e k
 nothing_wrong all (faults.Few least given) name words h e k = h.3
-nothing_wrong all faults.AfterJob name words h e k = h.3
+nothing_wrong all (faults.Misplaced text) name words h e k = h.3

@@ -7,8 +7,8 @@ use Rattle.txc_script.specs.Words.{HasNoBlank, words_of}
 use Rattle.txc_words.specs.Names.{name_text}
 use Rattle.txc_words.specs.Parts.{change_words}
 use Rattle.txc_play.specs.Tasks.{LineAsksFor, SpellsTask}
-use Rattle.txc_script.specs.declared.line_name.LineName.{LineName}
-use Rattle.txc_script.specs.declared.line_name.LineName.TheVariants as names
+use Rattle.txc_words.specs.declared.name.LineName.{LineName}
+use Rattle.txc_words.specs.declared.name.LineName.TheVariants as names
 use Rattle.txc_play.specs.declared.task.Task.{Task}
 use Rattle.txc_script.proofs.Offered.{words_alone}
 use Rattle.txc_words.proofs.Offered.{same_name}

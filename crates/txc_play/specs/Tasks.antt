@@ -13,8 +13,8 @@ use Rattle.txc_world.specs.declared.step.Act.TheVariants as acts
 use Rattle.txc_world.specs.declared.step.Keep.TheVariants as keeps
 use Rattle.txc_world.specs.declared.step.Step.TheVariants.{Actor, BeginIn, Keeper}
 use Rattle.txc_script.specs.Words.{words_of}
-use Rattle.txc_script.specs.declared.line_name.LineName.{LineName}
-use Rattle.txc_script.specs.declared.line_name.LineName.TheVariants as names
+use Rattle.txc_words.specs.declared.name.LineName.{LineName}
+use Rattle.txc_words.specs.declared.name.LineName.TheVariants as names
 use Rattle.txc_words.specs.Names.{name_text}
 use Rattle.txc_words.specs.Parts.{change_words, query_words, AreChangeWords, ArePinWords, IsChangeInRange, IsQueryInRange}
 use Rattle.txc_words.specs.declared.parts.TheConstants.{LAST_MOMENT}

@@ -3,7 +3,7 @@ use Rattle.std.specs.Prelude.{◌≡◌, ℕ, List, ◌∷◌}
 use Rattle.txc_script.specs.Excerpts.{excerpt_of}
 use Rattle.txc_script.specs.declared.line_fault.CommandFault.{CommandFault}
 use Rattle.txc_script.specs.declared.line_fault.CommandFault.TheVariants as faults
-use Rattle.txc_script.specs.declared.line_name.LineName.{LineName}
+use Rattle.txc_words.specs.declared.name.LineName.{LineName}
 use Rattle.txc_words.specs.Names.{name_text}
 use Rattle.txc_words.specs.Faults.{IsFaultAfter}
 

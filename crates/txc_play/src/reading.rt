@@ -12,11 +12,9 @@ use crate::parts::{read_bounds, read_function};
 use crate::task::Task;
 use std::alloc::Global;
 use txc_rows::Change;
-use txc_script::{
-    LineName, Malformed, Unread, first_word, one_word, read_stamp, three_words, two_words,
-};
+use txc_script::{Malformed, Unread, first_word, one_word, read_stamp, three_words, two_words};
 use txc_tags::Key;
-use txc_words::{name_of, read_change, read_moment, read_pin, read_place, read_query};
+use txc_words::{LineName, name_of, read_change, read_moment, read_pin, read_place, read_query};
 use txc_world::{Act, Keep, Step};
 
 /// An actor or a node, as the only word.

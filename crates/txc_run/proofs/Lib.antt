@@ -1,5 +1,4 @@
 pub mod Digits
-pub mod AllSpell
 pub mod Named
 pub mod Reporting
 pub mod Taking

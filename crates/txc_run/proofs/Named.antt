@@ -1,62 +1,37 @@
 -- The steps that the words of a line name.
-use Rattle.std.proofs.Common.{◌≡◌, ◌<◌, ◌≤◌, lit<, ℕ, List, [], ◌∷◌, ◌++◌, Some, Result, Ok, Err, IfErr, get_or, length, refl, arith, sym, ap, subst, ◌∙◌}
+use Rattle.std.proofs.Common.{◌≡◌, ◌<◌, ◌≤◌, lit<, ℕ, Bool, false, List, [], ◌∷◌, ◌++◌, Some, None, Result, Ok, Err, IfErr, IfOk, length, refl, sym, ap, subst, ◌∙◌}
 use Rattle.std.specs.Prelude.{codes, IsErr, IsErrAnd}
-use Rattle.std.proofs.lemmas.List.{append-nil, length-append}
+use Rattle.std.specs.List.{AllByRecursion}
+use Rattle.std.specs.Str.{bytes_eq}
 use Rattle.txc_tags.specs.declared.tag.Tag.{Tag}
-use Rattle.txc_tags.specs.Keys.{Call}
-use Rattle.txc_tags.specs.TextSet.{IsSetRefusal}
-use Rattle.txc_tags.specs.declared.text.set.SetError.{SetError}
-use Rattle.txc_tags.specs.declared.text.set.SetError.TheVariants as sets
 use Rattle.txc_node.specs.declared.entry.Entry.{Entry}
 use Rattle.txc_node.specs.declared.entry.EntryError.{EntryError}
 use Rattle.txc_node.specs.declared.entry.EntryError.TheVariants as errors
 use Rattle.txc_node.specs.declared.op.Op.{Op}
-use Rattle.txc_node.specs.declared.op.Op.TheVariants.{Insert, Lookup, Event, Sweep}
+use Rattle.txc_node.specs.declared.op.Op.TheVariants.{Insert}
 use Rattle.txc_node.specs.declared.value.TheConstants.{MAX_VALUE_LEN}
 use Rattle.txc_node.specs.Cache.{Cache}
 use Rattle.txc_node.specs.Steps.{entry_refusal, refusal_by}
 use Rattle.txc_node.proofs.Offered.{entry_has_no_reach, entry_is_too_long}
-use Rattle.txc_script.specs.Words.{HasNoBlank, HasWords, words_of}
+use Rattle.txc_script.specs.Forms.{IsOfForm, LineForm, form_named}
 use Rattle.txc_script.specs.Hex.{IsHexWord}
 use Rattle.txc_script.specs.Lines.{IsKeyWord, IsStampWord, IsTagsWord, still_text}
-use Rattle.txc_run.specs.Lines.{AreLookupWords, AreEventWords, AreSweepWords, AreInsertWords, step_name, AreWordsAfter, Spells}
 use Rattle.txc_script.specs.Unread.{IsNone}
+use Rattle.txc_script.specs.Words.{HasNoBlank, words_of}
 use Rattle.txc_script.specs.declared.unread.Unread.{Unread}
 use Rattle.txc_script.specs.declared.unread.Unread.TheVariants as unread
-use Rattle.txc_run.specs.Reading.{IsNoWord, IsNamed, NamesNone, set_reason, unread_reason}
-use Rattle.txc_run.specs.Steps.{MakesNone}
+use Rattle.txc_run.specs.Lines.{Spells, insert_form, node_forms}
+use Rattle.txc_run.specs.Reading.{NamesNone, unread_reason}
+use Rattle.txc_run.specs.Steps.{MakesNone, MakesStep, Taking}
 use Rattle.txc_run.specs.declared.unread.NoStep.{NoStep}
 use Rattle.txc_run.specs.declared.unread.NoStep.TheVariants as reasons
-use Rattle.txc_script.proofs.Offered.{words_cut, words_alone, has_words, words_are}
+use Rattle.txc_script.proofs.Offered.{of_words, says_in, words_cut}
 
 -- ---- what is refused
-
-pub none_named : {T E : Type 0} (r : Result T E) (name text : List ℕ) → ((op : Op) → IsNamed name text op → ⊥) → IfErr r (λ _. (op : Op) → IsNamed name text op → ⊥)
-none_named (Ok x) name text h = tt
-none_named (Err e) name text h = h
 
 pub malformed : {T : Type 0} (r : Result T NoStep) (Is : Op → Type 0) → IsErr r × IsErrAnd r (λ reason. reason ≡ reasons.Malformed) → ((op : Op) → Is op → ⊥) → IfErr r (NamesNone Is)
 malformed (Ok x) Is h none = tt
 malformed (Err reason) Is h none = subst (NamesNone Is) (sym h.1) none
-
-pub no_word : {T : Type 0} (r : Result T NoStep) (Is : Op → Type 0) → IsErr r × IsErrAnd r (λ reason. reason ≡ reasons.Malformed) → ((op : Op) → Is op → ⊥) → IfErr r (IsNoWord Is)
-no_word (Ok x) Is h none = tt
-no_word (Err reason) Is h none = subst (IsNoWord Is) (sym h.1) none
-
-pub no_tags : {T : Type 0} (r : Result T NoStep) (Is : Op → Type 0) (word : List ℕ) (error : SetError) → IsErr r × IsErrAnd r (λ reason. reason ≡ set_reason error) → IsSetRefusal word error
-    → ((op : Op) → Is op → (tags : List Tag) × IsTagsWord word tags) → IfErr r (IsNoWord Is)
-no_tags (Ok x) Is word error h refused some = tt
-no_tags (Err reason) Is word (sets.BadTag bad) h refused some =
-    subst (IsNoWord Is) (sym h.1) (λ op is. let tags = some op is in refused.1 (tags.1.0, tags.1.1))
-no_tags (Err reason) Is word (sets.Memory error) h refused some = subst (IsNoWord Is) (sym h.1) tt
-
--- a set of tags that was refused is no word of any such step, or a growth was refused
-pub tags_unread : {T : Type 0} (r : Result T NoStep) (Is : Op → Type 0) (word : List ℕ) (error : SetError) → IsErr r × IsErrAnd r (λ reason. reason ≡ set_reason error) → IsSetRefusal word error
-    → ((op : Op) → Is op → (tags : List Tag) × IsTagsWord word tags) → IfErr r (NamesNone Is)
-tags_unread (Ok x) Is word error h refused some = tt
-tags_unread (Err reason) Is word (sets.BadTag bad) h refused some =
-    subst (NamesNone Is) (sym h.1) (λ op is. let tags = some op is in refused.1 (tags.1.0, tags.1.1))
-tags_unread (Err reason) Is word (sets.Memory error) h refused some = subst (NamesNone Is) (sym h.1) tt
 
 pub word_unread : {T V : Type 0} (r : Result T NoStep) (Is : Op → Type 0) (IsWord : V → Type 0) (error : Unread) → IsErr r × IsErrAnd r (λ reason. reason ≡ unread_reason error) → IsNone IsWord error
     → ((op : Op) → Is op → (v : V) × IsWord v) → IfErr r (NamesNone Is)
@@ -69,104 +44,16 @@ pub unmade : {T : Type 0} (r : Result T NoStep) (Is : Op → Type 0) (e : Entry)
 unmade (Ok x) Is e error h is refused = tt
 unmade (Err reason) Is e error h is refused = subst (NamesNone Is) (sym h.1) (e, is, refused)
 
--- ---- words that are taken one after the other
+-- ---- insertions
 
-no_more : (words : List (List ℕ)) → length words ≡ 0 → words ≡ []
-no_more [] e = refl
-no_more (w ∷ words) e = absurd (omega (arith, e))
-
-pub all_taken : (all taken left : List (List ℕ)) → all ≡ taken ++ left → length all ≡ length taken → all ≡ taken
-all_taken all taken left e n =
-    let none : length left ≡ 0 = omega (arith, n, ap length e, length-append taken left) in
-    e ∙ ap (λ (ws : List (List ℕ)). taken ++ ws) (no_more left none) ∙ append-nil taken
-
--- ---- steps by their names
-
-first_byte : {xs ys : List ℕ} → xs ≡ ys → get_or xs 0 0 ≡ get_or ys 0 0
-first_byte e = ap (λ (xs : List ℕ). get_or xs 0 0) e
-
-below_apart : (a b : ℕ) → a < b → a ≡ b → ⊥
-below_apart a b l e = omega arith
-
-some_words : (op : Op) → AreWordsAfter op [] → ⊥
-some_words (Insert e) h = let e = h.are in cc
-some_words (Lookup key lo hi) h = let e = h.are in cc
-some_words (Event stamp tags) h = let e = h.are in cc
-some_words (Sweep horizon) h = let e = h.are in cc
-
--- the words after a step's name are those of the text
-words_after : (op : Op) (text : List ℕ) (words : List (List ℕ)) → HasWords text words → AreWordsAfter op words → AreWordsAfter op (words_of text)
-words_after op text [] has are = absurd (some_words op are)
-words_after op text (w ∷ words) has are = subst (AreWordsAfter op) (sym (words_are text w words has)) are
-
-pub record LookupIn (text : List ℕ) : Type 0 where
-  pub key : Call
-  pub lo : ℕ
-  pub hi : ℕ
-  pub words : AreLookupWords key lo hi (words_of text)
-
-pub lookup_in : (text : List ℕ) (op : Op) → IsNamed (codes "lookup") text op → LookupIn text
-lookup_in text (Insert e) h = absurd (below_apart 105 108 (lit< tt) (first_byte h.0))
-lookup_in text (Lookup key lo hi) h = record { key = key; lo = lo; hi = hi; words = words_after (Lookup key lo hi) text h.1.0 h.1.1 h.1.2 }
-lookup_in text (Event stamp tags) h = absurd (below_apart 101 108 (lit< tt) (first_byte h.0))
-lookup_in text (Sweep horizon) h = absurd (below_apart 108 115 (lit< tt) (first_byte (sym h.0)))
-
-pub record SweepIn (text : List ℕ) : Type 0 where
-  pub horizon : ℕ
-  pub words : AreSweepWords horizon (words_of text)
-
-pub sweep_in : (text : List ℕ) (op : Op) → IsNamed (codes "sweep") text op → SweepIn text
-sweep_in text (Insert e) h = absurd (below_apart 105 115 (lit< tt) (first_byte h.0))
-sweep_in text (Lookup key lo hi) h = absurd (below_apart 108 115 (lit< tt) (first_byte h.0))
-sweep_in text (Event stamp tags) h = absurd (below_apart 101 115 (lit< tt) (first_byte h.0))
-sweep_in text (Sweep horizon) h = record { horizon = horizon; words = words_after (Sweep horizon) text h.1.0 h.1.1 h.1.2 }
-
-pub record EventIn (text : List ℕ) : Type 0 where
-  pub stamp : ℕ
-  pub tags : List Tag
-  pub words : AreEventWords stamp tags (words_of text)
-
-pub event_in : (text : List ℕ) (op : Op) → IsNamed (codes "event") text op → EventIn text
-event_in text (Insert e) h = absurd (below_apart 101 105 (lit< tt) (first_byte (sym h.0)))
-event_in text (Lookup key lo hi) h = absurd (below_apart 101 108 (lit< tt) (first_byte (sym h.0)))
-event_in text (Event stamp tags) h = record { stamp = stamp; tags = tags; words = words_after (Event stamp tags) text h.1.0 h.1.1 h.1.2 }
-event_in text (Sweep horizon) h = absurd (below_apart 101 115 (lit< tt) (first_byte (sym h.0)))
-
-pub record InsertIn (text : List ℕ) : Type 0 where
-  pub entry : Entry
-  pub words : AreInsertWords entry (words_of text)
-
-pub insert_in : (text : List ℕ) (op : Op) → IsNamed (codes "insert") text op → InsertIn text
-insert_in text (Insert e) h = record { entry = e; words = words_after (Insert e) text h.1.0 h.1.1 h.1.2 }
-insert_in text (Lookup key lo hi) h = absurd (below_apart 105 108 (lit< tt) (first_byte (sym h.0)))
-insert_in text (Event stamp tags) h = absurd (below_apart 101 105 (lit< tt) (first_byte h.0))
-insert_in text (Sweep horizon) h = absurd (below_apart 105 115 (lit< tt) (first_byte (sym h.0)))
-
-pub insertion_named : (text : List ℕ) (e : Entry) (key lo known still tags value : List ℕ) → words_of text ≡ key ∷ lo ∷ known ∷ still ∷ tags ∷ value ∷ []
-    → IsKeyWord key e.key → IsStampWord lo e.reach.lo → IsStampWord known e.reach.known → still ≡ still_text e.reach.still → IsTagsWord tags e.tags → IsHexWord value e.value
-    → IsNamed (codes "insert") text (Insert e)
-insertion_named text e key lo known still tags value are is_key is_lo is_known is_still are_tags is_value = (
-  refl,
-  (
-    words_of text,
-    has_words text,
-    record {
-      key_word = key;
-      lo_word = lo;
-      known_word = known;
-      tags_word = tags;
-      value_word = value;
-      are = are ∙ ap (λ (w : List ℕ). key ∷ lo ∷ known ∷ w ∷ tags ∷ value ∷ []) is_still;
-      is_key = is_key;
-      is_lo = is_lo;
-      is_known = is_known;
-      are_tags = are_tags;
-      is_value = is_value;
-    },
-  ),
-)
-
--- ---- entries that cannot be made
+pub insertion_named : (words : List (List ℕ)) (e : Entry) (key lo known still tags value : List ℕ) → words ≡ key ∷ lo ∷ known ∷ still ∷ tags ∷ value ∷ [] → IsKeyWord key e.key → IsStampWord lo e.reach.lo
+    → IsStampWord known e.reach.known → still ≡ still_text e.reach.still → IsTagsWord tags e.tags → IsHexWord value e.value → IsOfForm insert_form words (Insert e)
+insertion_named words e key lo known still tags value are is_key is_lo is_known is_still are_tags is_value =
+    of_words insert_form (key ∷ lo ∷ known ∷ still ∷ tags ∷ value ∷ []) words (Insert e) (sym are) (record {
+      values = (e.key, (e.reach.lo, (e.reach.known, (e.reach.still, (are_tags.0, (e.value, tt))))));
+      say = (is_key, (is_lo, (is_known, ((tt, is_still), (are_tags.1, (is_value, tt))))));
+      asks = ap (λ (ts : List Tag). Insert (record { key = e.key; value = e.value; reach = e.reach; tags = ts })) are_tags.2;
+    })
 
 pub entry_refused : (e : Entry) (error : EntryError) → ((error ≡ errors.BadReach) → e.reach.known < e.reach.lo) → ((error ≡ errors.ValueTooLong) → (e.reach.lo ≤ e.reach.known) × (MAX_VALUE_LEN < length e.value))
     → entry_refusal e ≡ Some (refusal_by error)
@@ -175,45 +62,31 @@ entry_refused e errors.ValueTooLong reach long = let l = long refl in entry_is_t
 
 -- ---- the step of a line
 
--- a line is its name and the words of the rest
-line_words : (line name text : List ℕ) → line ≡ name ++ 32 ∷ text → HasNoBlank name → HasWords line (name ∷ words_of text)
-line_words line name text e bare = subst (λ (ws : List (List ℕ)). HasWords line ws) (words_cut line name text e bare) (has_words line)
+line_words : (form : LineForm Op) (line name text : List ℕ) → line ≡ name ++ 32 ∷ text → HasNoBlank name → name ≡ form.name → words_of line ≡ form.name ∷ words_of text
+line_words form line name text e bare named = words_cut line name text e bare ∙ ap (λ (n : List ℕ). n ∷ words_of text) named
 
-pub spelled : (line name text : List ℕ) → line ≡ name ++ 32 ∷ text → HasNoBlank name → (op : Op) → IsNamed name text op → Spells line op
-spelled line name text e bare op h =
-    (words_of text, subst (λ (n : List ℕ). HasWords line (n ∷ words_of text)) (sym h.0) (line_words line name text e bare), words_after op text h.1.0 h.1.1 h.1.2)
+pub spelled : (form : LineForm Op) (line name text : List ℕ) (op : Op) → form_named node_forms form.name ≡ Some form → line ≡ name ++ 32 ∷ text → HasNoBlank name → name ≡ form.name → IsOfForm form (words_of text) op
+    → Spells line op
+spelled form line name text op known e bare named h = record { form = form; words = words_of text; named = known; are = line_words form line name text e bare named; is = h }
 
-record SameWords (name text : List ℕ) (op : Op) (words : List (List ℕ)) : Type 0 where
-  names : step_name op ≡ name
-  others : words ≡ words_of text
+-- what was made, or not, as the words after the name say, was made as the line says, or not
+pub makes_as : {T E : Type 0} (takes : Taking T) (form : LineForm Op) (line name text : List ℕ) (r : Result Bool E) (c next : Cache) (old new : T) → form_named node_forms form.name ≡ Some form
+    → line ≡ name ++ 32 ∷ text → HasNoBlank name → name ≡ form.name → IfOk r (MakesStep takes (IsOfForm form (words_of text)) c next old new) → IfOk r (MakesStep takes (Spells line) c next old new)
+makes_as takes form line name text (Ok refused) c next old new known e bare named h = (h.0, spelled form line name text h.0 known e bare named h.1, h.2)
+makes_as takes form line name text (Err error) c next old new known e bare named h = tt
 
-same_words : (line name text : List ℕ) (op : Op) (words : List (List ℕ)) → line ≡ name ++ 32 ∷ text → HasNoBlank name → HasWords line (step_name op ∷ words) → SameWords name text op words
-same_words line name text op words e bare has =
-    let same : step_name op ∷ words ≡ name ∷ words_of text = sym (words_are line (step_name op) words has) ∙ words_cut line name text e bare in
-    record { names = cc; others = cc }
+pub makes_none_as : {T V : Type 0} (form : LineForm Op) (line name text : List ℕ) (r : Result V Unread) (c next : Cache) (old new : T) → form_named node_forms form.name ≡ Some form → line ≡ name ++ 32 ∷ text → HasNoBlank name
+    → name ≡ form.name → IfErr r (MakesNone (IsOfForm form (words_of text)) c next old new) → IfErr r (MakesNone (Spells line) c next old new)
+makes_none_as form line name text (Ok x) c next old new known e bare named h = tt
+makes_none_as form line name text (Err unread.Malformed) c next old new known e bare named h =
+    (λ op s. h.0 op (says_in node_forms form line (words_of text) op known (line_words form line name text e bare named) s), h.1, h.2)
+makes_none_as form line name text (Err unread.Memory) c next old new known e bare named h = tt
 
-pub named : (line name text : List ℕ) → line ≡ name ++ 32 ∷ text → HasNoBlank name → (op : Op) → Spells line op → IsNamed name text op
-named line name text e bare op s =
-    let same = same_words line name text op s.0 e bare s.1 in
-    (same.names, (words_of text, has_words text, subst (AreWordsAfter op) same.others s.2))
+-- each form has words after its name
+pub some_words : AllByRecursion (λ (form : LineForm Op). 0 < length form.kinds) node_forms
+some_words = (lit< tt, (lit< tt, (lit< tt, (lit< tt, tt))))
 
--- a line without a blank names no step
-pub unnamed : (line : List ℕ) (op : Op) → HasNoBlank line → Spells line op → ⊥
-unnamed line op bare s =
-    let same : step_name op ∷ s.0 ≡ line ∷ [] = sym (words_are line (step_name op) s.0 s.1) ∙ words_alone line bare in
-    let none : s.0 ≡ [] = cc in
-    some_words op (subst (AreWordsAfter op) none s.2)
-
--- where no step has that name, the line names none
-pub makes_none_as : {T V : Type 0} (Is Js : Op → Type 0) (r : Result V Unread) (c next : Cache) (old new : T) → ((op : Op) → Js op → Is op) → IfErr r (MakesNone Is c next old new)
-    → IfErr r (MakesNone Js c next old new)
-makes_none_as Is Js (Ok x) c next old new back h = tt
-makes_none_as Is Js (Err unread.Malformed) c next old new back h = (λ op js. h.0 op (back op js), h.1, h.2)
-makes_none_as Is Js (Err unread.Memory) c next old new back h = tt
-
--- there is no step of another name
-pub no_step : (name text : List ℕ) (op : Op) → (name ≡ codes "insert" → ⊥) → (name ≡ codes "lookup" → ⊥) → (name ≡ codes "event" → ⊥) → (name ≡ codes "sweep" → ⊥) → IsNamed name text op → ⊥
-no_step name text (Insert e) i l v s h = i (sym h.0)
-no_step name text (Lookup key lo hi) i l v s h = l (sym h.0)
-no_step name text (Event stamp tags) i l v s h = v (sym h.0)
-no_step name text (Sweep horizon) i l v s h = s (sym h.0)
+-- there is no form of another name
+pub no_form : (name : List ℕ) → bytes_eq name (codes "insert") ≡ false → bytes_eq name (codes "lookup") ≡ false → bytes_eq name (codes "event") ≡ false → bytes_eq name (codes "sweep") ≡ false
+    → form_named node_forms name ≡ None
+no_form name i l e s = rw (i, l, e, s) refl

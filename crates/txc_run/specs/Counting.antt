@@ -7,8 +7,8 @@ use Rattle.txc_node.specs.declared.reply.Reply.{Reply}
 use Rattle.txc_node.specs.Steps.{is_refusal, MayReply}
 use Rattle.txc_script.specs.Kinds.{ScriptKind, Given, Replied}
 use Rattle.txc_script.specs.LineFaults.{IsCommandFault}
-use Rattle.txc_run.specs.Lines.{Spells}
-use Rattle.txc_run.specs.NodeScripts.{CloseNode, reply_line, step_kinds}
+use Rattle.txc_run.specs.Lines.{Spells, node_forms}
+use Rattle.txc_run.specs.NodeScripts.{CloseNode, reply_line}
 use Rattle.txc_run.specs.Reports.{IsReportOf, steps_of}
 use Rattle.txc_run.specs.declared.report.Report as reports
 use Rattle.txc_run.specs.declared.node.Counted.{Counted}
@@ -31,7 +31,7 @@ counted_script = record {
   breaks_off = λ s line next. Unit {0};
   text = reply_line Report;
   is_refused = is_refusal;
-  is_wrong = λ s. IsCommandFault step_kinds;
+  is_wrong = λ s. IsCommandFault node_forms;
   closes = λ s given closing next. HasReport given s.report → CloseNode Report s.node given closing next.node;
   breaks_at_end = λ s next. Unit {0};
 }

@@ -1,77 +1,52 @@
--- What the lines of a node's script are, given by how each word is written.
-use Rattle.std.specs.Prelude.{◌≡◌, ℕ, List, [], ◌∷◌, codes}
-use Rattle.txc_tags.specs.declared.tag.Tag.{Tag}
-use Rattle.txc_tags.specs.Keys.{Call}
-use Rattle.txc_node.specs.declared.entry.Entry.{Entry}
+-- What the lines of a node's script are: the table of their forms.
+use Rattle.std.specs.Prelude.{ℕ, List, [], ◌∷◌, codes}
+use Rattle.txc_tags.specs.Tags.{set_of}
+use Rattle.txc_tags.specs.TextSet.{tags_spelt}
 use Rattle.txc_node.specs.declared.op.Op.{Op}
 use Rattle.txc_node.specs.declared.op.Op.TheVariants.{Insert, Lookup, Event, Sweep}
-use Rattle.txc_script.specs.Hex.{IsHexWord}
-use Rattle.txc_script.specs.Lines.{IsKeyWord, IsPlain, IsStampWord, IsTagsWord, still_text}
-use Rattle.txc_script.specs.Words.{HasWords}
+use Rattle.txc_script.specs.Forms.{AsksBy, LineForm}
+use Rattle.txc_script.specs.Lines.{IsPlain}
+use Rattle.txc_script.specs.declared.line_fault.WordKind.TheVariants.{Key, Stamp, Reach, Tags, Bytes}
 
--- ---- steps
+-- a key, the first and the last stamp at which its value is known to hold, whether it still does, tags, and the value
+abbrev pub insert_form : LineForm Op
+insert_form = record {
+  name = codes "insert";
+  kinds = Key ∷ Stamp ∷ Stamp ∷ Reach ∷ Tags ∷ Bytes ∷ [];
+  asks = λ said. Insert (record {
+    key = said.0;
+    value = said.1.1.1.1.1.0;
+    reach = record { lo = said.1.0; known = said.1.1.0; still = said.1.1.1.0 };
+    tags = set_of (tags_spelt said.1.1.1.1.0);
+  });
+}
 
--- a key and two stamps
-pub record AreLookupWords (key : Call) (lo hi : ℕ) (words : List (List ℕ)) : Type 0 where
-  pub key_word : List ℕ
-  pub lo_word : List ℕ
-  pub hi_word : List ℕ
-  pub are : words ≡ key_word ∷ lo_word ∷ hi_word ∷ []
-  pub is_key : IsKeyWord key_word key
-  pub is_lo : IsStampWord lo_word lo
-  pub is_hi : IsStampWord hi_word hi
+-- a key, and the first and the last stamp that will do
+abbrev pub lookup_form : LineForm Op
+lookup_form = record {
+  name = codes "lookup";
+  kinds = Key ∷ Stamp ∷ Stamp ∷ [];
+  asks = λ said. Lookup said.0 said.1.0 said.1.1.0;
+}
 
 -- a stamp and tags
-pub record AreEventWords (stamp : ℕ) (tags : List Tag) (words : List (List ℕ)) : Type 0 where
-  pub stamp_word : List ℕ
-  pub tags_word : List ℕ
-  pub are : words ≡ stamp_word ∷ tags_word ∷ []
-  pub is_stamp : IsStampWord stamp_word stamp
-  pub are_tags : IsTagsWord tags_word tags
+abbrev pub event_form : LineForm Op
+event_form = record {
+  name = codes "event";
+  kinds = Stamp ∷ Tags ∷ [];
+  asks = λ said. Event said.0 (set_of (tags_spelt said.1.0));
+}
 
 -- a stamp
-pub record AreSweepWords (horizon : ℕ) (words : List (List ℕ)) : Type 0 where
-  pub horizon_word : List ℕ
-  pub are : words ≡ horizon_word ∷ []
-  pub is_horizon : IsStampWord horizon_word horizon
+abbrev pub sweep_form : LineForm Op
+sweep_form = record { name = codes "sweep"; kinds = Stamp ∷ []; asks = λ said. Sweep said.0 }
 
--- a key, two stamps, `still` or `closed`, tags and bytes
-pub record AreInsertWords (e : Entry) (words : List (List ℕ)) : Type 0 where
-  pub key_word : List ℕ
-  pub lo_word : List ℕ
-  pub known_word : List ℕ
-  pub tags_word : List ℕ
-  pub value_word : List ℕ
-  pub are : words ≡ key_word ∷ lo_word ∷ known_word ∷ still_text e.reach.still ∷ tags_word ∷ value_word ∷ []
-  pub is_key : IsKeyWord key_word e.key
-  pub is_lo : IsStampWord lo_word e.reach.lo
-  pub is_known : IsStampWord known_word e.reach.known
-  pub are_tags : IsTagsWord tags_word e.tags
-  pub is_value : IsHexWord value_word e.value
+abbrev pub node_forms : List (LineForm Op)
+node_forms = insert_form ∷ lookup_form ∷ event_form ∷ sweep_form ∷ []
 
--- the name of a step
-abbrev pub step_name : Op → List ℕ
-step_name (Insert e) = codes "insert"
-step_name (Lookup key lo hi) = codes "lookup"
-step_name (Event stamp tags) = codes "event"
-step_name (Sweep horizon) = codes "sweep"
-
--- the words after the name of that step
-abbrev pub AreWordsAfter : Op → List (List ℕ) → Type 0
-AreWordsAfter (Insert e) words = AreInsertWords e words
-AreWordsAfter (Lookup key lo hi) words = AreLookupWords key lo hi words
-AreWordsAfter (Event stamp tags) words = AreEventWords stamp tags words
-AreWordsAfter (Sweep horizon) words = AreSweepWords horizon words
-
--- the text is the step's words after its name
-abbrev pub IsTextAfter : Op → List ℕ → Type 0
-IsTextAfter op text = (words : List (List ℕ)) × HasWords text words × AreWordsAfter op words
-
--- the line is the step's name and its words
+-- the line is of one of these forms, and asks for this step
 abbrev pub Spells : List ℕ → Op → Type 0
-Spells line op = (words : List (List ℕ)) × HasWords line (step_name op ∷ words) × AreWordsAfter op words
-
--- ---- lines
+Spells line op = AsksBy node_forms line op
 
 -- a line that names a step
 abbrev pub IsStepLine : List ℕ → Op → Type 0

@@ -1,6 +1,5 @@
 -- Scripts of a node: what their lines ask for and what they give, by the mode of the run.
-use Rattle.std.specs.Prelude.{◌≡◌, ℕ, false, List, [], ◌∷◌, ◌++◌, Option, Some, None, if◌then◌else◌, codes}
-use Rattle.std.specs.Str.{bytes_eq}
+use Rattle.std.specs.Prelude.{◌≡◌, ℕ, false, List, [], ◌∷◌, ◌++◌}
 use Rattle.txc_settings.specs.declared.mode.Mode.{Mode}
 use Rattle.txc_settings.specs.declared.mode.Mode.TheVariants.{Node, Report}
 use Rattle.txc_node.specs.declared.hit.Shown.{Shown}
@@ -11,30 +10,8 @@ use Rattle.txc_node.specs.Steps.{is_refusal, MayReply}
 use Rattle.txc_node.specs.Texts.{reply_text}
 use Rattle.txc_script.specs.Kinds.{ScriptKind, Given, Closing}
 use Rattle.txc_script.specs.LineFaults.{IsCommandFault}
-use Rattle.txc_script.specs.declared.line_fault.WordKind.{WordKind}
-use Rattle.txc_script.specs.declared.line_fault.WordKind.TheVariants.{Key, Stamp, Reach, Tags, Bytes}
-use Rattle.txc_run.specs.Lines.{Spells}
+use Rattle.txc_run.specs.Lines.{Spells, node_forms}
 use Rattle.txc_run.specs.Reports.{report_text}
-
--- the kinds of the words after a command's name
-abbrev pub insert_kinds : List WordKind
-insert_kinds = Key ∷ Stamp ∷ Stamp ∷ Reach ∷ Tags ∷ Bytes ∷ []
-
-abbrev pub lookup_kinds : List WordKind
-lookup_kinds = Key ∷ Stamp ∷ Stamp ∷ []
-
-abbrev pub event_kinds : List WordKind
-event_kinds = Stamp ∷ Tags ∷ []
-
-abbrev pub sweep_kinds : List WordKind
-sweep_kinds = Stamp ∷ []
-
-abbrev pub step_kinds : List ℕ → Option (List WordKind)
-step_kinds name =
-    if bytes_eq name (codes "insert") then Some insert_kinds
-    else (if bytes_eq name (codes "lookup") then Some lookup_kinds
-    else (if bytes_eq name (codes "event") then Some event_kinds
-    else (if bytes_eq name (codes "sweep") then Some sweep_kinds else None)))
 
 -- what is written of a reply at once: a report writes none
 abbrev pub reply_line : Mode → Reply Shown → List ℕ
@@ -65,7 +42,7 @@ node_script mode = record {
   breaks_off = λ c line next. Unit {0};
   text = reply_line mode;
   is_refused = is_refusal;
-  is_wrong = λ c. IsCommandFault step_kinds;
+  is_wrong = λ c. IsCommandFault node_forms;
   closes = CloseNode mode;
   breaks_at_end = λ c next. MayBreakAtEnd mode;
 }

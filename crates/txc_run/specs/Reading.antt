@@ -1,7 +1,5 @@
 -- Only private functions and a law need this file: what reading a line gives.
 use Rattle.std.specs.Prelude.{◌≡◌, ⊤, ℕ, List, Some, None}
-use Rattle.txc_tags.specs.declared.text.set.SetError.{SetError}
-use Rattle.txc_tags.specs.declared.text.set.SetError.TheVariants as sets
 use Rattle.txc_node.specs.Cache.{Cache}
 use Rattle.txc_node.specs.declared.entry.Entry.{Entry}
 use Rattle.txc_node.specs.declared.entry.EntryError.{EntryError}
@@ -13,30 +11,15 @@ use Rattle.txc_script.specs.Kinds.{IsMalformed}
 use Rattle.txc_script.specs.Lines.{IsQuiet}
 use Rattle.txc_script.specs.declared.unread.Unread.{Unread}
 use Rattle.txc_script.specs.declared.unread.Unread.TheVariants as unread
-use Rattle.txc_run.specs.Lines.{IsStepLine, IsTextAfter, step_name}
+use Rattle.txc_run.specs.Lines.{IsStepLine}
 use Rattle.txc_run.specs.NodeScripts.{node_script}
 use Rattle.txc_run.specs.declared.unread.NoStep.{NoStep}
 use Rattle.txc_run.specs.declared.unread.NoStep.TheVariants as reasons
-
--- the reason that a refused set of tags gives
-abbrev pub set_reason : SetError → NoStep
-set_reason (sets.BadTag bad) = reasons.Malformed
-set_reason (sets.Memory error) = reasons.Memory
 
 -- the reason that a word which was not read gives
 abbrev pub unread_reason : Unread → NoStep
 unread_reason unread.Malformed = reasons.Malformed
 unread_reason unread.Memory = reasons.Memory
-
--- a malformed text is none of these; its reading asks for no entry; a growth may be refused
-abbrev pub IsNoWord : {V : Type 0} → (V → Type 0) → NoStep → Type 0
-IsNoWord {V} Is reasons.Malformed = (v : V) → Is v → ⊥
-IsNoWord Is (reasons.Unmade error) = ⊥
-IsNoWord Is reasons.Memory = ⊤
-
--- the step has this name, and the text is its words after it
-abbrev pub IsNamed : List ℕ → List ℕ → Op → Type 0
-IsNamed name text op = (step_name op ≡ name) × IsTextAfter op text
 
 -- an insertion's entry can be made
 abbrev pub CanBeMade : Op → Type 0

@@ -1,10 +1,10 @@
 //! Finding what is wrong with the words of a malformed line.
 ghost use Rattle.std.specs.Prelude.{◌≡◌, Some, None, IfSome, IfNone};
 ghost use Rattle.txc_node.specs.declared.op.Op.{Op};
+ghost use Rattle.txc_script.specs.Forms.{kinds_after};
 ghost use Rattle.txc_script.specs.LineFaults.{HasWholeWords, IsCommandFault};
 ghost use Rattle.txc_script.specs.Words.{words_of};
-ghost use Rattle.txc_run.specs.Lines.{Spells};
-ghost use Rattle.txc_run.specs.NodeScripts.{step_kinds};
+ghost use Rattle.txc_run.specs.Lines.{Spells, node_forms};
 
 use std::alloc::Global;
 use txc_script::{CommandFault, Excerpt, WordKind, all_words, bad_word, count_words};
@@ -26,8 +26,8 @@ static SWEEP_WORDS: [WordKind; 1] = [WordKind::Stamp];
 
 /// The kinds of the words after a command's name.
 fn words_after(name: &[u8]) -> Option<&'static [WordKind]>
-    ensures answer { IfSome result (λ kinds. step_kinds name.now ≡ Some kinds.now) }
-    ensures refused { IfNone result (step_kinds name.now ≡ None) }
+    ensures answer { IfSome result (λ kinds. kinds_after node_forms name.now ≡ Some kinds.now) }
+    ensures refused { IfNone result (kinds_after node_forms name.now ≡ None) }
 {
     if name == b"insert".as_slice() {
         return Some(INSERT_WORDS.as_slice());
@@ -48,7 +48,7 @@ fn words_after(name: &[u8]) -> Option<&'static [WordKind]>
 pub fn find_command_fault(alloc: Global, line: &[u8]) -> CommandFault
     requires whole { HasWholeWords line.now }
     requires no_step { (op : Op) → Spells line.now op → ⊥ }
-    ensures { IsCommandFault step_kinds (words_of line.now) result }
+    ensures { IsCommandFault node_forms (words_of line.now) result }
 {
     let mut words = all_words(line);
     let name = words.next();

@@ -1,11 +1,12 @@
 //! Steps of the node, whose replies are taken.
-ghost use Rattle.std.specs.Prelude.{◌≡◌, true, codes, IfOk, IfErr, OnErr};
+ghost use Rattle.std.specs.Prelude.{◌≡◌, true, IfOk, IfErr, OnErr};
 ghost use Rattle.txc_node.specs.declared.entry.Entry.{Entry};
 ghost use Rattle.txc_node.specs.declared.op.Op.TheVariants as steps;
 ghost use Rattle.txc_node.specs.declared.reply.Reply.TheVariants.{Refused};
 ghost use Rattle.txc_node.specs.Steps.{refusal_by};
-ghost use Rattle.txc_run.specs.Lines.{Spells};
-ghost use Rattle.txc_run.specs.Reading.{IsNamed};
+ghost use Rattle.txc_script.specs.Forms.{IsOfForm};
+ghost use Rattle.txc_script.specs.Words.{words_of};
+ghost use Rattle.txc_run.specs.Lines.{Spells, event_form, insert_form, lookup_form, sweep_form};
 ghost use Rattle.txc_run.specs.Steps.{TakesStep, MakesStep, MakesNone};
 
 use crate::reading::{read_event, read_insert, read_lookup, read_sweep};
@@ -106,9 +107,9 @@ fn make_insertion<T: Taker>(
     text: &[u8],
     taker: &mut T,
 ) -> Result<bool, Unread>
-    ensures after { IfOk result (MakesStep T.takes (IsNamed (codes "insert") text.now)
+    ensures after { IfOk result (MakesStep T.takes (IsOfForm insert_form (words_of text.now))
         node.old node.new taker.old taker.new) }
-    ensures refused { IfErr result (MakesNone (IsNamed (codes "insert") text.now)
+    ensures refused { IfErr result (MakesNone (IsOfForm insert_form (words_of text.now))
         node.old node.new taker.old taker.new) }
     ensures unchanged { OnErr result (T.text taker.new ≡ T.text taker.old) }
 {
@@ -134,9 +135,9 @@ fn make_lookup<T: Taker>(
     text: &[u8],
     taker: &mut T,
 ) -> Result<bool, Unread>
-    ensures after { IfOk result (MakesStep T.takes (IsNamed (codes "lookup") text.now)
+    ensures after { IfOk result (MakesStep T.takes (IsOfForm lookup_form (words_of text.now))
         node.old node.new taker.old taker.new) }
-    ensures refused { IfErr result (MakesNone (IsNamed (codes "lookup") text.now)
+    ensures refused { IfErr result (MakesNone (IsOfForm lookup_form (words_of text.now))
         node.old node.new taker.old taker.new) }
     ensures unchanged { OnErr result (T.text taker.new ≡ T.text taker.old) }
 {
@@ -158,16 +159,16 @@ fn make_event<T: Taker>(
     text: &[u8],
     taker: &mut T,
 ) -> Result<bool, Unread>
-    ensures after { IfOk result (MakesStep T.takes (IsNamed (codes "event") text.now)
+    ensures after { IfOk result (MakesStep T.takes (IsOfForm event_form (words_of text.now))
         node.old node.new taker.old taker.new) }
-    ensures refused { IfErr result (MakesNone (IsNamed (codes "event") text.now)
+    ensures refused { IfErr result (MakesNone (IsOfForm event_form (words_of text.now))
         node.old node.new taker.old taker.new) }
     ensures unchanged { OnErr result (T.text taker.new ≡ T.text taker.old) }
 {
     let (stamp, tags) = match read_event(alloc, text) {
         Ok(read) => read,
-        Err(NoStep::Memory) => return Err(Unread::Memory),
-        Err(_) => return Err(Unread::Malformed),
+        Err(Unread::Malformed) => return Err(Unread::Malformed),
+        Err(Unread::Memory) => return Err(Unread::Memory),
     };
     match event(alloc, node, stamp, tags, taker) {
         Ok(refused) => Ok(refused),
@@ -183,9 +184,9 @@ fn make_sweep<T: Taker>(
     text: &[u8],
     taker: &mut T,
 ) -> Result<bool, Unread>
-    ensures after { IfOk result (MakesStep T.takes (IsNamed (codes "sweep") text.now)
+    ensures after { IfOk result (MakesStep T.takes (IsOfForm sweep_form (words_of text.now))
         node.old node.new taker.old taker.new) }
-    ensures refused { IfErr result (MakesNone (IsNamed (codes "sweep") text.now)
+    ensures refused { IfErr result (MakesNone (IsOfForm sweep_form (words_of text.now))
         node.old node.new taker.old taker.new) }
     ensures unchanged { OnErr result (T.text taker.new ≡ T.text taker.old) }
 {

@@ -1,7 +1,7 @@
 //! Why nothing was read.
 use txc_node::EntryError;
 use txc_script::{Malformed, Unread};
-use txc_tags::{BadKey, SetError};
+use txc_tags::BadKey;
 
 /// Why a text names no step that can be made.
 #[derive(Clone, Copy, Debug, PartialEq, Eq)]
@@ -47,20 +47,6 @@ impl From<BadKey> for NoStep {
 
     fn from(_error: BadKey) -> NoStep {
         NoStep::Malformed
-    }
-}
-
-impl From<SetError> for NoStep {
-    ghost use Rattle.std.specs.Prelude.{◌≡◌};
-    ghost use Rattle.txc_run.specs.Reading.{set_reason};
-
-    ghost from_gives = { λ error reason. reason ≡ set_reason error };
-
-    fn from(error: SetError) -> NoStep {
-        match error {
-            SetError::BadTag(_) => NoStep::Malformed,
-            SetError::Memory(_) => NoStep::Memory,
-        }
     }
 }
 

@@ -6,6 +6,8 @@ pub mod Scans
 pub mod Blanks
 pub mod HexDigits
 pub mod WordFaults
+pub mod Meanings
+pub mod Forms
 pub mod Counting
 pub mod EachLine
 pub mod Answering

@@ -1,5 +1,5 @@
 -- Words that are tested against their kinds.
-use Rattle.std.proofs.Common.{◌≡◌, ◌<◌, ◌≤◌, ◌+◌, ◌-◌, ◌↔◌, ℕ, Bool, true, false, not, suc, cond, Option, None, List, [], ◌∷◌, ◌++◌, get_or, length, drop, take, refl, sym, ap, subst, ◌∙◌, arith}
+use Rattle.std.proofs.Common.{◌≡◌, ◌<◌, ◌≤◌, ◌+◌, ◌-◌, ◌↔◌, ℕ, Bool, true, false, not, suc, cond, Option, None, List, [], ◌∷◌, ◌++◌, get_or, length, drop, take, refl, sym, ap, subst, ◌∙◌, append_assoc, append-nil, arith}
 use Rattle.std.specs.Prelude.{codes}
 use Rattle.std.specs.List.{All, flat_map, list_any, position, prefix_len}
 use Rattle.std.proofs.lemmas.Bool.Decides.{nat_tests}
@@ -89,18 +89,14 @@ kinds_more [] (v ∷ ws) k w h is = absurd h
 kinds_more (j ∷ ks) [] k w h is = absurd h
 kinds_more (j ∷ ks) (v ∷ ws) k w h is = (h.0, kinds_more ks ws k w h.1 is)
 
-one_more : {X : Type 0} (xs : List X) (y : X) (ys : List X) → xs ++ y ∷ ys ≡ (xs ++ y ∷ []) ++ ys
-one_more [] y ys = refl
-one_more (x ∷ xs) y ys = ap (λ (zs : List _). x ∷ zs) (one_more xs y ys)
-
 tested_more : (kinds : List WordKind) (words : List (List ℕ)) (rest : List WordKind) (left others : List (List ℕ)) (word : List ℕ) (number : ℕ) (d : WordKind)
     → HasTested kinds words rest left number → 1 ≤ length rest → left ≡ word ∷ others → IsOfKind (get_or rest 0 d) word → HasTested kinds words (drop 1 rest) others (number + 1)
 tested_more kinds words [] left others word number d h some e is = absurd (omega arith)
 tested_more kinds words (k ∷ rest) left others word number d h some e is = record {
   good_kinds = h.good_kinds ++ k ∷ [];
   good = h.good ++ word ∷ [];
-  kinds_are = h.kinds_are ∙ one_more h.good_kinds k rest;
-  words_are = h.words_are ∙ ap (λ (ws : List (List ℕ)). h.good ++ ws) e ∙ one_more h.good word others;
+  kinds_are = h.kinds_are ∙ sym (append_assoc h.good_kinds (k ∷ []) rest);
+  words_are = h.words_are ∙ ap (λ (ws : List (List ℕ)). h.good ++ ws) e ∙ sym (append_assoc h.good (word ∷ []) others);
   are_good = kinds_more h.good_kinds h.good k word h.are_good is;
   counted = omega (arith, h.counted, length-append h.good (word ∷ []));
   same = omega (arith, h.same, ap length e);
@@ -131,8 +127,7 @@ bad_tested kinds words (k ∷ rest) left others word number d fault h next some 
 }
 
 end_nil : {X : Type 0} (xs ys : List X) → length ys ≡ 0 → xs ++ ys ≡ xs
-end_nil [] [] e = refl
-end_nil (x ∷ xs) [] e = ap (λ (zs : List _). x ∷ zs) (end_nil xs [] e)
+end_nil xs [] e = append-nil xs
 end_nil xs (y ∷ ys) e = absurd (omega (arith, e))
 
 pub all_tested : (kinds : List WordKind) (words : List (List ℕ)) (rest : List WordKind) (left : List (List ℕ)) (number : ℕ) → HasTested kinds words rest left number → length rest ≡ 0 → AreOfKinds kinds words

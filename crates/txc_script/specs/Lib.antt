@@ -5,6 +5,7 @@ pub mod Written
 pub mod Reads
 pub mod Lines
 pub mod Excerpts
+pub mod Forms
 pub mod LineFaults
 pub mod FunctionLines
 pub mod Unread

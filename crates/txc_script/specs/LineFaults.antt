@@ -1,18 +1,17 @@
 -- What is wrong with words, and with the words of a line.
-use Rattle.std.specs.Prelude.{◌≡◌, ◌≢◌, ◌==◌, ◌+◌, ℕ, Bool, false, List, [], ◌∷◌, ◌++◌, Option, Some, None, length, nat_lt, ◌||◌}
+use Rattle.std.specs.Prelude.{◌≡◌, ◌≢◌, ◌==◌, ◌+◌, ℕ, Bool, false, List, [], ◌∷◌, ◌++◌, Option, Some, None, Result, Ok, Err, length, nat_lt, ◌||◌}
 use Rattle.std.specs.List.{list_any, flat_map}
-use Rattle.txc_tags.specs.Keys.{Call}
-use Rattle.txc_tags.specs.TextGrammar.{IsLongestPrefix}
+use Rattle.txc_tags.specs.TextGrammar.{IsLongestPrefix, IsText}
 use Rattle.txc_tags.specs.TextKey.{key_text, IsKeyInRange}
 use Rattle.txc_tags.specs.TextSet.{AreSpeltInRange, spelt_tags_text}
-use Rattle.txc_tags.specs.declared.tag.Tag.{Tag}
 use Rattle.txc_node.specs.Texts.{digits_of}
 use Rattle.txc_script.specs.Excerpts.{excerpt_of}
+use Rattle.txc_script.specs.Forms.{LineForm, MaySay, kinds_after, word_text}
 use Rattle.txc_script.specs.Hex.{IsBytes, IsHexWord}
-use Rattle.txc_script.specs.Lines.{IsPlain, IsChangeName, IsKeyWord, IsNumberWord, IsQueryName, IsStampWord, IsTagsWord, IsTextWord, still_text}
+use Rattle.txc_script.specs.Lines.{IsPlain}
 use Rattle.txc_script.specs.Words.{words_of}
 use Rattle.txc_script.specs.declared.line_fault.WordKind.{WordKind}
-use Rattle.txc_script.specs.declared.line_fault.WordKind.TheVariants.{Key, Stamp, Reach, Tags, Bytes, Number, Text, QueryName, ChangeName}
+use Rattle.txc_script.specs.declared.line_fault.WordKind.TheVariants.{Key, Tags}
 use Rattle.txc_script.specs.declared.line_fault.WordFault.{WordFault}
 use Rattle.txc_script.specs.declared.line_fault.CommandFault.{CommandFault}
 use Rattle.txc_script.specs.declared.line_fault.CommandFault.TheVariants.{Unknown, Count, Word}
@@ -25,15 +24,7 @@ IsHex word = (value : List ℕ) × IsHexWord word value
 
 -- the word is one of this kind
 abbrev pub IsOfKind : WordKind → List ℕ → Type 0
-IsOfKind Key word = (key : Call) × IsKeyWord word key
-IsOfKind Stamp word = (stamp : ℕ) × IsStampWord word stamp
-IsOfKind Reach word = (still : Bool) × (word ≡ still_text still)
-IsOfKind Tags word = (tags : List Tag) × IsTagsWord word tags
-IsOfKind Bytes word = IsHex word
-IsOfKind (Number most) word = (n : ℕ) × IsNumberWord most word n
-IsOfKind (Text most) word = IsTextWord most word
-IsOfKind QueryName word = IsQueryName word
-IsOfKind ChangeName word = IsChangeName word
+IsOfKind kind word = IsText (MaySay kind) (word_text kind) word
 
 -- each of the words is of its kind
 abbrev pub AreOfKinds : List WordKind → List (List ℕ) → Type 0
@@ -80,28 +71,33 @@ pub record HasWholeWords (line : List ℕ) : Type 0 where
 
 -- ---- commands
 
--- a line's words are a command's name, which by these rules wants words of these kinds after it, and others
-pub record IsCommand (kinds_after : List ℕ → Option (List WordKind)) (all words : List (List ℕ))
-    (kinds : List WordKind) : Type 0 where
+-- a line's words are a name, which in a table of forms wants words of these kinds after it, and others
+pub record IsCommand {A : Type 0} (forms : List (LineForm A)) (all words : List (List ℕ)) (kinds : List WordKind)
+    : Type 0 where
   pub name : List ℕ
   pub are : all ≡ name ∷ words
-  pub known : kinds_after name ≡ Some kinds
+  pub known : kinds_after forms name ≡ Some kinds
 
--- What is wrong with a line's words, where these rules say which kinds of words each command wants after its
--- name. The name is no command's; else the number of words is another; else a word is not of its kind.
-abbrev pub IsCommandFault : (List ℕ → Option (List WordKind)) → List (List ℕ) → CommandFault → Type 0
-IsCommandFault kinds_after all (Unknown text) =
-    (name : List ℕ) × (words : List (List ℕ)) × (all ≡ name ∷ words) × (kinds_after name ≡ None)
+-- What is wrong with the words of a line that is of no form of a table. No form has its name; else the number of
+-- words is another; else a word is not of its kind.
+abbrev pub IsCommandFault : {A : Type 0} → List (LineForm A) → List (List ℕ) → CommandFault → Type 0
+IsCommandFault forms all (Unknown text) =
+    (name : List ℕ) × (words : List (List ℕ)) × (all ≡ name ∷ words) × (kinds_after forms name ≡ None)
     × (text ≡ excerpt_of name)
-IsCommandFault kinds_after all (Count wanted given) =
-    (words : List (List ℕ)) × (kinds : List WordKind) × IsCommand kinds_after all words kinds
+IsCommandFault forms all (Count wanted given) =
+    (words : List (List ℕ)) × (kinds : List WordKind) × IsCommand forms all words kinds
     × (wanted ≡ length kinds) × (given ≡ length words) × (given ≢ wanted)
-IsCommandFault kinds_after all (Word fault) =
-    (words : List (List ℕ)) × (kinds : List WordKind) × IsCommand kinds_after all words kinds
+IsCommandFault forms all (Word fault) =
+    (words : List (List ℕ)) × (kinds : List WordKind) × IsCommand forms all words kinds
     × (length words ≡ length kinds) × IsBadWord kinds words fault
-IsCommandFault kinds_after all fault = ⊥
+IsCommandFault forms all fault = ⊥
 
 -- ---- only private functions need these
+
+-- the word is of this kind; or it is not, and goes wrong there
+abbrev pub IsTested : {T : Type 0} → WordKind → List ℕ → Result T (Option ℕ) → Type 0
+IsTested kind word (Ok done) = IsOfKind kind word
+IsTested kind word (Err at) = (IsOfKind kind word → ⊥) × StopsAt kind word at
 
 -- the text is the digits of some bytes
 abbrev pub AreDigitsOfBytes : List ℕ → Type 0

@@ -1,10 +1,10 @@
 //! Finding what is wrong with a malformed line.
-ghost use Rattle.std.specs.Prelude.{◌≡◌, ◌↔◌, ℕ, List, Some, None, IfSome, IfNone, IfOk, IfErr, OnOk, OnErr, position, length, IsTrue};
+ghost use Rattle.std.specs.Prelude.{◌≡◌, ◌↔◌, IfSome, IfNone, position, length, IsTrue};
 ghost use Rattle.std.specs.List.{list_any};
 ghost use Rattle.txc_script.specs.Kinds.{IsFaultOf, IsMalformed};
-ghost use Rattle.txc_script.specs.Lines.{IsTextWord};
+ghost use Rattle.txc_script.specs.Lines.{IsChangeName, IsQueryName, IsTextWord};
 ghost use Rattle.txc_script.specs.Words.{words_of, words_left};
-ghost use Rattle.txc_script.specs.LineFaults.{IsOfKind, AreOfKinds, is_foreign, is_empty, IsHex, AreDigitsOfBytes, StopsAt, IsBadWord};
+ghost use Rattle.txc_script.specs.LineFaults.{AreOfKinds, is_foreign, is_empty, IsHex, IsTested, AreDigitsOfBytes, IsBadWord};
 
 use crate::excerpt::Excerpt;
 use crate::hex::read_byte;
@@ -50,9 +50,7 @@ fn is_hex(word: &[u8]) -> bool
 
 /// Whether the word is a key; if not, where it goes wrong.
 fn test_key(word: &[u8]) -> Result<(), Option<usize>>
-    ensures answer { OnOk result (IsOfKind WordKind.Key word.now) }
-    ensures refused { OnErr result (IsOfKind WordKind.Key word.now → ⊥) }
-    ensures stop { IfErr result (StopsAt WordKind.Key word.now) }
+    ensures { IsTested WordKind.Key word.now result }
 {
     match Key::read(word) {
         Ok(_) => Ok(()),
@@ -62,60 +60,13 @@ fn test_key(word: &[u8]) -> Result<(), Option<usize>>
 
 /// Whether the word is tags; if not, where it goes wrong.
 fn test_tags(alloc: Global, word: &[u8]) -> Result<(), Option<usize>>
-    ensures answer { OnOk result (IsOfKind WordKind.Tags word.now) }
-    ensures refused { OnErr result (IsOfKind WordKind.Tags word.now → ⊥) }
-    ensures stop { IfErr result (StopsAt WordKind.Tags word.now) }
+    ensures { IsTested WordKind.Tags word.now result }
 {
     match TagSet::read(alloc, word) {
         Ok(_) => Ok(()),
         Err(SetError::BadTag(bad)) => Err(Some(bad.at)),
         // Memory is refused only for a word that is tags.
         Err(SetError::Memory(_)) => Ok(()),
-    }
-}
-
-/// Whether the word is a stamp.
-fn test_stamp(word: &[u8]) -> Result<(), Option<usize>>
-    ensures answer { OnOk result (IsOfKind WordKind.Stamp word.now) }
-    ensures refused { OnErr result (IsOfKind WordKind.Stamp word.now → ⊥) }
-    ensures stop { IfErr result (StopsAt WordKind.Stamp word.now) }
-{
-    match read_stamp(word) {
-        Ok(_) => Ok(()),
-        Err(_) => Err(None),
-    }
-}
-
-/// Whether the word is `still` or `closed`.
-fn test_still(word: &[u8]) -> Result<(), Option<usize>>
-    ensures answer { OnOk result (IsOfKind WordKind.Reach word.now) }
-    ensures refused { OnErr result (IsOfKind WordKind.Reach word.now → ⊥) }
-    ensures stop { IfErr result (StopsAt WordKind.Reach word.now) }
-{
-    match read_still(word) {
-        Ok(_) => Ok(()),
-        Err(_) => Err(None),
-    }
-}
-
-/// Whether the word is bytes.
-fn test_hex(word: &[u8]) -> Result<(), Option<usize>>
-    ensures answer { OnOk result (IsOfKind WordKind.Bytes word.now) }
-    ensures refused { OnErr result (IsOfKind WordKind.Bytes word.now → ⊥) }
-    ensures stop { IfErr result (StopsAt WordKind.Bytes word.now) }
-{
-    if is_hex(word) { Ok(()) } else { Err(None) }
-}
-
-/// Whether the word is a number of at most so much.
-fn test_number(most: u64, word: &[u8]) -> Result<(), Option<usize>>
-    ensures answer { OnOk result (IsOfKind (WordKind.Number most) word.now) }
-    ensures refused { OnErr result (IsOfKind (WordKind.Number most) word.now → ⊥) }
-    ensures stop { IfErr result (StopsAt (WordKind.Number most) word.now) }
-{
-    match read_number(word, most) {
-        Some(_) => Ok(()),
-        None => Err(None),
     }
 }
 
@@ -129,63 +80,57 @@ fn is_text(most: usize, word: &[u8]) -> bool
     word.iter().all(|byte| *byte >= 0x21 && *byte <= 0x7e)
 }
 
-/// Whether the word has at most so many bytes, each of which prints.
-fn test_text(most: usize, word: &[u8]) -> Result<(), Option<usize>>
-    ensures answer { OnOk result (IsOfKind (WordKind.Text most) word.now) }
-    ensures refused { OnErr result (IsOfKind (WordKind.Text most) word.now → ⊥) }
-    ensures stop { IfErr result (StopsAt (WordKind.Text most) word.now) }
-{
-    if is_text(most, word) {
-        Ok(())
-    } else {
-        Err(None)
-    }
-}
-
 /// Whether the word is the name of a query.
-fn test_query_name(word: &[u8]) -> Result<(), Option<usize>>
-    ensures answer { OnOk result (IsOfKind WordKind.QueryName word.now) }
-    ensures refused { OnErr result (IsOfKind WordKind.QueryName word.now → ⊥) }
-    ensures stop { IfErr result (StopsAt WordKind.QueryName word.now) }
+fn is_query_name(word: &[u8]) -> bool
+    ensures { IsTrue result ↔ IsQueryName word.now }
 {
     match word {
-        b"by-id" => Ok(()),
-        b"by-group" => Ok(()),
-        b"all" => Ok(()),
-        b"range" => Ok(()),
-        _ => Err(None),
+        b"by-id" => true,
+        b"by-group" => true,
+        b"all" => true,
+        b"range" => true,
+        _ => false,
     }
 }
 
 /// Whether the word is the name of a change.
-fn test_change_name(word: &[u8]) -> Result<(), Option<usize>>
-    ensures answer { OnOk result (IsOfKind WordKind.ChangeName word.now) }
-    ensures refused { OnErr result (IsOfKind WordKind.ChangeName word.now → ⊥) }
-    ensures stop { IfErr result (StopsAt WordKind.ChangeName word.now) }
+fn is_change_name(word: &[u8]) -> bool
+    ensures { IsTrue result ↔ IsChangeName word.now }
 {
     match word {
-        b"put" => Ok(()),
-        b"remove" => Ok(()),
-        _ => Err(None),
+        b"put" => true,
+        b"remove" => true,
+        _ => false,
     }
 }
 
 /// Whether the word is of its kind; if not, where a key or tags go wrong.
 fn test_word(alloc: Global, kind: WordKind, word: &[u8]) -> Result<(), Option<usize>>
-    ensures answer { OnOk result (IsOfKind kind word.now) }
-    ensures refused { OnErr result (IsOfKind kind word.now → ⊥) }
-    ensures stop { IfErr result (StopsAt kind word.now) }
+    ensures { IsTested kind word.now result }
 {
     match kind {
         WordKind::Key => test_key(word),
-        WordKind::Stamp => test_stamp(word),
-        WordKind::Reach => test_still(word),
         WordKind::Tags => test_tags(alloc, word),
-        WordKind::Bytes => test_hex(word),
-        WordKind::Number(most) => test_number(most, word),
-        WordKind::Text(most) => test_text(most, word),
-        WordKind::QueryName => test_query_name(word),
-        WordKind::ChangeName => test_change_name(word),
+        WordKind::Stamp => match read_stamp(word) {
+            Ok(_) => Ok(()),
+            Err(_) => Err(None),
+        },
+        WordKind::Reach => match read_still(word) {
+            Ok(_) => Ok(()),
+            Err(_) => Err(None),
+        },
+        WordKind::Number(most) => match read_number(word, most) {
+            Some(_) => Ok(()),
+            None => Err(None),
+        },
+        WordKind::Bytes if is_hex(word) => Ok(()),
+        WordKind::Bytes => Err(None),
+        WordKind::Text(most) if is_text(most, word) => Ok(()),
+        WordKind::Text(_) => Err(None),
+        WordKind::QueryName if is_query_name(word) => Ok(()),
+        WordKind::QueryName => Err(None),
+        WordKind::ChangeName if is_change_name(word) => Ok(()),
+        WordKind::ChangeName => Err(None),
     }
 }
 

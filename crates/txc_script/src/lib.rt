@@ -9,7 +9,6 @@ mod hex;
 mod kind;
 mod line;
 mod line_fault;
-mod line_name;
 mod piece;
 mod reads;
 mod run;
@@ -28,11 +27,10 @@ pub use hex::read_hex;
 pub use kind::Script;
 pub use line::MAX_LINE_LEN;
 pub use line_fault::{CommandFault, LineFault, MalformedLine, WordFault, WordKind};
-pub use line_name::LineName;
 pub use reads::MAX_READS;
 pub use run::run_script;
 pub use unread::{Malformed, Unread};
-pub use word::{read_stamp, read_still};
+pub use word::{read_stamp, read_still, read_tags};
 pub use words::{
     WordsLeft, all_words, count_words, first_word, one_word, six_words, three_words, two_words,
 };

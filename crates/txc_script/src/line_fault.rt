@@ -1,7 +1,6 @@
 //! What is wrong with a malformed line.
 use crate::excerpt::Excerpt;
 use crate::line::MAX_LINE_LEN;
-use crate::line_name::LineName;
 use std::fmt;
 use txc_stamp::LAST_STAMP;
 
@@ -52,17 +51,17 @@ pub enum CommandFault {
         given: usize,
     },
     Word(WordFault),
-    /// Of a world's script: it ends before the word that names its query or its change.
-    Usage(LineName),
-    /// Of a batch's script: too few words are after the command.
+    /// It ends before a word that says what the others are to be: how such a line is written.
+    Usage(&'static str),
+    /// Too few words are after the command.
     Few {
         /// How many there are to be at least.
         least: usize,
         /// How many there are.
         given: usize,
     },
-    /// Of a batch's script: it is a change or a pin, and stands after a job.
-    AfterJob,
+    /// It may not stand where it does: where such a line stands.
+    Misplaced(&'static str),
 }
 
 /// What is wrong with a malformed line: the first of these.
@@ -135,14 +134,14 @@ impl fmt::Display for CommandFault {
                 write!(f, "{wanted} {words} must follow the command, not {given}")
             }
             CommandFault::Word(fault) => write!(f, "{fault}"),
-            CommandFault::Usage(name) => write!(f, "expected `{name}`"),
+            CommandFault::Usage(form) => write!(f, "expected `{form}`"),
             CommandFault::Few { least, given } => {
                 write!(
                     f,
                     "at least {least} words must follow the command, not {given}"
                 )
             }
-            CommandFault::AfterJob => f.write_str("changes and pins stand before the first job"),
+            CommandFault::Misplaced(place) => f.write_str(place),
         }
     }
 }

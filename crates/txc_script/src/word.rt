@@ -1,10 +1,12 @@
-//! Words that are stamps, and those of a reach.
+//! Words that are stamps, those of a reach, and tags.
 ghost use Rattle.std.specs.Prelude.{◌≡◌, ℕ, Bool, IfOk, IfErr};
-ghost use Rattle.txc_script.specs.Lines.{IsStampWord, still_text};
+ghost use Rattle.txc_script.specs.Lines.{IsStampWord, IsTagsWord, still_text};
+ghost use Rattle.txc_script.specs.Unread.{IsNone};
 
-use crate::unread::Malformed;
+use crate::unread::{Malformed, Unread};
+use std::alloc::Global;
 use txc_stamp::{LAST_STAMP, Stamp};
-use txc_tags::read_number;
+use txc_tags::{SetError, TagSet, read_number};
 
 /// A stamp's number.
 pub fn read_stamp(text: &[u8]) -> Result<Stamp, Malformed>
@@ -26,5 +28,17 @@ pub fn read_still(text: &[u8]) -> Result<bool, Malformed>
         b"still" => Ok(true),
         b"closed" => Ok(false),
         _ => Err(Malformed),
+    }
+}
+
+/// Tags in any order and with repeats.
+pub fn read_tags(alloc: Global, text: &[u8]) -> Result<TagSet, Unread>
+    ensures answer { IfOk result (IsTagsWord text.now) }
+    ensures refused { IfErr result (IsNone (IsTagsWord text.now)) }
+{
+    match TagSet::read(alloc, text) {
+        Ok(tags) => Ok(tags),
+        Err(SetError::BadTag(_)) => Err(Unread::Malformed),
+        Err(SetError::Memory(_)) => Err(Unread::Memory),
     }
 }

@@ -14,7 +14,7 @@ use Rattle.txc_node.specs.declared.hit.Shown.{Shown}
 use Rattle.txc_node.specs.declared.op.Op.{Op}
 use Rattle.txc_node.specs.declared.op.Op.TheVariants.{Insert, Lookup, Event, Sweep}
 use Rattle.txc_node.specs.declared.record.Record.{Record}
-use Rattle.txc_node.specs.Cache.{Cache}
+use Rattle.txc_node.specs.Cache.{Cache, lookup_answer}
 use Rattle.txc_node.specs.Steps.{found_reply, refusal_of, step_reply, after_step}
 use Rattle.txc_node.proofs.Offered.{entry_is_made}
 use Rattle.txc_app.specs.Eval.{Next}
@@ -75,6 +75,14 @@ tags_in_longer stay L M number tags begins h =
 pub found_replied : (key : Call) (shown : Option Shown) → reply_of_found (option_map (entry_shown key) shown) ≡ found_reply shown
 found_replied key None = refl
 found_replied key (Some s) = refl
+
+-- so is what a search found, whose cache and stamps are those of the lookup
+pub searched_replied : (c d : Cache) (key : Call) (lo hi from to : ℕ) (found : Option Entry) → found ≡ option_map (entry_shown key) (lookup_answer d key from to) → c ≡ d → from ≡ lo → to ≡ hi
+    → reply_of_found found ≡ found_reply (lookup_answer c key lo hi)
+searched_replied c d key lo hi from to found is same first last =
+    let here : option_map (entry_shown key) (lookup_answer d key from to) ≡ option_map (entry_shown key) (lookup_answer c key lo hi) =
+    λ i. option_map (entry_shown key) (lookup_answer (sym same i) key (first i) (last i)) in
+    ap reply_of_found (is ∙ here) ∙ found_replied key (lookup_answer c key lo hi)
 
 -- the value of a node that made a step, by its fields
 pub called : (n : NodeValue) (seen : FrontValue) (pass : ℕ) (op : Op) (r : Record) (log : LogValue) (cache : Cache)

@@ -3,6 +3,7 @@ ghost use Rattle.std.specs.Prelude.{◌≡◌, ◌+◌, ◌<◌, ◌≤◌, ◌�
 ghost use Rattle.txc_stream.specs.Names.{stored, unstored};
 ghost use Rattle.std.specs.Option.{option_map};
 ghost use Rattle.txc_node.specs.Cache.{lookup_answer, outcome, swept_count};
+ghost use Rattle.txc_node.specs.Indexed.{IsSearchOf};
 ghost use Rattle.txc_node.specs.Counts.{AreCountsOf};
 ghost use Rattle.txc_node.specs.declared.op.Op.TheVariants.{Insert, Lookup, Sweep};
 ghost use Rattle.txc_app.specs.Claims.{IsTrueIn, entry_shown};
@@ -27,7 +28,7 @@ use std::marker::{Model, PhantomData};
 use txc_app::App;
 use txc_app::laws::true_entries_stay;
 use txc_db::{HistoryFront, states_stay};
-use txc_node::{Counts, Entry, MAX_CAPACITY, MAX_RECENT, NodeCore, Op, Record, Reply};
+use txc_node::{Counts, Entry, MAX_CAPACITY, MAX_RECENT, NodeCore, Op, Record, Reply, Search};
 use txc_stamp::Stamp;
 use txc_stream::{EventRow, Pen};
 use txc_tags::{Key, TagSet};
@@ -282,24 +283,21 @@ impl<A: App> StoredNode<A> {
         self.log.start()
     }
 
-    // What a lookup finds.
+    // What a lookup finds, by its search.
     fn find(
         &self,
         alloc: Global,
         key: &Key,
-        lo: Stamp,
-        hi: Stamp,
+        search: &Search,
     ) -> Result<Option<Finding<A>>, AllocError>
-        requires { lo ≤ hi }
+        requires { IsSearchOf self.now.cache key.now search.now }
         ensures found { IfOk result (λ found.
             option_map (λ f. f.entry) found
-            ≡ option_map (entry_shown key.now) (lookup_answer self.now.cache key.now lo hi)) }
+            ≡ option_map (entry_shown key.now) (lookup_answer self.now.cache key.now search.now.lo search.now.hi)) }
         ensures front { IfOk result (λ found. IfSome found (λ f. f.front ≡ self.now.seen)) }
     {
         answers_are_true();
-        let Ok(found) = self.core.find(key, lo, hi) else {
-            unreachable!();
-        };
+        let found = self.core.hit(key, search);
         let Some(hit) = found else {
             return Ok(None);
         };
@@ -339,14 +337,15 @@ impl<A: App> StoredNode<A> {
             return Err(NodeError::EmptyRange);
         }
         self.check_room()?;
-        let finding = self.find(alloc, key, lo, hi)?;
+        let Ok(search) = self.core.search(key, lo, hi) else {
+            unreachable!();
+        };
+        let finding = self.find(alloc, key, &search)?;
         let prepared = self
             .log
             .prepare_lookup(alloc, pass, key, lo, hi, &self.core)?;
         let next = prepared.with_found(alloc, &finding)?;
-        let Ok(_) = self.core.lookup(key, lo, hi) else {
-            unreachable!();
-        };
+        self.core.mark_used(key, &search);
         let reply = reply_without_copies(&finding);
         count_step(&mut self.counts, Some(key.function()), &reply);
         if !self.log.append(pass, next) {

@@ -8,7 +8,7 @@ use Rattle.txc_shared.specs.declared.advanced.Advanced.TheVariants as advances
 use Rattle.txc_shared.specs.declared.settings.NodeSettings.{NodeSettings}
 use Rattle.txc_shared.specs.Passes.{PassValue, HasGrown, HasTaken}
 use Rattle.txc_site.specs.Keeping.{HasKeptNode, HasTakenEach, HaveKept}
-use Rattle.txc_site.specs.Stations.{StationValue, HasAnswered, IsSamePass}
+use Rattle.txc_site.specs.Stations.{StationValue, HasNotRefused, IsSamePass}
 use Rattle.txc_site.specs.declared.keeper.KeptNode.{KeptNode}
 
 -- a pass that has grown is the same pass
@@ -27,7 +27,7 @@ same_then old mid new a b = record { settings = b.settings ∙ a.settings; pass 
 
 -- one event more was taken
 pub one_taken_more : (old last new : StationValue) (stamps : List ℕ) (stamp closed : ℕ) → HasTakenEach old stamps last
-    → HasTaken last.pass new.pass (advances.Taken stamp closed) → HasAnswered last new → HasTakenEach old (stamp ∷ stamps) new
+    → HasTaken last.pass new.pass (advances.Taken stamp closed) → HasNotRefused last new → HasTakenEach old (stamp ∷ stamps) new
 one_taken_more old last new stamps stamp closed before taken answered = (last, closed, before, taken, answered)
 
 one_kept_more : (histories : ℕ → Name) (h : Option ℕ) (olds : List StationValue) (all : List KeptNode) (news : List StationValue)

@@ -7,7 +7,7 @@ use Rattle.txc_shared.specs.declared.advanced.Advanced.TheVariants as advances
 use Rattle.txc_shared.specs.declared.error.NodeError.{NodeError}
 use Rattle.txc_shared.specs.Passes.{HasMade, HasTaken}
 use Rattle.txc_site.specs.Histories.{IsRoomLeft}
-use Rattle.txc_site.specs.Stations.{StationValue, HasAnswered, HasBeenRefused, IsSamePass}
+use Rattle.txc_site.specs.Stations.{StationValue, HasNotRefused, HasBeenRefused, IsSamePass}
 use Rattle.txc_site.specs.declared.keeper.Ended.{Ended}
 use Rattle.txc_site.specs.declared.keeper.Ended.TheVariants.{Idle, Paused, Refused}
 use Rattle.txc_site.specs.declared.keeper.KeptNode.{KeptNode}
@@ -17,12 +17,12 @@ use Rattle.txc_site.specs.declared.keeper.TheConstants.{MAX_TAKEN}
 abbrev pub HasTakenEach : StationValue → List ℕ → StationValue → Type 0
 HasTakenEach old [] new = new ≡ old
 HasTakenEach old (stamp ∷ earlier) new = (before : StationValue) × (closed : ℕ) × HasTakenEach old earlier before
-    × HasTaken before.pass new.pass (advances.Taken stamp closed) × HasAnswered before new
+    × HasTaken before.pass new.pass (advances.Taken stamp closed) × HasNotRefused before new
 
 -- after so many events there was none that the node had not taken, or it had taken as many as it may at once, or it
 -- refused the next one
 abbrev pub HasStoppedTaking : (ℕ → Name) → StationValue → ℕ → Ended → StationValue → Type 0
-HasStoppedTaking histories old taken Idle new = HasTaken old.pass new.pass advances.Idle × HasAnswered old new
+HasStoppedTaking histories old taken Idle new = HasTaken old.pass new.pass advances.Idle × HasNotRefused old new
 HasStoppedTaking histories old taken Paused new = (new ≡ old) × (taken ≡ MAX_TAKEN)
 HasStoppedTaking histories old taken (Refused error) new = HasBeenRefused histories old error new
 
@@ -37,7 +37,7 @@ pub record HasTakenEvents (histories : ℕ → Name) (old : StationValue) (taken
 -- the node was swept, and dropped so many entries; or refused the sweep; without a horizon it was not swept
 abbrev pub HasSwept : (ℕ → Name) → StationValue → Option ℕ → Option (Result ℕ NodeError) → StationValue → Type 0
 HasSwept histories old (Some horizon) (Some result) new =
-    IfOk result (λ count. HasMade old.pass new.pass (Sweep horizon) (Swept count) × HasAnswered old new)
+    IfOk result (λ count. HasMade old.pass new.pass (Sweep horizon) (Swept count) × HasNotRefused old new)
     × IfErr result (λ error. HasBeenRefused histories old error new)
 HasSwept histories old None None new = new ≡ old
 HasSwept histories old horizon swept new = ⊥

@@ -16,8 +16,8 @@ pub record IsSamePass (old new : StationValue) : Type 0 where
   pub pass : new.pass.pass ≡ old.pass.pass
 
 -- the node was asked, and did not refuse
-abbrev pub HasAnswered : StationValue → StationValue → Type 0
-HasAnswered old new = new.refusals ≡ old.refusals
+abbrev pub HasNotRefused : StationValue → StationValue → Type 0
+HasNotRefused old new = new.refusals ≡ old.refusals
 
 -- the node was asked, and refused, which leaves the pass so
 pub record HasBeenRefused (histories : ℕ → Name) (old : StationValue) (error : NodeError) (new : StationValue) : Type 0 where

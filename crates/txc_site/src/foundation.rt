@@ -2,7 +2,7 @@
 ghost use Rattle.std.specs.Prelude.{◌≡◌, ◌≤◌, IfOk, vec_len};
 ghost use Rattle.txc_db.specs.Shared.{IsDatabaseOf};
 ghost use Rattle.txc_site.specs.Plans.{nodes_of, IsPlan};
-ghost use Rattle.txc_site.specs.Histories.{AreHistoriesOf, HaveHistoriesBy};
+ghost use Rattle.txc_site.specs.Histories.{AreHistoriesOf};
 
 use crate::keeper::retire;
 use crate::ledger::{Committers, Ledger};
@@ -20,10 +20,8 @@ pub(crate) struct Foundation<A: App, J: Naming> {
     pub(crate) ledger: Ledger<J>,
     pub(crate) nodes: Vec<SharedNode<A, J>>,
     pub(crate) plan: Plan,
-    ghost sound: { IsPlan plan },
     ghost some: { 1 ≤ vec_len nodes },
     ghost planned: { nodes.items ≡ nodes_of plan },
-    ghost histories: { HaveHistoriesBy plan J.node_histories },
 }
 
 /// The nodes of the histories, by their numbers.
@@ -64,7 +62,6 @@ impl<A: App, J: Naming> Foundation<A, J> {
         requires database { core.events ≡ J.database_row }
         requires each { vec_len histories ≡ plan.nodes }
         requires histories { AreHistoriesOf J.node_histories 0 histories.items }
-        requires stored_so { HaveHistoriesBy plan J.node_histories }
         ensures { IfOk result (λ made. made.0.plan ≡ plan) }
     {
         let (ledger, committers) = Ledger::<J>::new(alloc, core)?;

@@ -1,7 +1,9 @@
 //! The threads of a site, and their clients.
 ghost use Rattle.std.specs.Prelude.{◌≡◌, All, IfErr, IfOk, map, vec_len};
 ghost use Rattle.txc_registry.specs.Objects.{numbers_of};
+ghost use Rattle.txc_site.specs.Histories.{HaveHistoriesBy};
 ghost use Rattle.txc_site.specs.Opened.{IsVisitRefused};
+ghost use Rattle.txc_site.specs.Plans.{IsPlan};
 ghost use Rattle.txc_site.specs.Sites.{numbers_below, HaveCome, IsClientRefused, IsNewClient};
 
 use crate::application::{Application, registry};
@@ -26,6 +28,8 @@ fn client<'a, A: Application<D>, D: Definition, J: Naming>(
     committers: &Committers<J>,
     pool: &mut PermitPool,
 ) -> Result<SiteClient<'a, A, D, J>, SiteError>
+    requires plan { IsPlan foundation.now.plan }
+    requires stored_so { HaveHistoriesBy foundation.now.plan J.node_histories }
     ensures plan { IfOk result (λ client. client.plan ≡ foundation.now.plan) }
     ensures new { IfOk result (IsNewClient J.node_histories) }
     ensures reader { IfOk result (λ client. numbers_of client.reader.objects ≡ A.numbers) }
@@ -60,6 +64,8 @@ fn guests<'a, A: Application<D>, D: Definition, J: Naming>(
     pool: &mut PermitPool,
     count: usize,
 ) -> Result<Vec<Guest<SiteClient<'a, A, D, J>>>, SiteError>
+    requires plan { IsPlan foundation.now.plan }
+    requires stored_so { HaveHistoriesBy foundation.now.plan J.node_histories }
     ensures each { IfOk result (λ guests. vec_len guests ≡ count) }
     ensures numbers { IfOk result (λ guests.
         map (λ guest. guest.number) guests.items ≡ numbers_below count) }
@@ -94,6 +100,8 @@ where
     V: Visitor<A, D> + Sync,
     J: Naming + Send + Sync,
     R: Threads + Wait + Sync,
+    requires plan { IsPlan foundation.now.plan }
+    requires stored_so { HaveHistoriesBy foundation.now.plan J.node_histories }
     ensures each { IfOk result (λ outputs. vec_len outputs ≡ count) }
     ensures gives { IfOk result (λ outputs.
         HaveCome (V.gives visitors.now foundation.now.plan J.database_row) outputs.items) }

@@ -13,10 +13,10 @@ use Rattle.txc_script.specs.declared.line_fault.CommandFault.TheVariants as faul
 use Rattle.txc_script.specs.declared.line_fault.WordFault.{WordFault}
 use Rattle.txc_script.specs.declared.line_fault.WordKind.{WordKind}
 use Rattle.txc_script.specs.declared.line_fault.WordKind.TheVariants.{QueryName, ChangeName}
-use Rattle.txc_script.specs.declared.line_name.LineName.{LineName}
-use Rattle.txc_script.specs.declared.line_name.LineName.TheVariants as names
+use Rattle.txc_words.specs.declared.name.LineName.{LineName}
+use Rattle.txc_words.specs.declared.name.LineName.TheVariants as names
 use Rattle.txc_words.specs.Parts.{AreChangeWords, ArePinWords, IsChangeInRange, IsIdRange, IsPair, IsQueryInRange, change_words, query_words, row_words}
-use Rattle.txc_words.specs.Faults.{IsFaultAfter, IsFirstBad, change_line, kinds_after, moment, pair_kinds, place, query_line, range_kinds, row_kinds, second_of, table}
+use Rattle.txc_words.specs.Faults.{IsFaultAfter, IsFirstBad, change_line, kinds_after_name, moment, pair_kinds, place, query_line, range_kinds, row_kinds, second_of, table}
 use Rattle.txc_words.proofs.WordParts.{apart, first_is, others_are}
 
 some_kinds : (kinds : List WordKind) → Some kinds ≡ None → ⊥
@@ -26,7 +26,7 @@ some_kinds kinds e = cc
 
 pub record HasKinds (name : LineName) (words : List (List ℕ)) : Type 0 where
   pub kinds : List WordKind
-  pub known : kinds_after name (second_of words) ≡ Some kinds
+  pub known : kinds_after_name name (second_of words) ≡ Some kinds
   pub good : AreOfKinds kinds words
 
 pub as_words : (name : LineName) (words others : List (List ℕ)) → words ≡ others → HasKinds name others → HasKinds name words
@@ -41,7 +41,7 @@ range_good t a b h = ((t, (h.is_table, refl)), ((a, (h.is_first, refl)), ((b, (h
 row_good : (row : RowValue) → IsRow row → AreOfKinds row_kinds (row_words row)
 row_good row h = (
   (row.table, (h.table, refl)),
-  ((row.id, (h.id, refl)), ((row.group, (h.group, refl)), (record { some = h.body.some; most = h.body.most; each = h.body.each }, tt))),
+  ((row.id, (h.id, refl)), ((row.group, (h.group, refl)), ((row.body, (record { some = h.body.some; most = h.body.most; each = h.body.each }, refl)), tt))),
 )
 
 pub put_kinds : (words : List (List ℕ)) (change : Change) → AreChangeWords (codes "put" ∷ words) change → HasKinds names.Put words
@@ -66,10 +66,10 @@ pub record QueryKinds (first : WordKind) (words : List (List ℕ)) : Type 0 wher
   pub good : AreOfKinds kinds words
 
 pub query_kinds : (first : WordKind) (word : List ℕ) (q : Query) → IsOfKind first word → IsQueryInRange q → QueryKinds first (word ∷ query_words q)
-query_kinds first word (queries.ById t n) is h = record { kinds = first ∷ QueryName ∷ pair_kinds; known = refl; good = (is, (inl refl, pair_good t n h)) }
-query_kinds first word (queries.ByGroup t n) is h = record { kinds = first ∷ QueryName ∷ pair_kinds; known = refl; good = (is, (inr (inl refl), pair_good t n h)) }
-query_kinds first word (queries.All t) is h = record { kinds = first ∷ QueryName ∷ table ∷ []; known = refl; good = (is, (inr (inr (inl refl)), ((t, (h, refl)), tt))) }
-query_kinds first word (queries.Range t a b) is h = record { kinds = first ∷ QueryName ∷ range_kinds; known = refl; good = (is, (inr (inr (inr refl)), range_good t a b h)) }
+query_kinds first word (queries.ById t n) is h = record { kinds = first ∷ QueryName ∷ pair_kinds; known = refl; good = (is, ((codes "by-id", (inl refl, refl)), pair_good t n h)) }
+query_kinds first word (queries.ByGroup t n) is h = record { kinds = first ∷ QueryName ∷ pair_kinds; known = refl; good = (is, ((codes "by-group", (inr (inl refl), refl)), pair_good t n h)) }
+query_kinds first word (queries.All t) is h = record { kinds = first ∷ QueryName ∷ table ∷ []; known = refl; good = (is, ((codes "all", (inr (inr (inl refl)), refl)), ((t, (h, refl)), tt))) }
+query_kinds first word (queries.Range t a b) is h = record { kinds = first ∷ QueryName ∷ range_kinds; known = refl; good = (is, ((codes "range", (inr (inr (inr refl)), refl)), range_good t a b h)) }
 
 -- an actor, and a change
 pub record ChangeKinds (words : List (List ℕ)) : Type 0 where
@@ -78,8 +78,8 @@ pub record ChangeKinds (words : List (List ℕ)) : Type 0 where
   pub good : AreOfKinds kinds words
 
 pub write_kinds : (word : List ℕ) (change : Change) → IsOfKind place word → IsChangeInRange change → ChangeKinds (word ∷ change_words change)
-write_kinds word (changes.Put row) is h = record { kinds = place ∷ ChangeName ∷ row_kinds; known = refl; good = (is, (inl refl, row_good row h)) }
-write_kinds word (changes.Remove t n) is h = record { kinds = place ∷ ChangeName ∷ pair_kinds; known = refl; good = (is, (inr refl, pair_good t n h)) }
+write_kinds word (changes.Put row) is h = record { kinds = place ∷ ChangeName ∷ row_kinds; known = refl; good = (is, ((codes "put", (inl refl, refl)), row_good row h)) }
+write_kinds word (changes.Remove t n) is h = record { kinds = place ∷ ChangeName ∷ pair_kinds; known = refl; good = (is, ((codes "remove", (inr refl, refl)), pair_good t n h)) }
 
 -- ---- so that nothing is wrong with them
 
@@ -115,4 +115,4 @@ none_after name words (faults.Word fault) h k =
     let bad = subst (λ (o : Option (List WordKind)). IsFirstBad name words o fault) k.known h in
     none_bad k.kinds words fault bad.1 k.good
 none_after name words (faults.Few least given) h k = h
-none_after name words faults.AfterJob h k = h
+none_after name words (faults.Misplaced text) h k = h

@@ -1,6 +1,6 @@
 -- The parts of lines, word by word.
-use Rattle.std.proofs.Common.{◌≡◌, ℕ, ◌≤◌, true, false, List, [], ◌∷◌, Result, Ok, Err, IfErr, length, refl, sym, ap, subst, ◌∙◌}
-use Rattle.std.specs.Prelude.{codes, IsErr, IsErrAnd}
+use Rattle.std.proofs.Common.{◌≡◌, ℕ, ◌≤◌, true, false, List, [], ◌∷◌, Result, Ok, Err, IfErr, length, refl, sym, ap, ◌∙◌}
+use Rattle.std.specs.Prelude.{codes}
 use Rattle.std.specs.Fmt.{decimal}
 use Rattle.std.specs.Str.{bytes_eq}
 use Rattle.std.proofs.lemmas.Slice.Eq.{bytes_eq-Decides}
@@ -143,16 +143,6 @@ row_short words rest word row e other h =
     let same : word ∷ rest ≡ row_words row = sym e ∙ h in
     let three : rest ≡ decimal row.id ∷ decimal row.group ∷ row.body ∷ [] = cc in
     other (ap length three)
-
--- what was refused as malformed is no such value
-pub none_of : {T V : Type 0} (r : Result T Unread) (Is : V → Type 0) → IsErr r × IsErrAnd r (λ reason. reason ≡ reasons.Malformed) → ((v : V) → Is v → ⊥) → IfErr r (IsNone Is)
-none_of (Ok x) Is h none = tt
-none_of (Err reason) Is h none = subst (IsNone Is) (sym h.1) none
-
--- a clause of a refusal that holds anyhow
-pub refused_anyhow : {T E : Type 0} (r : Result T E) (P : Type 0) → P → IfErr r (λ _. P)
-refused_anyhow (Ok x) P h = tt
-refused_anyhow (Err e) P h = h
 
 -- where there is no such value there is none of a narrower kind
 pub none_as : {T V : Type 0} (r : Result T Unread) (Is Js : V → Type 0) → IfErr r (IsNone Is) → ((v : V) → Js v → Is v) → IfErr r (IsNone Js)

@@ -2,19 +2,17 @@
 use Rattle.std.specs.Prelude.{◌≡◌, ◌≢◌, ◌<◌, ◌≤◌, ℕ, List, [], ◌∷◌, Option, Some, None, if◌then◌else◌, codes, length, take}
 use Rattle.std.specs.Str.{bytes_eq}
 use Rattle.txc_rows.specs.declared.row.TheConstants.{MAX_BODY_LEN}
-use Rattle.txc_script.specs.Excerpts.{excerpt_of}
 use Rattle.txc_script.specs.LineFaults.{IsBadWord}
 use Rattle.txc_script.specs.declared.line_fault.CommandFault.{CommandFault}
 use Rattle.txc_script.specs.declared.line_fault.CommandFault.TheVariants as faults
 use Rattle.txc_script.specs.declared.line_fault.WordFault.{WordFault}
 use Rattle.txc_script.specs.declared.line_fault.WordKind.{WordKind}
 use Rattle.txc_script.specs.declared.line_fault.WordKind.TheVariants.{Key, Stamp, Number, Text, QueryName, ChangeName}
-use Rattle.txc_script.specs.declared.line_name.LineName.{LineName}
-use Rattle.txc_script.specs.declared.line_name.LineName.TheVariants as names
+use Rattle.txc_words.specs.declared.name.LineName.{LineName}
+use Rattle.txc_words.specs.declared.name.LineName.TheVariants as names
 use Rattle.txc_tags.specs.declared.tag.TheConstants.{LAST_TABLE}
 use Rattle.txc_tags.specs.declared.key.TheConstants.{LAST_FUNCTION}
 use Rattle.txc_tags.specs.declared.text.number.TheConstants.{LAST_NUMBER}
-use Rattle.txc_words.specs.Names.{name_text}
 use Rattle.txc_words.specs.declared.parts.TheConstants.{LAST_MOMENT}
 
 -- ---- of which kinds words are to be
@@ -64,26 +62,26 @@ change_line name =
 
 -- The kinds of the words after a line's name, the second of which is this one. In three lines that word names a
 -- query or a change, and the words are of no known kinds where it does not.
-abbrev pub kinds_after : LineName → List ℕ → Option (List WordKind)
-kinds_after names.Put second = Some row_kinds
-kinds_after names.Remove second = Some pair_kinds
-kinds_after names.Pin second = Some (moment ∷ [])
-kinds_after names.Query second = query_line Stamp second
-kinds_after names.Ro second = Some (place ∷ moment ∷ moment ∷ Stamp ∷ [])
-kinds_after names.Rw second = Some (place ∷ [])
-kinds_after names.Session second = Some (place ∷ moment ∷ moment ∷ [])
-kinds_after names.Call second = Some (place ∷ Key ∷ [])
-kinds_after names.Step second = Some (place ∷ [])
-kinds_after names.Finish second = Some (place ∷ [])
-kinds_after names.Ask second = query_line place second
-kinds_after names.Write second = change_line second
-kinds_after names.Pins second = Some (place ∷ [])
-kinds_after names.Commit second = Some (place ∷ [])
-kinds_after names.Abort second = Some (place ∷ [])
-kinds_after names.Advance second = Some (place ∷ [])
-kinds_after names.Sweep second = Some (place ∷ Stamp ∷ [])
-kinds_after names.Tidy second = Some (moment ∷ moment ∷ [])
-kinds_after names.Counts second = Some (place ∷ function ∷ [])
+abbrev pub kinds_after_name : LineName → List ℕ → Option (List WordKind)
+kinds_after_name names.Put second = Some row_kinds
+kinds_after_name names.Remove second = Some pair_kinds
+kinds_after_name names.Pin second = Some (moment ∷ [])
+kinds_after_name names.Query second = query_line Stamp second
+kinds_after_name names.Ro second = Some (place ∷ moment ∷ moment ∷ Stamp ∷ [])
+kinds_after_name names.Rw second = Some (place ∷ [])
+kinds_after_name names.Session second = Some (place ∷ moment ∷ moment ∷ [])
+kinds_after_name names.Call second = Some (place ∷ Key ∷ [])
+kinds_after_name names.Step second = Some (place ∷ [])
+kinds_after_name names.Finish second = Some (place ∷ [])
+kinds_after_name names.Ask second = query_line place second
+kinds_after_name names.Write second = change_line second
+kinds_after_name names.Pins second = Some (place ∷ [])
+kinds_after_name names.Commit second = Some (place ∷ [])
+kinds_after_name names.Abort second = Some (place ∷ [])
+kinds_after_name names.Advance second = Some (place ∷ [])
+kinds_after_name names.Sweep second = Some (place ∷ Stamp ∷ [])
+kinds_after_name names.Tidy second = Some (moment ∷ moment ∷ [])
+kinds_after_name names.Counts second = Some (place ∷ function ∷ [])
 
 -- the kinds of the first two words after the name of such a line
 abbrev pub first_kinds : LineName → List WordKind
@@ -91,6 +89,15 @@ first_kinds names.Query = Stamp ∷ QueryName ∷ []
 first_kinds names.Ask = place ∷ QueryName ∷ []
 first_kinds names.Write = place ∷ ChangeName ∷ []
 first_kinds name = []
+
+-- how such a line is written
+abbrev pub usage_text : LineName → List ℕ
+usage_text names.Query =
+    codes "query STAMP by-id TABLE ID (or by-group TABLE GROUP, or all TABLE, or range TABLE FROM TO)"
+usage_text names.Ask =
+    codes "ask ACTOR by-id TABLE ID (or by-group TABLE GROUP, or all TABLE, or range TABLE FROM TO)"
+usage_text names.Write = codes "write ACTOR put TABLE ID GROUP BODY (or remove TABLE ID)"
+usage_text name = []
 
 -- the second of the words, or no bytes where there are fewer
 abbrev pub second_of : List (List ℕ) → List ℕ
@@ -110,11 +117,11 @@ IsFirstBad name words None fault = (2 ≤ length words) × IsBadWord (first_kind
 -- is not of its kind.
 abbrev pub IsFaultAfter : LineName → List (List ℕ) → CommandFault → Type 0
 IsFaultAfter name words (faults.Unknown text) = ⊥
-IsFaultAfter name words (faults.Usage line) =
-    (line ≡ name) × (kinds_after name (second_of words) ≡ None) × (length words < 2)
+IsFaultAfter name words (faults.Usage form) =
+    (form.now ≡ usage_text name) × (kinds_after_name name (second_of words) ≡ None) × (length words < 2)
 IsFaultAfter name words (faults.Count wanted given) =
-    (kinds : List WordKind) × (kinds_after name (second_of words) ≡ Some kinds)
+    (kinds : List WordKind) × (kinds_after_name name (second_of words) ≡ Some kinds)
     × (wanted ≡ length kinds) × (given ≡ length words) × (given ≢ wanted)
-IsFaultAfter name words (faults.Word fault) = IsFirstBad name words (kinds_after name (second_of words)) fault
+IsFaultAfter name words (faults.Word fault) = IsFirstBad name words (kinds_after_name name (second_of words)) fault
 IsFaultAfter name words (faults.Few least given) = ⊥
-IsFaultAfter name words faults.AfterJob = ⊥
+IsFaultAfter name words (faults.Misplaced text) = ⊥

@@ -1,7 +1,7 @@
 -- The names of lines.
 use Rattle.std.specs.Prelude.{ℕ, List, codes}
-use Rattle.txc_script.specs.declared.line_name.LineName.{LineName}
-use Rattle.txc_script.specs.declared.line_name.LineName.TheVariants as names
+use Rattle.txc_words.specs.declared.name.LineName.{LineName}
+use Rattle.txc_words.specs.declared.name.LineName.TheVariants as names
 
 -- the first word of a line
 abbrev pub name_text : LineName → List ℕ

@@ -3,11 +3,12 @@ ghost use Rattle.std.specs.Prelude.{◌≡◌, List, Some, None, length};
 ghost use Rattle.txc_script.specs.LineFaults.{AreOfKinds};
 ghost use Rattle.txc_script.specs.Words.{words_left};
 ghost use Rattle.txc_script.specs.declared.line_fault.WordKind.{WordKind};
-ghost use Rattle.txc_words.specs.Faults.{IsFaultAfter, kinds_after, second_of};
+ghost use Rattle.txc_words.specs.Faults.{IsFaultAfter, kinds_after_name, second_of};
 
-use crate::kinds::{first_kinds, kinds_after};
+use crate::kinds::{first_kinds, kinds_after_name, usage_of};
+use crate::name::LineName;
 use std::alloc::Global;
-use txc_script::{CommandFault, LineName, WordsLeft, bad_word};
+use txc_script::{CommandFault, WordsLeft, bad_word};
 
 /// The second of the words, of which there are so many; no bytes where there is none.
 fn second_of(words: WordsLeft<'_>, count: usize) -> &[u8]
@@ -30,11 +31,11 @@ fn find_without_kinds(
     count: usize,
 ) -> CommandFault
     requires counted { count ≡ length (words_left words) }
-    requires unknown { kinds_after name (second_of (words_left words)) ≡ None }
+    requires unknown { kinds_after_name name (second_of (words_left words)) ≡ None }
     ensures { IsFaultAfter name (words_left words.entry) result }
 {
     if count < 2 {
-        return CommandFault::Usage(name);
+        return CommandFault::Usage(usage_of(name));
     }
     match bad_word(alloc, first_kinds(name), words.first(2)) {
         Some(fault) => CommandFault::Word(fault),
@@ -51,11 +52,11 @@ pub fn find_after_name(
     count: usize,
 ) -> CommandFault
     requires counted { count ≡ length (words_left words) }
-    requires not_good { (kinds : List WordKind) → kinds_after name (second_of (words_left words)) ≡ Some kinds
+    requires not_good { (kinds : List WordKind) → kinds_after_name name (second_of (words_left words)) ≡ Some kinds
         → AreOfKinds kinds (words_left words) → ⊥ }
     ensures { IsFaultAfter name (words_left words.entry) result }
 {
-    let Some(kinds) = kinds_after(name, second_of(words, count)) else {
+    let Some(kinds) = kinds_after_name(name, second_of(words, count)) else {
         return find_without_kinds(alloc, name, words, count);
     };
     if count != kinds.len() {

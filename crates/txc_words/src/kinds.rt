@@ -1,11 +1,12 @@
 //! The kinds of the words of lines.
 ghost use Rattle.std.specs.Prelude.{◌≡◌, Some, None, IfSome, IfNone};
-ghost use Rattle.txc_words.specs.Faults.{change_line, first_kinds, kinds_after, place, query_line};
+ghost use Rattle.txc_words.specs.Faults.{change_line, first_kinds, kinds_after_name, place, query_line, usage_text};
 ghost use Rattle.txc_script.specs.declared.line_fault.WordKind.{WordKind};
 
+use crate::name::LineName;
 use crate::parts::LAST_MOMENT;
 use txc_rows::MAX_BODY_LEN;
-use txc_script::{LineName, WordKind};
+use txc_script::WordKind;
 use txc_tags::{LAST_FUNCTION, LAST_NUMBER, LAST_TABLE};
 
 /// The number of an actor or a node.
@@ -123,9 +124,9 @@ fn write_kinds(name: &[u8]) -> Option<&'static [WordKind]>
 }
 
 /// The kinds of the words after a line's name, of which the second may name a query or a change.
-pub fn kinds_after(name: LineName, second: &[u8]) -> Option<&'static [WordKind]>
-    ensures answer { IfSome result (λ kinds. kinds_after name second.now ≡ Some kinds.now) }
-    ensures refused { IfNone result (kinds_after name second.now ≡ None) }
+pub fn kinds_after_name(name: LineName, second: &[u8]) -> Option<&'static [WordKind]>
+    ensures answer { IfSome result (λ kinds. kinds_after_name name second.now ≡ Some kinds.now) }
+    ensures refused { IfNone result (kinds_after_name name second.now ≡ None) }
 {
     match name {
         LineName::Put => Some(PUT.as_slice()),
@@ -159,5 +160,21 @@ pub fn first_kinds(name: LineName) -> &'static [WordKind]
         LineName::Ask => ASK.as_slice(),
         LineName::Write => WRITE.as_slice(),
         _ => NOTHING.as_slice(),
+    }
+}
+
+/// How a line of the name is written, where the second word after it names a query or a change.
+pub fn usage_of(name: LineName) -> &'static str
+    ensures { result.now ≡ usage_text name }
+{
+    match name {
+        LineName::Query => {
+            "query STAMP by-id TABLE ID (or by-group TABLE GROUP, or all TABLE, or range TABLE FROM TO)"
+        }
+        LineName::Ask => {
+            "ask ACTOR by-id TABLE ID (or by-group TABLE GROUP, or all TABLE, or range TABLE FROM TO)"
+        }
+        LineName::Write => "write ACTOR put TABLE ID GROUP BODY (or remove TABLE ID)",
+        _ => "",
     }
 }

@@ -9,6 +9,6 @@ mod parts;
 mod refusals;
 
 pub use finding::find_after_name;
-pub use name::name_of;
+pub use name::{LineName, name_of};
 pub use parts::{LAST_MOMENT, read_change, read_moment, read_pin, read_place, read_query};
-pub use refusals::{OfAdd, OfDatabase, OfTransaction};
+pub use refusals::{write_add, write_database, write_transaction};

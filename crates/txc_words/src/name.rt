@@ -1,9 +1,31 @@
 //! The names of lines.
 ghost use Rattle.std.specs.Prelude.{◌≡◌, IfSome, IfNone};
 ghost use Rattle.txc_words.specs.Names.{name_text};
-ghost use Rattle.txc_script.specs.declared.line_name.LineName.{LineName};
+ghost use Rattle.txc_words.specs.declared.name.LineName.{LineName};
 
-use txc_script::LineName;
+/// The first word of a line.
+#[derive(Clone, Copy, Debug, PartialEq, Eq)]
+pub enum LineName {
+    Put,
+    Remove,
+    Pin,
+    Query,
+    Ro,
+    Rw,
+    Session,
+    Call,
+    Step,
+    Finish,
+    Ask,
+    Write,
+    Pins,
+    Commit,
+    Abort,
+    Advance,
+    Sweep,
+    Tidy,
+    Counts,
+}
 
 /// The name that the word is.
 pub fn name_of(word: &[u8]) -> Option<LineName>

@@ -1,4 +1,7 @@
-//! The texts of refusals: a code, and the numbers that go with it.
+//! What is written of refusals: a code, and the numbers that go with it.
+ghost use Rattle.std.specs.Fmt.{WritesOnOk};
+ghost use Rattle.txc_words.specs.RefusalTexts.{add_error_text, call_text, database_text, store_text, transaction_text};
+
 use std::fmt;
 use txc_call::CallError;
 use txc_cushion::AddError;
@@ -6,121 +9,72 @@ use txc_db::DbError;
 use txc_ports::TxnError;
 use txc_rows::StoreError;
 
-/// A refusal of the store.
-#[derive(Drop)]
-pub struct OfStore<'a>(pub &'a StoreError);
-
-impl fmt::Display for OfStore<'_> {
-    ghost use Rattle.std.specs.Prelude.{Some};
-    ghost use Rattle.txc_words.specs.RefusalTexts.{store_text};
-
-    ghost output = { λ e. Some (store_text e.0.now) };
-
-    fn fmt<W: fmt::Write>(&self, f: &mut fmt::Formatter<W>) -> fmt::Result {
-        match self.0 {
-            StoreError::TooManyRows => write!(f, "R2"),
-            StoreError::Memory => write!(f, "memory"),
-            _ => write!(f, "R3"),
-        }
+/// Writes a refusal of the store.
+fn write_store<W: fmt::Write>(f: &mut fmt::Formatter<W>, error: &StoreError) -> fmt::Result
+    ensures { WritesOnOk W.write_str_gives f.old result (store_text error.now) f.new }
+{
+    match error {
+        StoreError::TooManyRows => write!(f, "R2"),
+        StoreError::Memory => write!(f, "memory"),
+        _ => write!(f, "R3"),
     }
 }
 
-/// A refusal of the database.
-#[derive(Drop)]
-pub struct OfDatabase<'a>(pub &'a DbError);
-
-impl fmt::Display for OfDatabase<'_> {
-    ghost use Rattle.std.specs.Prelude.{Some};
-    ghost use Rattle.txc_words.specs.RefusalTexts.{database_text};
-
-    ghost output = { λ e. Some (database_text e.0.now) };
-
-    fn fmt<W: fmt::Write>(&self, f: &mut fmt::Formatter<W>) -> fmt::Result {
-        match self.0 {
-            DbError::SnapshotGone(horizon) => write!(f, "B1 {horizon}"),
-            DbError::Conflict(stamp) => write!(f, "B2 {stamp}"),
-            DbError::Full => write!(f, "B3"),
-            DbError::Store(cause) => {
-                let cause = OfStore(cause);
-                write!(f, "{cause}")
-            }
-            DbError::Broken => write!(f, "B5"),
-            DbError::NotPinned(stamp) => write!(f, "B6 {stamp}"),
-            DbError::FutureStamp(newest) => write!(f, "B7 {newest}"),
-            DbError::HoldsFull => write!(f, "B8"),
-            DbError::Memory => write!(f, "memory"),
-        }
+/// Writes a refusal of the database.
+pub fn write_database<W: fmt::Write>(f: &mut fmt::Formatter<W>, error: &DbError) -> fmt::Result
+    ensures { WritesOnOk W.write_str_gives f.old result (database_text error.now) f.new }
+{
+    match error {
+        DbError::SnapshotGone(horizon) => write!(f, "B1 {horizon}"),
+        DbError::Conflict(stamp) => write!(f, "B2 {stamp}"),
+        DbError::Full => write!(f, "B3"),
+        DbError::Store(cause) => write_store(f, cause),
+        DbError::Broken => write!(f, "B5"),
+        DbError::NotPinned(stamp) => write!(f, "B6 {stamp}"),
+        DbError::FutureStamp(newest) => write!(f, "B7 {newest}"),
+        DbError::HoldsFull => write!(f, "B8"),
+        DbError::Memory => write!(f, "memory"),
     }
 }
 
-/// A refusal of a call.
-#[derive(Drop)]
-pub struct OfCall<'a>(pub &'a CallError);
-
-impl fmt::Display for OfCall<'_> {
-    ghost use Rattle.std.specs.Prelude.{Some};
-    ghost use Rattle.txc_words.specs.RefusalTexts.{call_text};
-
-    ghost output = { λ e. Some (call_text e.0.now) };
-
-    fn fmt<W: fmt::Write>(&self, f: &mut fmt::Formatter<W>) -> fmt::Result {
-        match self.0 {
-            CallError::NoFunction(number) => write!(f, "K1 {number}"),
-            CallError::CallOrder(caller, called) => write!(f, "K2 {caller} {called}"),
-            CallError::AskLimit => write!(f, "K3"),
-            CallError::Budget => write!(f, "K4"),
-            CallError::Busy => write!(f, "K5"),
-            CallError::ObjectMemory => write!(f, "K6"),
-            CallError::ValueTooLong => write!(f, "K7"),
-            CallError::BadArguments(number) => write!(f, "K8 {number}"),
-            CallError::Memory => write!(f, "memory"),
-        }
+/// Writes a refusal of a call.
+fn write_call<W: fmt::Write>(f: &mut fmt::Formatter<W>, error: &CallError) -> fmt::Result
+    ensures { WritesOnOk W.write_str_gives f.old result (call_text error.now) f.new }
+{
+    match error {
+        CallError::NoFunction(number) => write!(f, "K1 {number}"),
+        CallError::CallOrder(caller, called) => write!(f, "K2 {caller} {called}"),
+        CallError::AskLimit => write!(f, "K3"),
+        CallError::Budget => write!(f, "K4"),
+        CallError::Busy => write!(f, "K5"),
+        CallError::ObjectMemory => write!(f, "K6"),
+        CallError::ValueTooLong => write!(f, "K7"),
+        CallError::BadArguments(number) => write!(f, "K8 {number}"),
+        CallError::Memory => write!(f, "memory"),
     }
 }
 
-/// A refusal of a transaction.
-#[derive(Drop)]
-pub struct OfTransaction<'a>(pub &'a TxnError);
-
-impl fmt::Display for OfTransaction<'_> {
-    ghost use Rattle.std.specs.Prelude.{Some};
-    ghost use Rattle.txc_words.specs.RefusalTexts.{transaction_text};
-
-    ghost output = { λ e. Some (transaction_text e.0.now) };
-
-    fn fmt<W: fmt::Write>(&self, f: &mut fmt::Formatter<W>) -> fmt::Result {
-        match self.0 {
-            TxnError::Call(cause) => {
-                let cause = OfCall(cause);
-                write!(f, "{cause}")
-            }
-            TxnError::Database(cause) => {
-                let cause = OfDatabase(cause);
-                write!(f, "{cause}")
-            }
-            TxnError::SnapshotLost(horizon) => write!(f, "X3 {horizon}"),
-            TxnError::PinsFull => write!(f, "X4"),
-            TxnError::BufferFull => write!(f, "X5"),
-            TxnError::Memory => write!(f, "memory"),
-        }
+/// Writes a refusal of a transaction.
+pub fn write_transaction<W: fmt::Write>(f: &mut fmt::Formatter<W>, error: &TxnError) -> fmt::Result
+    ensures { WritesOnOk W.write_str_gives f.old result (transaction_text error.now) f.new }
+{
+    match error {
+        TxnError::Call(cause) => write_call(f, cause),
+        TxnError::Database(cause) => write_database(f, cause),
+        TxnError::SnapshotLost(horizon) => write!(f, "X3 {horizon}"),
+        TxnError::PinsFull => write!(f, "X4"),
+        TxnError::BufferFull => write!(f, "X5"),
+        TxnError::Memory => write!(f, "memory"),
     }
 }
 
-/// A refusal of the pincushion to add a pin.
-#[derive(Drop)]
-pub struct OfAdd<'a>(pub &'a AddError);
-
-impl fmt::Display for OfAdd<'_> {
-    ghost use Rattle.std.specs.Prelude.{Some};
-    ghost use Rattle.txc_words.specs.RefusalTexts.{add_error_text};
-
-    ghost output = { λ e. Some (add_error_text e.0.now) };
-
-    fn fmt<W: fmt::Write>(&self, f: &mut fmt::Formatter<W>) -> fmt::Result {
-        match self.0 {
-            AddError::Full => write!(f, "C2"),
-            AddError::Known(stamp) => write!(f, "C3 {stamp}"),
-            AddError::Memory => write!(f, "memory"),
-        }
+/// Writes a refusal of the pincushion to add a pin.
+pub fn write_add<W: fmt::Write>(f: &mut fmt::Formatter<W>, error: &AddError) -> fmt::Result
+    ensures { WritesOnOk W.write_str_gives f.old result (add_error_text error.now) f.new }
+{
+    match error {
+        AddError::Full => write!(f, "C2"),
+        AddError::Known(stamp) => write!(f, "C3 {stamp}"),
+        AddError::Memory => write!(f, "memory"),
     }
 }

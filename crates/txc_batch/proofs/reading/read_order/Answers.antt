@@ -1,10 +1,10 @@
 use Rattle.std.proofs.Common.{◌≡◌, ◌∷◌, ℕ, List, ap, subst, sym, ◌∙◌}
 use Rattle.std.specs.Prelude.{codes}
 use Rattle.txc_script.specs.Words.{words_of}
-use Rattle.txc_script.proofs.Offered.{other_text, same_text, words_cut}
+use Rattle.txc_script.proofs.Offered.{none_like, other_text, same_text, words_cut}
 use Rattle.txc_words.specs.Parts.{AreChangeWords, ArePinWords}
 use Rattle.txc_batch.specs.Orders.{AsksFor}
-use Rattle.txc_batch.proofs.OrderWords.{change_asked, no_jobs, no_order_alone, none_like, some_jobs, too_late}
+use Rattle.txc_batch.proofs.OrderWords.{change_asked, no_jobs, no_order_alone, some_jobs, too_late}
 use Rattle.txc_batch.proofs.reading.read_order.Goals as goal
 
 pub returns-in_default-clause-refused : goal.returns-in_default-clause-refused

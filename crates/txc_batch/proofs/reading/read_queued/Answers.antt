@@ -1,11 +1,9 @@
 use Rattle.std.proofs.Common.{◌∷◌, ℕ, List, ap, ◌∙◌, arith}
 use Rattle.std.proofs.lemmas.List.Splits.{length-slice_split}
 use Rattle.txc_script.specs.Words.{is_blank, words_of}
-use Rattle.txc_script.proofs.Offered.{words_alone, words_cut}
-use Rattle.txc_words.proofs.Offered.{none_of}
+use Rattle.txc_script.proofs.Offered.{none_like, none_of, words_alone, words_cut}
 use Rattle.txc_batch.specs.Orders.{AreJobWords, AreKeyWords}
 use Rattle.txc_batch.proofs.JobWords.{job_in, job_words, one_word, two_words}
-use Rattle.txc_batch.proofs.OrderWords.{none_like}
 use Rattle.txc_batch.proofs.reading.read_queued.Goals as goal
 
 pub returns-in_default-clause-refused : goal.returns-in_default-clause-refused

@@ -2,7 +2,7 @@ use Rattle.std.proofs.Common.{ℕ, List, ◌∷◌, refl, sym, ap, ◌∙◌}
 use Rattle.std.specs.Fmt.{decimal}
 use Rattle.txc_script.specs.Words.{words_of}
 use Rattle.txc_play.specs.Tasks.{LineAsksFor}
-use Rattle.txc_script.specs.declared.line_name.LineName.TheVariants as names
+use Rattle.txc_words.specs.declared.name.LineName.TheVariants as names
 use Rattle.txc_play.specs.declared.task.Task.{Task}
 use Rattle.txc_script.proofs.Offered.{words_alone, words_cut}
 use Rattle.txc_words.proofs.Offered.{first_is, others_are, query_alone, refused_anyhow}

@@ -4,8 +4,8 @@ use Rattle.txc_words.specs.Names.{name_text}
 use Rattle.txc_words.specs.Parts.{AreChangeWords}
 use Rattle.txc_play.specs.Tasks.{LineAsksFor}
 use Rattle.txc_play.specs.TaskReading.{IsKeeperChange}
-use Rattle.txc_script.specs.declared.line_name.LineName.{LineName}
-use Rattle.txc_script.specs.declared.line_name.LineName.TheVariants as names
+use Rattle.txc_words.specs.declared.name.LineName.{LineName}
+use Rattle.txc_words.specs.declared.name.LineName.TheVariants as names
 use Rattle.txc_words.proofs.Offered.{none_as, none_of}
 use Rattle.txc_play.proofs.reading.read_named.Goals as goal
 

@@ -1,6 +1,7 @@
 use Rattle.std.proofs.Common.{length, refl, sym, ap, arith, ◌∙◌}
 use Rattle.txc_script.specs.Words.{words_left}
-use Rattle.txc_run.proofs.AllSpell.{all_spell}
+use Rattle.txc_script.proofs.Offered.{good_words_ask}
+use Rattle.txc_run.specs.Lines.{node_forms}
 use Rattle.txc_run.proofs.finding.find_command_fault.Goals as goal
 
 pub returns-in_default : goal.returns-in_default
@@ -20,9 +21,8 @@ returns-then-given-kinds c =
 
 pub unreachable-requires : goal.unreachable-requires
 unreachable-requires c =
-    let step = all_spell c.args.line.now (words_left c.next-name.new.self) c.in-Some.kinds.now
-    (record { name = c.next-name.result.now; are = sym c.all_words-words.ensures ∙ c.next-name.ensures; known = c.in-Some.ensures.answer }) c.in-None.ensures.refused in
-    c.requires.no_step step.0 step.1
+    let step = good_words_ask node_forms c.args.line.now c.next-name.result.now (words_left c.next-name.new.self) c.in-Some.kinds.now (sym c.all_words-words.ensures ∙ c.next-name.ensures) c.in-Some.ensures.answer c.in-None.ensures.refused in
+    c.requires.no_step step.asked step.asks
 
 pub returns : goal.returns
 returns c =

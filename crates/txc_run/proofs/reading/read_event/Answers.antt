@@ -1,43 +1,32 @@
-use Rattle.std.proofs.Common.{◌≡◌, List, ℕ, [], get_or, length, refl, sym, ap, subst, ◌∙◌}
-use Rattle.std.specs.Prelude.{codes}
+use Rattle.std.proofs.Common.{List, refl, sym, ap}
+use Rattle.txc_tags.specs.declared.tag.Tag.{Tag}
+use Rattle.txc_tags.specs.Tags.{set_of}
+use Rattle.txc_tags.specs.TextSet.{tags_spelt}
+use Rattle.txc_node.specs.declared.op.Op.TheVariants.{Event}
+use Rattle.txc_script.specs.Forms.{IsOfForm}
+use Rattle.txc_script.specs.Lines.{IsTagsWord}
 use Rattle.txc_script.specs.Words.{words_of}
-use Rattle.txc_script.specs.Lines.{IsStampWord, IsTagsWord}
-use Rattle.txc_run.specs.Reading.{IsNamed}
-use Rattle.txc_script.proofs.Offered.{has_words}
-use Rattle.txc_run.proofs.Named.{no_word, no_tags, event_in}
+use Rattle.txc_script.proofs.Offered.{none_like, none_of, of_words, says_count}
+use Rattle.txc_run.specs.Lines.{event_form}
 use Rattle.txc_run.proofs.reading.read_event.Goals as goal
 
 pub returns-in_err-stamp_text-clause-refused : goal.returns-in_err-stamp_text-clause-refused
 returns-in_err-stamp_text-clause-refused c =
-    no_word _ (IsNamed (codes "event") c.args.text.now) c.from_residual.ensures (λ op is. let of = event_in c.args.text.now op is in c.in_err-stamp_text.ensures.refused (ap length of.words.are))
+    none_of _ (IsOfForm event_form (words_of c.args.text.now)) c.from_residual.ensures (λ op is. c.in_err-stamp_text.ensures.refused (says_count event_form.kinds _ is.values is.say))
 
 pub returns-in_err-stamp-clause-refused : goal.returns-in_err-stamp-clause-refused
-returns-in_err-stamp-clause-refused c =
-    no_word _ (IsNamed (codes "event") c.args.text.now) c.from_residual-in_err-stamp.ensures (λ op is.
-    let of = event_in c.args.text.now op is in
-    let same : of.words.stamp_word ≡ c.in_ok-stamp_text.stamp_text.now = ap (λ (ws : List (List ℕ)). get_or ws 0 []) (sym of.words.are ∙ c.in_ok-stamp_text.ensures.answer) in
-    c.in_err-stamp.ensures.refused of.stamp (subst (λ (w : List ℕ). IsStampWord w of.stamp) same of.words.is_stamp))
+returns-in_err-stamp-clause-refused c = none_of _ (IsOfForm event_form (words_of c.args.text.now)) c.from_residual-in_err-stamp.ensures (λ op is.
+    let said = of_words event_form _ _ op c.in_ok-stamp_text.ensures.answer is in
+    c.in_err-stamp.ensures.refused said.values.0 said.say.0)
 
 pub returns-in_err-tags-clause-refused : goal.returns-in_err-tags-clause-refused
 returns-in_err-tags-clause-refused c =
-    no_tags _ (IsNamed (codes "event") c.args.text.now) c.in_ok-stamp_text.tags_text.now c.in_err-tags.field-0.0 c.from_residual-in_err-tags.ensures c.in_err-tags.ensures.refused (λ op is.
-    let of = event_in c.args.text.now op is in
-    let same : of.words.tags_word ≡ c.in_ok-stamp_text.tags_text.now = ap (λ (ws : List (List ℕ)). get_or ws 1 []) (sym of.words.are ∙ c.in_ok-stamp_text.ensures.answer) in
-    (of.tags, subst (λ (w : List ℕ). IsTagsWord w of.tags) same of.words.are_tags))
+    none_like _ c.in_err-tags.field-0.0 (IsTagsWord c.in_ok-stamp_text.tags_text.now) (IsOfForm event_form (words_of c.args.text.now)) c.from_residual-in_err-tags.ensures c.in_err-tags.ensures.refused (λ op is.
+    let said = of_words event_form _ _ op c.in_ok-stamp_text.ensures.answer is in
+    (set_of (tags_spelt said.values.1.0), (said.values.1.0, said.say.1.0, refl)))
 
 pub returns-clause-answer : goal.returns-clause-answer
 returns-clause-answer c =
-    let text = c.args.text.now in (
-      refl,
-      (
-        words_of text,
-        has_words text,
-        record {
-          stamp_word = c.in_ok-stamp_text.stamp_text.now;
-          tags_word = c.in_ok-stamp_text.tags_text.now;
-          are = c.in_ok-stamp_text.ensures.answer;
-          is_stamp = c.in_ok-stamp.ensures.answer;
-          are_tags = c.in_ok-tags.ensures.answer;
-        },
-      ),
-    )
+    let tags = c.in_ok-tags.ensures.answer in
+    of_words event_form _ _ (Event c.in_ok-stamp.stamp c.in_ok-tags.tags) (sym c.in_ok-stamp_text.ensures.answer)
+    (record { values = (c.in_ok-stamp.stamp, (tags.0, tt)); say = (c.in_ok-stamp.ensures.answer, (tags.1, tt)); asks = ap (λ (ts : List Tag). Event c.in_ok-stamp.stamp ts) tags.2 })

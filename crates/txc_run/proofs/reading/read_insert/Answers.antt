@@ -1,54 +1,55 @@
-use Rattle.std.proofs.Common.{◌≡◌, List, ℕ, Err, [], get_or, length, refl, arith, sym, ap, subst, ◌∙◌}
-use Rattle.std.specs.Prelude.{codes}
+use Rattle.std.proofs.Common.{Err, refl, arith, sym, ap, subst}
+use Rattle.txc_tags.specs.Tags.{set_of}
+use Rattle.txc_tags.specs.TextSet.{tags_spelt}
 use Rattle.txc_node.specs.declared.entry.Entry.{Entry}
 use Rattle.txc_node.specs.declared.op.Op.TheVariants.{Insert}
 use Rattle.txc_node.proofs.Offered.{entry_is_made}
+use Rattle.txc_script.specs.Forms.{IsOfForm}
 use Rattle.txc_script.specs.Hex.{IsHexWord}
-use Rattle.txc_script.specs.Lines.{IsKeyWord, IsStampWord, IsTagsWord, still_text}
-use Rattle.txc_run.specs.Reading.{IsNamed, NamesStep}
-use Rattle.txc_run.proofs.Named.{malformed, tags_unread, word_unread, unmade, insert_in, insertion_named, entry_refused}
+use Rattle.txc_script.specs.Lines.{IsTagsWord}
+use Rattle.txc_script.specs.Words.{words_of}
+use Rattle.txc_script.proofs.Offered.{of_words, says_count}
+use Rattle.txc_run.specs.Lines.{insert_form}
+use Rattle.txc_run.specs.Reading.{NamesStep}
+use Rattle.txc_run.proofs.Named.{malformed, word_unread, unmade, insertion_named, entry_refused}
 use Rattle.txc_run.proofs.reading.read_insert.Goals as goal
 
 pub returns-in_err-key_text-clause-refused : goal.returns-in_err-key_text-clause-refused
 returns-in_err-key_text-clause-refused c =
-    malformed _ (IsNamed (codes "insert") c.args.text.now) c.from_residual.ensures (λ op is. let of = insert_in c.args.text.now op is in c.in_err-key_text.ensures.refused (ap length of.words.are))
+    malformed _ (IsOfForm insert_form (words_of c.args.text.now)) c.from_residual.ensures (λ op is. c.in_err-key_text.ensures.refused (says_count insert_form.kinds _ is.values is.say))
 
 pub returns-in_err-key-clause-refused : goal.returns-in_err-key-clause-refused
-returns-in_err-key-clause-refused c = malformed _ (IsNamed (codes "insert") c.args.text.now) c.from_residual-in_err-key.ensures (λ op is.
-    let of = insert_in c.args.text.now op is in
-    let same : of.words.key_word ≡ c.in_ok-key_text.key_text.now = ap (λ (ws : List (List ℕ)). get_or ws 0 []) (sym of.words.are ∙ c.in_ok-key_text.ensures.answer) in
-    let found = c.in_err-key.ensures.only_if.1 (of.entry.key, subst (λ (w : List ℕ). IsKeyWord w of.entry.key) same of.words.is_key) in
+returns-in_err-key-clause-refused c = malformed _ (IsOfForm insert_form (words_of c.args.text.now)) c.from_residual-in_err-key.ensures (λ op is.
+    let said = of_words insert_form _ _ op c.in_ok-key_text.ensures.answer is in
+    let found = c.in_err-key.ensures.only_if.1 (said.values.0, said.say.0) in
     cc)
 
 pub returns-in_err-lo-clause-refused : goal.returns-in_err-lo-clause-refused
-returns-in_err-lo-clause-refused c = malformed _ (IsNamed (codes "insert") c.args.text.now) c.from_residual-in_err-lo.ensures (λ op is.
-    let of = insert_in c.args.text.now op is in
-    let same : of.words.lo_word ≡ c.in_ok-key_text.lo_text.now = ap (λ (ws : List (List ℕ)). get_or ws 1 []) (sym of.words.are ∙ c.in_ok-key_text.ensures.answer) in
-    c.in_err-lo.ensures.refused of.entry.reach.lo (subst (λ (w : List ℕ). IsStampWord w of.entry.reach.lo) same of.words.is_lo))
+returns-in_err-lo-clause-refused c = malformed _ (IsOfForm insert_form (words_of c.args.text.now)) c.from_residual-in_err-lo.ensures (λ op is.
+    let said = of_words insert_form _ _ op c.in_ok-key_text.ensures.answer is in
+    c.in_err-lo.ensures.refused said.values.1.0 said.say.1.0)
 
 pub returns-in_err-known-clause-refused : goal.returns-in_err-known-clause-refused
-returns-in_err-known-clause-refused c = malformed _ (IsNamed (codes "insert") c.args.text.now) c.from_residual-in_err-known.ensures (λ op is.
-    let of = insert_in c.args.text.now op is in
-    let same : of.words.known_word ≡ c.in_ok-key_text.known_text.now = ap (λ (ws : List (List ℕ)). get_or ws 2 []) (sym of.words.are ∙ c.in_ok-key_text.ensures.answer) in
-    c.in_err-known.ensures.refused of.entry.reach.known (subst (λ (w : List ℕ). IsStampWord w of.entry.reach.known) same of.words.is_known))
+returns-in_err-known-clause-refused c = malformed _ (IsOfForm insert_form (words_of c.args.text.now)) c.from_residual-in_err-known.ensures (λ op is.
+    let said = of_words insert_form _ _ op c.in_ok-key_text.ensures.answer is in
+    c.in_err-known.ensures.refused said.values.1.1.0 said.say.1.1.0)
 
 pub returns-in_err-still-clause-refused : goal.returns-in_err-still-clause-refused
-returns-in_err-still-clause-refused c = malformed _ (IsNamed (codes "insert") c.args.text.now) c.from_residual-in_err-still.ensures (λ op is.
-    let of = insert_in c.args.text.now op is in
-    let same : c.in_ok-key_text.reach_text.now ≡ still_text of.entry.reach.still = ap (λ (ws : List (List ℕ)). get_or ws 3 []) (sym c.in_ok-key_text.ensures.answer ∙ of.words.are) in
-    c.in_err-still.ensures.refused of.entry.reach.still same)
+returns-in_err-still-clause-refused c = malformed _ (IsOfForm insert_form (words_of c.args.text.now)) c.from_residual-in_err-still.ensures (λ op is.
+    let said = of_words insert_form _ _ op c.in_ok-key_text.ensures.answer is in
+    c.in_err-still.ensures.refused said.values.1.1.1.0 said.say.1.1.1.0.1)
 
 pub returns-in_err-tags-clause-refused : goal.returns-in_err-tags-clause-refused
-returns-in_err-tags-clause-refused c = tags_unread _ (IsNamed (codes "insert") c.args.text.now) c.in_ok-key_text.tags_text.now c.in_err-tags.field-0.0 c.from_residual-in_err-tags.ensures c.in_err-tags.ensures.refused (λ op is.
-    let of = insert_in c.args.text.now op is in
-    let same : of.words.tags_word ≡ c.in_ok-key_text.tags_text.now = ap (λ (ws : List (List ℕ)). get_or ws 4 []) (sym of.words.are ∙ c.in_ok-key_text.ensures.answer) in
-    (of.entry.tags, subst (λ (w : List ℕ). IsTagsWord w of.entry.tags) same of.words.are_tags))
+returns-in_err-tags-clause-refused c =
+    word_unread _ (IsOfForm insert_form (words_of c.args.text.now)) (IsTagsWord c.in_ok-key_text.tags_text.now) c.in_err-tags.field-0.0 c.from_residual-in_err-tags.ensures c.in_err-tags.ensures.refused (λ op is.
+    let said = of_words insert_form _ _ op c.in_ok-key_text.ensures.answer is in
+    (set_of (tags_spelt said.values.1.1.1.1.0), (said.values.1.1.1.1.0, said.say.1.1.1.1.0, refl)))
 
 pub returns-in_err-value-clause-refused : goal.returns-in_err-value-clause-refused
-returns-in_err-value-clause-refused c = word_unread _ (IsNamed (codes "insert") c.args.text.now) (IsHexWord c.in_ok-key_text.value_text.now) c.in_err-value.field-0.0 c.from_residual-in_err-value.ensures c.in_err-value.ensures.refused (λ op is.
-    let of = insert_in c.args.text.now op is in
-    let same : of.words.value_word ≡ c.in_ok-key_text.value_text.now = ap (λ (ws : List (List ℕ)). get_or ws 5 []) (sym of.words.are ∙ c.in_ok-key_text.ensures.answer) in
-    (of.entry.value, subst (λ (w : List ℕ). IsHexWord w of.entry.value) same of.words.is_value))
+returns-in_err-value-clause-refused c =
+    word_unread _ (IsOfForm insert_form (words_of c.args.text.now)) (IsHexWord c.in_ok-key_text.value_text.now) c.in_err-value.field-0.0 c.from_residual-in_err-value.ensures c.in_err-value.ensures.refused (λ op is.
+    let said = of_words insert_form _ _ op c.in_ok-key_text.ensures.answer is in
+    (said.values.1.1.1.1.1.0, said.say.1.1.1.1.1.0))
 
 pub returns-in_err-new-clause-refused : goal.returns-in_err-new-clause-refused
 returns-in_err-new-clause-refused c =
@@ -58,10 +59,9 @@ returns-in_err-new-clause-refused c =
       reach = record { lo = c.in_ok-lo.lo; known = c.in_ok-known.known; still = c.in_ok-still.still };
       tags = c.in_ok-tags.tags;
     } in
-    let are = c.in_ok-key_text.ensures.answer in
-    unmade _ (IsNamed (codes "insert") c.args.text.now) entry c.in_err-new.field-0.0 c.from_residual-in_err-new.ensures
-    (insertion_named c.args.text.now entry c.in_ok-key_text.key_text.now c.in_ok-key_text.lo_text.now c.in_ok-key_text.known_text.now c.in_ok-key_text.reach_text.now c.in_ok-key_text.tags_text.now c.in_ok-key_text.value_text.now
-    are c.in_ok-key.ensures.answer c.in_ok-lo.ensures.answer c.in_ok-known.ensures.answer c.in_ok-still.ensures.answer c.in_ok-tags.ensures.answer c.in_ok-value.ensures.answer)
+    unmade _ (IsOfForm insert_form (words_of c.args.text.now)) entry c.in_err-new.field-0.0 c.from_residual-in_err-new.ensures
+    (insertion_named _ entry _ _ _ _ _ _ c.in_ok-key_text.ensures.answer c.in_ok-key.ensures.answer c.in_ok-lo.ensures.answer c.in_ok-known.ensures.answer c.in_ok-still.ensures.answer c.in_ok-tags.ensures.answer
+    c.in_ok-value.ensures.answer)
     (entry_refused entry c.in_err-new.field-0.0 (λ e. c.in_err-new.ensures.bad_reach.0 (ap Err e)) (λ e. let l = c.in_err-new.ensures.too_long.0 (ap Err e) in (l.0, omega (arith, l.1, c.in_ok-value.value.ok.0))))
 
 pub returns-clause-answer : goal.returns-clause-answer
@@ -72,8 +72,7 @@ returns-clause-answer c =
       reach = record { lo = c.in_ok-lo.lo; known = c.in_ok-known.known; still = c.in_ok-still.still };
       tags = c.in_ok-tags.tags;
     } in
-    let are = c.in_ok-key_text.ensures.answer in
-    let is = insertion_named c.args.text.now entry c.in_ok-key_text.key_text.now c.in_ok-key_text.lo_text.now c.in_ok-key_text.known_text.now c.in_ok-key_text.reach_text.now c.in_ok-key_text.tags_text.now c.in_ok-key_text.value_text.now
-    are c.in_ok-key.ensures.answer c.in_ok-lo.ensures.answer c.in_ok-known.ensures.answer c.in_ok-still.ensures.answer c.in_ok-tags.ensures.answer c.in_ok-value.ensures.answer in
+    let is = insertion_named _ entry _ _ _ _ _ _ c.in_ok-key_text.ensures.answer c.in_ok-key.ensures.answer c.in_ok-lo.ensures.answer c.in_ok-known.ensures.answer c.in_ok-still.ensures.answer c.in_ok-tags.ensures.answer
+    c.in_ok-value.ensures.answer in
     let fits = c.in_ok-new.ensures.only_if.0 refl in
-    subst (λ (e : Entry). NamesStep (IsNamed (codes "insert") c.args.text.now) (Insert e)) (sym c.in_ok-new.ensures.answer) (is, entry_is_made entry fits.0 (omega (arith, fits.1, c.in_ok-value.value.ok.0)))
+    subst (λ (e : Entry). NamesStep (IsOfForm insert_form (words_of c.args.text.now)) (Insert e)) (sym c.in_ok-new.ensures.answer) (is, entry_is_made entry fits.0 (omega (arith, fits.1, c.in_ok-value.value.ok.0)))

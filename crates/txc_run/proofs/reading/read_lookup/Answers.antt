@@ -1,48 +1,32 @@
-use Rattle.std.proofs.Common.{◌≡◌, List, ℕ, [], get_or, length, refl, sym, ap, subst, ◌∙◌}
-use Rattle.std.specs.Prelude.{codes}
+use Rattle.std.proofs.Common.{refl, sym}
+use Rattle.txc_node.specs.declared.op.Op.TheVariants.{Lookup}
 use Rattle.txc_script.specs.Words.{words_of}
-use Rattle.txc_script.specs.Lines.{IsKeyWord, IsStampWord}
-use Rattle.txc_script.proofs.Offered.{has_words}
-use Rattle.txc_run.proofs.Named.{none_named, lookup_in}
+use Rattle.txc_script.proofs.Offered.{no_form_of, of_words, says_count}
+use Rattle.txc_run.specs.Lines.{lookup_form}
 use Rattle.txc_run.proofs.reading.read_lookup.Goals as goal
 
 pub returns-in_err-key_text-clause-refused : goal.returns-in_err-key_text-clause-refused
-returns-in_err-key_text-clause-refused c = none_named _ (codes "lookup") c.args.text.now (λ op is. let of = lookup_in c.args.text.now op is in c.in_err-key_text.ensures.refused (ap length of.words.are))
+returns-in_err-key_text-clause-refused c = no_form_of _ lookup_form (words_of c.args.text.now) (λ op is. c.in_err-key_text.ensures.refused (says_count lookup_form.kinds _ is.values is.say))
 
 pub returns-in_err-key-clause-refused : goal.returns-in_err-key-clause-refused
-returns-in_err-key-clause-refused c = none_named _ (codes "lookup") c.args.text.now (λ op is.
-    let of = lookup_in c.args.text.now op is in
-    let same : of.words.key_word ≡ c.in_ok-key_text.key_text.now = ap (λ (ws : List (List ℕ)). get_or ws 0 []) (sym of.words.are ∙ c.in_ok-key_text.ensures.answer) in
-    let found = c.in_err-key.ensures.only_if.1 (of.key, subst (λ (w : List ℕ). IsKeyWord w of.key) same of.words.is_key) in
+returns-in_err-key-clause-refused c = no_form_of _ lookup_form (words_of c.args.text.now) (λ op is.
+    let said = of_words lookup_form _ _ op c.in_ok-key_text.ensures.answer is in
+    let found = c.in_err-key.ensures.only_if.1 (said.values.0, said.say.0) in
     cc)
 
 pub returns-in_err-lo-clause-refused : goal.returns-in_err-lo-clause-refused
-returns-in_err-lo-clause-refused c = none_named _ (codes "lookup") c.args.text.now (λ op is.
-    let of = lookup_in c.args.text.now op is in
-    let same : of.words.lo_word ≡ c.in_ok-key_text.lo_text.now = ap (λ (ws : List (List ℕ)). get_or ws 1 []) (sym of.words.are ∙ c.in_ok-key_text.ensures.answer) in
-    c.in_err-lo.ensures.refused of.lo (subst (λ (w : List ℕ). IsStampWord w of.lo) same of.words.is_lo))
+returns-in_err-lo-clause-refused c = no_form_of _ lookup_form (words_of c.args.text.now) (λ op is.
+    let said = of_words lookup_form _ _ op c.in_ok-key_text.ensures.answer is in
+    c.in_err-lo.ensures.refused said.values.1.0 said.say.1.0)
 
 pub returns-in_err-hi-clause-refused : goal.returns-in_err-hi-clause-refused
-returns-in_err-hi-clause-refused c = none_named _ (codes "lookup") c.args.text.now (λ op is.
-    let of = lookup_in c.args.text.now op is in
-    let same : of.words.hi_word ≡ c.in_ok-key_text.hi_text.now = ap (λ (ws : List (List ℕ)). get_or ws 2 []) (sym of.words.are ∙ c.in_ok-key_text.ensures.answer) in
-    c.in_err-hi.ensures.refused of.hi (subst (λ (w : List ℕ). IsStampWord w of.hi) same of.words.is_hi))
+returns-in_err-hi-clause-refused c = no_form_of _ lookup_form (words_of c.args.text.now) (λ op is.
+    let said = of_words lookup_form _ _ op c.in_ok-key_text.ensures.answer is in
+    c.in_err-hi.ensures.refused said.values.1.1.0 said.say.1.1.0)
 
 pub returns-clause-answer : goal.returns-clause-answer
-returns-clause-answer c =
-    let text = c.args.text.now in (
-      refl,
-      (
-        words_of text,
-        has_words text,
-        record {
-          key_word = c.in_ok-key_text.key_text.now;
-          lo_word = c.in_ok-key_text.lo_text.now;
-          hi_word = c.in_ok-key_text.hi_text.now;
-          are = c.in_ok-key_text.ensures.answer;
-          is_key = c.in_ok-key.ensures.answer;
-          is_lo = c.in_ok-lo.ensures.answer;
-          is_hi = c.in_ok-hi.ensures.answer;
-        },
-      ),
-    )
+returns-clause-answer c = of_words lookup_form _ _ (Lookup c.in_ok-key.key c.in_ok-lo.lo c.in_ok-hi.hi) (sym c.in_ok-key_text.ensures.answer) (record {
+  values = (c.in_ok-key.key, (c.in_ok-lo.lo, (c.in_ok-hi.hi, tt)));
+  say = (c.in_ok-key.ensures.answer, (c.in_ok-lo.ensures.answer, (c.in_ok-hi.ensures.answer, tt)));
+  asks = refl;
+})

@@ -1,7 +1,7 @@
 use Rattle.std.proofs.Common.{ℕ, List, ◌∷◌, refl, sym, ap, subst, ◌∙◌}
 use Rattle.txc_rows.specs.Values.{IsBody}
-use Rattle.txc_script.proofs.Offered.{words_alone, words_cut}
-use Rattle.txc_words.proofs.WordParts.{none_of, row_alone, row_in, row_of, row_short}
+use Rattle.txc_script.proofs.Offered.{none_of, words_alone, words_cut}
+use Rattle.txc_words.proofs.WordParts.{row_alone, row_in, row_of, row_short}
 use Rattle.txc_words.proofs.parts.read_row.Goals as goal
 
 pub returns-in_default-clause-refused : goal.returns-in_default-clause-refused

@@ -11,8 +11,8 @@ pub new-requires : goal.new-requires
 new-requires g c =
     let hit = c.in-Some.hit in
     let L = c.self.inside.seen.history in
-    let is = sym (ap (option_map seen) c.in-Some.is) ∙ c.in-Ok.ensures.answer in
-    let it = c.answers_are_true.ensures g.A.App.next L c.self.inside.core c.args.key.now c.args.lo c.args.hi (seen hit) c.self.invariant.0.is_true (sym is) in
+    let is = sym (ap (option_map seen) c.in-Some.is) ∙ c.hit-found.ensures in
+    let it = c.answers_are_true.ensures g.A.App.next L c.self.inside.core c.args.key.now c.args.search.now.lo c.args.search.now.hi (seen hit) c.self.invariant.0.is_true (sym is) in
     let front : c.in_ok-front.front.history ≡ L = ap (λ (f : FrontValue). f.history) c.in_ok-front.ensures in
     let made : Entry = record { key = c.copy.result; value = c.in_ok-copy.field-0; reach = c.reach.result; tags = c.in_ok-copy-2.field-0 } in
     let same : made ≡ entry_shown c.args.key.now (seen hit) =

@@ -12,7 +12,7 @@ use Rattle.txc_shared.specs.Histories.{next_record}
 use Rattle.txc_shared.specs.Nodes.{start_of, NodeValue, LogValue, after_call}
 use Rattle.txc_shared.specs.Passes.{reply_of_found}
 use Rattle.txc_shared.specs.Locked.{record_in, DoCountAlike}
-use Rattle.txc_shared.proofs.Nodes.{stepped, broke, may_look_up, found_replied, called}
+use Rattle.txc_shared.proofs.Nodes.{stepped, broke, may_look_up, searched_replied, called}
 use Rattle.txc_shared.proofs.stored_node.StoredNode.lookup.Goals as goal
 
 pub count_step-requires-clause-room : goal.count_step-requires-clause-room
@@ -25,8 +25,8 @@ count_step-requires-clause-room g c =
 
 pub invariant_of-self : goal.invariant_of-self
 invariant_of-self g c =
-    let next : c.lookup.follows.lender-at-none ≡ after_lookup c.self.inside.core c.args.key.now c.args.lo c.args.hi = search rules in (
-      broke g.A.App.next c.self.inside.seen.history (start_of c.self.inside.settings) c.nodes_go_on.ensures.breaks c.self.inside.log.records c.append.new.self.records c.self.inside.core c.lookup.follows.lender-at-none c.self.inside.broken
+    let next : c.mark_used.new.self ≡ after_lookup c.self.inside.core c.args.key.now c.args.lo c.args.hi = search rules in (
+      broke g.A.App.next c.self.inside.seen.history (start_of c.self.inside.settings) c.nodes_go_on.ensures.breaks c.self.inside.log.records c.append.new.self.records c.self.inside.core c.mark_used.new.self c.self.inside.broken
           (Lookup c.args.key.now c.args.lo c.args.hi) c.self.invariant.0 (may_look_up g.A.App.next c.self.inside.seen.history c.self.inside.core c.args.key.now c.args.lo c.args.hi c.in-Ok.ensures.only_if)
           (ap (λ (l : LogValue). l.records) (c.if-not-append.ensures.unchanged refl)) next,
       λ whole. absurd (true≢false whole),
@@ -37,18 +37,19 @@ invariant_of-self-else-not-append g c =
     let rs = c.self.inside.log.records in
     let key = c.args.key.now in
     let op = Lookup key c.args.lo c.args.hi in
-    let next : c.lookup.follows.lender-at-none ≡ after_lookup c.self.inside.core key c.args.lo c.args.hi = search rules in
+    let next : c.mark_used.new.self ≡ after_lookup c.self.inside.core key c.args.lo c.args.hi = search rules in
     let whole : c.self.inside.broken ≡ false = ap (λ (n : NodeValue). n.broken) c.self.view_is ∙ c.in_ok-check_whole.ensures.only_if in
     let shown = lookup_answer c.self.inside.core key c.args.lo c.args.hi in
     let reply : reply_of_found (option_map (λ f. f.entry) c.in_ok-finding.finding) ≡ found_reply shown =
-    ap reply_of_found (c.in_ok-finding.ensures.found ∙ ap (λ (n : NodeValue). option_map (entry_shown key) (lookup_answer n.cache key c.args.lo c.args.hi)) (sym c.self.view_is)) ∙ found_replied key shown in
+    searched_replied c.self.inside.core c.args.self.now.cache key c.args.lo c.args.hi c.in-Ok.search.lo c.in-Ok.search.hi (option_map (λ f. f.entry) c.in_ok-finding.finding) c.in_ok-finding.ensures.found
+    (ap (λ (n : NodeValue). n.cache) c.self.view_is) c.in-Ok.ensures.stamps.0 c.in-Ok.ensures.stamps.1 in
     let record_is = c.in_ok-next.ensures.answered (next_record c.args.pass rs op (found_reply shown)) c.in_ok-prepared.ensures.awaits reply in
     let records = ap (λ (l : LogValue). l.records) (c.if-not-append.ensures.after refl) in
     let step = record_in c.in_ok-next.next in
     let of : ◌≡◌ {A = Option ℕ} (Some c.function.result) (function_of step.op) = ap Some c.function.ensures.answer ∙ sym (ap (λ (r : Record). function_of r.op) record_is) in
     let alike : DoCountAlike c.reply_without_copies-reply.result step.reply =
     subst (λ (r : Reply Shown). DoCountAlike c.reply_without_copies-reply.result r) (reply ∙ sym (ap (λ (r : Record). r.reply) record_is)) c.reply_without_copies-reply.ensures in (
-      stepped g.A.App.next c.self.inside.seen.history (start_of c.self.inside.settings) c.nodes_go_on.ensures.step rs c.append.new.self.records c.self.inside.core c.lookup.follows.lender-at-none c.self.inside.broken
+      stepped g.A.App.next c.self.inside.seen.history (start_of c.self.inside.settings) c.nodes_go_on.ensures.step rs c.append.new.self.records c.self.inside.core c.mark_used.new.self c.self.inside.broken
           c.args.pass op step c.self.invariant.0 whole (may_look_up g.A.App.next c.self.inside.seen.history c.self.inside.core key c.args.lo c.args.hi c.in-Ok.ensures.only_if)
           record_is records next,
       λ kept. subst (λ (l : List Record). AreCountsOf l c.count_step.new.counts) (sym records) (c.count_step.ensures rs step (c.self.invariant.1 kept) of alike),
@@ -61,7 +62,8 @@ append-requires-clause-by g c =
     let op = Lookup key c.args.lo c.args.hi in
     let shown = lookup_answer c.self.inside.core key c.args.lo c.args.hi in
     let reply : reply_of_found (option_map (λ f. f.entry) c.in_ok-finding.finding) ≡ found_reply shown =
-    ap reply_of_found (c.in_ok-finding.ensures.found ∙ ap (λ (n : NodeValue). option_map (entry_shown key) (lookup_answer n.cache key c.args.lo c.args.hi)) (sym c.self.view_is)) ∙ found_replied key shown in
+    searched_replied c.self.inside.core c.args.self.now.cache key c.args.lo c.args.hi c.in-Ok.search.lo c.in-Ok.search.hi (option_map (λ f. f.entry) c.in_ok-finding.finding) c.in_ok-finding.ensures.found
+    (ap (λ (n : NodeValue). n.cache) c.self.view_is) c.in-Ok.ensures.stamps.0 c.in-Ok.ensures.stamps.1 in
     ap (λ (r : Record). r.pass) (c.in_ok-next.ensures.answered (next_record c.args.pass rs op (found_reply shown)) c.in_ok-prepared.ensures.awaits reply)
 
 pub append-requires-clause-suits : goal.append-requires-clause-suits
@@ -74,10 +76,11 @@ returns-clause-after g c =
     let key = c.args.key.now in
     let n : NodeValue = record { settings = inside.settings; name = inside.log.name; records = inside.log.records; passes = inside.log.passes; cache = inside.core; seen = inside.seen; broken = inside.broken } in
     let op = Lookup key c.args.lo c.args.hi in
-    let next : c.lookup.follows.lender-at-none ≡ after_lookup inside.core key c.args.lo c.args.hi = search rules in
+    let next : c.mark_used.new.self ≡ after_lookup inside.core key c.args.lo c.args.hi = search rules in
     let shown = lookup_answer c.self.inside.core key c.args.lo c.args.hi in
     let reply : reply_of_found (option_map (λ f. f.entry) c.in_ok-finding.finding) ≡ found_reply shown =
-    ap reply_of_found (c.in_ok-finding.ensures.found ∙ ap (λ (n : NodeValue). option_map (entry_shown key) (lookup_answer n.cache key c.args.lo c.args.hi)) (sym c.self.view_is)) ∙ found_replied key shown in
+    searched_replied c.self.inside.core c.args.self.now.cache key c.args.lo c.args.hi c.in-Ok.search.lo c.in-Ok.search.hi (option_map (λ f. f.entry) c.in_ok-finding.finding) c.in_ok-finding.ensures.found
+    (ap (λ (n : NodeValue). n.cache) c.self.view_is) c.in-Ok.ensures.stamps.0 c.in-Ok.ensures.stamps.1 in
     let record_is = c.in_ok-next.ensures.answered (next_record c.args.pass rs op (found_reply shown)) c.in_ok-prepared.ensures.awaits reply in
-    called n inside.seen c.args.pass op (record_in c.in_ok-next.next) c.append.new.self c.lookup.follows.lender-at-none record_is (c.if-not-append.ensures.after refl) next
+    called n inside.seen c.args.pass op (record_in c.in_ok-next.next) c.append.new.self c.mark_used.new.self record_is (c.if-not-append.ensures.after refl) next
     ∙ ap (λ (m : NodeValue). after_call m c.args.pass op) c.self.view_is

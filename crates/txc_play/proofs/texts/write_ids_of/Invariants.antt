@@ -2,7 +2,7 @@ use Rattle.std.proofs.Common.{◌∷◌, take}
 use Rattle.std.specs.List.{flat_map}
 use Rattle.std.specs.Fmt.{decimal, HasWritten, IsPlainFormatter}
 use Rattle.txc_rows.specs.Values.{RowValue}
-use Rattle.txc_play.proofs.texts.IdsOfDisplay.fmt.Given as goal
+use Rattle.txc_play.proofs.texts.write_ids_of.Given as goal
 
 abbrev pub invariant-loop-row : goal.invariant-loop-row
 invariant-loop-row g l =

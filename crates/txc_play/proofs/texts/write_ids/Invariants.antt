@@ -1,7 +1,7 @@
 use Rattle.std.proofs.Common.{◌∷◌, take}
 use Rattle.std.specs.List.{flat_map}
 use Rattle.std.specs.Fmt.{decimal, HasWritten, IsPlainFormatter}
-use Rattle.txc_play.proofs.texts.IdsDisplay.fmt.Given as goal
+use Rattle.txc_play.proofs.texts.write_ids.Given as goal
 
 abbrev pub invariant-loop-id : goal.invariant-loop-id
 invariant-loop-id g l =

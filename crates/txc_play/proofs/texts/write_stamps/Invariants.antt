@@ -1,7 +1,7 @@
 use Rattle.std.proofs.Common.{◌∷◌, take}
 use Rattle.std.specs.List.{flat_map}
 use Rattle.std.specs.Fmt.{decimal, HasWritten, IsPlainFormatter}
-use Rattle.txc_play.proofs.texts.StampsDisplay.fmt.Given as goal
+use Rattle.txc_play.proofs.texts.write_stamps.Given as goal
 
 abbrev pub invariant-loop-stamp : goal.invariant-loop-stamp
 invariant-loop-stamp g l =

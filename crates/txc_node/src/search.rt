@@ -1,0 +1,12 @@
+//! What a search came to.
+use crate::versions::Found;
+use txc_stamp::Stamp;
+
+/// What a search of the entries of a key came to at the stamps from `lo` to `hi`, in the node as it was then.
+#[derive(Clone, Copy, Debug)]
+pub struct Search {
+    pub lo: Stamp,
+    pub hi: Stamp,
+    pub(crate) found: Option<Found>,
+    pub(crate) looked: u64,
+}

@@ -1,0 +1,79 @@
+-- Words have one meaning each.
+use Rattle.std.proofs.Common.{◌≡◌, ◌<◌, ◌≤◌, ◌/◌, ◌%◌, ◌^◌, ℕ, Bool, true, false, List, [], ◌∷◌, refl, sym, ap, ◌∙◌, arith}
+use Rattle.std.specs.Fmt.{decimal}
+use Rattle.std.specs.List.{AllByRecursion, flat_map}
+use Rattle.std.proofs.lemmas.Bool.Decides.{nat_tests}
+use Rattle.std.proofs.lemmas.Fmt.{decimal_injective}
+use Rattle.std.proofs.lemmas.List.Elements.{recursion_from_All}
+use Rattle.txc_stamp.specs.declared.stamp.TheConstants.{LAST_STAMP}
+use Rattle.txc_tags.proofs.Offered.{same_key_text, same_spelt_text}
+use Rattle.txc_node.specs.Texts.{digit_of, digits_of, hex_text}
+use Rattle.txc_script.specs.Forms.{MaySay, Say, ValueOf, ValuesOf, word_text}
+use Rattle.txc_script.specs.Hex.{IsBytes}
+use Rattle.txc_script.specs.Lines.{still_text}
+use Rattle.txc_script.specs.declared.line_fault.WordKind.{WordKind}
+use Rattle.txc_script.specs.declared.line_fault.WordKind.TheVariants.{Key, Stamp, Reach, Tags, Bytes, Number, Text, QueryName, ChangeName}
+
+decimal_known : (most a b : ℕ) → most < 2 ^ 64 → a ≤ most → b ≤ most → decimal a ≡ decimal b → a ≡ b
+decimal_known most a b small h k e = decimal_injective a b (omega arith) (omega arith) e
+
+still_known : (a b : Bool) → still_text a ≡ still_text b → a ≡ b
+still_known true true e = refl
+still_known false false e = refl
+still_known true false e = cc
+still_known false true e = cc
+
+digit_known : (m n : ℕ) → m < 16 → n < 16 → digit_of m ≡ digit_of n → m ≡ n
+digit_known m n h k e = grind (arith, nat_tests)
+
+byte_known : (m n : ℕ) → m < 256 → n < 256 → digit_of (m / 16) ≡ digit_of (n / 16) → digit_of (m % 16) ≡ digit_of (n % 16) → m ≡ n
+byte_known m n h k e f =
+    let high : m / 16 ≡ n / 16 = digit_known (m / 16) (n / 16) (omega arith) (omega arith) e in
+    let low : m % 16 ≡ n % 16 = digit_known (m % 16) (n % 16) (omega arith) (omega arith) f in
+    omega (arith, high, low)
+
+bytes_known : (xs ys : List ℕ) → AllByRecursion (λ b. b < 256) xs → AllByRecursion (λ b. b < 256) ys → flat_map digits_of xs ≡ flat_map digits_of ys → xs ≡ ys
+bytes_known [] [] h k e = refl
+bytes_known [] (b ∷ ys) h k e = cc
+bytes_known (a ∷ xs) [] h k e = cc
+bytes_known (a ∷ xs) (b ∷ ys) h k e =
+    let high : digit_of (a / 16) ≡ digit_of (b / 16) = cc in
+    let low : digit_of (a % 16) ≡ digit_of (b % 16) = cc in
+    let rest : flat_map digits_of xs ≡ flat_map digits_of ys = cc in
+    ap (λ (x : ℕ). x ∷ xs) (byte_known a b h.0 k.0 high low) ∙ ap (λ (zs : List ℕ). b ∷ zs) (bytes_known xs ys h.1 k.1 rest)
+
+hex_known : (xs ys : List ℕ) → IsBytes xs → IsBytes ys → hex_text xs ≡ hex_text ys → xs ≡ ys
+hex_known [] [] h k e = refl
+hex_known [] (b ∷ ys) h k e = let same : 45 ∷ [] ≡ flat_map digits_of (b ∷ ys) = e in cc
+hex_known (a ∷ xs) [] h k e = let same : flat_map digits_of (a ∷ xs) ≡ 45 ∷ [] = e in cc
+hex_known (a ∷ xs) (b ∷ ys) h k e =
+    bytes_known (a ∷ xs) (b ∷ ys) (recursion_from_All (λ x. x < 256) (a ∷ xs) h) (recursion_from_All (λ x. x < 256) (b ∷ ys) k) e
+
+-- numbers of these kinds are those of a machine
+abbrev pub IsSmall : WordKind → Type 0
+IsSmall (Number most) = most < 2 ^ 64
+IsSmall kind = Unit {0}
+
+abbrev pub AreSmall : List WordKind → Type 0
+AreSmall [] = Unit {0}
+AreSmall (kind ∷ kinds) = IsSmall kind × AreSmall kinds
+
+value_known : (kind : WordKind) (a b : ValueOf kind) → IsSmall kind → MaySay kind a → MaySay kind b → word_text kind a ≡ word_text kind b → a ≡ b
+value_known Key a b small h k e = same_key_text a b h k e
+value_known Stamp a b small h k e = decimal_known LAST_STAMP a b (omega arith) h k e
+value_known Reach a b small h k e = still_known a b e
+value_known Tags a b small h k e = same_spelt_text a b h k e
+value_known Bytes a b small h k e = hex_known a b h k e
+value_known (Number most) a b small h k e = decimal_known most a b small h k e
+value_known (Text most) a b small h k e = e
+value_known QueryName a b small h k e = e
+value_known ChangeName a b small h k e = e
+
+pub values_known : (kinds : List WordKind) (words : List (List ℕ)) (v w : ValuesOf kinds) → AreSmall kinds → Say kinds words v → Say kinds words w → v ≡ w
+values_known [] [] v w small h k = refl
+values_known [] (word ∷ words) v w small h k = absurd h
+values_known (kind ∷ kinds) [] v w small h k = absurd h
+values_known (kind ∷ kinds) (word ∷ words) v w small h k =
+    let first : v.0 ≡ w.0 = value_known kind v.0 w.0 small.0 h.0.0 k.0.0 (sym h.0.1 ∙ k.0.1) in
+    let rest : v.1 ≡ w.1 = values_known kinds words v.1 w.1 small.1 h.1 k.1 in
+    λ i. (first i, rest i)
