@@ -1,28 +1,19 @@
 -- Nothing is wrong with the words of a line that asks for something.
-use Rattle.std.proofs.Common.{◌≡◌, ℕ, suc, List, [], ◌∷◌, ◌++◌, Option, Some, None, length, refl, sym, ap, subst, inl, inr, ◌∙◌}
-use Rattle.std.specs.Prelude.{codes}
+use Rattle.std.proofs.Common.{◌≡◌, ℕ, List, [], ◌∷◌, Some, refl, sym, subst, ◌∙◌}
 use Rattle.std.specs.Fmt.{decimal}
-use Rattle.txc_rows.specs.Values.{RowValue, IsRow}
-use Rattle.txc_rows.specs.declared.query.Change.{Change}
-use Rattle.txc_rows.specs.declared.query.Change.TheVariants as changes
-use Rattle.txc_rows.specs.declared.query.Query.{Query}
-use Rattle.txc_rows.specs.declared.query.Query.TheVariants as queries
-use Rattle.txc_script.specs.LineFaults.{AreOfKinds, IsBadWord, IsOfKind}
 use Rattle.txc_script.specs.declared.line_fault.CommandFault.{CommandFault}
 use Rattle.txc_script.specs.declared.line_fault.CommandFault.TheVariants as faults
-use Rattle.txc_script.specs.declared.line_fault.WordFault.{WordFault}
-use Rattle.txc_script.specs.declared.line_fault.WordKind.{WordKind}
-use Rattle.txc_script.specs.declared.line_fault.WordKind.TheVariants.{Key, Stamp, QueryName, ChangeName}
+use Rattle.txc_script.specs.declared.line_fault.WordKind.TheVariants.{Key, Stamp}
 use Rattle.txc_words.specs.declared.name.LineName.{LineName}
 use Rattle.txc_words.specs.declared.name.LineName.TheVariants as names
 use Rattle.txc_play.specs.Tasks.{AreAfterPlace, LineAsksFor}
-use Rattle.txc_words.specs.Parts.{AreChangeWords, IsChangeInRange, IsIdRange, IsPair, IsQueryInRange, change_words, query_words, row_words}
+use Rattle.txc_words.specs.Parts.{change_words, query_words}
 use Rattle.txc_words.specs.Names.{name_text}
-use Rattle.txc_words.specs.Faults.{IsFaultAfter, IsFirstBad, change_line, function, kinds_after_name, moment, pair_kinds, place, query_line, range_kinds, row_kinds, second_of, table}
+use Rattle.txc_words.specs.Faults.{IsFaultAfter, function, kinds_after_name, moment, place}
 use Rattle.txc_play.specs.WorldFaults.{IsWorldFault}
 use Rattle.txc_play.specs.declared.task.Task.{Task}
 use Rattle.txc_words.proofs.Offered.{same_name}
-use Rattle.txc_words.proofs.Offered.{apart, first_is, others_are}
+use Rattle.txc_words.proofs.Offered.{first_is, others_are}
 use Rattle.txc_words.proofs.Offered.{HasKinds, as_words, none_after, pin_kinds, put_kinds, query_kinds, remove_kinds, write_kinds}
 
 -- ---- words that ask for something are of known kinds

@@ -1,10 +1,9 @@
 -- Only private functions need this file: what reading a line of a world's script gives.
-use Rattle.std.specs.Prelude.{◌≡◌, ℕ, List, [], ◌∷◌}
-use Rattle.std.specs.Fmt.{decimal}
+use Rattle.std.specs.Prelude.{◌≡◌, ℕ, List}
 use Rattle.txc_rows.specs.declared.query.Change.{Change}
 use Rattle.txc_world.specs.declared.step.Keep.TheVariants as keeps
 use Rattle.txc_world.specs.declared.step.Step.TheVariants.{Keeper}
-use Rattle.txc_words.specs.Parts.{AreChangeWords, IsIdRange, IsPair}
+use Rattle.txc_words.specs.Parts.{AreChangeWords}
 use Rattle.txc_play.specs.declared.task.Task.{Task}
 use Rattle.txc_play.specs.declared.task.Task.TheVariants as tasks
 
