@@ -2,7 +2,6 @@
 //! on that. `txc_uses` calls the others, and says what for.
 #![tactic(auto)]
 
-pub mod batches;
 pub mod clients;
 pub mod databases;
 pub mod nodes;

@@ -1,8 +1,7 @@
 //! All of it over histories that were just made: the database's, that of a node, and that of a node which stores none.
-ghost use Rattle.std.specs.Prelude.{◌≡◌, ◌≤◌, [], length, vec_len, IfOk};
+ghost use Rattle.std.specs.Prelude.{◌≡◌, [], length, vec_len, IfOk};
 ghost use Rattle.txc_stream.specs.Names.{stored, unstored};
 
-use crate::batches::batch;
 use crate::clients::{client, pages, update};
 use crate::databases::{ask, commit, feed, retire, stick};
 use crate::nodes::step;
@@ -10,7 +9,6 @@ use anyhow::Result;
 use std::alloc::Global;
 use std::marker::Brand;
 use std::sync::Wait;
-use std::thread::Threads;
 use txc_cushion::Pincushion;
 use txc_db::{Database, DbCore, Naming};
 use txc_functions::Program;
@@ -35,21 +33,6 @@ const OTHERS: NodeSettings = NodeSettings {
 /// Whether a site may be made as it is where nothing is said of it.
 pub fn plan() -> bool {
     Plan::DEFAULT.is_sound()
-}
-
-/// What clients do over these.
-fn by_clients<J: Naming + Send + Sync, R: Threads + Wait + Sync>(
-    rt: &R,
-    alloc: Global,
-    database: &Database<J>,
-    cushion: &Pincushion<J>,
-    nodes: &[SharedNode<Program, J>],
-) -> Result<usize>
-    requires { 1 ≤ length nodes.now }
-{
-    let shown = pages(rt, alloc, client(rt, alloc, database, cushion, nodes)?)?;
-    let ran = batch(rt, alloc, client(rt, alloc, database, cushion, nodes)?)?;
-    Ok(shown.max(ran))
 }
 
 /// What is done with the database and its pincushion alone.
@@ -84,7 +67,7 @@ fn nodes<J: Naming>(
 }
 
 /// What is done with the database, and with a pincushion and nodes of it.
-fn over_database<J: Naming + Send + Sync, R: Threads + Wait + Sync>(
+fn over_database<J: Naming, R: Wait>(
     rt: &R,
     alloc: Global,
     database: &Database<J>,
@@ -99,12 +82,12 @@ fn over_database<J: Naming + Send + Sync, R: Threads + Wait + Sync>(
     let cushion = Pincushion::new(alloc, database)?;
     let called = by_calls(rt, alloc, database, &cushion)?;
     let stepped = step(rt, alloc, &nodes[0])?.max(step(rt, alloc, &nodes[1])?);
-    let ran = by_clients(rt, alloc, database, &cushion, &nodes)?;
-    Ok(called.max(stepped).max(ran))
+    let shown = pages(rt, alloc, client(rt, alloc, database, &cushion, &nodes)?)?;
+    Ok(called.max(stepped).max(shown))
 }
 
 /// All of it over these histories.
-fn over_histories<J: Naming + Send + Sync, R: Threads + Wait + Sync>(
+fn over_histories<J: Naming, R: Wait>(
     rt: &R,
     alloc: Global,
     core: DbCore,
@@ -122,10 +105,7 @@ fn over_histories<J: Naming + Send + Sync, R: Threads + Wait + Sync>(
 }
 
 /// The same over a new database.
-pub fn over_new_histories<R: Threads + Wait + Sync>(
-    rt: &R,
-    alloc: Global,
-) -> Result<(DbCore, usize)> {
+pub fn over_new_histories<R: Wait>(rt: &R, alloc: Global) -> Result<(DbCore, usize)> {
     let core = DbCore::new(alloc, 16)?;
     let row = EventRow::new(alloc, 64)?;
     over_histories::<Brand, R>(rt, alloc, core, row, Pen::new())
