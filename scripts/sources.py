@@ -20,9 +20,13 @@ def crates():
     return [row.split(":")[0].strip() for row in rows if ":" in row]
 
 
+# Those that only call the others.
+USES = {"txc_uses", "txc_thread_uses"}
+
+
 def documented():
-    """Those that have a page in docs/: all but the one that only calls the others."""
-    return [it for it in crates() if it != "txc_uses"]
+    """Those that have a page in docs/."""
+    return [it for it in crates() if it not in USES]
 
 
 class Word:

@@ -1,32 +1,43 @@
 #!/usr/bin/env python3
-"""Lists the public functions of the libraries that nobody calls at the types of a program: neither crates/txc_uses, nor a program
-of the gate, nor, where the function and its type have no type parameters, another library. Such a caller meets what is required,
-and has the types that the bounds ask for.
+"""Lists the public functions of the libraries that nobody calls at the types of a program. Such a caller meets what is required,
+and has the types that the bounds ask for. It is one of the crates of uses; a program of the gate; a library, where the function and its
+type have no type parameters; or a library whose own functions with type parameters are all called so.
 
-A call is a name before a bracket: a method's after a dot or its type. So of two methods of one name, one may stand for both. A law
-takes nothing and gives nothing, and what writes a value calls its `fmt`: these are left out.
+A call is a name before a bracket: a method's after its type, or after a dot. Where two types have a method of that name, the crate
+names the type; in a crate of uses the very function does, or calls one whose head does. A law takes nothing and gives nothing, and
+what writes a value calls its `fmt`: these are left out.
 
-usage: uses.py [--all]      --all lists all that crates/txc_uses does not call
+usage: uses.py [--all]      --all lists all that the crates of uses do not call
 """
 import re, sys
+from functools import lru_cache
 
-from sources import crates, public_api, rust_item, source_files
+from sources import USES, crates, impls, public_api, rust_item, source_files
 
 PROGRAMS = {"txcache", "auction", "shop"}
-NO_LIBRARIES = PROGRAMS | {"txc_uses"}
+CALL = re.compile(r"(?:(\w+)(?:::<[^()]*?>)?::|(\.)|(?<![\w:]))(\w+)(?:::<[^()]*?>)?\(")
+TYPE = re.compile(r"\b[A-Z]\w*")
 
 
 def libraries():
-    return [it for it in crates() if it not in NO_LIBRARIES]
+    return [it for it in crates() if it not in PROGRAMS | USES]
 
 
-def code(crate):
-    """What a crate's files say, without their comments."""
-    return re.sub(r"(?m)^\s*//.*$", "", "\n".join(source_files(crate).values()))
+@lru_cache(None)
+def public_functions():
+    """Those of the libraries, but for laws and `fmt`."""
+    found = [it for crate in libraries() for it in public_api(crate)[1]]
+    return [it for it in found if it.name != "fmt" and (it.owner or "->" in it.head or not re.search(r"\(\)\s*$", it.head))]
 
 
-def is_law(function):
-    return not function.owner and "->" not in function.head and re.search(r"\(\)\s*$", function.head)
+@lru_cache(None)
+def types_by_name():
+    """The types that the public functions of a name give, and those whose methods they are."""
+    given, owners = {}, {}
+    for it in public_functions():
+        given.setdefault(it.name, set()).update(TYPE.findall(it.head.partition("->")[2].replace("Self", it.owner or "")))
+        owners.setdefault(it.name, set()).add(it.owner)
+    return given, owners
 
 
 def is_generic(function):
@@ -36,30 +47,60 @@ def is_generic(function):
     return bool(of_owner or re.search(r"fn \w+<(?:'\w+, )*\w|: &?impl ", function.head))
 
 
-def is_called(function, text):
-    """Whether a call of it stands in the text, or its method is written for a type."""
-    name, owner = function.name, function.owner
-    if not owner:
-        return re.search(rf"(?<![\w.]){name}(?:::<[^()]*>)?\(", text)
-    return re.search(rf"(?:\.|\b{owner}(?:::<[^()]*>)?::){name}(?:::<[^()]*>)?\(|\bfn {name}\b", text)
+def bodies(crate):
+    """The functions of a crate: of each its name, and what it says without comments."""
+    text = "\n".join(re.sub(r"(?m)^\s*//.*$", "", it) for it in source_files(crate).values())
+    starts = [it.start() for it in re.finditer(r"(?m)^ *(?:pub(?:\([^)]*\))? )?(?:const )?fn ", text)]
+    parts = [text[start:end] for start, end in zip(starts, starts[1:] + [len(text)])]
+    return [(re.search(r"fn (\w+)", it)[1], it) for it in parts]
 
 
-def callers(function, texts):
-    """The crates of the texts, but for its own, that name its crate and call it."""
-    return [it for it, text in texts.items() if it != function.crate and function.crate in text and is_called(function, text)]
+@lru_cache(None)
+def calls(crate):
+    """What a crate calls, each by its type and its name; a function alone has no type. A trait's are what is written for it."""
+    found, (given, owners), all_bodies = set(), types_by_name(), bodies(crate)
+    heads = {name: set(TYPE.findall(text.partition("{")[0])) for name, text in all_bodies}
+    of_crate = set() if crate in USES else set(TYPE.findall("\n".join(source_files(crate).values())))
+    for name, text in all_bodies:
+        said = CALL.findall(text.partition(name)[2])
+        known = of_crate.union(TYPE.findall(text), *(heads.get(it, set()) | given.get(it, set()) for _, _, it in said))
+        for before, dot, called in said:
+            if dot:
+                kinds = owners.get(called, set())
+                found |= {(kind, called) for kind in kinds if len(kinds) == 1 or kind in known}
+            else:
+                found.add((before if before[:1].isupper() else None, called))
+    for file, text in source_files(crate).items():
+        for start, end, head, _ in impls(crate, file):
+            written = re.findall(r"\bfn (\w+)", "\n".join(text.split("\n")[start:end + 1]))
+            found |= {(kind, it) for kind in re.findall(r"(\w+)(?:<.*>)? for ", head) for it in written}
+    return found
+
+
+def called_by(callers):
+    """The public functions that these crates call, but for their own."""
+    return {it for it in public_functions() for crate in callers if crate != it.crate and (it.owner, it.name) in calls(crate)}
+
+
+def met_by_programs():
+    """Those that are called at the types of a program."""
+    met = called_by(PROGRAMS | USES) | {it for it in called_by(libraries()) if not is_generic(it)}
+    while True:
+        whole = [crate for crate in libraries() if all(it in met for it in public_functions() if it.crate == crate and is_generic(it))]
+        more = called_by(whole) - met
+        if not more:
+            return met
+        met |= more
 
 
 def main():
-    own, of_programs = code("txc_uses"), {it: code(it) for it in PROGRAMS}
-    of_libraries = {it: code(it) for it in libraries()}
-    functions = [it for crate in libraries() for it in public_api(crate)[1] if it.name != "fmt" and not is_law(it)]
-    missing = [it for it in functions if not is_called(it, own)]
-    print(f"crates/txc_uses calls {len(functions) - len(missing)} of {len(functions)} public functions")
+    own, functions = called_by(USES), public_functions()
+    print(f"the crates of uses call {len(own)} of {len(functions)} public functions")
+    missing = [it for it in functions if it not in own]
     if "--all" not in sys.argv[1:]:
-        in_program = [it for it in missing if callers(it, of_programs)]
-        in_library = [it for it in missing if it not in in_program and not is_generic(it) and callers(it, of_libraries)]
-        print(f"a program calls {len(in_program)} others, and a library {len(in_library)} without type parameters")
-        missing = [it for it in missing if it not in in_program and it not in in_library]
+        met = met_by_programs()
+        print(f"others call {len(met - own)} more at the types of a program")
+        missing = [it for it in missing if it not in met]
     for it in missing:
         print(f"{it.crate}: {it.path}")
 

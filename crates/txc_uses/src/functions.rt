@@ -1,28 +1,20 @@
-//! Functions: their definitions, their objects, registries of them; and calls and transactions, answered by hand.
-ghost use Rattle.std.specs.Prelude.{◌≡◌, [], IfOk};
+//! Functions: their definitions, their objects, registries of them; and a call, answered by hand.
+ghost use Rattle.std.specs.Prelude.{◌≡◌, IfOk};
 ghost use Rattle.txc_functions.specs.AnyFunction.{ALL_NUMBERS};
 ghost use Rattle.txc_registry.specs.Objects.{numbers_of, AllIdle};
-ghost use Rattle.txc_txn.specs.Core.{IsIdle};
 
-use anyhow::{Result, bail};
+use anyhow::Result;
 use std::alloc::Global;
 use txc_app::{Answer, Ask, Rows};
 use txc_call::{CallMachine, Reply};
-use txc_cushion::Pins;
-use txc_db::{DbCore, DbError};
 use txc_definition::{Definition, Function, Or};
 use txc_functions::{
     Again, AnyFunction, BodiesAndBody, BodiesIn, BodyAt, IdsIn, Itself, Object, Program, RowCount,
     object_of_each, registry,
 };
 use txc_permits::PermitPool;
-use txc_ports::{Bounds, PortReply, PortRequest, Turn};
 use txc_registry::{Cacheable, Registry, enlist};
-use txc_rows::Query;
-use txc_rw::RwCore;
-use txc_stamp::Stamp;
-use txc_tags::{Key, Table};
-use txc_txn::{RunningTxn, TxnCore};
+use txc_tags::Key;
 
 /// No rows, as an answer.
 fn none(alloc: Global) -> Answer {
@@ -99,63 +91,4 @@ pub fn functions(alloc: Global) -> Result<Registry<Program, Object>>
 {
     let mut pool = PermitPool::new(alloc, 4)?;
     Ok(registry(alloc, &mut pool)?)
-}
-
-/// Bounds that a pin of the last half second meets.
-pub const BOUNDS: Bounds = Bounds {
-    now: 1000,
-    staleness: 500,
-    at_least: Stamp::ZERO,
-};
-
-/// No pins.
-fn no_pins(alloc: Global) -> Result<Pins>
-    ensures { IfOk result (λ pins. pins.pins.items ≡ []) }
-{
-    let front = DbCore::new(alloc, 4)?.front()?;
-    let pins = Vec::new(alloc);
-    Ok(Pins { pins, front })
-}
-
-/// A transaction with its functions.
-fn begun(alloc: Global) -> Result<RunningTxn<Program, Object>>
-    ensures { IfOk result (λ txn. IsIdle txn.core) }
-{
-    let registry = functions(alloc)?;
-    match TxnCore::begin(alloc, 1, 5000, BOUNDS, no_pins(alloc)?) {
-        Ok(core) => Ok(RunningTxn::new(core, registry)),
-        Err(_) => bail!("out of memory"),
-    }
-}
-
-/// A transaction that ends, and one whose call finds the database full.
-pub fn running(alloc: Global) -> Result<usize> {
-    let (receipt, stamps, _) = begun(alloc)?.finish();
-    let mut txn = begun(alloc)?;
-    txn.is_kept();
-    let turn = txn.start(alloc, Key::read(b"f0(7)")?);
-    if let Turn::Ask(PortRequest::Pin { .. }) = turn {
-        let _turn = txn.next(alloc, PortReply::Pin(Err(DbError::Full)));
-    }
-    let members = txn.core().members().len();
-    let (left, _) = txn.cancel();
-    let given = left.give_back.len().max(stamps.len());
-    Ok(given.max(members).max(receipt.answers.len()))
-}
-
-/// Read-write transactions: one that asks a query, and one that is given up in a call.
-pub fn updates(alloc: Global) -> Result<usize> {
-    let mut registry = functions(alloc)?;
-    let mut asking = RwCore::begin(alloc, Stamp::ZERO);
-    let query = Query::All(Table::new(1).unwrap());
-    let _turn = asking.ask(alloc, &registry, query);
-    let mut core = RwCore::begin(alloc, Stamp::ZERO);
-    core.is_within_budget();
-    let turn = core.start(alloc, &mut registry, Key::read(b"f0(7)")?);
-    if let Turn::Ask(_) = turn {
-        let _turn = core.reply(alloc, &mut registry, Err(DbError::Full));
-        return Ok(core.answers().len());
-    }
-    let _request = core.cancel(&mut registry);
-    Ok(0)
 }

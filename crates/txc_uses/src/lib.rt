@@ -1,4 +1,5 @@
-//! Calls of the libraries at the types of a program.
+//! Calls of the libraries at the types of a program, of what one thread has. What threads share is called by
+//! `txc_thread_uses`.
 //!
 //! A contract is proved of each function by itself, and a generic one from its bounds alone. Here somebody calls them:
 //! what a call requires can be met, each bound has a type that meets it, and what it makes can be let go. A function
@@ -7,5 +8,7 @@
 #![tactic(auto)]
 
 pub mod functions;
-pub mod shared;
+pub mod nodes;
+pub mod transactions;
 pub mod values;
+pub mod worlds;

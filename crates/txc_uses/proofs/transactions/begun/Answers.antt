@@ -4,7 +4,7 @@ use Rattle.std.proofs.lemmas.List.Elements.{All-nil}
 use Rattle.txc_ports.specs.Answers.{IsFresh}
 use Rattle.txc_functions.specs.Program.{program}
 use Rattle.txc_ports.specs.declared.bounds.Bounds.{Bounds}
-use Rattle.txc_uses.proofs.functions.begun.Goals as goal
+use Rattle.txc_uses.proofs.transactions.begun.Goals as goal
 
 -- no pin has to be fresh
 pub new-requires : goal.new-requires

@@ -1,6 +1,6 @@
 use Rattle.std.proofs.Common.{◌==◌, if◌then◌else◌}
 use Rattle.txc_stream.specs.Names.{stored, unstored}
-use Rattle.txc_uses.proofs.shared.shared.Given as goal
+use Rattle.txc_thread_uses.proofs.rows.over_new_histories.Given as goal
 
 -- the row that was just made, and the history of the pen that was
 abbrev pub ghosts-over_histories : goal.ghosts-over_histories

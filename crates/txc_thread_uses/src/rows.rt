@@ -1,0 +1,112 @@
+//! All of it over histories that were just made: the database's, that of a node, and that of a node which stores none.
+ghost use Rattle.std.specs.Prelude.{◌≡◌, [], length, vec_len, IfOk};
+ghost use Rattle.txc_stream.specs.Names.{stored, unstored};
+
+use crate::clients::{client, pages, update};
+use crate::databases::{ask, commit, feed, retire, stick};
+use crate::nodes::step;
+use anyhow::Result;
+use std::alloc::Global;
+use std::marker::Brand;
+use std::sync::Wait;
+use txc_cushion::Pincushion;
+use txc_db::{Database, DbCore, Naming};
+use txc_functions::Program;
+use txc_node::Record;
+use txc_shared::{NodeSettings, SharedNode};
+use txc_site::Plan;
+use txc_stream::{EventRow, Pen};
+
+const SETTINGS: NodeSettings = NodeSettings {
+    number: 0,
+    capacity: 64,
+    recent: 16,
+};
+
+/// Those of the node whose history is not stored.
+const OTHERS: NodeSettings = NodeSettings {
+    number: 1,
+    capacity: 64,
+    recent: 16,
+};
+
+/// Whether a site may be made as it is where nothing is said of it.
+pub fn plan() -> bool {
+    Plan::DEFAULT.is_sound()
+}
+
+/// What is done with the database and its pincushion alone.
+fn by_calls<J: Naming>(
+    rt: &impl Wait,
+    alloc: Global,
+    database: &Database<J>,
+    cushion: &Pincushion<J>,
+) -> Result<usize> {
+    let asked = ask(rt, alloc, database)?.max(commit(rt, alloc, database)?);
+    let stuck = stick(rt, alloc, database, cushion)?.max(retire(rt, alloc, database)?);
+    let fed = feed(database)?.max(update(rt, alloc, database)?);
+    Ok(asked.max(stuck).max(fed))
+}
+
+/// A node of the row, and one of the pen.
+fn nodes<J: Naming>(
+    alloc: Global,
+    database: &Database<J>,
+    row: EventRow<Record>,
+    pen: Pen<Record>,
+) -> Result<Vec<SharedNode<Program, J>>>
+    requires one { stored row ≡ J.node_histories 0 }
+    requires other { unstored pen.number ≡ J.node_histories 1 }
+    requires none { pen.list ≡ [] }
+    ensures { IfOk result (λ nodes. vec_len nodes ≡ 2) }
+{
+    let mut nodes = Vec::new(alloc);
+    nodes.push(SharedNode::new(alloc, SETTINGS, row, database)?)?;
+    nodes.push(SharedNode::unstored(alloc, OTHERS, pen, database)?)?;
+    Ok(nodes)
+}
+
+/// What is done with the database, and with a pincushion and nodes of it.
+fn over_database<J: Naming, R: Wait>(
+    rt: &R,
+    alloc: Global,
+    database: &Database<J>,
+    row: EventRow<Record>,
+    pen: Pen<Record>,
+) -> Result<usize>
+    requires one { stored row ≡ J.node_histories 0 }
+    requires other { unstored pen.number ≡ J.node_histories 1 }
+    requires none { pen.list ≡ [] }
+{
+    let nodes = nodes(alloc, database, row, pen)?;
+    let cushion = Pincushion::new(alloc, database)?;
+    let called = by_calls(rt, alloc, database, &cushion)?;
+    let stepped = step(rt, alloc, &nodes[0])?.max(step(rt, alloc, &nodes[1])?);
+    let shown = pages(rt, alloc, client(rt, alloc, database, &cushion, &nodes)?)?;
+    Ok(called.max(stepped).max(shown))
+}
+
+/// All of it over these histories.
+fn over_histories<J: Naming, R: Wait>(
+    rt: &R,
+    alloc: Global,
+    core: DbCore,
+    row: EventRow<Record>,
+    pen: Pen<Record>,
+) -> Result<(DbCore, usize)>
+    requires database { core.events ≡ J.database_row }
+    requires one { stored row ≡ J.node_histories 0 }
+    requires other { unstored pen.number ≡ J.node_histories 1 }
+    requires none { pen.list ≡ [] }
+{
+    let database = Database::<J>::new(alloc, core)?;
+    let done = over_database(rt, alloc, &database, row, pen)?;
+    Ok((database.into_core(), done))
+}
+
+/// The same over a new database.
+pub fn over_new_histories<R: Wait>(rt: &R, alloc: Global) -> Result<(DbCore, usize)> {
+    let core = DbCore::new(alloc, 16)?;
+    let row = EventRow::new(alloc, 64)?;
+    over_histories::<Brand, R>(rt, alloc, core, row, Pen::new())
+}
