@@ -43,8 +43,8 @@ impl Closing<'_> {
         stale
     }
 
-    // Closes what it invalidates at each of these places, and counts it.
-    fn at_each(&self, entries: &mut KeyedEntries, places: &[Place]) -> usize
+    /// Closes what it invalidates at each of these places, and counts it.
+    pub(crate) fn at_each(&self, entries: &mut KeyedEntries, places: &[Place]) -> usize
         ensures closes { Closes self.now.stamp self.now.tags.now entries.old entries.new result }
         ensures spared { AllByRecursion (IsSpared self.now.stamp self.now.tags.now entries.new.entries)
             places.now }
@@ -52,20 +52,21 @@ impl Closing<'_> {
         let _len = entries.len();
         let mut count: usize = 0;
         for i in 0..places.len() {
-            count += entries.close_at(&places[i], self);
+            let (closed, _) = entries.close_at(&places[i], self);
+            count += closed;
         }
         count
     }
 
-    /// Closes what it invalidates at places that are listed together, and counts it.
-    pub(crate) fn in_bucket(&self, entries: &mut KeyedEntries, bucket: &Bucket) -> usize
+    // Closes what it invalidates at places that are listed together, and counts it.
+    fn in_bucket(&self, entries: &mut KeyedEntries, bucket: &Bucket) -> usize
         ensures closes { Closes self.now.stamp self.now.tags.now entries.old entries.new result }
         ensures spared { AllByRecursion (IsSpared self.now.stamp self.now.tags.now entries.new.entries)
             bucket.now }
     {
         let _len = entries.len();
         let (first, others) = bucket.parts();
-        let count = entries.close_at(first, self);
+        let (count, _) = entries.close_at(first, self);
         count + self.at_each(entries, others)
     }
 

@@ -107,8 +107,7 @@ fn close_rows(
     let Some(bucket) = buckets.get_mut(&rows) else {
         return 0;
     };
-    let count = closing.in_bucket(entries, bucket);
-    let stays = bucket.clean(entries);
+    let (count, stays) = bucket.close(entries, closing);
     if !stays {
         buckets.swap_remove(&rows);
     }
