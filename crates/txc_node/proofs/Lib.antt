@@ -18,6 +18,7 @@ pub mod Invalidated
 pub mod Lasts
 pub mod Listed
 pub mod Buckets
+pub mod Removals
 pub mod Puts
 pub mod Pairs
 pub mod Sweepings

@@ -112,12 +112,11 @@ impl KeyIndex {
             Relists key.now (take (length rs - 1) rs)
             self.old.versions.entries self.new.versions.entries }
     {
-        let stays = match self.versions.get_mut(key) {
-            None => true,
-            Some(versions) => versions.drop_last(),
+        let Some(i) = self.versions.get_index_of(key) else {
+            return;
         };
-        if !stays {
-            self.versions.swap_remove(key);
+        if !self.versions[i].drop_last() {
+            self.versions.swap_remove_index(i);
         }
     }
 

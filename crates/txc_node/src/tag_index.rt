@@ -53,12 +53,11 @@ fn unlist(buckets: &mut Buckets, rows: Rows, place: &Place)
     ensures rows { (r : Rows) (q : Place) → equal_rows rows r ≡ false
         → lists_rows buckets.old.entries r q ≡ true → lists_rows buckets.new.entries r q ≡ true }
 {
-    let stays = match buckets.get_mut(&rows) {
-        None => true,
-        Some(bucket) => bucket.remove(place),
+    let Some(i) = buckets.get_index_of(&rows) else {
+        return;
     };
-    if !stays {
-        buckets.swap_remove(&rows);
+    if !buckets[i].remove(place) {
+        buckets.swap_remove_index(i);
     }
 }
 
@@ -104,12 +103,12 @@ fn close_rows(
     ensures kept { (r : Rows) (q : Place) → is_live entries.new.entries q ≡ true
         → lists_rows buckets.old.entries r q ≡ true → lists_rows buckets.new.entries r q ≡ true }
 {
-    let Some(bucket) = buckets.get_mut(&rows) else {
+    let Some(i) = buckets.get_index_of(&rows) else {
         return 0;
     };
-    let (count, stays) = bucket.close(entries, closing);
+    let (count, stays) = buckets[i].close(entries, closing);
     if !stays {
-        buckets.swap_remove(&rows);
+        buckets.swap_remove_index(i);
     }
     count
 }
