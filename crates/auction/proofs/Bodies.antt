@@ -4,8 +4,8 @@ use Rattle.std.specs.List.{AllByRecursion}
 use Rattle.std.specs.Fmt.{decimal}
 use Rattle.std.proofs.lemmas.List.{length-append}
 use Rattle.std.proofs.lemmas.Fmt.{decimal_by_steps, decimal_nonempty, length-decimal-le}
-use Rattle.txc_rows.specs.declared.row.TheConstants.{FIRST_BODY_BYTE, LAST_BODY_BYTE}
-use Rattle.txc_rows.specs.Values.{IsBody}
+use Rattle.txc_site.specs.RowLimits.{FIRST_BODY_BYTE, LAST_BODY_BYTE}
+use Rattle.txc_site.specs.Values.{IsBody}
 
 -- the byte prints, and is no blank
 abbrev pub Prints : ℕ → Type 0

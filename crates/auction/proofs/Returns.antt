@@ -7,7 +7,7 @@ use Rattle.std.proofs.Math.Nat.{mul-zero}
 use Rattle.std.proofs.lemmas.List.{length-map}
 use Rattle.std.proofs.lemmas.Nat.{mul-le}
 use Rattle.std.proofs.lemmas.List.Elements.{All-head, All-map, All-tail, All-weaker}
-use Rattle.txc_db.specs.Seen.{FrontValue}
+use Rattle.txc_site.specs.Seen.{FrontValue}
 use Rattle.txc_site.specs.declared.error.GenerationError.{GenerationError}
 use Rattle.txc_site.specs.declared.plan.Plan.{Plan}
 use Rattle.txc_site.specs.declared.returning.Generation.{Generation}

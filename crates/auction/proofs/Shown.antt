@@ -7,17 +7,17 @@ use Rattle.std.proofs.lemmas.List.{append_assoc, append_cancel_right}
 use Rattle.std.proofs.lemmas.Bool.Decides.{Decides-eqb}
 use Rattle.std.proofs.lemmas.Slice.Eq.{ends_is}
 use Rattle.std.proofs.lemmas.List.Elements.{All-same, All-head, All-tail}
-use Rattle.txc_rows.specs.States.{State, answer}
-use Rattle.txc_rows.specs.declared.query.Query.TheVariants.{ById}
-use Rattle.txc_node.specs.declared.value.TheConstants.{MAX_VALUE_LEN}
-use Rattle.txc_app.specs.declared.ask.Answer.{Answer}
-use Rattle.txc_app.specs.declared.ask.Answer.TheVariants.{Value}
-use Rattle.txc_app.specs.Eval.{Evaluation, after_value, activation, call_below, eval}
-use Rattle.txc_db.specs.History.{History, state_at}
-use Rattle.txc_cushion.specs.declared.pin.Pin.{Pin}
-use Rattle.txc_ports.specs.declared.bounds.Bounds.{Bounds}
-use Rattle.txc_ports.specs.declared.recorded.Recorded.{Recorded}
-use Rattle.txc_txn.specs.Core.{Explains}
+use Rattle.txc_site.specs.States.{State, answer}
+use Rattle.txc_site.specs.Query.TheVariants.{ById}
+use Rattle.txc_site.specs.ValueLimits.{MAX_VALUE_LEN}
+use Rattle.txc_site.specs.Answer.{Answer}
+use Rattle.txc_site.specs.Answer.TheVariants.{Value}
+use Rattle.txc_site.specs.Eval.{Evaluation, after_value, activation, call_below, eval}
+use Rattle.txc_site.specs.History.{History, state_at}
+use Rattle.txc_site.specs.Pin.{Pin}
+use Rattle.txc_site.specs.Bounds.{Bounds}
+use Rattle.txc_site.specs.Recorded.{Recorded}
+use Rattle.txc_site.specs.TxnCore.{Explains}
 use Rattle.txc_site.specs.declared.reading.Shown.{Shown}
 use Rattle.auction.specs.Auction.{auction, call_with_argument, body_of, group_of, BIDS, ITEMS, USERS}
 use Rattle.auction.specs.Pages.{IsWhole, ShowsBoth}

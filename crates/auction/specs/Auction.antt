@@ -1,13 +1,13 @@
 -- The functions of the auction: what each asks, and gives, by its arguments and the answers so far.
 use Rattle.std.specs.Prelude.{ℕ, ◌==◌, if◌then◌else◌, List, [], ◌∷◌, ◌++◌, Option, Some, None}
-use Rattle.txc_tags.specs.Keys.{Call as CallValue}
-use Rattle.txc_rows.specs.Values.{RowValue}
-use Rattle.txc_rows.specs.declared.query.Query.TheVariants.{ById, ByGroup}
-use Rattle.txc_app.specs.declared.ask.Ask.{Ask}
-use Rattle.txc_app.specs.declared.ask.Ask.TheVariants.{Query, Call, Done}
-use Rattle.txc_app.specs.declared.ask.Answer.{Answer}
-use Rattle.txc_app.specs.declared.ask.Answer.TheVariants.{Rows, Value}
-use Rattle.txc_app.specs.Eval.{Next}
+use Rattle.txc_site.specs.Keys.{Call as CallValue}
+use Rattle.txc_site.specs.Values.{RowValue}
+use Rattle.txc_site.specs.Query.TheVariants.{ById, ByGroup}
+use Rattle.txc_site.specs.Ask.{Ask}
+use Rattle.txc_site.specs.Ask.TheVariants.{Query, Call, Done}
+use Rattle.txc_site.specs.Answer.{Answer}
+use Rattle.txc_site.specs.Answer.TheVariants.{Rows, Value}
+use Rattle.txc_site.specs.Eval.{Next}
 
 -- an item is a row with its title, in the group of its seller
 abbrev pub ITEMS : ℕ

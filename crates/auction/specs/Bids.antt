@@ -1,8 +1,8 @@
 -- What a bid writes.
 use Rattle.std.specs.Prelude.{◌≡◌, ℕ, List, [], ◌∷◌, ◌++◌}
 use Rattle.std.specs.Fmt.{decimal}
-use Rattle.txc_rows.specs.declared.query.Change.TheVariants.{Put}
-use Rattle.txc_rw.specs.Core.{RwValue}
+use Rattle.txc_site.specs.Change.TheVariants.{Put}
+use Rattle.txc_site.specs.RwCore.{RwValue}
 use Rattle.auction.specs.Auction.{BIDS}
 use Rattle.auction.specs.declared.changes.Bid.{Bid}
 

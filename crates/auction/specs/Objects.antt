@@ -1,6 +1,6 @@
 -- The functions as definitions of one type.
 use Rattle.std.specs.Prelude.{ℕ}
-use Rattle.txc_registry.specs.Activity.{Says}
+use Rattle.txc_site.specs.Activity.{Says}
 use Rattle.auction.specs.Auction.{auction}
 use Rattle.auction.specs.declared.functions.AuctionFunction.{AuctionFunction}
 use Rattle.auction.specs.declared.functions.AuctionFunction.TheVariants as functions

@@ -1,6 +1,6 @@
 -- What the pages of the auction show.
 use Rattle.std.specs.Prelude.{◌≡◌, ℕ, List, [], ◌∷◌, ◌++◌}
-use Rattle.txc_ports.specs.declared.recorded.Recorded.{Recorded}
+use Rattle.txc_site.specs.Recorded.{Recorded}
 use Rattle.auction.specs.Auction.{call_with_argument}
 use Rattle.auction.specs.declared.pages.BothBids.{BothBids}
 

@@ -1,7 +1,7 @@
 //! What is written: the first rows, and bids.
 ghost use Rattle.std.specs.Prelude.{◌≡◌, ◌++◌, ◌∷◌, [], IfOk, OnOk, string_bytes};
-ghost use Rattle.txc_rows.specs.declared.query.Change.TheVariants.{Put};
-ghost use Rattle.txc_rows.specs.Values.{IsBody};
+ghost use Rattle.txc_site.specs.Change.TheVariants.{Put};
+ghost use Rattle.txc_site.specs.Values.{IsBody};
 ghost use Rattle.auction.specs.Bids.{text_of};
 
 use crate::functions::{Auction, AuctionFunction, bids, items, users};
@@ -9,13 +9,7 @@ use crate::pages::key;
 use std::alloc::{AllocError, Global};
 use std::str;
 use std::sync::Wait;
-use txc_db::Naming;
-use txc_node::Value;
-use txc_ports::TxnError;
-use txc_rows::Row;
-use txc_rw::RwTxn;
-use txc_site::{Change, Function};
-use txc_tags::Table;
+use txc_site::{Change, Function, Naming, Row, RunError, RwTxn, Table, Value};
 
 /// How many items there are.
 pub const ITEM_COUNT: u32 = 8;
@@ -35,7 +29,7 @@ fn put<J: Naming>(
     id: u32,
     group: u32,
     body: String,
-) -> Result<(), TxnError>
+) -> Result<(), RunError>
     requires { IsBody (string_bytes body) }
     ensures after { OnOk result (txn.new.core.changes ≡ txn.old.core.changes
         ++ Put (record { table = table; id = id; group = group; body = string_bytes body }) ∷ []) }
@@ -91,7 +85,7 @@ impl Change<Auction, AuctionFunction> for Opening {
         _rt: &R,
         alloc: Global,
         txn: &mut Writing<'_, J>,
-    ) -> Result<(), TxnError> {
+    ) -> Result<(), RunError> {
         for user in 0..USER_COUNT {
             put(txn, users(), user, 0, user_name(alloc, user)?)?;
         }
@@ -125,7 +119,7 @@ impl Change<Auction, AuctionFunction> for Bid {
         rt: &R,
         alloc: Global,
         txn: &mut Writing<'_, J>,
-    ) -> Result<u32, TxnError> {
+    ) -> Result<u32, RunError> {
         let highest = txn.call(rt, alloc, key(0, self.item))?;
         let amount = amount_of(&highest).saturating_add(self.more);
         let text = bid_text(alloc, amount, self.user)?;

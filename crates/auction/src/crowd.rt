@@ -6,15 +6,14 @@ ghost use Rattle.auction.specs.Tallies.{pages_of, CountsBids};
 use crate::arguments::Arguments;
 use crate::changes::{Bid, ITEM_COUNT, USER_COUNT};
 use crate::functions::{Auction, AuctionFunction};
-use crate::pages::{BothBids, ItemPage, OneCall};
+use crate::pages::{BothBids, ItemPage, key};
 use crate::seen::{AllBids, Seen};
 use crate::tally::Tally;
 use std::alloc::Global;
 use std::sync::Wait;
-use txc_db::Naming;
-use txc_ports::Bounds;
-use txc_site::{Generation, Keeper, Returning, SiteClient, Visitor};
-use txc_stamp::Stamp;
+use txc_site::{
+    Bounds, Generation, Keeper, Naming, OneCall, Returning, SiteClient, Stamp, Visitor, fresh_since,
+};
 
 /// A visitor's client.
 type Guest<'a, J> = SiteClient<'a, Auction, AuctionFunction, J>;
@@ -44,11 +43,8 @@ impl Crowd {
     fn bounds(&self, round: Round, at_least: Stamp) -> Bounds
         ensures { result ≡ record { now = round.now; staleness = self.now.arguments.staleness; at_least = at_least } }
     {
-        Bounds {
-            now: u64::from(round.now),
-            staleness: u64::from(self.arguments.staleness),
-            at_least,
-        }
+        let staleness = u64::from(self.arguments.staleness);
+        fresh_since(u64::from(round.now), staleness, at_least)
     }
 
     /// Bids on the item. Returns the stamp of the bid, where it was made.
@@ -105,12 +101,17 @@ impl Crowd {
     ) -> (Option<BothBids>, Guest<'a, J>)
         ensures { CountsBids tally.old tally.new }
     {
-        let id = round.item;
+        let highest = OneCall {
+            key: key(0, round.item),
+        };
+        let page = OneCall {
+            key: key(1, round.item),
+        };
         let bounds = self.bounds(round, Stamp::ZERO);
-        let (highest, client) = client.read(rt, alloc, bounds, &OneCall { function: 0, id });
+        let (highest, client) = client.read(rt, alloc, bounds, &highest);
         let (stamp, client) = self.bid(rt, alloc, client, round, tally);
         let bounds = self.bounds(round, stamp.unwrap_or(Stamp::ZERO));
-        let (page, client) = client.read(rt, alloc, bounds, &OneCall { function: 1, id });
+        let (page, client) = client.read(rt, alloc, bounds, &page);
         let Ok(highest) = highest else {
             return (None, client);
         };

@@ -3,10 +3,7 @@ ghost use Rattle.std.specs.Prelude.{◌≡◌, ◌++◌, ◌∷◌, IfOk};
 ghost use Rattle.auction.specs.Auction.{body_of, bytes_in, group_of, rows_in, titles_of, BIDS, ITEMS, USERS};
 
 use std::alloc::{AllocError, Global};
-use txc_app::{Answer, App, Ask, Bytes};
-use txc_rows::{Query, Row};
-use txc_site::{Application, Definition};
-use txc_tags::{Key, Table};
+use txc_site::{Answer, App, Application, Ask, Bytes, Definition, Key, Query, Row, Table};
 
 /// The auction, as an application.
 pub struct Auction;

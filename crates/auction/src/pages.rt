@@ -6,12 +6,7 @@ ghost use Rattle.auction.specs.Pages.{IsWhole};
 use crate::functions::{Auction, AuctionFunction};
 use std::alloc::Global;
 use std::sync::Wait;
-use txc_client::RoTxn;
-use txc_db::Naming;
-use txc_node::Value;
-use txc_ports::TxnError;
-use txc_site::{Function, Page};
-use txc_tags::Key;
+use txc_site::{Begun, Key, Naming, Page, PageTxn, RunError, Value};
 
 /// The call of a function with one argument.
 pub fn key(function: u8, id: u32) -> Key
@@ -58,42 +53,14 @@ impl Page<Auction, AuctionFunction> for ItemPage {
 
     ghost refuses = { λ page error. Unit {0} };
 
-    fn show<J: Naming, R: Wait>(
+    fn show<J: Naming, B: Begun, R: Wait>(
         &self,
         rt: &R,
         alloc: Global,
-        txn: &mut RoTxn<'_, Auction, Function<AuctionFunction>, J>,
-    ) -> Result<BothBids, TxnError> {
+        txn: &mut PageTxn<'_, Auction, AuctionFunction, J, B>,
+    ) -> Result<BothBids, RunError> {
         let highest = txn.call(rt, alloc, key(0, self.item))?;
         let page = txn.call(rt, alloc, key(1, self.item))?;
         Ok(BothBids { highest, page })
-    }
-}
-
-/// The page of one call.
-#[derive(Drop)]
-pub struct OneCall {
-    pub function: u8,
-    pub id: u32,
-    pub ghost known: { function ≤ 2 },
-}
-
-impl Page<Auction, AuctionFunction> for OneCall {
-    ghost use Rattle.std.specs.Prelude.{◌≡◌, [], ◌∷◌};
-    ghost use Rattle.auction.specs.Auction.{call_with_argument};
-
-    type Output = Value;
-
-    ghost shows = { λ page calls value. calls ≡ record { key = call_with_argument page.function page.id; value = value } ∷ [] };
-
-    ghost refuses = { λ page error. Unit {0} };
-
-    fn show<J: Naming, R: Wait>(
-        &self,
-        rt: &R,
-        alloc: Global,
-        txn: &mut RoTxn<'_, Auction, Function<AuctionFunction>, J>,
-    ) -> Result<Value, TxnError> {
-        txn.call(rt, alloc, key(self.function, self.id))
     }
 }

@@ -6,11 +6,7 @@ use crate::functions::{Auction, AuctionFunction};
 use crate::pages::key;
 use std::alloc::Global;
 use std::sync::Wait;
-use txc_client::RoTxn;
-use txc_db::Naming;
-use txc_ports::TxnError;
-use txc_site::{Function, Page, Shown};
-use txc_stamp::Stamp;
+use txc_site::{Begun, Naming, Page, PageTxn, RunError, Shown, Stamp};
 
 /// What all highest bids come to, and the stamp of that state.
 #[derive(Clone, Copy)]
@@ -59,12 +55,12 @@ impl Page<Auction, AuctionFunction> for AllBids {
 
     ghost refuses = { λ page error. Unit {0} };
 
-    fn show<J: Naming, R: Wait>(
+    fn show<J: Naming, B: Begun, R: Wait>(
         &self,
         rt: &R,
         alloc: Global,
-        txn: &mut RoTxn<'_, Auction, Function<AuctionFunction>, J>,
-    ) -> Result<u64, TxnError> {
+        txn: &mut PageTxn<'_, Auction, AuctionFunction, J, B>,
+    ) -> Result<u64, RunError> {
         let mut sum = 0u64;
         for item in 0..ITEM_COUNT {
             let highest = txn.call(rt, alloc, key(0, item))?;

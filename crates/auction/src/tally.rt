@@ -7,8 +7,7 @@ ghost use Rattle.auction.specs.Tallies.{added, pages_of, CountsBids};
 use crate::changes::{FIRST_BID, ITEM_COUNT};
 use crate::pages::BothBids;
 use crate::seen::Seen;
-use txc_site::Written;
-use txc_stamp::Stamp;
+use txc_site::{Stamp, Written};
 
 /// What visitors came to.
 #[derive(Clone, Copy)]

@@ -1,7 +1,7 @@
 -- The first pieces, one after the other.
 use Rattle.std.proofs.Common.{◌≡◌, ℕ, ◌+◌, ◌%◌, List, [], ◌∷◌, ◌++◌, refl, add-one}
-use Rattle.txc_rows.specs.declared.query.Change.{Change}
-use Rattle.txc_rows.specs.declared.query.Change.TheVariants.{Put}
+use Rattle.txc_site.specs.Change.{Change}
+use Rattle.txc_site.specs.Change.TheVariants.{Put}
 use Rattle.shop.specs.Shop.{piece_row}
 use Rattle.shop.specs.Trade.{first_pieces}
 use Rattle.shop.specs.declared.TheConstants.{PRODUCTS, STOCK}

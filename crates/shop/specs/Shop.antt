@@ -1,15 +1,15 @@
 -- The functions of the shop: what each asks, in turn, and the list that it gives.
 use Rattle.std.specs.Prelude.{ℕ, ◌==◌, if◌then◌else◌, List, [], ◌∷◌, ◌++◌, None}
-use Rattle.txc_tags.specs.Keys.{Call as CallValue}
-use Rattle.txc_rows.specs.Values.{RowValue}
-use Rattle.txc_rows.specs.declared.query.Query.TheVariants.{All, ByGroup}
-use Rattle.txc_app.specs.declared.ask.Ask.{Ask}
-use Rattle.txc_app.specs.declared.ask.Ask.TheVariants.{Query, Call}
-use Rattle.txc_app.specs.declared.ask.Answer.{Answer}
-use Rattle.txc_app.specs.declared.ask.Answer.TheVariants.{Rows, Value}
-use Rattle.txc_app.specs.Eval.{Next}
-use Rattle.txc_definition.specs.Straight.{in_turn}
-use Rattle.txc_registry.specs.Activity.{Says}
+use Rattle.txc_site.specs.Keys.{Call as CallValue}
+use Rattle.txc_site.specs.Values.{RowValue}
+use Rattle.txc_site.specs.Query.TheVariants.{All, ByGroup}
+use Rattle.txc_site.specs.Ask.{Ask}
+use Rattle.txc_site.specs.Ask.TheVariants.{Query, Call}
+use Rattle.txc_site.specs.Answer.{Answer}
+use Rattle.txc_site.specs.Answer.TheVariants.{Rows, Value}
+use Rattle.txc_site.specs.Eval.{Next}
+use Rattle.txc_site.specs.Straight.{in_turn}
+use Rattle.txc_site.specs.Activity.{Says}
 use Rattle.shop.specs.declared.Shop.{Shop}
 use Rattle.shop.specs.declared.Shop.TheVariants.{Stock, ProductPage}
 use Rattle.shop.specs.declared.TheConstants.{STOCK, ORDERS}

@@ -1,12 +1,12 @@
 -- What a page shows, what is written, and what a visitor comes to.
 use Rattle.std.specs.Prelude.{◌≡◌, ℕ, zero, suc, ◌*◌, ◌%◌, ◌≤◌, Bool, true, false, List, [], ◌∷◌, ◌++◌, length}
-use Rattle.txc_rows.specs.Values.{RowValue}
-use Rattle.txc_rows.specs.declared.query.Change.{Change}
-use Rattle.txc_rows.specs.declared.query.Change.TheVariants.{Put, Remove}
-use Rattle.txc_rows.specs.declared.query.Query.TheVariants.{ByGroup}
-use Rattle.txc_ports.specs.declared.recorded.Recorded.{Recorded}
-use Rattle.txc_rw.specs.Core.{RwValue}
-use Rattle.txc_rw.specs.declared.given.Given.TheVariants.{Rows}
+use Rattle.txc_site.specs.Values.{RowValue}
+use Rattle.txc_site.specs.Change.{Change}
+use Rattle.txc_site.specs.Change.TheVariants.{Put, Remove}
+use Rattle.txc_site.specs.Query.TheVariants.{ByGroup}
+use Rattle.txc_site.specs.Recorded.{Recorded}
+use Rattle.txc_site.specs.RwCore.{RwValue}
+use Rattle.txc_site.specs.Given.TheVariants.{Rows}
 use Rattle.shop.specs.Shop.{piece_row, shop_call}
 use Rattle.shop.specs.declared.Look.{Look}
 use Rattle.shop.specs.declared.Shop.TheVariants.{ProductPage, Stock}

@@ -1,22 +1,18 @@
 //! A shop with stock. Arguments: how many visitors come, each on a thread, and how many pieces each would buy.
 #![tactic(auto)]
 
-ghost use Rattle.std.specs.Prelude.{◌≡◌, ◌≤◌, [], ◌∷◌, length, IfOk};
-ghost use Rattle.shop.specs.Shop.{piece_row, piece_list, shop, shop_asks, shop_call, shop_number};
-ghost use Rattle.shop.specs.Trade.{HasVisited, ShowsPage, WritesTrade};
+ghost use Rattle.std.specs.Prelude.{◌≡◌, ◌≤◌, [], ◌∷◌, IfOk};
+ghost use Rattle.shop.specs.Shop.{piece_row, piece_list, shop, shop_asks, shop_number};
+ghost use Rattle.shop.specs.Trade.{HasVisited, WritesTrade};
 
 use std::alloc::{AllocError, Global};
 use std::env;
 use std::sync::Wait;
-use txc_app::{Answer, App, Ask, Bytes};
-use txc_client::RoTxn;
-use txc_db::Naming;
-use txc_ports::{Bounds, TxnError};
-use txc_rows::{Query, Row};
-use txc_rw::RwTxn;
-use txc_site::{Application, Change, Function, InTurn, Page, Plan, SiteClient, Straight, Visitor};
-use txc_stamp::Stamp;
-use txc_tags::{Key, Table};
+use txc_site::{
+    Answer, App, Application, Ask, Bytes, Change, Function, InTurn, Key, Naming, OneCall, Plan,
+    Query, Row, RunError, RwTxn, SiteClient, Stamp, Straight, Table, Visitor, fresh_since,
+    with_site,
+};
 
 /// How many products there are, and how many pieces of each in the beginning.
 const PRODUCTS: u32 = 8;
@@ -49,13 +45,6 @@ enum Shop {
     ProductPage,
 }
 
-fn key(function: Shop, args: &[u32]) -> Key
-    requires { length args.now ≤ 1 }
-    ensures { result ≡ shop_call function args.now }
-{
-    Key::new(function as u8, args).unwrap()
-}
-
 impl App for Shop {
     ghost next = { shop };
 }
@@ -84,7 +73,7 @@ impl Straight for Shop {
             (Shop::Stock, [id]) => Ask::Query(Query::ByGroup(table(STOCK), *id)),
             (Shop::Stock, _) => Ask::Query(Query::All(table(STOCK))),
             (Shop::ProductPage, [id]) if at > 0 => Ask::Query(Query::ByGroup(table(ORDERS), *id)),
-            (Shop::ProductPage, _) => Ask::Call(key(Shop::Stock, args)),
+            (Shop::ProductPage, _) => Ask::Call(Key::new(Shop::Stock as u8, args).unwrap()),
         })
     }
 
@@ -117,29 +106,6 @@ impl Application<InTurn<Shop>> for Shop {
     }
 }
 
-/// How long the page of a product is, and how many pieces are in stock in all.
-#[derive(Drop)]
-struct Look(u32);
-
-impl Page<Shop, InTurn<Shop>> for Look {
-    type Output = (usize, usize);
-
-    ghost shows = { ShowsPage };
-
-    ghost refuses = { λ page error. Unit {0} };
-
-    fn show<J: Naming, R: Wait>(
-        &self,
-        rt: &R,
-        alloc: Global,
-        txn: &mut RoTxn<'_, Shop, Function<InTurn<Shop>>, J>,
-    ) -> Result<(usize, usize), TxnError> {
-        let page = txn.call(rt, alloc, key(Shop::ProductPage, &[self.0]))?;
-        let stock = txn.call(rt, alloc, key(Shop::Stock, &[]))?;
-        Ok((page.bytes().len(), stock.bytes().len()))
-    }
-}
-
 /// What is written: all pieces are put in stock; or one of a product is ordered, if there is one.
 #[derive(Drop)]
 enum Trade {
@@ -159,7 +125,7 @@ impl Change<Shop, InTurn<Shop>> for Trade {
         rt: &R,
         alloc: Global,
         txn: &mut RwTxn<'_, J, Shop, Function<InTurn<Shop>>>,
-    ) -> Result<bool, TxnError> {
+    ) -> Result<bool, RunError> {
         let Trade::Purchase(product) = self else {
             for id in 0..PRODUCTS * PIECES {
                 txn.put(piece(alloc, table(STOCK), id, id % PRODUCTS)?)?;
@@ -176,13 +142,14 @@ impl Change<Shop, InTurn<Shop>> for Trade {
     }
 }
 
-/// Each visitor would buy so many pieces, and looks at the page after each.
+/// Each visitor would buy so many pieces, and looks at the page of the product after each. The page shows all of its pieces, in
+/// stock or ordered, and a bar; else it is torn.
 #[derive(Drop)]
 struct Visitors(u32);
 
 impl Visitor<Shop, InTurn<Shop>> for Visitors {
-    /// How many pages were torn, how many pieces were bought, and how many were in stock at last.
-    type Output = (u32, u32, usize);
+    /// How many pages were torn, and how many pieces were bought.
+    type Output = (u32, u32);
 
     ghost gives = { λ visitors plan row number. HasVisited visitors.0 };
 
@@ -193,10 +160,10 @@ impl Visitor<Shop, InTurn<Shop>> for Visitors {
         alloc: Global,
         number: usize,
         client: &mut Option<SiteClient<'_, Shop, InTurn<Shop>, J>>,
-    ) -> (u32, u32, usize) {
+    ) -> (u32, u32) {
         let mut client = client.take().unwrap();
         let mut keeper = client.keeper(rt, alloc).ok().filter(|_| number == 0);
-        let (mut torn, mut bought, mut left, mut at_least) = (0, 0, usize::MAX, Stamp::ZERO);
+        let (mut torn, mut bought, mut at_least) = (0, 0, Stamp::ZERO);
         for round in 0..self.0 {
             let product = ((round as usize).wrapping_add(number) % PRODUCTS as usize) as u32;
             let (written, next) = client.write(rt, alloc, 64, &Trade::Purchase(product));
@@ -204,20 +171,15 @@ impl Visitor<Shop, InTurn<Shop>> for Visitors {
                 bought += u32::from(written.output);
                 at_least = written.committed.stamp;
             }
-            let bounds = Bounds {
-                now: u64::from(round),
-                staleness: 2,
-                at_least,
-            };
-            let (shown, next) = next.read(rt, alloc, bounds, &Look(product));
+            let bounds = fresh_since(u64::from(round), 2, at_least);
+            let page = OneCall::new(Shop::ProductPage as u8, &[product]).unwrap();
+            let (shown, next) = next.read(rt, alloc, bounds, &page);
             client = next;
-            match &shown {
-                Ok(shown) if shown.output.0 == PIECES as usize + 1 => left = shown.output.1,
-                _ => torn += 1,
-            }
+            let all = |it: &Shown<Value>| it.output.bytes().len() == PIECES as usize + 1;
+            torn += u32::from(!shown.as_ref().is_ok_and(all));
             keeper = keeper.map(|it| it.keep(rt, alloc, u64::from(round), 16).1);
         }
-        (torn, bought, left)
+        (torn, bought)
     }
 }
 
@@ -229,18 +191,20 @@ fn main(rt: HostRuntime) -> anyhow::Result<()> {
     let (opening, visitors) = (Trade::Opening, Visitors(pages));
     let mut plan = Plan::DEFAULT;
     plan.events = 2048;
-    let visited = txc_site::with_site::<Shop, InTurn<Shop>, _, _, _>(
+    let visited = with_site::<Shop, InTurn<Shop>, _, _, _>(
         &rt, alloc, plan, &opening, threads, &visitors,
     )?;
-    let (mut torn, mut bought, mut left) = (0u32, 0u32, usize::MAX);
-    for (its_torn, its_bought, its_left) in visited.outputs.as_slice() {
+    let (mut torn, mut bought) = (0u32, 0u32);
+    for (its_torn, its_bought) in visited.outputs.as_slice() {
         torn = torn.saturating_add(*its_torn);
         bought = bought.saturating_add(*its_bought);
-        // pieces only leave the stock, so that the least is what is left in the end
-        left = left.min(*its_left);
     }
+    let stock = OneCall::new(Shop::Stock as u8, &[]).unwrap();
+    let last = visited
+        .last
+        .read::<Shop, InTurn<Shop>, _, _>(&rt, alloc, &stock)?;
     println!(rt; "{threads} visitors, {pages} pages each, {torn} torn")?;
-    let all = PRODUCTS * PIECES;
+    let (all, left) = (PRODUCTS * PIECES, last.output.bytes().len());
     println!(rt; "{all} pieces at first, {left} in the end and {bought} bought")?;
     Ok(())
 }

@@ -22,6 +22,7 @@ use Rattle.txc_site.specs.contracts.client.SiteClient.TheInside as inside
 use Rattle.txc_site.specs.contracts.foundation.Foundation as Foundation
 use Rattle.txc_site.specs.contracts.ledger.Ledger as Ledger
 use Rattle.txc_site.proofs.ledger.Committer.TheSendSync as committer
+use Rattle.txc_site.proofs.numbers.Tally.TheSendSync as tally
 use Rattle.txc_site.proofs.plan.Plan.TheSendSync as plan
 
 module _ (J : RattleType) (g : naming.Ghosts J.Denot) where
@@ -32,7 +33,7 @@ module _ (A J : RattleType) (a : app.Ghosts A.Denot) (g : naming.Ghosts J.Denot)
   pub foundation_sync : IsSync (Foundation.the_row A J a g)
   foundation_sync = declared_sync (Foundation.the_type A J a g) (
     ledger_sync J g,
-    (Vec-sync (SharedNode.the_row A J a g) (node_sync A a J g), (plan.the_sync, tt)),
+    (Vec-sync (SharedNode.the_row A J a g) (node_sync A a J g), (plan.the_sync, (tally.the_sync, tt))),
   )
 
 module _ (l : NamedLft) (A D J : RattleType) (a : app.Ghosts A.Denot) (d : definition.Ghosts D.Denot) (g : naming.Ghosts J.Denot) where

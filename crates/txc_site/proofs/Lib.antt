@@ -4,5 +4,6 @@ pub mod Keeping
 mod Listing
 mod NodeHistories
 pub mod Opened
+mod Pages
 mod Tried
 pub mod Turns

@@ -1,7 +1,7 @@
 -- Why a site is not opened, by its parts.
 use Rattle.std.proofs.Common.{◌≡◌, ◌⊎◌, inl, inr, ℕ, List, length}
 use Rattle.std.specs.Prelude.{Any}
-use Rattle.txc_ports.specs.declared.error.TxnError.{TxnError}
+use Rattle.txc_site.specs.declared.run_error.RunError.{RunError}
 use Rattle.txc_rw.specs.Core.{RwValue}
 use Rattle.txc_shared.specs.declared.error.NodeError.{NodeError}
 use Rattle.txc_shared.specs.declared.error.NodeError.TheVariants as refusals
@@ -59,14 +59,14 @@ module _ (plan : Plan) (numbers : List ℕ) (sound : IsPlan plan) where
   client_so sites.Memory h = (sound, tt)
 
   -- the opening was refused
-  pub opening_so : {T : Type 0} (row : List ℕ) (makes : RwValue → T → Type 0) (refuses : TxnError → Type 0) (error : OpenError) → length row ≡ plan.events
+  pub opening_so : {T : Type 0} (row : List ℕ) (makes : RwValue → T → Type 0) (refuses : RunError → Type 0) (error : OpenError) → length row ≡ plan.events
       → IsOpeningRefused numbers row makes refuses error → IsOpenRefused plan numbers makes refuses error
   opening_so row makes refuses (opens.Site error) room h = registry_so error h
   opening_so row makes refuses (opens.Opening error) room h = (sound, record { row = row; room = room; refused = h })
   opening_so row makes refuses opens.Threads room h = absurd h
 
   -- the visits were
-  pub visit_so : {T : Type 0} (makes : RwValue → T → Type 0) (refuses : TxnError → Type 0) (error : OpenError)
+  pub visit_so : {T : Type 0} (makes : RwValue → T → Type 0) (refuses : RunError → Type 0) (error : OpenError)
       → IsVisitRefused numbers error → IsOpenRefused plan numbers makes refuses error
   visit_so makes refuses (opens.Site error) h = client_so error h
   visit_so makes refuses (opens.Opening error) h = absurd h

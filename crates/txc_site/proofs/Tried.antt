@@ -3,7 +3,7 @@ use Rattle.std.proofs.Common.{◌≡◌, ℕ, List, subst}
 use Rattle.txc_app.specs.Eval.{Next}
 use Rattle.txc_db.specs.declared.answered.Answered.{Answered}
 use Rattle.txc_db.specs.declared.answered.CommitError.TheVariants as commits
-use Rattle.txc_ports.specs.declared.error.TxnError.{TxnError}
+use Rattle.txc_site.specs.declared.run_error.RunError.{RunError}
 use Rattle.txc_rw.specs.Core.{RwValue}
 use Rattle.txc_site.specs.declared.error.WriteError.{WriteError}
 use Rattle.txc_site.specs.declared.writing.Attempt.{Attempt}
@@ -11,7 +11,7 @@ use Rattle.txc_site.specs.declared.writing.Attempt.TheVariants as attempts
 use Rattle.txc_site.specs.Attempts.{CountsAttempt, IsAttempted}
 use Rattle.txc_site.specs.Writes.{IsRefusedCommit, IsSiteWriteRefused}
 
-module _ {T : Type 0} (next : Next) (row : List ℕ) (makes : RwValue → T → Type 0) (refuses : TxnError → Type 0) (attempt : Attempt T) where
+module _ {T : Type 0} (next : Next) (row : List ℕ) (makes : RwValue → T → Type 0) (refuses : RunError → Type 0) (attempt : Attempt T) where
   pub conflict_so : (conflict : Answered ℕ) → IsAttempted next row makes refuses attempt → attempt ≡ attempts.Conflict conflict
       → IsRefusedCommit row makes (commits.Conflict conflict)
   conflict_so conflict did is = subst (IsAttempted next row makes refuses) is did

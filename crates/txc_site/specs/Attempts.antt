@@ -2,7 +2,7 @@
 use Rattle.std.specs.Prelude.{◌≡◌, ℕ, List}
 use Rattle.txc_app.specs.Eval.{Next}
 use Rattle.txc_db.specs.declared.answered.CommitError.TheVariants as commits
-use Rattle.txc_ports.specs.declared.error.TxnError.{TxnError}
+use Rattle.txc_site.specs.declared.run_error.RunError.{RunError}
 use Rattle.txc_rw.specs.Core.{RwValue}
 use Rattle.txc_site.specs.declared.error.WriteError.{WriteError}
 use Rattle.txc_site.specs.declared.error.WriteError.TheVariants as writes
@@ -18,7 +18,7 @@ IsOfRun writes.Memory = ⊥
 IsOfRun error = Unit {0}
 
 -- it was committed, or is a conflict, or was refused for another reason
-abbrev pub IsAttempted : {T : Type 0} → Next → List ℕ → (RwValue → T → Type 0) → (TxnError → Type 0) → Attempt T → Type 0
+abbrev pub IsAttempted : {T : Type 0} → Next → List ℕ → (RwValue → T → Type 0) → (RunError → Type 0) → Attempt T → Type 0
 IsAttempted next row makes refuses (attempts.Done output committed) = IsWritten next row makes output committed
 IsAttempted next row makes refuses (attempts.Conflict conflict) = IsRefusedCommit row makes (commits.Conflict conflict)
 IsAttempted next row makes refuses (attempts.Refused error) =

@@ -4,13 +4,15 @@ use Rattle.std.specs.List.{range_with_len, slice_index_or}
 use Rattle.txc_registry.specs.Objects.{Objects, HasTwice}
 use Rattle.txc_client.specs.Txn.{ClientValue}
 use Rattle.txc_db.specs.Refusals.{IsWant}
-use Rattle.txc_ports.specs.declared.error.TxnError.{TxnError}
+use Rattle.txc_site.specs.declared.run_error.RunError.{RunError}
 use Rattle.txc_stream.specs.Names.{Name}
 use Rattle.txc_shared.specs.declared.error.NodeError.{NodeError}
 use Rattle.txc_shared.specs.declared.error.NodeError.TheVariants as refusals
 use Rattle.txc_site.specs.declared.plan.Plan.{Plan}
 use Rattle.txc_site.specs.declared.error.SiteError.{SiteError}
 use Rattle.txc_site.specs.declared.error.SiteError.TheVariants as sites
+use Rattle.txc_site.specs.declared.error.LastError.{LastError}
+use Rattle.txc_site.specs.declared.error.LastError.TheVariants as lasts
 use Rattle.txc_site.specs.declared.error.ReadError.{ReadError}
 use Rattle.txc_site.specs.declared.error.ReadError.TheVariants as reads
 use Rattle.txc_site.specs.Histories.{HaveHistoriesBy}
@@ -81,6 +83,11 @@ IsSiteRefused plan numbers (sites.Database cause) = IsPlan plan × IsWant cause
 IsSiteRefused plan numbers error = IsPlan plan × IsClientRefused numbers error
 
 -- of a page: out of memory before it began; or as the page itself is
-abbrev pub IsPageRefused : (TxnError → Type 0) → ReadError → Type 0
+abbrev pub IsPageRefused : (RunError → Type 0) → ReadError → Type 0
 IsPageRefused refuses reads.Memory = Unit {0}
 IsPageRefused refuses (reads.Page cause) = refuses cause
+
+-- of a page of the last state: as a client is, or as a page is
+abbrev pub IsLastRefused : List ℕ → (RunError → Type 0) → LastError → Type 0
+IsLastRefused numbers refuses (lasts.Site error) = IsClientRefused numbers error
+IsLastRefused numbers refuses (lasts.Page error) = IsPageRefused refuses error

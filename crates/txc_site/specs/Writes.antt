@@ -7,7 +7,7 @@ use Rattle.txc_db.specs.declared.answered.CommitError.TheVariants as commits
 use Rattle.txc_db.specs.Calls.{IsHoldRefused}
 use Rattle.txc_db.specs.History.{state_at}
 use Rattle.txc_db.specs.Shared.{IsEventIn, IsQuietIn, IsSharedCommitRefused, MayRefuse}
-use Rattle.txc_ports.specs.declared.error.TxnError.{TxnError}
+use Rattle.txc_site.specs.declared.run_error.RunError.{RunError}
 use Rattle.txc_rw.specs.declared.rw_txn.Committed.{Committed}
 use Rattle.txc_rw.specs.Answers.{AreRightIn}
 use Rattle.txc_rw.specs.Core.{RwValue, tags_read}
@@ -41,7 +41,7 @@ AreConflicts row makes conflicts = All (λ conflict. IsRefusedCommit row makes (
 
 -- there were as many conflicts as tries, or a transaction was not begun, the change was refused, or its commit
 -- was for another reason than a conflict
-abbrev pub IsSiteWriteRefused : {T : Type 0} → List ℕ → (RwValue → T → Type 0) → (TxnError → Type 0) → ℕ → WriteError → Type 0
+abbrev pub IsSiteWriteRefused : {T : Type 0} → List ℕ → (RwValue → T → Type 0) → (RunError → Type 0) → ℕ → WriteError → Type 0
 IsSiteWriteRefused row makes refuses tries (writes.Conflicts conflicts) =
     (vec_len conflicts ≡ tries) × AreConflicts row makes conflicts.items
 IsSiteWriteRefused row makes refuses tries (writes.Begin cause) = MayRefuse row IsHoldRefused cause

@@ -1,18 +1,18 @@
 ghost use Rattle.std.specs.Prelude.{◌≡◌, IfErr, IfOk};
 ghost use Rattle.txc_rw.specs.Core.{IsBegun};
 
+use crate::run_error::RunError;
 use std::alloc::Global;
 use std::sync::Wait;
 use txc_app::App;
 use txc_db::Naming;
 use txc_definition::{Definition, Function};
-use txc_ports::TxnError;
 use txc_rw::RwTxn;
 
 /// A change: what is read and written in one read-write transaction. It is made anew after each conflict.
 pub trait Change<A: App, D: Definition> {
     ghost use Rattle.txc_rw.specs.Core.{RwValue};
-    ghost use Rattle.txc_ports.specs.declared.error.TxnError.{TxnError};
+    ghost use Rattle.txc_site.specs.declared.run_error.RunError.{RunError};
 
     /// What the change comes to.
     type Output: Drop;
@@ -21,7 +21,7 @@ pub trait Change<A: App, D: Definition> {
     ghost makes: { Self → RwValue → Self.Output → Type 0 };
 
     // How it is refused.
-    ghost refuses: { Self → TxnError → Type 0 };
+    ghost refuses: { Self → RunError → Type 0 };
 
     /// Makes the calls, the queries and the changes in the transaction, which is new.
     fn make<J: Naming, R: Wait>(
@@ -29,7 +29,7 @@ pub trait Change<A: App, D: Definition> {
         rt: &R,
         alloc: Global,
         txn: &mut RwTxn<'_, J, A, Function<D>>,
-    ) -> Result<Self::Output, TxnError>
+    ) -> Result<Self::Output, RunError>
         requires { IsBegun txn.old.core.base txn.old.core }
         ensures functions { txn.new.objects ≡ txn.old.objects }
         ensures makes { IfOk result (makes self.now txn.new.core) }

@@ -4,6 +4,7 @@ ghost use Rattle.txc_stream.specs.Names.{HasRow};
 ghost use Rattle.txc_node.specs.Counts.{AreCountsOf};
 ghost use Rattle.txc_client.specs.Ports.{CountsLeave, HaveGrown, IsCallAt};
 ghost use Rattle.txc_registry.specs.Objects.{AllIdle};
+ghost use Rattle.txc_site.specs.Pages.{IsLeftByRefused, IsPageRun};
 ghost use Rattle.txc_site.specs.Counted.{counted_again};
 ghost use Rattle.txc_site.specs.Plans.{nodes_of};
 ghost use Rattle.txc_site.specs.Sites.{IsKeeperRefused, IsPageRefused};
@@ -16,6 +17,7 @@ use crate::error::{ReadError, SiteError, WriteError};
 use crate::foundation::Foundation;
 use crate::keeper::Keeper;
 use crate::ledger::Committer;
+use crate::numbers::Numbers;
 use crate::page::Page;
 use crate::reading::{Shown, read_page};
 use crate::writing::{Written, write_change};
@@ -79,8 +81,9 @@ impl<'a, A: App, D: Definition, J: Naming> SiteClient<'a, A, D, J> {
     }
 
     /// Runs the page in one read-only transaction with these bounds, and commits that. The receipt is of the
-    /// calls that this page made: at the receipt's pin each has the value that it comes to without a cache.
-    /// Where the page is refused, its transaction is given up. Either way the client is returned.
+    /// calls that this page made: at the receipt's pin each has the value that it comes to without a cache. They
+    /// were made once, from the client as it was. Where the page is refused, its transaction is given up. Either
+    /// way the client is returned.
     pub fn read<P: Page<A, D>, R: Wait>(
         self,
         rt: &R,
@@ -94,7 +97,12 @@ impl<'a, A: App, D: Definition, J: Naming> SiteClient<'a, A, D, J> {
             shown.receipt.pin shown.receipt.answers.items) }
         ensures not_before { IfOk result.0 (λ shown. IsAtLeast bounds.at_least shown.receipt.pin) }
         ensures row { IfOk result.0 (λ shown. shown.receipt.seen.events ≡ J.database_row) }
+        ensures ran { IfOk result.0 (λ shown. IsPageRun A.next J.database_row J.node_histories self.entry.reader bounds
+            shown.receipt.answers.items result.1.reader) }
         ensures refused { IfErr result.0 (IsPageRefused (P.refuses page.now)) }
+        ensures left { IfErr result.0 (λ error. IsLeftByRefused A.next J.database_row J.node_histories
+            self.entry.reader bounds error result.1.reader) }
+        ensures passes { HaveGrown self.entry.reader.passes result.1.reader.passes }
         ensures functions { result.1.reader.objects ≡ self.entry.reader.objects }
         ensures renew_after { result.1.reader.renew_after ≡ self.entry.reader.renew_after }
         ensures plan { result.1.plan ≡ self.entry.plan }
@@ -108,6 +116,7 @@ impl<'a, A: App, D: Definition, J: Naming> SiteClient<'a, A, D, J> {
             committer,
         } = self;
         let (shown, reader) = read_page(rt, alloc, reader, bounds, page);
+        foundation.tally.count_read(&shown);
         let client = SiteClient {
             foundation,
             reader,
@@ -153,6 +162,7 @@ impl<'a, A: App, D: Definition, J: Naming> SiteClient<'a, A, D, J> {
             tries,
             change,
         );
+        foundation.tally.count_write(&written);
         let client = SiteClient {
             foundation,
             reader,
@@ -177,6 +187,17 @@ impl<'a, A: App, D: Definition, J: Naming> SiteClient<'a, A, D, J> {
         ensures { result ≡ self.now.commits }
     {
         self.committer.commits()
+    }
+
+    /// What all clients of the site have done by then, and what its nodes were asked, of which the client is then
+    /// shown all records. A node that refuses is left out.
+    pub fn numbers(&mut self, rt: &impl Wait) -> Numbers
+        ensures same { self.new ≡ record self.old { reader = self.new.reader } }
+        ensures reader { self.new.reader ≡ record self.old.reader { passes = self.new.reader.passes } }
+        ensures passes { HaveGrown self.old.reader.passes self.new.reader.passes }
+    {
+        let numbers = self.foundation.tally.numbers();
+        numbers.with_nodes_of(rt, &mut self.reader)
     }
 
     /// The counts of what the client has seen of a node; none where there is no such node, or its records are not

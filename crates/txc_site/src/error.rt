@@ -1,10 +1,10 @@
 //! Why calls of a site are refused, and what stands after each refusal.
+use crate::run_error::RunError;
 use std::alloc::{AllocError, AllocFailed};
 use std::fmt;
 use thiserror::Error;
 use txc_carry::CarryError;
 use txc_db::{Answered, DbError};
-use txc_ports::TxnError;
 use txc_shared::NodeError;
 use txc_stamp::Stamp;
 
@@ -171,7 +171,41 @@ pub enum ReadError {
     Memory,
     /// The page was refused, and its transaction given up.
     #[error("{0}")]
-    Page(TxnError),
+    Page(RunError),
+}
+
+/// Why a page of the last state was not read.
+#[derive(Clone, Copy, Debug, PartialEq, Eq, Error)]
+pub enum LastError {
+    /// There was no client for it.
+    #[error("{0}")]
+    Site(SiteError),
+    /// The page was not read.
+    #[error("{0}")]
+    Page(ReadError),
+}
+
+impl From<SiteError> for LastError {
+    ghost use Rattle.std.specs.Prelude.{◌≡◌};
+    ghost use Rattle.txc_site.specs.declared.error.LastError.TheVariants.{Site};
+
+    ghost from_gives = { λ cause it. it ≡ Site cause };
+
+    fn from(cause: SiteError) -> LastError {
+        LastError::Site(cause)
+    }
+}
+
+impl From<AllocError> for LastError {
+    ghost use Rattle.std.specs.Prelude.{◌≡◌};
+    ghost use Rattle.txc_site.specs.declared.error.LastError.TheVariants.{Site};
+    ghost use Rattle.txc_site.specs.declared.error.SiteError.TheVariants.{Memory};
+
+    ghost from_gives = { λ _ it. it ≡ Site Memory };
+
+    fn from(_: AllocError) -> LastError {
+        LastError::Site(SiteError::Memory)
+    }
 }
 
 /// Why a change was not written. Nothing of it was committed, and the client is there for the next one.
@@ -186,7 +220,7 @@ pub enum WriteError {
     Begin(DbError),
     /// The change was refused, and its transaction given up.
     #[error("{0}")]
-    Change(TxnError),
+    Change(RunError),
     /// The database refused the commit, for another reason than a conflict.
     #[error("{0}")]
     Commit(DbError),

@@ -7,6 +7,7 @@ ghost use Rattle.txc_site.specs.Histories.{AreHistoriesOf};
 use crate::keeper::retire;
 use crate::ledger::{Committers, Ledger};
 use crate::node_history::NodeHistory;
+use crate::numbers::Tally;
 use crate::plan::Plan;
 use std::alloc::{AllocError, Global};
 use std::sync::Wait;
@@ -20,6 +21,7 @@ pub(crate) struct Foundation<A: App, J: Naming> {
     pub(crate) ledger: Ledger<J>,
     pub(crate) nodes: Vec<SharedNode<A, J>>,
     pub(crate) plan: Plan,
+    pub(crate) tally: Tally,
     ghost some: { 1 ≤ vec_len nodes },
     ghost planned: { nodes.items ≡ nodes_of plan },
 }
@@ -70,6 +72,7 @@ impl<A: App, J: Naming> Foundation<A, J> {
             ledger,
             nodes,
             plan,
+            tally: Tally::new(),
         };
         Ok((foundation, committers))
     }
@@ -82,6 +85,7 @@ impl<A: App, J: Naming> Foundation<A, J> {
             ledger,
             nodes: _,
             plan: _,
+            tally: _,
         } = self;
         let _ = retire(rt, alloc, &ledger, u64::MAX, 0);
         ledger.into_core()

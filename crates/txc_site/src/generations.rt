@@ -9,7 +9,7 @@ ghost use Rattle.txc_site.specs.Plans.{IsPlan};
 use crate::application::Application;
 use crate::change::Change;
 use crate::error::{GenerationError, OpenError, SiteError};
-use crate::histories::over_new_histories;
+use crate::histories::{Visits, over_new_histories};
 use crate::opening::opened;
 use crate::plan::Plan;
 use crate::returning::{Generation, Returning};
@@ -79,13 +79,19 @@ where
     ensures refused { IfErr result (IsGenerationRefused A.numbers) }
 {
     let Begun { core, front: begun } = begun;
-    let (outputs, core) = over_new_histories::<A, D, V, R>(rt, alloc, plan, core, count, visitors)?;
+    let visits = over_new_histories::<A, D, V, R>(rt, alloc, plan, core, count, visitors)?;
+    let Visits {
+        outputs,
+        numbers,
+        core,
+    } = visits;
     let ended = whole_front(&core, &begun)?;
     let generation = Generation {
         number,
         begun,
         ended,
         outputs,
+        numbers,
     };
     Ok((generation, core))
 }

@@ -10,6 +10,7 @@ use crate::application::Application;
 use crate::error::OpenError;
 use crate::foundation::Foundation;
 use crate::node_history::{NodeHistory, new_histories};
+use crate::numbers::Numbers;
 use crate::plan::Plan;
 use crate::visiting::visit;
 use crate::visitor::Visitor;
@@ -21,8 +22,15 @@ use txc_db::{DbCore, Naming};
 use txc_definition::Definition;
 use txc_permits::PermitPool;
 
-/// Lets the threads visit a site of the database and of new nodes. Returns what they came to, and the database
-/// as they left it.
+/// What threads came to that visited a site, what they did in all, and the database as they left it.
+#[derive(Drop)]
+pub(crate) struct Visits<T> {
+    pub(crate) outputs: Vec<T>,
+    pub(crate) numbers: Numbers,
+    pub(crate) core: DbCore,
+}
+
+/// Lets the threads visit a site of the database and of new nodes.
 pub(crate) fn over_new_histories<A, D, V, R>(
     rt: &R,
     alloc: Global,
@@ -30,17 +38,17 @@ pub(crate) fn over_new_histories<A, D, V, R>(
     core: DbCore,
     count: usize,
     visitors: &V,
-) -> Result<(Vec<V::Output>, DbCore), OpenError>
+) -> Result<Visits<V::Output>, OpenError>
 where
     A: Application<D> + Send + Sync,
     D: Definition + Send,
     V: Visitor<A, D> + Sync,
     R: Threads + Wait + Sync,
     requires plan { IsPlan plan }
-    ensures each { IfOk result (λ visited. vec_len visited.0 ≡ count) }
+    ensures each { IfOk result (λ visited. vec_len visited.outputs ≡ count) }
     ensures gives { IfOk result (λ visited.
-        HaveCome (V.gives visitors.now plan core.events) visited.0.items) }
-    ensures database { IfOk result (λ visited. IsDatabaseOf core.events visited.1) }
+        HaveCome (V.gives visitors.now plan core.events) visited.outputs.items) }
+    ensures database { IfOk result (λ visited. IsDatabaseOf core.events visited.core) }
     ensures refused { IfErr result (IsVisitRefused A.numbers) }
 {
     let histories = new_histories(alloc, plan.nodes, plan.records)?;
@@ -56,7 +64,7 @@ fn over_histories<A, D, V, J, R>(
     histories: Vec<NodeHistory>,
     count: usize,
     visitors: &V,
-) -> Result<(Vec<V::Output>, DbCore), OpenError>
+) -> Result<Visits<V::Output>, OpenError>
 where
     A: Application<D> + Send + Sync,
     D: Definition + Send,
@@ -68,10 +76,10 @@ where
     requires each { vec_len histories ≡ plan.nodes }
     requires histories { AreHistoriesOf J.node_histories 0 histories.items }
     requires stored_so { HaveHistoriesBy plan J.node_histories }
-    ensures each { IfOk result (λ visited. vec_len visited.0 ≡ count) }
+    ensures each { IfOk result (λ visited. vec_len visited.outputs ≡ count) }
     ensures gives { IfOk result (λ visited.
-        HaveCome (V.gives visitors.now plan J.database_row) visited.0.items) }
-    ensures database { IfOk result (λ visited. IsDatabaseOf J.database_row visited.1) }
+        HaveCome (V.gives visitors.now plan J.database_row) visited.outputs.items) }
+    ensures database { IfOk result (λ visited. IsDatabaseOf J.database_row visited.core) }
     ensures refused { IfErr result (IsVisitRefused A.numbers) }
 {
     let (foundation, committers) = Foundation::<A, J>::new(alloc, plan, core, histories)?;
@@ -85,5 +93,11 @@ where
         count,
         visitors,
     )?;
-    Ok((outputs, foundation.into_core(rt, alloc)))
+    let numbers = foundation.tally.numbers();
+    let numbers = numbers.with_nodes(rt, &foundation.nodes);
+    Ok(Visits {
+        outputs,
+        numbers,
+        core: foundation.into_core(rt, alloc),
+    })
 }

@@ -6,11 +6,15 @@
 //! [`Change`] in one read-write transaction, which it tries again after a conflict. A [`Keeper`] pins the
 //! present, lets the nodes take events and tidies, and tells how much room is left.
 //!
+//! It is the one library that a service lists: what pages, changes and functions name of the libraries below is
+//! passed on, and so are the definitions that a clause may name.
+//!
 //! [`with_generations`] does so again and again, as often as the visitors are [`Returning`]: each [`Generation`]
 //! has a new database that begins with the state of the one before, and new nodes.
 #![tactic(auto)]
 
 mod application;
+mod bounds;
 mod change;
 mod client;
 mod error;
@@ -18,32 +22,53 @@ mod foundation;
 mod generations;
 mod histories;
 mod keeper;
+mod last_state;
+pub mod laws;
 mod ledger;
 mod node_history;
+mod numbers;
 mod opening;
 mod page;
+mod page_txn;
 mod plan;
 mod reading;
 mod returning;
 mod room;
+mod run_error;
 mod station;
 mod visiting;
 mod visitor;
 mod writing;
 
 pub use application::Application;
+pub use bounds::{fresh, fresh_since};
 pub use change::Change;
 pub use client::SiteClient;
-pub use error::{GenerationError, OpenError, ReadError, SiteError, WriteError};
+pub use error::{GenerationError, LastError, OpenError, ReadError, SiteError, WriteError};
 pub use generations::{Served, with_generations};
 pub use keeper::{Ended, Keeper, Kept, KeptNode, MAX_TAKEN};
+pub use last_state::LastState;
 pub use ledger::Horizon;
+pub use numbers::Numbers;
 pub use opening::{Visited, with_site};
-pub use page::Page;
+pub use page::{OneCall, Page};
+pub use page_txn::{Begun, PageTxn};
 pub use plan::{MAX_NODES, Plan};
 pub use reading::Shown;
 pub use returning::{Generation, Returning};
 pub use room::{events_left, records_left};
+pub use run_error::RunError;
+pub use txc_app::{Answer, App, Ask, Bytes};
+pub use txc_cushion::Pin;
+pub use txc_db::{Answered, DbError, HistoryFront, Naming};
 pub use txc_definition::{Definition, Function, InTurn, Or, Straight};
+pub use txc_node::{Counts, Value};
+pub use txc_ports::{Bounds, Recorded, TxnError};
+pub use txc_rows::{Query, Row, RowError};
+pub use txc_rw::{Committed, Given, RwTxn};
+pub use txc_shared::NodeError;
+pub use txc_stamp::Stamp;
+pub use txc_tags::{Key, KeyError, Table};
+pub use txc_txn::Receipt;
 pub use visitor::Visitor;
 pub use writing::Written;

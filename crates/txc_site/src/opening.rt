@@ -10,7 +10,9 @@ use crate::application::{Application, registry};
 use crate::change::Change;
 use crate::error::{OpenError, SiteError};
 use crate::histories::over_new_histories;
+use crate::last_state::LastState;
 use crate::ledger::Ledger;
+use crate::numbers::Numbers;
 use crate::plan::Plan;
 use crate::visitor::Visitor;
 use crate::writing::{Written, write_change};
@@ -29,6 +31,10 @@ pub struct Visited<O, T> {
     pub opening: Written<O>,
     /// What each thread came to, in the order of their numbers.
     pub outputs: Vec<T>,
+    /// What the threads did in all.
+    pub numbers: Numbers,
+    /// The state that they left.
+    pub last: LastState,
 }
 
 /// A new database, as the plan says.
@@ -70,10 +76,13 @@ where
         return Err(OpenError::Site(SiteError::Plan));
     }
     let (opening, core) = opened::<A, D, O, R>(rt, alloc, plan, opening)?;
-    let (outputs, _core) = over_new_histories::<A, D, V, R>(
-        rt, alloc, plan, core, count, visitors,
-    )?;
-    Ok(Visited { opening, outputs })
+    let visits = over_new_histories::<A, D, V, R>(rt, alloc, plan, core, count, visitors)?;
+    Ok(Visited {
+        opening,
+        outputs: visits.outputs,
+        numbers: visits.numbers,
+        last: LastState::new(visits.core, plan),
+    })
 }
 
 /// A new database, to which the opening was written.

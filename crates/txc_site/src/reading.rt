@@ -1,12 +1,16 @@
 //! The reading of pages.
 ghost use Rattle.std.specs.Prelude.{◌≡◌, IfErr, IfOk};
+ghost use Rattle.txc_client.specs.Ports.{HaveGrown};
+ghost use Rattle.txc_site.specs.Pages.{IsLeftByRefused, IsPageRun};
 ghost use Rattle.txc_site.specs.Sites.{IsPageRefused};
 ghost use Rattle.txc_txn.specs.Core.{Explains};
 ghost use Rattle.txc_txn.specs.Sessions.{IsAtLeast};
 
 use crate::error::ReadError;
 use crate::page::Page;
+use crate::page_txn::{Begun, PageTxn};
 use std::alloc::Global;
+use std::marker::Brand;
 use std::sync::Wait;
 use txc_app::App;
 use txc_client::Client;
@@ -39,11 +43,48 @@ pub(crate) fn read_page<'a, A: App, D: Definition, J: Naming, P: Page<A, D>, R: 
         shown.receipt.pin shown.receipt.answers.items) }
     ensures not_before { IfOk result.0 (λ shown. IsAtLeast bounds.at_least shown.receipt.pin) }
     ensures row { IfOk result.0 (λ shown. shown.receipt.seen.events ≡ J.database_row) }
+    ensures ran { IfOk result.0 (λ shown. IsPageRun A.next J.database_row J.node_histories client.entry bounds
+        shown.receipt.answers.items result.1) }
     ensures refused { IfErr result.0 (IsPageRefused (P.refuses page.now)) }
+    ensures left { IfErr result.0 (λ error.
+        IsLeftByRefused A.next J.database_row J.node_histories client.entry bounds error result.1) }
+    ensures passes { HaveGrown client.entry.passes result.1.passes }
     ensures functions { result.1.objects ≡ client.entry.objects }
     ensures renew_after { result.1.renew_after ≡ client.entry.renew_after }
 {
-    let mut txn = match client.begin_ro(rt, alloc, bounds) {
+    read_begun::<A, D, J, P, Brand, R>(rt, alloc, client, bounds, page)
+}
+
+/// The same of a client and bounds that are the named ones.
+#[tactic(auto, using(crate::proofs::Pages::none_have_grown))]
+fn read_begun<'a, A: App, D: Definition, J: Naming, P: Page<A, D>, B: Begun, R: Wait>(
+    rt: &R,
+    alloc: Global,
+    client: Client<'a, A, Function<D>, J>,
+    bounds: Bounds,
+    page: &P,
+) -> (
+    Result<Shown<P::Output>, ReadError>,
+    Client<'a, A, Function<D>, J>,
+)
+    requires client { client.entry ≡ B.client }
+    requires bounds { bounds ≡ B.bounds }
+    ensures shows { IfOk result.0 (λ shown.
+        P.shows page.now shown.receipt.answers.items shown.output) }
+    ensures explained { IfOk result.0 (λ shown. Explains A.next shown.receipt.seen.history B.bounds
+        shown.receipt.pin shown.receipt.answers.items) }
+    ensures not_before { IfOk result.0 (λ shown. IsAtLeast B.bounds.at_least shown.receipt.pin) }
+    ensures row { IfOk result.0 (λ shown. shown.receipt.seen.events ≡ J.database_row) }
+    ensures ran { IfOk result.0 (λ shown. IsPageRun A.next J.database_row J.node_histories B.client B.bounds
+        shown.receipt.answers.items result.1) }
+    ensures refused { IfErr result.0 (IsPageRefused (P.refuses page.now)) }
+    ensures left { IfErr result.0 (λ error.
+        IsLeftByRefused A.next J.database_row J.node_histories B.client B.bounds error result.1) }
+    ensures passes { HaveGrown B.client.passes result.1.passes }
+    ensures functions { result.1.objects ≡ B.client.objects }
+    ensures renew_after { result.1.renew_after ≡ B.client.renew_after }
+{
+    let mut txn: PageTxn<'_, A, D, J, B> = match PageTxn::begin(rt, alloc, client, bounds) {
         Ok(txn) => txn,
         Err((_, client)) => return (Err(ReadError::Memory), client),
     };

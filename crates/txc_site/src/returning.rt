@@ -1,3 +1,4 @@
+use crate::numbers::Numbers;
 use crate::visitor::Visitor;
 use txc_app::App;
 use txc_db::HistoryFront;
@@ -14,6 +15,8 @@ pub struct Generation<T> {
     pub ended: HistoryFront,
     /// What each thread came to, in the order of their numbers.
     pub outputs: Vec<T>,
+    /// What the threads did in all.
+    pub numbers: Numbers,
 }
 
 /// Visitors who may come again, to a next generation of the site.

@@ -21,7 +21,7 @@ use txc_permits::PermitPool;
 
 /// A client with a pass of its own through each node.
 #[tactic(auto, using(crate::proofs::Opened::no_pass))]
-fn client<'a, A: Application<D>, D: Definition, J: Naming>(
+pub(crate) fn client<'a, A: Application<D>, D: Definition, J: Naming>(
     rt: &impl Wait,
     alloc: Global,
     foundation: &'a Foundation<A, J>,

@@ -11,13 +11,13 @@ ghost use Rattle.txc_site.specs.Counted.{counted_again};
 
 use crate::change::Change;
 use crate::ledger::{Committer, Ledger};
+use crate::run_error::RunError;
 use std::alloc::Global;
 use std::marker::Model;
 use std::sync::Wait;
 use txc_app::App;
 use txc_db::{CommitError, DbError, Naming};
 use txc_definition::{Definition, Function};
-use txc_ports::TxnError;
 use txc_registry::Registry;
 use txc_rw::{Committed, RwTxn};
 
@@ -60,7 +60,7 @@ impl<'a, J: Naming, A: App, D: Definition> Update<'a, J, A, D> {
         rt: &R,
         alloc: Global,
         change: &C,
-    ) -> Result<C::Output, TxnError>
+    ) -> Result<C::Output, RunError>
         requires { IsBegun self.old.core.base self.old.core }
         ensures functions { self.new.objects ≡ self.old.objects }
         ensures makes { IfOk result (C.makes change.now self.new.core) }

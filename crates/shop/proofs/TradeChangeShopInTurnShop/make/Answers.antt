@@ -1,7 +1,7 @@
 use Rattle.std.proofs.Common.{◌∙◌, ℕ, ◌%◌, [], ◌∷◌, ◌++◌, refl, sym, ap}
-use Rattle.txc_rows.specs.Values.{RowValue}
-use Rattle.txc_rows.specs.declared.query.Change.TheVariants.{Put}
-use Rattle.txc_rw.specs.Txn.{RwTxnValue}
+use Rattle.txc_site.specs.Values.{RowValue}
+use Rattle.txc_site.specs.Change.TheVariants.{Put}
+use Rattle.txc_site.specs.RwTxn.{RwTxnValue}
 use Rattle.shop.specs.Shop.{piece_row}
 use Rattle.shop.specs.declared.TheConstants.{PRODUCTS}
 use Rattle.shop.proofs.Pieces.{no_pieces, one_more_piece}
