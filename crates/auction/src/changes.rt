@@ -9,7 +9,7 @@ use crate::pages::key;
 use std::alloc::{AllocError, Global};
 use std::str;
 use std::sync::Wait;
-use txc_site::{Change, Function, Naming, Row, RunError, RwTxn, Table, Value};
+use txc_site::{Change, ChangeTxn, Naming, Row, RunError, Table, Value};
 
 /// How many items there are.
 pub const ITEM_COUNT: u32 = 8;
@@ -20,7 +20,7 @@ pub const USER_COUNT: u32 = 3;
 /// The amount of the first bid on each item.
 pub const FIRST_BID: u32 = 10;
 
-type Writing<'a, J> = RwTxn<'a, J, Auction, Function<AuctionFunction>>;
+type Writing<'a, J> = ChangeTxn<'a, Auction, AuctionFunction, J>;
 
 /// The row with that body is to stand in the table.
 fn put<J: Naming>(

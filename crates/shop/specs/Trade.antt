@@ -1,27 +1,15 @@
--- What a page shows, what is written, and what a visitor comes to.
+-- What is written, and what a visitor comes to.
 use Rattle.std.specs.Prelude.{◌≡◌, ℕ, zero, suc, ◌*◌, ◌%◌, ◌≤◌, Bool, true, false, List, [], ◌∷◌, ◌++◌, length}
 use Rattle.txc_site.specs.Values.{RowValue}
 use Rattle.txc_site.specs.Change.{Change}
 use Rattle.txc_site.specs.Change.TheVariants.{Put, Remove}
 use Rattle.txc_site.specs.Query.TheVariants.{ByGroup}
-use Rattle.txc_site.specs.Recorded.{Recorded}
 use Rattle.txc_site.specs.RwCore.{RwValue}
 use Rattle.txc_site.specs.Given.TheVariants.{Rows}
-use Rattle.shop.specs.Shop.{piece_row, shop_call}
-use Rattle.shop.specs.declared.Look.{Look}
-use Rattle.shop.specs.declared.Shop.TheVariants.{ProductPage, Stock}
+use Rattle.shop.specs.Shop.{piece_row}
 use Rattle.shop.specs.declared.Trade.{Trade}
 use Rattle.shop.specs.declared.Trade.TheVariants.{Opening, Purchase}
 use Rattle.shop.specs.declared.TheConstants.{ORDERS, PIECES, PRODUCTS, STOCK}
-
--- the page of the product was called, and then the list of all that is in stock; these are their lengths
-pub record ShowsPage (look : Look) (calls : List Recorded) (lengths : ℕ × ℕ) : Type 0 where
-  pub page : List ℕ
-  pub stock : List ℕ
-  pub called : calls
-      ≡ record { key = shop_call ProductPage (look.0 ∷ []); value = page } ∷ record { key = shop_call Stock []; value = stock } ∷ []
-  pub of_page : lengths.0 ≡ length page
-  pub of_stock : lengths.1 ≡ length stock
 
 -- the first pieces are put in stock, so many of them, one of each product in turn
 unfoldable pub first_pieces : ℕ → List Change
@@ -49,6 +37,6 @@ WritesTrade Opening core bought = core.changes ≡ first_pieces (PRODUCTS * PIEC
 WritesTrade (Purchase product) core bought = WritesPurchase product core bought
 
 -- no more pages were torn, and no more pieces were bought, than so many
-pub record HasVisited (pages : ℕ) (came : ℕ × ℕ × ℕ) : Type 0 where
+pub record HasVisited (pages : ℕ) (came : ℕ × ℕ) : Type 0 where
   pub torn : came.0 ≤ pages
   pub bought : came.1 ≤ pages

@@ -6,18 +6,16 @@ ghost use Rattle.shop.specs.Shop.{piece_row, piece_list, shop, shop_asks, shop_n
 ghost use Rattle.shop.specs.Trade.{HasVisited, WritesTrade};
 
 use std::alloc::{AllocError, Global};
-use std::env;
 use std::sync::Wait;
 use txc_site::{
-    Answer, App, Application, Ask, Bytes, Change, Function, InTurn, Key, Naming, OneCall, Plan,
-    Query, Row, RunError, RwTxn, SiteClient, Stamp, Straight, Table, Visitor, fresh_since,
-    with_site,
+    Answer, App, Application, Ask, Bytes, Change, ChangeTxn, InTurn, Key, Naming, OneCall, Plan,
+    Query, Row, RunError, SiteClient, Stamp, Straight, Table, Visitor, fresh_since, with_site,
 };
 
 /// How many products there are, and how many pieces of each in the beginning.
 const PRODUCTS: u32 = 8;
 
-const PIECES: u32 = 15;
+const PIECES: usize = 15;
 
 /// The tables. A piece is a row of the one or the other, in the group of its product.
 const STOCK: u8 = 1;
@@ -44,6 +42,8 @@ enum Shop {
     Stock,
     ProductPage,
 }
+
+type Turn = InTurn<Shop>;
 
 impl App for Shop {
     ghost next = { shop };
@@ -98,10 +98,10 @@ impl Straight for Shop {
     }
 }
 
-impl Application<InTurn<Shop>> for Shop {
+impl Application<Turn> for Shop {
     ghost numbers = { 0 ∷ 1 ∷ [] };
 
-    fn definitions(alloc: Global) -> Result<Vec<InTurn<Shop>>, AllocError> {
+    fn definitions(alloc: Global) -> Result<Vec<Turn>, AllocError> {
         Ok(vec![in alloc; InTurn(Shop::Stock), InTurn(Shop::ProductPage)]?)
     }
 }
@@ -113,7 +113,7 @@ enum Trade {
     Purchase(u32),
 }
 
-impl Change<Shop, InTurn<Shop>> for Trade {
+impl Change<Shop, Turn> for Trade {
     type Output = bool;
 
     ghost makes = { WritesTrade };
@@ -124,10 +124,10 @@ impl Change<Shop, InTurn<Shop>> for Trade {
         &self,
         rt: &R,
         alloc: Global,
-        txn: &mut RwTxn<'_, J, Shop, Function<InTurn<Shop>>>,
+        txn: &mut ChangeTxn<'_, Shop, Turn, J>,
     ) -> Result<bool, RunError> {
         let Trade::Purchase(product) = self else {
-            for id in 0..PRODUCTS * PIECES {
+            for id in 0..PRODUCTS * PIECES as u32 {
                 txn.put(piece(alloc, table(STOCK), id, id % PRODUCTS)?)?;
             }
             return Ok(true);
@@ -142,24 +142,22 @@ impl Change<Shop, InTurn<Shop>> for Trade {
     }
 }
 
-/// Each visitor would buy so many pieces, and looks at the page of the product after each. The page shows all of its pieces, in
-/// stock or ordered, and a bar; else it is torn.
+/// Each visitor would buy so many pieces. After each, the page of the product is to have all of its pieces, and a bar: else it is torn.
 #[derive(Drop)]
 struct Visitors(u32);
 
-impl Visitor<Shop, InTurn<Shop>> for Visitors {
-    /// How many pages were torn, and how many pieces were bought.
+impl Visitor<Shop, Turn> for Visitors {
+    /// How many pages were torn, and how many pieces were bought. The first visitor keeps the site.
     type Output = (u32, u32);
 
     ghost gives = { λ visitors plan row number. HasVisited visitors.0 };
 
-    /// The first visitor keeps the site.
     fn visit<J: Naming + Send + Sync, R: Wait>(
         &self,
         rt: &R,
         alloc: Global,
         number: usize,
-        client: &mut Option<SiteClient<'_, Shop, InTurn<Shop>, J>>,
+        client: &mut Option<SiteClient<'_, Shop, Turn, J>>,
     ) -> (u32, u32) {
         let mut client = client.take().unwrap();
         let mut keeper = client.keeper(rt, alloc).ok().filter(|_| number == 0);
@@ -171,12 +169,11 @@ impl Visitor<Shop, InTurn<Shop>> for Visitors {
                 bought += u32::from(written.output);
                 at_least = written.committed.stamp;
             }
-            let bounds = fresh_since(u64::from(round), 2, at_least);
             let page = OneCall::new(Shop::ProductPage as u8, &[product]).unwrap();
+            let bounds = fresh_since(u64::from(round), 2, at_least);
             let (shown, next) = next.read(rt, alloc, bounds, &page);
             client = next;
-            let all = |it: &Shown<Value>| it.output.bytes().len() == PIECES as usize + 1;
-            torn += u32::from(!shown.as_ref().is_ok_and(all));
+            torn += u32::from(!shown.is_ok_and(|it| it.output.bytes().len() == PIECES + 1));
             keeper = keeper.map(|it| it.keep(rt, alloc, u64::from(round), 16).1);
         }
         (torn, bought)
@@ -184,27 +181,19 @@ impl Visitor<Shop, InTurn<Shop>> for Visitors {
 }
 
 fn main(rt: HostRuntime) -> anyhow::Result<()> {
-    let alloc = rt.alloc();
-    let words = env::args(&rt)?.collect::<Vec<String>>(alloc)?;
+    let (alloc, mut plan) = (rt.alloc(), Plan::DEFAULT);
+    let words = std::env::args(&rt)?.collect::<Vec<String>>(alloc)?;
     let number = |place: usize| words.get(place).and_then(|word| word.parse::<u32>().ok());
     let (threads, pages) = (number(1).unwrap_or(4) as usize, number(2).unwrap_or(40));
     let (opening, visitors) = (Trade::Opening, Visitors(pages));
-    let mut plan = Plan::DEFAULT;
     plan.events = 2048;
-    let visited = with_site::<Shop, InTurn<Shop>, _, _, _>(
-        &rt, alloc, plan, &opening, threads, &visitors,
-    )?;
-    let (mut torn, mut bought) = (0u32, 0u32);
-    for (its_torn, its_bought) in visited.outputs.as_slice() {
-        torn = torn.saturating_add(*its_torn);
-        bought = bought.saturating_add(*its_bought);
-    }
+    let visited = with_site::<Shop, Turn, _, _, _>(&rt, alloc, plan, &opening, threads, &visitors)?;
+    let came = visited.outputs.as_slice();
+    let torn = came.iter().fold(0u32, |sum, it| sum.saturating_add(it.0));
+    let bought = came.iter().fold(0u32, |sum, it| sum.saturating_add(it.1));
     let stock = OneCall::new(Shop::Stock as u8, &[]).unwrap();
-    let last = visited
-        .last
-        .read::<Shop, InTurn<Shop>, _, _>(&rt, alloc, &stock)?;
+    let last = visited.last.read::<Shop, Turn, _, _>(&rt, alloc, &stock)?;
     println!(rt; "{threads} visitors, {pages} pages each, {torn} torn")?;
-    let (all, left) = (PRODUCTS * PIECES, last.output.bytes().len());
-    println!(rt; "{all} pieces at first, {left} in the end and {bought} bought")?;
-    Ok(())
+    let (all, left) = (PRODUCTS as usize * PIECES, last.output.bytes().len());
+    Ok(println!(rt; "{all} pieces at first, {left} in the end and {bought} bought")?)
 }

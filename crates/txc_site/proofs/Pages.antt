@@ -1,17 +1,21 @@
 -- One call of a page more, and what the calls of a page leave at a node.
-use Rattle.std.proofs.Common.{◌≡◌, ◌∙◌, ℕ, zero, suc, List, [], ◌∷◌, ◌++◌, slice_get, Some, Result, Ok, Err, refl, sym, ap, subst, append-nil, append_assoc}
+use Rattle.std.proofs.Common.{◌≡◌, ◌∙◌, ℕ, zero, suc, List, [], ◌∷◌, ◌++◌, slice_get, Option, Some, Result, Ok, Err, refl, sym, ap, subst, append-nil, append_assoc}
 use Rattle.std.specs.Prelude.{IfOk, OnErr}
 use Rattle.std.specs.List.{filter}
 use Rattle.std.proofs.lemmas.List.Elements.{filter-append}
 use Rattle.txc_stream.specs.Names.{Name}
 use Rattle.txc_tags.specs.Keys.{Call}
+use Rattle.txc_db.specs.History.{History}
+use Rattle.txc_cushion.specs.declared.pin.Pin.{Pin}
 use Rattle.txc_app.specs.Eval.{Next}
+use Rattle.txc_node.specs.declared.record.Record.{Record}
 use Rattle.txc_shared.specs.Passes.{PassValue}
 use Rattle.txc_ports.specs.declared.bounds.Bounds.{Bounds}
 use Rattle.txc_ports.specs.declared.error.TxnError.{TxnError}
 use Rattle.txc_ports.specs.declared.recorded.Recorded.{Recorded}
 use Rattle.txc_ports.specs.Exchanges.{Exchange}
-use Rattle.txc_txn.specs.Core.{CoreValue, KeepsSettings}
+use Rattle.txc_txn.specs.Core.{CoreValue, Explains, KeepsSettings}
+use Rattle.txc_txn.specs.Sessions.{IsAtLeast}
 use Rattle.txc_client.specs.Laws.{asks, own_records, AreLeftBy, HasAdded}
 use Rattle.txc_client.specs.Ports.{HaveGrown}
 use Rattle.txc_client.specs.Run.{HasRun, turn_of_result}
@@ -69,16 +73,17 @@ module _ (next : Next) (row : List ℕ) (histories : ℕ → Name) where
 
     -- what a transaction has of the client with which it began
     module _ (t : RoTxnValue) (called : HasCalled next row histories client bounds t) where
-      pub bounds_stay : t.txn.core.bounds ≡ bounds
+      bounds_stay : t.txn.core.bounds ≡ bounds
       bounds_stay = called.settings.bounds ∙ called.bounded
 
-      pub functions_stay : t.txn.objects ≡ client.objects
-      functions_stay = called.functions ∙ ap (λ (c : ClientValue). c.objects) called.began
+      pub explained_so : (L : History) (pin : Option Pin) (answers : List Recorded) → Explains next L t.txn.core.bounds pin answers
+          → Explains next L bounds pin answers
+      explained_so L pin answers h = subst (λ (b : Bounds). Explains next L b pin answers) bounds_stay h
 
-      pub renew_after_stays : t.txn.core.renew_after ≡ client.renew_after
-      renew_after_stays = called.settings.renew_after ∙ ap (λ (c : ClientValue). c.renew_after) called.began
+      pub not_before_so : (pin : Option Pin) → IsAtLeast t.txn.core.bounds.at_least pin → IsAtLeast bounds.at_least pin
+      not_before_so pin h = subst (λ (b : Bounds). IsAtLeast b.at_least pin) bounds_stay h
 
-      pub passes_grow : HaveGrown client.passes t.passes
+      passes_grow : HaveGrown client.passes t.passes
       passes_grow =
           subst (λ (ps : List PassValue). HaveGrown ps t.passes) (ap (λ (c : ClientValue). c.passes) called.began)
           (go called.first called.calls t called.made)
@@ -87,12 +92,28 @@ module _ (next : Next) (row : List ℕ) (histories : ℕ → Name) where
           go old [] new h = subst (λ (v : RoTxnValue). HaveGrown old.passes v.passes) (sym h) (have_grown_self old.passes)
           go old (call ∷ earlier) new h = have_grown_then old.passes h.0.passes new.passes (go old earlier h.0 h.1) h.3
 
+      -- and what it leaves of him
+      module _ (left : ClientValue) (is : left ≡ client_of t) where
+        pub page_ran : (answers : List Recorded) → answers ≡ t.txn.core.recorded → IsPageRun next row histories client bounds answers left
+        page_ran answers all = record { last = t; called = called; answered = sym all; ended = is }
+
+        pub functions_left : left.objects ≡ client.objects
+        functions_left =
+            ap (λ (c : ClientValue). c.objects) is ∙ called.functions ∙ ap (λ (c : ClientValue). c.objects) called.began
+
+        pub renew_after_left : left.renew_after ≡ client.renew_after
+        renew_after_left =
+            ap (λ (c : ClientValue). c.renew_after) is ∙ called.settings.renew_after ∙ ap (λ (c : ClientValue). c.renew_after) called.began
+
+        pub passes_left : HaveGrown client.passes left.passes
+        passes_left = subst (λ (c : ClientValue). HaveGrown client.passes c.passes) (sym is) passes_grow
+
   -- ---- all calls at a node
 
-  left_both : (a b : List Exchange) (one two : List _) → AreLeftBy a one → AreLeftBy b two → AreLeftBy (a ++ b) (one ++ two)
-  left_both [] b one two h k = subst (λ l. AreLeftBy b (l ++ two)) (sym h) k
+  left_both : (a b : List Exchange) (one two : List Record) → AreLeftBy a one → AreLeftBy b two → AreLeftBy (a ++ b) (one ++ two)
+  left_both [] b one two h k = subst (λ (l : List Record). AreLeftBy b (l ++ two)) (sym h) k
   left_both (x ∷ a) b one two h k =
-      (h.0, h.1 ++ two, ap (λ l. l ++ two) h.2 ∙ append_assoc h.0 h.1 two, h.3, left_both a b h.1 two h.4 k)
+      (h.0, h.1 ++ two, ap (λ (l : List Record). l ++ two) h.2 ∙ append_assoc h.0 h.1 two, h.3, left_both a b h.1 two h.4 k)
 
   added_none : (p : PassValue) → HasAdded [] p p
   added_none p = record { same = refl; made = []; left = refl; own = sym (append-nil (own_records p)) }
@@ -102,7 +123,7 @@ module _ (next : Next) (row : List ℕ) (histories : ℕ → Name) where
     same = two.same ∙ one.same;
     made = one.made ++ two.made;
     left = left_both a b one.made two.made one.left two.left;
-    own = two.own ∙ ap (λ l. l ++ two.made) one.own ∙ append_assoc (own_records p) one.made two.made;
+    own = two.own ∙ ap (λ (l : List Record). l ++ two.made) one.own ∙ append_assoc (own_records p) one.made two.made;
   }
 
   -- the pass at the same place

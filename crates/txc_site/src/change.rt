@@ -9,6 +9,9 @@ use txc_db::Naming;
 use txc_definition::{Definition, Function};
 use txc_rw::RwTxn;
 
+/// The read-write transaction of a change. It sees no write of its own.
+pub type ChangeTxn<'a, A, D, J> = RwTxn<'a, J, A, Function<D>>;
+
 /// A change: what is read and written in one read-write transaction. It is made anew after each conflict.
 pub trait Change<A: App, D: Definition> {
     ghost use Rattle.txc_rw.specs.Core.{RwValue};
@@ -28,7 +31,7 @@ pub trait Change<A: App, D: Definition> {
         &self,
         rt: &R,
         alloc: Global,
-        txn: &mut RwTxn<'_, J, A, Function<D>>,
+        txn: &mut ChangeTxn<'_, A, D, J>,
     ) -> Result<Self::Output, RunError>
         requires { IsBegun txn.old.core.base txn.old.core }
         ensures functions { txn.new.objects ≡ txn.old.objects }

@@ -42,7 +42,7 @@ mod writing;
 
 pub use application::Application;
 pub use bounds::{fresh, fresh_since};
-pub use change::Change;
+pub use change::{Change, ChangeTxn};
 pub use client::SiteClient;
 pub use error::{GenerationError, LastError, OpenError, ReadError, SiteError, WriteError};
 pub use generations::{Served, with_generations};

@@ -9,7 +9,7 @@ ghost use Rattle.txc_site.specs.Writes.{IsWritten};
 use crate::application::{Application, registry};
 use crate::change::Change;
 use crate::error::{OpenError, SiteError};
-use crate::histories::over_new_histories;
+use crate::histories::{Visits, over_new_histories};
 use crate::last_state::LastState;
 use crate::ledger::Ledger;
 use crate::numbers::Numbers;
@@ -77,11 +77,16 @@ where
     }
     let (opening, core) = opened::<A, D, O, R>(rt, alloc, plan, opening)?;
     let visits = over_new_histories::<A, D, V, R>(rt, alloc, plan, core, count, visitors)?;
+    let Visits {
+        outputs,
+        numbers,
+        core,
+    } = visits;
     Ok(Visited {
         opening,
-        outputs: visits.outputs,
-        numbers: visits.numbers,
-        last: LastState::new(visits.core, plan),
+        outputs,
+        numbers,
+        last: LastState::new(core, plan),
     })
 }
 

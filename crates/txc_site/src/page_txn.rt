@@ -3,10 +3,11 @@ ghost use Rattle.std.specs.Prelude.{◌≡◌, ◌≢◌, ◌++◌, ◌∷◌, [
 ghost use Rattle.txc_call.specs.declared.error.CallError.TheVariants.{NoFunction};
 ghost use Rattle.txc_client.specs.Run.{turn_of_result, HasRun};
 ghost use Rattle.txc_client.specs.Txn.{IsValueAtMembers};
-ghost use Rattle.txc_registry.specs.Objects.{activity_of};
+ghost use Rattle.txc_registry.specs.Objects.{activity_of, AllIdle};
 ghost use Rattle.txc_client.specs.Ports.{HaveGrown};
 ghost use Rattle.txc_site.specs.Pages.{IsPageRun};
 ghost use Rattle.txc_txn.specs.Core.{Explains};
+ghost use Rattle.txc_txn.specs.Kept.{IsTxn};
 ghost use Rattle.txc_txn.specs.Sessions.{IsAtLeast};
 
 use std::alloc::{AllocError, Global};
@@ -102,6 +103,13 @@ impl<'a, A: App, D: Definition, J: Naming, B: Begun> PageTxn<'a, A, D, J, B> {
         self.txn.members()
     }
 
+    /// Whether it may still be serialised at the present.
+    pub fn has_present(&self) -> bool
+        ensures { result ≡ self.now.txn.core.pins.has_present }
+    {
+        self.txn.has_present()
+    }
+
     /// The calls that were answered, with their values, in order.
     pub fn answers(&self) -> &[Recorded]
         ensures { result.now ≡ self.now.txn.core.recorded }
@@ -117,7 +125,16 @@ impl<'a, A: App, D: Definition, J: Naming, B: Begun> PageTxn<'a, A, D, J, B> {
         self.txn.seen()
     }
 
+    /// What its pin set means. It does nothing when it runs.
+    pub fn is_kept(&self)
+        ensures meant { IsTxn A.next self.now.txn }
+        ensures idle { AllIdle self.now.txn.objects }
+    {
+        self.txn.is_kept();
+    }
+
     /// Ends the transaction, and returns what explains its answers, and the client.
+    #[tactic(auto, using(crate::proofs::Pages::explained_so, crate::proofs::Pages::not_before_so, crate::proofs::Pages::page_ran, crate::proofs::Pages::functions_left, crate::proofs::Pages::renew_after_left, crate::proofs::Pages::passes_left))]
     pub(crate) fn commit(self, rt: &impl Wait) -> (Receipt, Client<'a, A, Function<D>, J>)
         ensures answers { result.0.answers.items ≡ self.entry.txn.core.recorded }
         ensures explained { Explains A.next result.0.seen.history B.bounds result.0.pin result.0.answers.items }
@@ -134,6 +151,7 @@ impl<'a, A: App, D: Definition, J: Naming, B: Begun> PageTxn<'a, A, D, J, B> {
     }
 
     /// Gives the transaction up, and returns the client.
+    #[tactic(auto, using(crate::proofs::Pages::page_ran, crate::proofs::Pages::functions_left, crate::proofs::Pages::renew_after_left, crate::proofs::Pages::passes_left))]
     pub(crate) fn abort(self, rt: &impl Wait) -> Client<'a, A, Function<D>, J>
         ensures ran { IsPageRun A.next J.database_row J.node_histories B.client B.bounds
             self.entry.txn.core.recorded result }
