@@ -13,6 +13,9 @@ pub mod Writes
 pub use Rattle.txc_app.specs.Eval
 pub use Rattle.txc_app.specs.declared.ask.Answer
 pub use Rattle.txc_app.specs.declared.ask.Ask
+pub use Rattle.txc_client.specs.Laws
+pub use Rattle.txc_client.specs.Run
+pub use Rattle.txc_client.specs.Txn as RoTxn
 pub use Rattle.txc_cushion.specs.declared.pin.Pin
 pub use Rattle.txc_db.specs.History
 pub use Rattle.txc_db.specs.Seen

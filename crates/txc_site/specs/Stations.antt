@@ -3,6 +3,7 @@ use Rattle.std.specs.Prelude.{◌≡◌, ℕ}
 use Rattle.txc_stream.specs.Names.{Name}
 use Rattle.txc_shared.specs.declared.error.NodeError.{NodeError}
 use Rattle.txc_shared.specs.Passes.{PassValue, IsPassLeft}
+use Rattle.txc_shared.specs.Refusals.{IsRefusedThrough, IsStepRefused, NodeMayRefuse}
 use Rattle.txc_site.specs.Counted.{counted_again}
 
 -- the pass, and how often the node has refused what it was asked through it
@@ -19,7 +20,8 @@ pub record IsSamePass (old new : StationValue) : Type 0 where
 abbrev pub HasNotRefused : StationValue → StationValue → Type 0
 HasNotRefused old new = new.refusals ≡ old.refusals
 
--- the node was asked, and refused, which leaves the pass so
+-- the node was asked, and refused as some node of its history refuses a step, which leaves the pass so
 pub record HasBeenRefused (histories : ℕ → Name) (old : StationValue) (error : NodeError) (new : StationValue) : Type 0 where
   pub once_more : new.refusals ≡ counted_again old.refusals
+  pub reason : NodeMayRefuse histories (λ n. IsRefusedThrough IsStepRefused n old.pass) error
   pub left : IsPassLeft (histories old.pass.settings.number) old.pass new.pass error

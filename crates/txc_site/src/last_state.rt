@@ -67,9 +67,9 @@ impl LastState {
         R: Wait,
         ensures shows { IfOk result (λ shown. P.shows page.now shown.receipt.answers.items shown.output) }
         ensures explained { IfOk result (λ shown. Explains A.next shown.receipt.seen.history
-            (last_bounds (length self.entry.history)) shown.receipt.pin shown.receipt.answers.items) }
-        ensures newest { IfOk result (λ shown. IsAtLeast (length self.entry.history) shown.receipt.pin) }
-        ensures row { IfOk result (λ shown. shown.receipt.seen.events ≡ self.entry.events) }
+            (last_bounds (length self.history)) shown.receipt.pin shown.receipt.answers.items) }
+        ensures newest { IfOk result (λ shown. IsAtLeast (length self.history) shown.receipt.pin) }
+        ensures row { IfOk result (λ shown. shown.receipt.seen.events ≡ self.events) }
         ensures refused { IfErr result (IsLastRefused A.numbers (P.refuses page.now)) }
     {
         let LastState { core, plan } = self;

@@ -68,7 +68,7 @@ impl<'a, A: App, D: Definition, J: Naming, B: Begun> PageTxn<'a, A, D, J, B> {
         client: Client<'a, A, Function<D>, J>,
         bounds: Bounds,
     ) -> Result<PageTxn<'a, A, D, J, B>, (AllocError, Client<'a, A, Function<D>, J>)>
-        requires client { client.entry ≡ B.client }
+        requires client { client ≡ B.client }
         requires bounds { bounds ≡ B.bounds }
         ensures recorded { IfOk result (λ txn. txn.txn.core.recorded ≡ []) }
         ensures handed_back { IfErr result (λ e. e.1 ≡ client.entry) }

@@ -67,7 +67,7 @@ fn read_begun<'a, A: App, D: Definition, J: Naming, P: Page<A, D>, B: Begun, R: 
     Result<Shown<P::Output>, ReadError>,
     Client<'a, A, Function<D>, J>,
 )
-    requires client { client.entry ≡ B.client }
+    requires client { client ≡ B.client }
     requires bounds { bounds ≡ B.bounds }
     ensures shows { IfOk result.0 (λ shown.
         P.shows page.now shown.receipt.answers.items shown.output) }
