@@ -30,13 +30,13 @@ settings_stay a b c h k = record { bounds = k.bounds ∙ h.bounds; renew_after =
 module _ (next : Next) (row : List ℕ) (histories : ℕ → Name) where
   module _ (client : ClientValue) (bounds : Bounds) where
     -- no call was made
-    pub none_called : (t : RoTxnValue) → client_of t ≡ client → t.txn.core.bounds ≡ bounds → t.txn.core.recorded ≡ []
-        → HasCalled next row histories client bounds t
-    none_called t began bounded none = record {
+    pub none_called : (t : RoTxnValue) (c : ClientValue) (b : Bounds) → client_of t ≡ c → c ≡ client → t.txn.core.bounds ≡ b → b ≡ bounds
+        → t.txn.core.recorded ≡ [] → HasCalled next row histories client bounds t
+    none_called t c b of its with same none = record {
       first = t;
       calls = [];
-      began = began;
-      bounded = bounded;
+      began = of ∙ its;
+      bounded = with ∙ same;
       none = none;
       made = refl;
       answered = none;
@@ -159,3 +159,12 @@ pages_stand_once next row histories old calls new made node before after was is 
 -- no pass has seen less
 pub none_have_grown : (a b : ClientValue) → a ≡ b → HaveGrown b.passes a.passes
 none_have_grown a b same = subst (λ (c : ClientValue). HaveGrown b.passes c.passes) (sym same) (have_grown_self b.passes)
+
+-- ---- the bounds of a page of the last state
+
+pub explained_by : (next : Next) (L : History) (b c : Bounds) (pin : Option Pin) (answers : List Recorded) → Explains next L b pin answers → b ≡ c
+    → Explains next L c pin answers
+explained_by next L b c pin answers h is = subst (λ (d : Bounds). Explains next L d pin answers) is h
+
+pub at_least_by : (b c : Bounds) (pin : Option Pin) → IsAtLeast b.at_least pin → b ≡ c → IsAtLeast c.at_least pin
+at_least_by b c pin h is = subst (λ (d : Bounds). IsAtLeast d.at_least pin) is h

@@ -80,6 +80,7 @@ impl LastState {
 }
 
 /// The same over histories that are the named ones.
+#[tactic(auto, using(crate::proofs::Pages::explained_by, crate::proofs::Pages::at_least_by))]
 fn read_last<A, D, P, J, R>(
     rt: &R,
     alloc: Global,

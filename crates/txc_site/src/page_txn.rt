@@ -71,13 +71,15 @@ impl<'a, A: App, D: Definition, J: Naming, B: Begun> PageTxn<'a, A, D, J, B> {
         requires client { client ≡ B.client }
         requires bounds { bounds ≡ B.bounds }
         ensures recorded { IfOk result (λ txn. txn.txn.core.recorded ≡ []) }
-        ensures handed_back { IfErr result (λ e. e.1 ≡ client.entry) }
+        ensures handed_back { IfErr result (λ e. e.1 ≡ B.client) }
     {
-        let txn = client.begin_ro(rt, alloc, bounds)?;
-        Ok(PageTxn {
-            txn,
-            of: PhantomData,
-        })
+        match client.begin_ro(rt, alloc, bounds) {
+            Ok(txn) => Ok(PageTxn {
+                txn,
+                of: PhantomData,
+            }),
+            Err(refused) => Err(refused),
+        }
     }
 
     /// The call's value: what it comes to without a cache at every pin that remains. Where it is refused, the
