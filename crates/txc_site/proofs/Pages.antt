@@ -32,11 +32,11 @@ module _ (next : Next) (row : List ℕ) (histories : ℕ → Name) where
     -- no call was made
     pub none_called : (t : RoTxnValue) (c : ClientValue) (b : Bounds) → client_of t ≡ c → c ≡ client → t.txn.core.bounds ≡ b → b ≡ bounds
         → t.txn.core.recorded ≡ [] → HasCalled next row histories client bounds t
-    none_called t c b of its with same none = record {
+    none_called t c b of its limited same none = record {
       first = t;
       calls = [];
       began = of ∙ its;
-      bounded = with ∙ same;
+      bounded = limited ∙ same;
       none = none;
       made = refl;
       answered = none;
