@@ -22,7 +22,9 @@ use Rattle.txc_client.specs.Run.{HasRun, turn_of_result}
 use Rattle.txc_client.specs.Txn.{ClientValue, RoTxnValue, client_of}
 pub use Rattle.txc_client.proofs.Grown.{have_grown_self, have_grown_then}
 use Rattle.txc_client.proofs.Standing.{calls_stand_once}
-use Rattle.txc_site.specs.Pages.{answer_of, answers_of, exchanges_of, HasCalled, HaveCalled, IsPageRun, MadeCall, PagesStandOnce}
+use Rattle.txc_site.specs.declared.error.ReadError.TheVariants as reads
+use Rattle.txc_site.specs.declared.run_error.RunError.{RunError}
+use Rattle.txc_site.specs.Pages.{answer_of, answers_of, exchanges_of, last_bounds, HasCalled, HaveCalled, IsLeftByRefused, IsPageRun, MadeCall, PagesStandOnce}
 
 settings_stay : (a b c : CoreValue) → KeepsSettings a b → KeepsSettings b c → KeepsSettings a c
 settings_stay a b c h k = record { bounds = k.bounds ∙ h.bounds; renew_after = k.renew_after ∙ h.renew_after; nodes = k.nodes ∙ h.nodes }
@@ -108,6 +110,11 @@ module _ (next : Next) (row : List ℕ) (histories : ℕ → Name) where
         pub passes_left : HaveGrown client.passes left.passes
         passes_left = subst (λ (c : ClientValue). HaveGrown client.passes c.passes) (sym is) passes_grow
 
+    -- what a page that was refused leaves
+    pub page_refused : (left : ClientValue) (answers : List Recorded) (cause : RunError) → IsPageRun next row histories client bounds answers left
+        → IsLeftByRefused next row histories client bounds (reads.Page cause) left
+    page_refused left answers cause ran = (answers, ran)
+
   -- ---- all calls at a node
 
   left_both : (a b : List Exchange) (one two : List Record) → AreLeftBy a one → AreLeftBy b two → AreLeftBy (a ++ b) (one ++ two)
@@ -168,3 +175,10 @@ explained_by next L b c pin answers h is = subst (λ (d : Bounds). Explains next
 
 pub at_least_by : (b c : Bounds) (pin : Option Pin) → IsAtLeast b.at_least pin → b ≡ c → IsAtLeast c.at_least pin
 at_least_by b c pin h is = subst (λ (d : Bounds). IsAtLeast d.at_least pin) is h
+
+pub explained_newest : (next : Next) (L : History) (m n : ℕ) (pin : Option Pin) (answers : List Recorded) → Explains next L (last_bounds m) pin answers
+    → m ≡ n → Explains next L (last_bounds n) pin answers
+explained_newest next L m n pin answers h is = subst (λ (k : ℕ). Explains next L (last_bounds k) pin answers) is h
+
+pub at_least_newest : (m n : ℕ) (pin : Option Pin) → IsAtLeast m pin → m ≡ n → IsAtLeast n pin
+at_least_newest m n pin h is = subst (λ (k : ℕ). IsAtLeast k pin) is h

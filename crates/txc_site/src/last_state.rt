@@ -54,6 +54,7 @@ impl LastState {
 
     /// Reads a page of the newest state, by a new client over new nodes. That takes an event, so that a database
     /// which has no room for one refuses the page.
+    #[tactic(auto, using(crate::proofs::Pages::explained_newest, crate::proofs::Pages::at_least_newest))]
     pub fn read<A, D, P, R>(
         self,
         rt: &R,

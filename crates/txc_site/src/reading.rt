@@ -56,7 +56,7 @@ pub(crate) fn read_page<'a, A: App, D: Definition, J: Naming, P: Page<A, D>, R: 
 }
 
 /// The same of a client and bounds that are the named ones.
-#[tactic(auto, using(crate::proofs::Pages::none_have_grown))]
+#[tactic(auto, using(crate::proofs::Pages::none_have_grown, crate::proofs::Pages::page_refused))]
 fn read_begun<'a, A: App, D: Definition, J: Naming, P: Page<A, D>, B: Begun, R: Wait>(
     rt: &R,
     alloc: Global,
