@@ -136,7 +136,7 @@ impl<'a, A: App, D: Definition, J: Naming, B: Begun> PageTxn<'a, A, D, J, B> {
     }
 
     /// Ends the transaction, and returns what explains its answers, and the client.
-    #[tactic(auto, using(crate::proofs::Pages::explained_so, crate::proofs::Pages::not_before_so, crate::proofs::Pages::page_ran, crate::proofs::Pages::functions_left, crate::proofs::Pages::renew_after_left, crate::proofs::Pages::passes_left))]
+    #[tactic(auto, using(crate::proofs::Pages::explained_so, crate::proofs::Pages::not_before_so, crate::proofs::Pages::page_ran, crate::proofs::Pages::functions_left, crate::proofs::Pages::renew_after_left))]
     pub(crate) fn commit(self, rt: &impl Wait) -> (Receipt, Client<'a, A, Function<D>, J>)
         ensures answers { result.0.answers.items ≡ self.entry.txn.core.recorded }
         ensures explained { Explains A.next result.0.seen.history B.bounds result.0.pin result.0.answers.items }
@@ -153,7 +153,7 @@ impl<'a, A: App, D: Definition, J: Naming, B: Begun> PageTxn<'a, A, D, J, B> {
     }
 
     /// Gives the transaction up, and returns the client.
-    #[tactic(auto, using(crate::proofs::Pages::page_ran, crate::proofs::Pages::functions_left, crate::proofs::Pages::renew_after_left, crate::proofs::Pages::passes_left))]
+    #[tactic(auto, using(crate::proofs::Pages::page_ran, crate::proofs::Pages::functions_left, crate::proofs::Pages::renew_after_left))]
     pub(crate) fn abort(self, rt: &impl Wait) -> Client<'a, A, Function<D>, J>
         ensures ran { IsPageRun A.next J.database_row J.node_histories B.client B.bounds
             self.entry.txn.core.recorded result }
