@@ -186,16 +186,17 @@ def try_c(trial, room, compiler, archive, played, wanted):
         it.writelines(f"{capacity} {recent} {mode} {file}\n" for capacity, recent, mode, file, _ in played if os.path.getsize(file) < 20_000)
     for name, flags in ("", ["-O2"]), (" under sanitizers", SANITIZERS):
         built = True
-        for program in ("play", "odd"):
-            wrap = ["-Wl,--wrap=malloc", "-Wl,--wrap=realloc"] if program == "play" else []
-            words = [compiler, *WARNINGS, *flags, "-I", C, f"{C}/tests/{program}.c", archive, *wrap, "-o", f"{room}/{program}"]
-            built = built and trial.ran(f"{compiler}: {program}.c{name}", words).returncode == 0
+        for file in ("tests/play.c", "tests/odd.c", "example.c"):
+            wrap = ["-Wl,--wrap=malloc", "-Wl,--wrap=realloc"] if "play" in file else []
+            words = [compiler, *WARNINGS, *flags, "-I", C, f"{C}/{file}", archive, *wrap, "-o", f"{room}/{os.path.basename(file)[:-2]}"]
+            built = built and trial.ran(f"{compiler}: {file}{name}", words).returncode == 0
         if not built:
             continue
         trial.ran(f"{compiler}{name}", [f"{room}/odd"])
+        trial.ran(f"{compiler}: the example{name}", [f"{room}/example"])
         ran = subprocess.run([f"{room}/play", f"{room}/list"], stdout=subprocess.PIPE, stderr=subprocess.PIPE, text=True, errors="replace")
-        got = dict(re.findall(r"^== (\S+)\n(.*?)(?=^== |\Z)", ran.stdout, re.M | re.S))
-        other = [file for *_, file, _ in played if got.get(file) != wanted[file]]
+        got = dict(re.findall(r"^== (\w+ \S+)\n(.*?)(?=^== |\Z)", ran.stdout, re.M | re.S))
+        other = [it for *_, mode, file, _ in played if got.get(it := f"{mode} {file}") != wanted[it]]
         trial.note(f"{compiler}{name}: {len(played)} scripts, {len(other)} with other replies", not ran.returncode and not other,
                    ran.stderr + "".join(f"{it}: {got.get(it)!r}, wanted {wanted[it]!r}\n" for it in other[:3]))
         ran = subprocess.run([f"{room}/play", "--refuse", f"{room}/refused"], stdout=subprocess.PIPE, stderr=subprocess.STDOUT, text=True)
@@ -232,10 +233,9 @@ def main():
         archive = library.library("--proved" not in words, f"{room}/library")[0]
         played = plays(room, count, int(os.environ.get("SEED", 1)), rows)
         program = reference(room)
-        wanted = {file: replies(program, capacity, recent, mode, file) for capacity, recent, mode, file, _ in played}
-        for *_, file, text in played:
-            if text is not None and not wanted[file].startswith(text):
-                trial.note(f"{file}: other replies of txcache", False, wanted[file])
+        wanted = {f"{mode} {file}": replies(program, capacity, recent, mode, file) for capacity, recent, mode, file, _ in played}
+        unlike = [f"{mode} {file}" for *_, mode, file, text in played if text is not None and not wanted[f"{mode} {file}"].startswith(text)]
+        trial.note(f"txcache: the {sum(text is not None for *_, text in played)} examples and rows", not unlike, "\n".join(unlike))
         for compiler in ("gcc", "clang"):
             if shutil.which(compiler):
                 try_c(trial, room, compiler, archive, played, wanted)

@@ -1,6 +1,6 @@
 /* Plays scripts of mode node and report through the library, as `txcache` does, and prints the same.
  *
- * usage: play LIST            each line of LIST: CAPACITY RECENT MODE FILE; prints `== FILE`, the replies, and `status N`
+ * usage: play LIST            each line of LIST: CAPACITY RECENT MODE FILE; prints `== MODE FILE`, the replies, and `status N`
  *        play --refuse LIST   plays each script again and again, with the first allocation refused, then the second, and so
  *                             on, until none is left to refuse. A call that was refused memory is made again, and then
  *                             all replies must be those of a play with nothing refused.
@@ -464,7 +464,7 @@ int main(int count, char **words) {
         if (is_refusing)
             printf("%s: %ld allocations refused\n", name, refuse_each(script, len, capacity, recent, is_report, out));
         else {
-            printf("== %s\n", name);
+            printf("== %s %s\n", mode, name);
             fwrite(out.bytes, 1, out.len, stdout);
         }
         free(out.bytes);

@@ -1,5 +1,5 @@
 -- An insertion of an entry that can be made.
-use Rattle.std.proofs.Common.{◌≡◌, Option, Some, None, sym, subst, ap, ◌∙◌}
+use Rattle.std.proofs.Common.{◌≡◌, ℕ, Option, Some, None, sym, subst, ap, ◌∙◌}
 use Rattle.txc_node.specs.declared.entry.Entry.{Entry}
 use Rattle.txc_node.specs.declared.hit.Shown.{Shown}
 use Rattle.txc_node.specs.declared.node.Inserted.{Inserted}
@@ -9,7 +9,7 @@ use Rattle.txc_node.specs.declared.reply.Reply.{Reply}
 use Rattle.txc_node.specs.declared.reply.Reply.TheVariants as replies
 use Rattle.txc_node.specs.Cache.{Cache, after_insert, outcome}
 use Rattle.txc_node.specs.Steps.{entry_refusal, reply_by, reply_to, cache_by, after_op}
-use Rattle.txc_c.specs.Counted.{Counted, TotalsAfter, Leaves}
+use Rattle.txc_c.specs.Counted.{Counted, TotalsAfter, LeavesCounted}
 use Rattle.txc_c.specs.Told.{StoredTold}
 use Rattle.txc_c.specs.declared.crossing.TxcStored.{TxcStored}
 
@@ -24,10 +24,11 @@ pub told_made : (c : Cache) (e : Entry) (i : Inserted) (old new : TxcStored) →
 told_made c e i old new made is h =
     subst (λ (r : Reply Shown). StoredTold (Some r) old new) (sym (made_reply c e made)) (subst (λ (x : Inserted). StoredTold (Some (replies.Inserted x)) old new) is h)
 
-pub leaves_made : (old new : Counted) (e : Entry) (i : Inserted) → entry_refusal e ≡ None → i ≡ outcome old.cache e → new.cache ≡ after_insert old.cache e
-    → TotalsAfter (Some e.key.function) (replies.Inserted i) old.totals new.totals → Leaves old (Insert e) new
-leaves_made old new e i made is cache totals = record {
+pub leaves_made : (old new : Counted) (e : Entry) (i : Inserted) (f : ℕ) → entry_refusal e ≡ None → i ≡ outcome old.cache e → new.cache ≡ after_insert old.cache e → f ≡ e.key.function
+    → TotalsAfter (Some f) (replies.Inserted i) old.totals new.totals → LeavesCounted old (Insert e) new
+leaves_made old new e i f made is cache named totals = record {
   cache = cache ∙ sym (made_cache old.cache e made);
   totals = subst (λ (r : Reply Shown). TotalsAfter (Some e.key.function) r old.totals new.totals) (sym (made_reply old.cache e made))
-      (subst (λ (x : Inserted). TotalsAfter (Some e.key.function) (replies.Inserted x) old.totals new.totals) is totals);
+      (subst (λ (x : Inserted). TotalsAfter (Some e.key.function) (replies.Inserted x) old.totals new.totals) is
+      (subst (λ (n : ℕ). TotalsAfter (Some n) (replies.Inserted i) old.totals new.totals) named totals));
 }

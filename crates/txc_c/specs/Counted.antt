@@ -13,14 +13,14 @@ pub record Counted : Type 0 where
   pub totals : Totals
 
 -- an empty cache, no reply of which was counted
-pub record IsNew (capacity recent : ℕ) (n : Counted) : Type 0 where
+pub record IsOpened (capacity recent : ℕ) (n : Counted) : Type 0 where
   pub empty : n.cache ≡ empty_cache capacity recent
   pub none : AreCountsOf [] n.totals
 
 -- the handle has such a node
-abbrev pub HasNew : ℕ → ℕ → Option Counted → Type 0
-HasNew capacity recent None = ⊥
-HasNew capacity recent (Some n) = IsNew capacity recent n
+abbrev pub HasOpened : ℕ → ℕ → Option Counted → Type 0
+HasOpened capacity recent None = ⊥
+HasOpened capacity recent (Some n) = IsOpened capacity recent n
 
 -- one reply more was counted, to a step of that function, if it is of one
 pub record AddsReply (function : Option ℕ) (reply : Reply Shown) (old new : Totals) : Type 0 where
@@ -38,14 +38,14 @@ pub record TotalsAfter (function : Option ℕ) (reply : Reply Shown) (old new : 
   pub full : 2 ^ 64 ≤ old.replies + 1 → new ≡ old
 
 -- what a step leaves: the cache after it, and its reply counted
-pub record Leaves (old : Counted) (op : Op) (new : Counted) : Type 0 where
+pub record LeavesCounted (old : Counted) (op : Op) (new : Counted) : Type 0 where
   pub cache : new.cache ≡ after_op old.cache op
   pub totals : TotalsAfter (function_of op) (reply_to old.cache op) old.totals new.totals
 
 -- the handle has a node, which is left so by the one that it had
 abbrev pub HasLeft : Counted → Op → Option Counted → Type 0
 HasLeft old op None = ⊥
-HasLeft old op (Some new) = Leaves old op new
+HasLeft old op (Some new) = LeavesCounted old op new
 
 -- what a call leaves of a handle: no node where it had none; the node that it had where an argument is none of its
 -- kind; else the node after the step

@@ -23,8 +23,8 @@ use Rattle.txc_c.specs.declared.crossing.TxcCounts.{TxcCounts}
 -- ---- from C
 
 -- the call that a key names: its function, and the first `count` of its arguments
-abbrev pub call_of : TxcKey → Call
-call_of key = record { function = key.function; args = take key.count key.args }
+abbrev pub named_call : TxcKey → Call
+named_call key = record { function = key.function; args = take key.count key.args }
 
 -- there is such a function, and it has no more arguments than a call may have
 abbrev pub is_call : TxcKey → Bool
@@ -58,18 +58,18 @@ if_all false op = None
 
 -- a lookup of the key from `lo` to `hi`
 abbrev pub lookup_asked : TxcKey → ℕ → ℕ → Option Op
-lookup_asked key lo hi = if_all (is_call key && (is_stamp lo && is_stamp hi)) (Lookup (call_of key) lo hi)
+lookup_asked key lo hi = if_all (is_call key && (is_stamp lo && is_stamp hi)) (Lookup (named_call key) lo hi)
 
 -- the entry of a key, a reach, tags and bytes
-abbrev pub entry_of : TxcKey → TxcReach → List TxcTag → List ℕ → Entry
-entry_of key reach tags bytes =
-    record { key = call_of key; value = bytes; reach = interval_of reach; tags = set_of (map tag_of tags) }
+abbrev pub asked_entry : TxcKey → TxcReach → List TxcTag → List ℕ → Entry
+asked_entry key reach tags bytes =
+    record { key = named_call key; value = bytes; reach = interval_of reach; tags = set_of (map tag_of tags) }
 
 -- an insertion of that entry
 abbrev pub insert_asked : TxcKey → TxcReach → List TxcTag → List ℕ → Option Op
 insert_asked key reach tags bytes =
     if_all (is_call key && (is_stamp reach.lo && (is_stamp reach.known && list_all is_tag tags)))
-    (Insert (entry_of key reach tags bytes))
+    (Insert (asked_entry key reach tags bytes))
 
 -- the event of that stamp and these tags
 abbrev pub event_asked : ℕ → List TxcTag → Option Op
@@ -100,9 +100,9 @@ crossing_counts counts = record {
 abbrev pub IsEvicted : Option Entry → TxcStored → Type 0
 IsEvicted None stored = stored.has_evicted ≡ false
 IsEvicted (Some e) stored =
-    (stored.has_evicted ≡ true) × (call_of stored.evicted ≡ e.key) × (stored.evicted_lo ≡ e.reach.lo)
+    (stored.has_evicted ≡ true) × (named_call stored.evicted ≡ e.key) × (stored.evicted_lo ≡ e.reach.lo)
 
 -- the reach that was stored, and the entry that was dropped
-pub record IsStored (reach : Interval) (evicted : Option Entry) (stored : TxcStored) : Type 0 where
+pub record TellsStored (reach : Interval) (evicted : Option Entry) (stored : TxcStored) : Type 0 where
   pub reach_is : stored.reach ≡ crossing_reach reach
   pub evicted_is : IsEvicted evicted stored

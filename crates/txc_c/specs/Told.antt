@@ -7,7 +7,7 @@ use Rattle.txc_node.specs.declared.reply.Reply.{Reply}
 use Rattle.txc_node.specs.declared.reply.Reply.TheVariants as replies
 use Rattle.txc_node.specs.Steps.{reply_to}
 use Rattle.txc_c.specs.Counted.{Counted}
-use Rattle.txc_c.specs.Crossing.{crossing_reach, IsStored}
+use Rattle.txc_c.specs.Crossing.{crossing_reach, TellsStored}
 use Rattle.txc_c.specs.declared.crossing.TxcReach.{TxcReach}
 use Rattle.txc_c.specs.declared.crossing.TxcStored.{TxcStored}
 
@@ -30,20 +30,20 @@ len_told (Some (replies.Hit shown)) old = length shown.value
 len_told _ old = old
 
 -- the value, and after it what stood there, where the buffer has room for it
-abbrev pub put_in : List ℕ → List ℕ → List ℕ
-put_in value buffer =
+abbrev pub written_in : List ℕ → List ℕ → List ℕ
+written_in value buffer =
     if nat_le (length value) (length buffer) then value ++ drop (length value) buffer else buffer
 
 -- its value
 abbrev pub bytes_told : Option (Reply Shown) → List ℕ → List ℕ
-bytes_told (Some (replies.Hit shown)) old = put_in shown.value old
+bytes_told (Some (replies.Hit shown)) old = written_in shown.value old
 bytes_told _ old = old
 
 -- ---- of the others
 
 -- of an entry that was stored its reach, and the entry that was dropped for it; any other reply writes nothing
 abbrev pub StoredTold : Option (Reply Shown) → TxcStored → TxcStored → Type 0
-StoredTold (Some (replies.Inserted (Stored reach evicted))) old new = IsStored reach evicted new
+StoredTold (Some (replies.Inserted (Stored reach evicted))) old new = TellsStored reach evicted new
 StoredTold _ old new = new ≡ old
 
 -- of an event how many entries it closed; any other reply writes nothing

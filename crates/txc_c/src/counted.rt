@@ -7,10 +7,10 @@ ghost use Rattle.txc_node.specs.declared.reply.Reply.TheVariants as replies;
 ghost use Rattle.txc_node.specs.Counts.{counts_of, AreCountsOf};
 ghost use Rattle.txc_node.specs.Hit.{seen};
 ghost use Rattle.txc_node.specs.Steps.{entry_refusal, reply_to, seen_reply};
-ghost use Rattle.txc_c.specs.Counted.{IsNew, Leaves, TotalsAfter};
+ghost use Rattle.txc_c.specs.Counted.{IsOpened, LeavesCounted, TotalsAfter};
 ghost use Rattle.txc_c.specs.Crossing.{crossing_reach};
 ghost use Rattle.txc_c.specs.Numbers.{hit_number, inserted_number, reply_number};
-ghost use Rattle.txc_c.specs.Told.{put_in, reach_told, len_told, bytes_told, StoredTold, closed_told, swept_told};
+ghost use Rattle.txc_c.specs.Told.{written_in, reach_told, len_told, bytes_told, StoredTold, closed_told, swept_told};
 
 use crate::crossing::{TxcReach, TxcStored};
 use crate::numbers::{DONE, EMPTY_RANGE, KEPT, MISS, NO_MEMORY, NO_ROOM, OUT_OF_ORDER};
@@ -88,7 +88,7 @@ fn tell(hit: &Hit<'_>, reach: &mut TxcReach, value: &mut [u8], len: &mut usize) 
     ensures number { result ≡ hit_number (length value.old) (seen hit.now) }
     ensures reach { reach.new ≡ crossing_reach (seen hit.now).reach }
     ensures len { len.new ≡ length (seen hit.now).value }
-    ensures bytes { value.new ≡ put_in (seen hit.now).value value.old }
+    ensures bytes { value.new ≡ written_in (seen hit.now).value value.old }
 {
     *reach = TxcReach::of(hit.reach());
     let bytes = hit.value.bytes();
@@ -122,7 +122,7 @@ impl CountedNode {
     ) -> Result<CountedNode, AllocError>
         requires capacity { (1 ≤ capacity) × (capacity ≤ MAX_CAPACITY) }
         requires recent { (1 ≤ recent) × (recent ≤ MAX_RECENT) }
-        ensures { IfOk result (λ n. IsNew capacity recent n) }
+        ensures { IfOk result (λ n. IsOpened capacity recent n) }
     {
         Ok(CountedNode {
             node: NodeCore::new(alloc, capacity, recent)?,
@@ -157,7 +157,7 @@ impl CountedNode {
     ) -> u32
         ensures number { result
             ≡ reply_number (length value.old) (reply_to self.old.cache (steps.Lookup key.now lo hi)) }
-        ensures after { Leaves self.old (steps.Lookup key.now lo hi) self.new }
+        ensures after { LeavesCounted self.old (steps.Lookup key.now lo hi) self.new }
         ensures reach { reach.new
             ≡ reach_told (Some (reply_to self.old.cache (steps.Lookup key.now lo hi))) reach.old }
         ensures len { len.new
@@ -181,12 +181,11 @@ impl CountedNode {
     }
 
     /// [`NodeCore::insert`], of which it is written what was stored. Only memory may refuse it.
-    #[tactic(auto, using(crate::proofs::Made::told_made, crate::proofs::Made::leaves_made))]
     pub(crate) fn insert(&mut self, entry: Entry, stored: &mut TxcStored) -> u32
         requires { entry_refusal entry ≡ None }
         ensures number { result ≢ NO_MEMORY
             → result ≡ reply_number 0 (reply_to self.old.cache (steps.Insert entry)) }
-        ensures after { result ≢ NO_MEMORY → Leaves self.old (steps.Insert entry) self.new }
+        ensures after { result ≢ NO_MEMORY → LeavesCounted self.old (steps.Insert entry) self.new }
         ensures told { result ≢ NO_MEMORY
             → StoredTold (Some (reply_to self.old.cache (steps.Insert entry))) stored.old stored.new }
         ensures refused { result ≡ NO_MEMORY → (self.new ≡ self.old) × (stored.new ≡ stored.old) }
@@ -203,7 +202,7 @@ impl CountedNode {
     /// [`NodeCore::event`], of which it is written how many entries it closed.
     pub(crate) fn event(&mut self, stamp: Stamp, tags: TagSet, closed: &mut usize) -> u32
         ensures number { result ≡ reply_number 0 (reply_to self.old.cache (steps.Event stamp tags)) }
-        ensures after { Leaves self.old (steps.Event stamp tags) self.new }
+        ensures after { LeavesCounted self.old (steps.Event stamp tags) self.new }
         ensures told { closed.new
             ≡ closed_told (Some (reply_to self.old.cache (steps.Event stamp tags))) closed.old }
     {
@@ -218,7 +217,7 @@ impl CountedNode {
     /// [`NodeCore::sweep`], of which it is written how many entries it dropped.
     pub(crate) fn sweep(&mut self, horizon: Stamp, swept: &mut usize) -> u32
         ensures number { result ≡ reply_number 0 (reply_to self.old.cache (steps.Sweep horizon)) }
-        ensures after { Leaves self.old (steps.Sweep horizon) self.new }
+        ensures after { LeavesCounted self.old (steps.Sweep horizon) self.new }
         ensures told { swept.new
             ≡ swept_told (Some (reply_to self.old.cache (steps.Sweep horizon))) swept.old }
     {

@@ -2,7 +2,7 @@
 ghost use Rattle.std.specs.Prelude.{◌≡◌, map, true, false, if◌then◌else◌, Some, None, IfOk};
 ghost use Rattle.std.specs.List.{list_all};
 ghost use Rattle.txc_tags.specs.Tags.{set_of};
-ghost use Rattle.txc_c.specs.Crossing.{call_of, interval_of, is_call, tag_of, is_tag, crossing_reach, crossing_counts, IsStored};
+ghost use Rattle.txc_c.specs.Crossing.{named_call, interval_of, is_call, tag_of, is_tag, crossing_reach, crossing_counts, TellsStored};
 
 use std::alloc::{AllocError, Global};
 use txc_node::{Entry, FunctionCounts};
@@ -67,7 +67,7 @@ impl TxcKey {
 
     /// The key; None if there is no such function, or it has too many arguments.
     pub(crate) fn key(&self) -> Option<Key>
-        ensures { result ≡ (if is_call self.now then Some (call_of self.now) else None) }
+        ensures { result ≡ (if is_call self.now then Some (named_call self.now) else None) }
     {
         let count = usize::from(self.count);
         if count > MAX_ARGS {
@@ -78,7 +78,7 @@ impl TxcKey {
 
     /// The struct of a key.
     fn of(key: &Key) -> TxcKey
-        ensures { call_of result ≡ key.now }
+        ensures { named_call result ≡ key.now }
     {
         let given = key.args();
         let mut args = [0; MAX_ARGS];
@@ -100,15 +100,15 @@ impl TxcTag {
     }
 
     /// The tag.
-    fn tag(&self) -> Option<Tag>
-        ensures { result ≡ (if is_tag self.now then Some (tag_of self.now) else None) }
+    fn tag(&self) -> Tag
+        requires { is_tag self.now ≡ true }
+        ensures { result ≡ tag_of self.now }
     {
-        let table = Table::new(self.table)?;
+        let table = Table::new(self.table).unwrap();
         match self.kind {
-            0 => Some(Tag::wildcard(table)),
-            1 => Some(Tag::id(table, self.number)),
-            2 => Some(Tag::group(table, self.number)),
-            _ => None,
+            0 => Tag::wildcard(table),
+            1 => Tag::id(table, self.number),
+            _ => Tag::group(table, self.number),
         }
     }
 }
@@ -127,9 +127,7 @@ pub(crate) fn tags_of(alloc: Global, tags: &[TxcTag]) -> Result<TagSet, AllocErr
 {
     let mut set = TagSet::new(alloc);
     for tag in tags {
-        if let Some(tag) = tag.tag() {
-            set.add(tag)?;
-        }
+        set.add(tag.tag())?;
     }
     Ok(set)
 }
@@ -150,7 +148,7 @@ impl TxcReach {
 impl TxcStored {
     /// The struct of what an insertion did.
     pub(crate) fn of(reach: Reach, evicted: &Option<Entry>) -> TxcStored
-        ensures { IsStored reach evicted.now result }
+        ensures { TellsStored reach evicted.now result }
     {
         let reach = TxcReach::of(reach);
         match evicted {

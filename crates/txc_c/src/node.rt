@@ -1,8 +1,8 @@
 //! The exports.
 ghost use Rattle.std.specs.Prelude.{◌≡◌, ◌≢◌, Some, None, length, if◌then◌else◌};
 ghost use Rattle.txc_node.specs.Steps.{entry_refusal};
-ghost use Rattle.txc_c.specs.Counted.{CallLeaves, HasNew};
-ghost use Rattle.txc_c.specs.Crossing.{entry_of, event_asked, insert_asked, lookup_asked, sweep_asked};
+ghost use Rattle.txc_c.specs.Counted.{CallLeaves, HasOpened};
+ghost use Rattle.txc_c.specs.Crossing.{asked_entry, event_asked, insert_asked, lookup_asked, sweep_asked};
 ghost use Rattle.txc_c.specs.Held.{held};
 ghost use Rattle.txc_c.specs.Life.{are_sizes, close_number, count_number, counts_told, open_number};
 ghost use Rattle.txc_c.specs.Numbers.{call_number};
@@ -36,7 +36,7 @@ pub extern "C" fn txc_node_open(
 ) -> u32
     ensures number { result ≢ NO_MEMORY → result ≡ open_number (held handle.old) capacity recent }
     ensures no_memory { result ≡ NO_MEMORY → open_number (held handle.old) capacity recent ≡ DONE }
-    ensures opened { result ≡ DONE → HasNew capacity recent (held handle.new) }
+    ensures opened { result ≡ DONE → HasOpened capacity recent (held handle.new) }
     ensures unchanged { result ≢ DONE → held handle.new ≡ held handle.old }
 {
     if handle.is_open() {
@@ -138,7 +138,7 @@ fn insert(
         stored.old stored.new }
     ensures no_memory { result ≡ NO_MEMORY
         → (insert_asked key.now reach.now tags.now value.now ≢ None)
-        × (entry_refusal (entry_of key.now reach.now tags.now value.now) ≡ None) }
+        × (entry_refusal (asked_entry key.now reach.now tags.now value.now) ≡ None) }
     ensures refused { result ≡ NO_MEMORY → (node.new ≡ node.old) × (stored.new ≡ stored.old) }
 {
     let Some(key) = key.key() else {
@@ -188,7 +188,7 @@ pub extern "C" fn txc_node_insert(
         stored.old stored.new }
     ensures no_memory { result ≡ NO_MEMORY
         → (call_reply (held handle.old) (insert_asked key.now reach.now tags.now value.now) ≢ None)
-        × (entry_refusal (entry_of key.now reach.now tags.now value.now) ≡ None) }
+        × (entry_refusal (asked_entry key.now reach.now tags.now value.now) ≡ None) }
     ensures refused { result ≡ NO_MEMORY → (held handle.new ≡ held handle.old) × (stored.new ≡ stored.old) }
 {
     let Some(mut node) = handle.take(alloc) else {
