@@ -174,8 +174,19 @@ def replies(program, capacity, recent, mode, file):
 # ---- C
 
 
-def try_c(trial, room, compiler, archive, played, wanted):
-    """All that is tried of the library by a compiler, once plain and once under the sanitizers."""
+def libraries(is_proved, room):
+    """The library's archive, and the one for the sanitizers: compiled with no proof, the library itself is under that of addresses too."""
+    if is_proved:
+        return [library.library(False, f"{room}/library")[0]] * 2
+    os.makedirs(f"{room}/compiled")
+    text = library.exported(f"{room}/compiled")
+    plain = library.object_of(text, f"{room}/plain.o")
+    watched = library.object_of(text, f"{room}/watched.o", ["-O1", "-fsanitize=address"])
+    return [library.make([plain], f"{room}/library")[0], library.make([watched], f"{room}/watched", is_shared=False)[0]]
+
+
+def try_c(trial, room, compiler, archives, played, wanted):
+    """All that is tried of the library by a compiler, once plain and once under the sanitizers, each over an archive."""
     with open(f"{room}/asserts.c", "w", encoding="utf-8") as it:
         it.write(exports.asserts())
     count = exports.asserts().count("_Static_assert")
@@ -184,7 +195,7 @@ def try_c(trial, room, compiler, archive, played, wanted):
         it.writelines(f"{capacity} {recent} {mode} {file}\n" for capacity, recent, mode, file, _ in played)
     with open(f"{room}/refused", "w", encoding="utf-8") as it:
         it.writelines(f"{capacity} {recent} {mode} {file}\n" for capacity, recent, mode, file, _ in played if os.path.getsize(file) < 20_000)
-    for name, flags in ("", ["-O2"]), (" under sanitizers", SANITIZERS):
+    for name, flags, archive in ("", ["-O2"], archives[0]), (" under sanitizers", SANITIZERS, archives[1]):
         built = True
         for file in ("tests/play.c", "tests/odd.c", "example.c"):
             wrap = ["-Wl,--wrap=malloc", "-Wl,--wrap=realloc"] if "play" in file else []
@@ -230,7 +241,7 @@ def main():
     unlike = list(exports.differences())
     trial.note(f"the header: {len(exports.exports())} functions", not unlike, "\n".join(unlike))
     with tempfile.TemporaryDirectory(prefix="boundary-") as room:
-        archive = library.library("--proved" not in words, f"{room}/library")[0]
+        archives = libraries("--proved" in words, room)
         played = plays(room, count, int(os.environ.get("SEED", 1)), rows)
         program = reference(room)
         wanted = {f"{mode} {file}": replies(program, capacity, recent, mode, file) for capacity, recent, mode, file, _ in played}
@@ -238,7 +249,7 @@ def main():
         trial.note(f"txcache: the {sum(text is not None for *_, text in played)} examples and rows", not unlike, "\n".join(unlike))
         for compiler in ("gcc", "clang"):
             if shutil.which(compiler):
-                try_c(trial, room, compiler, archive, played, wanted)
+                try_c(trial, room, compiler, archives, played, wanted)
             else:
                 print(f"skipped: {compiler}, which is not there")
         try_bindings(trial, f"{room}/library")

@@ -18,6 +18,7 @@ import time
 import exports
 import run
 import unproved
+from check import check_words
 
 ROOT = os.path.dirname(os.path.dirname(os.path.abspath(__file__)))
 CRATE = "txc_c"
@@ -66,8 +67,8 @@ def caller():
     return "\nfn main(rt: HostRuntime) {\n    let alloc = rt.alloc();\n" + "\n".join(lines) + "\n}\n"
 
 
-def try_object(room):
-    """Compiles the crate with no proof: as a program that calls each export, of which the exports alone are kept."""
+def exported(room):
+    """Compiles the crate with no proof, as a program that calls each export: its text for LLVM, of which the exports alone can be called."""
     lines = run.crates(CRATE)
     with open(f"{room}/crates.txt", "w", encoding="utf-8") as it:
         it.writelines(line.replace(" staticlib:", ":") for line in lines.values())
@@ -81,30 +82,44 @@ def try_object(room):
     module, said = unproved.keep_module(f"{room}/crates/{CRATE}", f"{room}/made", ["--steps", "1"])
     if not module:
         sys.exit(f"{said[-3000:]}library: it does not compile")
-    clang = f"{unproved.kit()}/toolchain/bin/clang"
-    plain = ["--no-default-config", "-x", "ir"]
-    told([clang, *plain, "-S", "-emit-llvm", "-Xclang", "-disable-llvm-passes", module, "-o", f"{room}/whole.ll"])
+    told([*clang(), "-S", "-emit-llvm", "-Xclang", "-disable-llvm-passes", module, "-o", f"{room}/whole.ll"])
     with open(f"{room}/whole.ll", encoding="utf-8") as it:
         text = it.read()
     for name in exports.exports():
         text = re.sub(rf'@"{CRATE}::\w+::{name}"', f"@{name}", text)
         text = text.replace(f"define internal noundef i32 @{name}(", f"define noundef i32 @{name}(")
-    text = text.replace("define i32 @main(", "define internal i32 @called(")
     with open(f"{room}/exports.ll", "w", encoding="utf-8") as it:
-        it.write(text)
-    told([clang, "--target=x86_64-unknown-linux-gnu", "-march=x86-64", *plain, "-ffunction-sections", "-fdata-sections", "-fPIC", "-O2", "-c",
-          f"{room}/exports.ll", "-o", f"{room}/{CRATE}.o"])
-    return [f"{room}/{CRATE}.o"]
+        it.write(text.replace("define i32 @main(", "define internal i32 @called("))
+    return f"{room}/exports.ll"
+
+
+def clang():
+    """The toolchain's compiler, for LLVM's texts."""
+    return [f"{unproved.kit()}/toolchain/bin/clang", "--no-default-config", "-x", "ir"]
+
+
+def object_of(text, to, flags=("-O2",)):
+    """Compiles such a text into an object."""
+    told([*clang(), "--target=x86_64-unknown-linux-gnu", "-march=x86-64", "-ffunction-sections", "-fdata-sections", "-fPIC", *flags, "-c", text,
+          "-o", to])
+    return to
 
 
 # ---- proved
+
+
+def build_static(room):
+    """Builds the library over those that `rt ci` left in the room, and proves it once more: `rt ci` builds no static library."""
+    words = ["rattle", "build", *check_words(room, CRATE), "-o", f"out/lib{CRATE}.a"]
+    os.makedirs(f"{room}/crates/{CRATE}/out", exist_ok=True)
+    told(words, f"{room}/crates/{CRATE}")
 
 
 def proved_objects(room):
     """The objects of the proved library, which is proved first where it has to be."""
     archive = f"{ROOT}/crates/{CRATE}/out/lib{CRATE}.a"
     if not run.is_fresh(archive, CRATE):
-        run.build(CRATE, f"lib{CRATE}.a", archive)
+        run.build(CRATE, f"lib{CRATE}.a", archive, build_static)
     return objects_of(archive, f"{room}/proved")
 
 
@@ -123,30 +138,30 @@ def compiler():
     return next((it for it in ("gcc", "clang", "cc") if shutil.which(it)), None)
 
 
-def make(objects, folder):
-    """Makes the archive and the shared object of the objects, with the toolchain's calls of malloc, realloc and free."""
+def make(objects, folder, is_shared=True):
+    """Makes the archive and, where it is wanted, the shared object of the objects, with the toolchain's calls of malloc, realloc and free."""
     os.makedirs(folder, exist_ok=True)
     archive, shared, header = f"{folder}/lib{CRATE}.a", f"{folder}/lib{CRATE}.so", f"{folder}/txc.h"
     for it in (archive, shared):
         if os.path.exists(it):
             os.remove(it)
+    objects = [*objects, *objects_of(f"{unproved.kit()}/c/liblibc_c.a", f"{folder}/heap")]
     told([f"{unproved.kit()}/toolchain/bin/llvm-ar", "rcs", archive, *objects])
     shutil.copy(exports.HEADER, header)
-    if not compiler():
+    if is_shared and compiler():
+        with open(f"{folder}/heap/map", "w", encoding="utf-8") as it:
+            it.write("{ global: txc_*; local: *; };\n")
+        told([compiler(), "-shared", "-o", shared, *objects, f"-Wl,--version-script={folder}/heap/map", "-Wl,--gc-sections"])
+    elif is_shared:
         print("skipped: libtxc_c.so, since there is no C compiler", file=sys.stderr)
-        return [archive, header]
-    with open(f"{folder}/exports.map", "w", encoding="utf-8") as it:
-        it.write("{ global: txc_*; local: *; };\n")
-    told([compiler(), "-shared", "-o", shared, *objects, f"-Wl,--version-script={folder}/exports.map", "-Wl,--gc-sections"])
-    os.remove(f"{folder}/exports.map")
-    return [archive, shared, header]
+    shutil.rmtree(f"{folder}/heap")
+    return [it for it in (archive, shared, header) if os.path.exists(it)]
 
 
 def library(is_try, folder):
     with tempfile.TemporaryDirectory(prefix="library-") as room:
-        objects = try_object(room) if is_try else proved_objects(room)
-        heap = objects_of(f"{unproved.kit()}/c/liblibc_c.a", f"{room}/heap")
-        return make([*objects, *heap], folder)
+        objects = [object_of(exported(room), f"{room}/{CRATE}.o")] if is_try else proved_objects(room)
+        return make(objects, folder)
 
 
 def main():

@@ -72,8 +72,9 @@ def is_fresh(made_file=PROGRAM, of="txcache"):
     return all(os.stat(it).st_mtime <= made for it in [f"{ROOT}/crates.txt", *files])
 
 
-def build(of="txcache", made="txcache", to=PROGRAM):
-    """Proves a crate and those below it with the gate's command, in a copy that has no others, and takes what is made of it."""
+def build(of="txcache", made="txcache", to=PROGRAM, finish=lambda room: None):
+    """Proves a crate and those below it with the gate's command, in a copy that has no others, has it finished there, and takes what is
+    made of it."""
     lines, begun, number = crates(of), time.time(), 0
     print(f"run: proving {len(lines)} crates: some {'fifty' if of == 'txcache' else 'fifteen'} minutes of one core where nothing is kept, as many"
           " crates at once as there are cores", file=sys.stderr)
@@ -93,7 +94,9 @@ def build(of="txcache", made="txcache", to=PROGRAM):
             if proved:
                 number += 1
                 print(f"proved {proved[1]}, {number} of {len(lines)}, {time.time() - begun:.0f} s", file=sys.stderr, flush=True)
-        if ran.wait() or not os.path.exists(f"{room}/crates/{of}/out/{made}"):
+        if not ran.wait():
+            finish(room)
+        if ran.returncode or not os.path.exists(f"{room}/crates/{of}/out/{made}"):
             sys.stderr.writelines(said[-20:])
             sys.exit(refused(f"run: {made} was not built"))
         os.makedirs(os.path.dirname(to), exist_ok=True)
