@@ -1,8 +1,10 @@
 //! The exports.
-ghost use Rattle.std.specs.Prelude.{◌≡◌, ◌≢◌, Some, None, length, if◌then◌else◌};
+ghost use Rattle.std.specs.Prelude.{◌≡◌, ◌≢◌, true, Some, None, length, map, if◌then◌else◌, IfOk};
+ghost use Rattle.std.specs.List.{list_all};
+ghost use Rattle.txc_tags.specs.Tags.{set_of};
 ghost use Rattle.txc_node.specs.Steps.{entry_refusal};
 ghost use Rattle.txc_c.specs.Counted.{CallLeaves, HasOpened};
-ghost use Rattle.txc_c.specs.Crossing.{asked_entry, event_asked, insert_asked, lookup_asked, sweep_asked};
+ghost use Rattle.txc_c.specs.Crossing.{is_tag, tag_of, asked_entry, event_asked, insert_asked, lookup_asked, sweep_asked};
 ghost use Rattle.txc_c.specs.Held.{held};
 ghost use Rattle.txc_c.specs.Life.{are_sizes, close_number, count_number, counts_told, open_number};
 ghost use Rattle.txc_c.specs.Numbers.{call_number};
@@ -14,10 +16,10 @@ use crate::handle::TxcNode;
 use crate::numbers::{
     ALREADY_OPEN, BAD_ARGUMENT, BAD_REACH, CLOSED, DONE, NO_MEMORY, VALUE_TOO_LONG,
 };
-use std::alloc::Global;
+use std::alloc::{AllocError, Global};
 use txc_node::{Entry, MAX_CAPACITY, MAX_RECENT, MAX_VALUE_LEN};
 use txc_stamp::Stamp;
-use txc_tags::LAST_FUNCTION;
+use txc_tags::{Key, LAST_FUNCTION};
 
 /// Whether a node may be made for so many entries, and for the tags of so many events.
 fn are_sizes(capacity: usize, recent: usize) -> bool
@@ -120,6 +122,33 @@ pub extern "C" fn txc_node_lookup(
     number
 }
 
+/// The entry of these parts, which are those of one.
+fn entry_of(
+    alloc: Global,
+    key: Key,
+    lo: Stamp,
+    known: Stamp,
+    still: bool,
+    tags: &[TxcTag],
+    value: &[u8],
+) -> Result<Entry, AllocError>
+    requires tags { list_all is_tag tags.now ≡ true }
+    ensures made { IfOk result (λ e. e ≡ record {
+      key = key;
+      value = value.now;
+      reach = record { lo = lo; known = known; still = still };
+      tags = set_of (map tag_of tags.now);
+    }) }
+    ensures can_be { IfOk result (λ e. entry_refusal e ≡ None) }
+{
+    let tags = tags_of(alloc, tags)?;
+    let value = value.to_vec(alloc)?;
+    match Entry::new(key, value, lo, known, still, tags) {
+        Ok(entry) => Ok(entry),
+        Err(_) => Err(AllocError),
+    }
+}
+
 fn insert(
     alloc: Global,
     node: &mut CountedNode,
@@ -156,13 +185,7 @@ fn insert(
     if value.len() > MAX_VALUE_LEN {
         return VALUE_TOO_LONG;
     }
-    let Ok(tags) = tags_of(alloc, tags) else {
-        return NO_MEMORY;
-    };
-    let Ok(value) = value.to_vec(alloc) else {
-        return NO_MEMORY;
-    };
-    let Ok(entry) = Entry::new(key, value, lo, known, reach.is_still, tags) else {
+    let Ok(entry) = entry_of(alloc, key, lo, known, reach.is_still, tags, value) else {
         return NO_MEMORY;
     };
     node.insert(entry, stored)
