@@ -65,11 +65,15 @@ abbrev pub asked_entry : TxcKey → TxcReach → List TxcTag → List ℕ → En
 asked_entry key reach tags bytes =
     record { key = named_call key; value = bytes; reach = interval_of reach; tags = set_of (map tag_of tags) }
 
+-- each of these is of its kind
+abbrev pub is_insertion : TxcKey → TxcReach → List TxcTag → Bool
+is_insertion key reach tags =
+    is_call key && (is_stamp reach.lo && (is_stamp reach.known && list_all is_tag tags))
+
 -- an insertion of that entry
 abbrev pub insert_asked : TxcKey → TxcReach → List TxcTag → List ℕ → Option Op
 insert_asked key reach tags bytes =
-    if_all (is_call key && (is_stamp reach.lo && (is_stamp reach.known && list_all is_tag tags)))
-    (Insert (asked_entry key reach tags bytes))
+    if_all (is_insertion key reach tags) (Insert (asked_entry key reach tags bytes))
 
 -- the event of that stamp and these tags
 abbrev pub event_asked : ℕ → List TxcTag → Option Op

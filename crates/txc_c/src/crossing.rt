@@ -2,12 +2,12 @@
 ghost use Rattle.std.specs.Prelude.{◌≡◌, map, true, false, if◌then◌else◌, Some, None, IfOk};
 ghost use Rattle.std.specs.List.{list_all};
 ghost use Rattle.txc_tags.specs.Tags.{set_of};
-ghost use Rattle.txc_c.specs.Crossing.{named_call, interval_of, is_call, tag_of, is_tag, crossing_reach, crossing_counts, TellsStored};
+ghost use Rattle.txc_c.specs.Crossing.{named_call, interval_of, is_call, tag_of, is_tag, is_stamp, is_insertion, crossing_reach, crossing_counts, TellsStored};
 
 use std::alloc::{AllocError, Global};
 use txc_node::{Entry, FunctionCounts};
-use txc_stamp::Reach;
-use txc_tags::{Key, LAST_TABLE, MAX_ARGS, Table, Tag, TagSet};
+use txc_stamp::{LAST_STAMP, Reach};
+use txc_tags::{Key, LAST_FUNCTION, LAST_TABLE, MAX_ARGS, Table, Tag, TagSet};
 
 /// A key: a function, and the first `count` of the arguments.
 #[repr(C)]
@@ -65,6 +65,13 @@ impl TxcKey {
         args: [0; MAX_ARGS],
     };
 
+    /// Whether there is such a function, and it has no more arguments than a call may have.
+    fn is_call(&self) -> bool
+        ensures { result ≡ is_call self.now }
+    {
+        self.function <= LAST_FUNCTION && usize::from(self.count) <= MAX_ARGS
+    }
+
     /// The key; None if there is no such function, or it has too many arguments.
     pub(crate) fn key(&self) -> Option<Key>
         ensures { result ≡ (if is_call self.now then Some (named_call self.now) else None) }
@@ -118,6 +125,20 @@ pub(crate) fn are_tags(tags: &[TxcTag]) -> bool
     ensures { result ≡ list_all is_tag tags.now }
 {
     tags.iter().all(|tag| tag.is_tag())
+}
+
+/// Whether there is such a stamp.
+fn is_stamp(number: u32) -> bool
+    ensures { result ≡ is_stamp number }
+{
+    number <= LAST_STAMP
+}
+
+/// Whether each argument of an insertion is of its kind.
+pub(crate) fn is_insertion(key: &TxcKey, reach: &TxcReach, tags: &[TxcTag]) -> bool
+    ensures { result ≡ is_insertion key.now reach.now tags.now }
+{
+    key.is_call() && (is_stamp(reach.lo) && (is_stamp(reach.known) && are_tags(tags)))
 }
 
 /// The set of tags, each of which is one.

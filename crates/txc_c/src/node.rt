@@ -1,17 +1,18 @@
 //! The exports.
-ghost use Rattle.std.specs.Prelude.{◌≡◌, ◌≢◌, true, Some, None, length, map, if◌then◌else◌, IfOk};
-ghost use Rattle.std.specs.List.{list_all};
-ghost use Rattle.txc_tags.specs.Tags.{set_of};
+ghost use Rattle.std.specs.Prelude.{◌≡◌, ◌≢◌, Some, None, length, if◌then◌else◌, IfOk};
+ghost use Rattle.txc_node.specs.declared.op.Op.TheVariants as steps;
 ghost use Rattle.txc_node.specs.Steps.{entry_refusal};
 ghost use Rattle.txc_c.specs.Counted.{CallLeaves, HasOpened};
-ghost use Rattle.txc_c.specs.Crossing.{is_tag, tag_of, asked_entry, event_asked, insert_asked, lookup_asked, sweep_asked};
+ghost use Rattle.txc_c.specs.Crossing.{asked_entry, event_asked, insert_asked, lookup_asked, sweep_asked};
 ghost use Rattle.txc_c.specs.Held.{held};
 ghost use Rattle.txc_c.specs.Life.{are_sizes, close_number, count_number, counts_told, open_number};
 ghost use Rattle.txc_c.specs.Numbers.{call_number};
 ghost use Rattle.txc_c.specs.Told.{call_reply, reach_told, len_told, bytes_told, StoredTold, closed_told, swept_told, processed_told};
 
 use crate::counted::CountedNode;
-use crate::crossing::{TxcCounts, TxcKey, TxcReach, TxcStored, TxcTag, are_tags, tags_of};
+use crate::crossing::{
+    TxcCounts, TxcKey, TxcReach, TxcStored, TxcTag, are_tags, is_insertion, tags_of,
+};
 use crate::handle::TxcNode;
 use crate::numbers::{
     ALREADY_OPEN, BAD_ARGUMENT, BAD_REACH, CLOSED, DONE, NO_MEMORY, VALUE_TOO_LONG,
@@ -19,7 +20,7 @@ use crate::numbers::{
 use std::alloc::{AllocError, Global};
 use txc_node::{Entry, MAX_CAPACITY, MAX_RECENT, MAX_VALUE_LEN};
 use txc_stamp::Stamp;
-use txc_tags::{Key, LAST_FUNCTION};
+use txc_tags::LAST_FUNCTION;
 
 /// Whether a node may be made for so many entries, and for the tags of so many events.
 fn are_sizes(capacity: usize, recent: usize) -> bool
@@ -122,28 +123,29 @@ pub extern "C" fn txc_node_lookup(
     number
 }
 
-/// The entry of these parts, which are those of one.
+/// The entry that an insertion asks for; Err if memory is refused, or an argument is none of its kind.
 fn entry_of(
     alloc: Global,
-    key: Key,
-    lo: Stamp,
-    known: Stamp,
-    still: bool,
+    key: &TxcKey,
+    reach: &TxcReach,
     tags: &[TxcTag],
     value: &[u8],
 ) -> Result<Entry, AllocError>
-    requires tags { list_all is_tag tags.now ≡ true }
-    ensures made { IfOk result (λ e. e ≡ record {
-      key = key;
-      value = value.now;
-      reach = record { lo = lo; known = known; still = still };
-      tags = set_of (map tag_of tags.now);
-    }) }
+    ensures asked { IfOk result (λ e. insert_asked key.now reach.now tags.now value.now ≡ Some (steps.Insert e)) }
     ensures can_be { IfOk result (λ e. entry_refusal e ≡ None) }
 {
+    let Some(key) = key.key() else {
+        return Err(AllocError);
+    };
+    let (Ok(lo), Ok(known)) = (Stamp::new(reach.lo), Stamp::new(reach.known)) else {
+        return Err(AllocError);
+    };
+    if !are_tags(tags) {
+        return Err(AllocError);
+    }
     let tags = tags_of(alloc, tags)?;
     let value = value.to_vec(alloc)?;
-    match Entry::new(key, value, lo, known, still, tags) {
+    match Entry::new(key, value, lo, known, reach.is_still, tags) {
         Ok(entry) => Ok(entry),
         Err(_) => Err(AllocError),
     }
@@ -170,22 +172,16 @@ fn insert(
         × (entry_refusal (asked_entry key.now reach.now tags.now value.now) ≡ None) }
     ensures refused { result ≡ NO_MEMORY → (node.new ≡ node.old) × (stored.new ≡ stored.old) }
 {
-    let Some(key) = key.key() else {
-        return BAD_ARGUMENT;
-    };
-    let (Ok(lo), Ok(known)) = (Stamp::new(reach.lo), Stamp::new(reach.known)) else {
-        return BAD_ARGUMENT;
-    };
-    if !are_tags(tags) {
+    if !is_insertion(key, reach, tags) {
         return BAD_ARGUMENT;
     }
-    if known < lo {
+    if reach.known < reach.lo {
         return BAD_REACH;
     }
     if value.len() > MAX_VALUE_LEN {
         return VALUE_TOO_LONG;
     }
-    let Ok(entry) = entry_of(alloc, key, lo, known, reach.is_still, tags, value) else {
+    let Ok(entry) = entry_of(alloc, key, reach, tags, value) else {
         return NO_MEMORY;
     };
     node.insert(entry, stored)
