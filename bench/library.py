@@ -5,7 +5,7 @@ insertions that evict.
 usage: bench/library.py [--proved]
   --proved   both are proved and built, where they have to be; else both are compiled with no proof
 
-It prints a table in markdown, for each capacity: nanoseconds of processor time, the least of nine rounds in which the two take turns, and
+It prints a table in markdown, for each capacity: nanoseconds of processor time, the least of seven rounds in which the two take turns, and
 instructions (by callgrind, where valgrind is there); each of one call, without what the process takes for no call. The two have
 to find the same.
 """
@@ -27,7 +27,7 @@ import unproved  # noqa: E402
 
 KINDS = {"hit": 2_000_000, "miss": 2_000_000, "insertion": 500_000}
 CAPACITIES = [1024, 65536]
-ROUNDS = 9
+ROUNDS = 7
 COUNTED = 20_000
 
 

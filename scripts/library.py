@@ -110,7 +110,8 @@ def object_of(text, to, flags=("-O2",)):
 
 def build_static(room):
     """Builds the library over those that `rt ci` left in the room, and proves it once more: `rt ci` builds no static library."""
-    words = ["rattle", "build", *check_words(room, CRATE), "-o", f"out/lib{CRATE}.a"]
+    toolchain = f"{unproved.kit()}/toolchain"
+    words = ["rattle", "build", *check_words(room, CRATE), "--toolchain", toolchain, "--backend", "llvm", "-o", f"out/lib{CRATE}.a"]
     os.makedirs(f"{room}/crates/{CRATE}/out", exist_ok=True)
     told(words, f"{room}/crates/{CRATE}")
 
