@@ -2,6 +2,8 @@
 # make run SCRIPT=FILE [MODE=report] [SETTINGS=TEXT]: the same by the proved program, which is proved and built where it has to be.
 # make test: the tests, with no proof.
 # make prove: the gate: every proof, every test, and the wrong bodies that break a cache.
+# make library: the library for callers in C, proved and built where it has to be; it says where it lies.
+# make try-library: the same with no proof, in a minute.
 # make edits [CRATE=NAME]: all wrong bodies, also those that `make prove` leaves out for its time.
 # make refusals [TEST=NAME]: every allocation of the tests and of the program, refused in its turn.
 # make soak: 3,000,000 lookups through one node that stores no records, in a process of a fixed size.
@@ -16,7 +18,7 @@ ifneq ($(UNKNOWN),)
 $(error there is no $(firstword $(UNKNOWN))=: the words are SCRIPT=, MODE=, SETTINGS=, CRATE= and TEST=)
 endif
 
-.PHONY: try run test prove edits refusals soak docs
+.PHONY: try run test prove library try-library edits refusals soak docs
 
 try run:
 	@scripts/$@.py $(if $(MODE),--mode "$(MODE)") $(if $(SETTINGS),--settings "$(SETTINGS)") "$(SCRIPT)"
@@ -26,6 +28,12 @@ test:
 
 prove:
 	@scripts/prove.py
+
+library:
+	@scripts/library.py
+
+try-library:
+	@scripts/library.py --try
 
 edits:
 	scripts/edits.py $(CRATE)

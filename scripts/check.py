@@ -18,13 +18,14 @@ KIT = os.path.dirname(subprocess.run(["rt", "doc"], capture_output=True, text=Tr
 
 def check_words(root, crate):
     """What the prover is told to check a crate from nothing over the libraries of crates/*/out, but for what to check."""
-    uses = {}
+    uses, kinds = {}, {}
     for line in open(f"{root}/crates.txt", encoding="utf-8"):
         name, colon, below = line.partition("#")[0].partition(":")
         if colon:
-            uses[name.split()[0]] = below.split()
+            name, *kind = name.split()
+            uses[name], kinds[name] = below.split(), kind
     main = "src/main.rt" if os.path.exists(f"{root}/crates/{crate}/src/main.rt") else "src/lib.rt"
-    words = ["--crate-name", crate, main, "--jobs", "1", "--links", f"{crate}="]
+    words = ["--crate-name", crate, main, "--jobs", "1", "--links", f"{crate}=", *(["--crate-type", *kinds[crate]] if kinds[crate] else [])]
     library = lambda it: f"{root}/crates/{it}/out/rlib/{it}.rlib" if it in uses else f"{KIT}/rlibs/{it}.rlib"
     words += [it for name in ("std", *uses[crate]) for it in ("--extern", f"{name}={library(name)}")]
     folders = [f"{KIT}/rlibs", *(f"{root}/crates/{it}/out/rlib" for it in uses)]

@@ -12,7 +12,7 @@ README = ROOT / "README.md"
 # How many words a document may have: what has a letter or a digit, so that no sign of a definition and no bar of a table is one.
 MOST_WORDS = {"README.md": 1_400, "docs/PROMISE.md": 3_000, "docs/GATE.md": 900, "docs/DECISIONS.md": 6_000}
 # Those that are written by hand, and how many words they may have together.
-BY_HAND = ["README.md", *(f"docs/{it}.md" for it in ("ARCHITECTURE", "SCRIPTS", "DECISIONS", "GATE", "CALLING", "EMBEDDING", "FIGURES"))]
+BY_HAND = ["README.md", *(f"docs/{it}.md" for it in ("ARCHITECTURE", "SCRIPTS", "DECISIONS", "GATE", "CALLING", "EMBEDDING", "BINDINGS", "FIGURES"))]
 MOST_BY_HAND = 26_000
 # How many words a sentence may have: of a document that is written by hand, and of a source's comment.
 MOST_WORDS_OF_A_SENTENCE = 30
@@ -148,7 +148,7 @@ def comments(path):
 def uses(*files):
     """The libraries that each crate of these lists uses."""
     lines = [line.split("#")[0] for it in files for line in (ROOT / it).read_text().split("\n")]
-    return {line.split(":")[0].strip(): line.split(":")[1].split() for line in lines if ":" in line}
+    return {line.split(":")[0].split()[0]: line.split(":")[1].split() for line in lines if ":" in line}
 
 
 def crate_tables():
@@ -238,10 +238,10 @@ def quoted():
 
 def commands():
     """Each `make` command that a document shows has its target, and the script that it names is there."""
-    targets = {it for line in re.findall(r"^([a-z ]+):", (ROOT / "Makefile").read_text(), re.M) for it in line.split()}
+    targets = {it for line in re.findall(r"^([a-z -]+):", (ROOT / "Makefile").read_text(), re.M) for it in line.split()}
     for document in documents():
         text = document.read_text() if document.parent.name != "crates" else ""
-        for target in re.findall(r"(?:^    |`)make (\w+)", text, re.M):
+        for target in re.findall(r"(?:^    |`)make ([\w-]+)", text, re.M):
             if target not in targets:
                 yield document, f"shows `make {target}`, which the Makefile doesn't have"
         for script in re.findall(r"\bSCRIPT=([\w./]+)", text):

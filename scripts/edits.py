@@ -122,7 +122,7 @@ def functions(crate, file, text):
             kind = owner(head)
         elif line.startswith("}"):
             kind = ""
-        is_fn = re.match(r"( *)(?:pub(?:\([a-z]*\))? )?(?:const )?(?:unsafe )?fn (\w+)", line)
+        is_fn = re.match(r'( *)(?:pub(?:\([a-z]*\))? )?(?:const )?(?:unsafe )?(?:extern "C" )?fn (\w+)', line)
         if is_fn and (is_fn[1] == "" or kind and is_fn[1] == "    "):
             last = next((n for n in range(at, len(lines)) if lines[n] == is_fn[1] + "}"), at)
             # a method is named by the module of its type, wherever its `impl` stands

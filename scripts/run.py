@@ -46,15 +46,15 @@ def main():
     sys.exit(status)
 
 
-def crates():
-    """The program's crates, the lowest first, each with its line of crates.txt."""
+def crates(of="txcache"):
+    """A crate and those below it, the lowest first, each with its line of crates.txt: by default the program's."""
     lines = {}
     with open(f"{ROOT}/crates.txt", encoding="utf-8") as it:
         for line in it:
             name, colon, below = line.partition("#")[0].partition(":")
             if colon:
                 lines[name.split()[0]] = line
-    needed, left = set(), ["txcache"]
+    needed, left = set(), [of]
     while left:
         name = left.pop()
         needed.add(name)
@@ -62,21 +62,22 @@ def crates():
     return {name: line for name, line in lines.items() if name in needed}
 
 
-def is_fresh():
-    """Whether the program stands, and no source of it is newer."""
-    if not os.access(PROGRAM, os.X_OK):
+def is_fresh(made_file=PROGRAM, of="txcache"):
+    """Whether what is made of a crate stands, and no source of it is newer."""
+    if not os.path.exists(made_file):
         return False
-    made = os.stat(PROGRAM).st_mtime
-    folders = [f"{ROOT}/crates/{name}/{part}" for name in crates() for part in ("src", "specs", "proofs")]
+    made = os.stat(made_file).st_mtime
+    folders = [f"{ROOT}/crates/{name}/{part}" for name in crates(of) for part in ("src", "specs", "proofs")]
     files = [f"{at}/{name}" for folder in folders for at, _, names in os.walk(folder) for name in names]
     return all(os.stat(it).st_mtime <= made for it in [f"{ROOT}/crates.txt", *files])
 
 
-def build():
-    """Proves the program's crates with the gate's command, in a copy that has no others, and takes the program."""
-    lines, begun, number = crates(), time.time(), 0
-    print(f"run: proving {len(lines)} crates: some fifty minutes of one core where nothing is kept, as many crates at once as there are"
-          " cores", file=sys.stderr)
+def build(of="txcache", made="txcache", to=PROGRAM, finish=lambda room: None):
+    """Proves a crate and those below it with the gate's command, in a copy that has no others, has it finished there, and takes what is
+    made of it."""
+    lines, begun, number = crates(of), time.time(), 0
+    print(f"run: proving {len(lines)} crates: some {'fifty' if of == 'txcache' else 'fifteen'} minutes of one core where nothing is kept, as many"
+          " crates at once as there are cores", file=sys.stderr)
     with tempfile.TemporaryDirectory(prefix="run-") as room:
         with open(f"{room}/crates.txt", "w", encoding="utf-8") as it:
             it.writelines(lines.values())
@@ -93,12 +94,15 @@ def build():
             if proved:
                 number += 1
                 print(f"proved {proved[1]}, {number} of {len(lines)}, {time.time() - begun:.0f} s", file=sys.stderr, flush=True)
-        if ran.wait() or not os.path.exists(f"{room}/crates/txcache/out/txcache"):
+        if not ran.wait():
+            finish(room)
+        if ran.returncode or not os.path.exists(f"{room}/crates/{of}/out/{made}"):
             sys.stderr.writelines(said[-20:])
-            sys.exit(refused("run: the program was not built"))
-        os.makedirs(os.path.dirname(PROGRAM), exist_ok=True)
-        shutil.copy(f"{room}/crates/txcache/out/txcache", f"{PROGRAM}.new")
-        os.replace(f"{PROGRAM}.new", PROGRAM)
+            sys.exit(refused(f"run: {made} was not built"))
+        os.makedirs(os.path.dirname(to), exist_ok=True)
+        shutil.copy(f"{room}/crates/{of}/out/{made}", f"{to}.new")
+        os.replace(f"{to}.new", to)
 
 
-main()
+if __name__ == "__main__":
+    main()

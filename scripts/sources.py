@@ -7,7 +7,7 @@ ROOT = pathlib.Path(__file__).resolve().parent.parent
 ITEM = re.compile(r"(?:abbrev|unfoldable|pub|record|data)\b(?: (?:abbrev|unfoldable|pub|record|data)\b)* ([^\s:{(]+)")
 USE = re.compile(r"^ *(?:pub )?(?:ghost )?use ([^;{\s]+?)(?:\.\{([^}]*)\})?(?: as (\w+))?;?$", re.M)
 TYPE = re.compile(r"( *)pub(?:\([^)]*\))? (struct|enum|trait|type|const|static) (\w+)")
-FN = re.compile(r"( *)(pub(?:\([^)]*\))? )?(?:const )?(?:unsafe )?fn (\w+)")
+FN = re.compile(r'( *)(pub(?:\([^)]*\))? )?(?:const )?(?:unsafe )?(?:extern "C" )?fn (\w+)')
 RUST_USE = re.compile(r"^(?:pub )?use ((?:\w+::)+)(?:(\w+)|\{([^}]*)\});$", re.M)
 MODEL = re.compile(r"^impl.*? Model for (\w+)")
 # Words of the language and of no crate, which a text uses without a definition.
@@ -17,7 +17,7 @@ NOT_WORDS = {"record", "data", "pub", "abbrev", "unfoldable", "where", "let", "i
 def crates():
     """The crates' names, in the order of crates.txt."""
     rows = [line.split("#")[0] for line in (ROOT / "crates.txt").read_text().split("\n")]
-    return [row.split(":")[0].strip() for row in rows if ":" in row]
+    return [row.split(":")[0].split()[0] for row in rows if ":" in row]
 
 
 # Those that only call the others.

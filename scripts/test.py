@@ -1,6 +1,6 @@
 #!/usr/bin/env python3
 """Runs the tests of tests/ by `rt try --test`, and its programs by `rt try`, each crate beside the others. It proves nothing: they are
-compiled with checks of the toolchain's own.
+compiled with checks of the toolchain's own. Beside them it tries the library for callers in C (scripts/boundary.py), as `bindings`.
 
 usage: [JOBS=N] scripts/test.py [--proved] [CRATE..]
        scripts/test.py --fmt
@@ -66,6 +66,15 @@ def run_program(room, crate):
     return int(is_right), [] if is_right else [crate], ran.stdout
 
 
+def try_bindings(room, crate):
+    """The same of the library for callers in C, and of what is over it."""
+    ran = told([sys.executable, f"{with_tests.ROOT}/scripts/boundary.py"], room)
+    counts = re.search(r"^(\d+) passed, (\d+) failed$", ran.stdout, re.M)
+    failed = re.findall(r"^FAILED: (.*)$", ran.stdout, re.M) or ["(they did not run to their end)"] * bool(ran.returncode)
+    print("".join(f"{it}\n" for it in re.findall(r"^skipped: .*$", ran.stdout, re.M)), end="")
+    return int(counts[1]) if counts else 0, failed, ran.stdout
+
+
 def prove(room, crate):
     """Whether it is proved, as `run` tells it."""
     ran = told(["rattle", "check", *check_words(room, crate), "--test"], f"{room}/crates/{crate}")
@@ -89,7 +98,8 @@ def prepare_proofs(room, crates):
 def main():
     do = prove if "--proved" in sys.argv[1:] else run
     programs = with_tests.programs() if do == run else []
-    crates = [it for it in sys.argv[1:] if not it.startswith("--")] or [*with_tests.test_crates(), *programs]
+    bindings = ["bindings"] if do == run else []
+    crates = [it for it in sys.argv[1:] if not it.startswith("--")] or [*with_tests.test_crates(), *programs, *bindings]
     begun = time.time()
     with tempfile.TemporaryDirectory(prefix="tests-") as room:
         with_tests.copy(room)
@@ -105,7 +115,8 @@ def main():
         else:
             unproved.copy_of_kit(f"{room}/kit", OPTIMISES.format(kit=unproved.kit()))
         with ThreadPoolExecutor(int(os.environ.get("JOBS", os.cpu_count()))) as pool:
-            running = {pool.submit(run_program if it in programs else do, room, it): it for it in crates}
+            how = lambda it: run_program if it in programs else try_bindings if it in bindings else do
+            running = {pool.submit(how(it), room, it): it for it in crates}
             for done in as_completed(running):
                 well, failed, said = done.result()
                 passed, failures = passed + well, failures + len(failed)

@@ -57,16 +57,23 @@ def copy_of_kit(folder, clang):
     os.chmod(f"{folder}/toolchain/bin/clang", 0o755)
 
 
+def keep_module(crate, room, words):
+    """Has in the room the module that `rt try` with these words makes of the crate's folder: its path, or what was said where
+    it does not compile."""
+    module = f"{room}/module.bc"
+    shutil.rmtree(room, ignore_errors=True)
+    copy_of_kit(f"{room}/kit", KEEPS.format(module=module, clang=f"{kit()}/toolchain/bin/clang"))
+    tried = subprocess.run([f"{room}/kit/bin/rt", "try", *words], cwd=crate, capture_output=True, text=True, errors="replace")
+    return (module, "") if os.path.exists(module) else (None, tried.stdout + tried.stderr)
+
+
 def build(crate, program, words=("--test", "--steps", "1")):
     """Builds the tests of the crate's folder into the program, and returns what was said where they do not compile. Other words
     for `rt try` build what it runs with them."""
     real, room = kit(), f"{program}.made"
-    module = f"{room}/module.bc"
-    shutil.rmtree(room, ignore_errors=True)
-    copy_of_kit(f"{room}/kit", KEEPS.format(module=module, clang=f"{real}/toolchain/bin/clang"))
-    tried = subprocess.run([f"{room}/kit/bin/rt", "try", *words], cwd=crate, capture_output=True, text=True, errors="replace")
-    if not os.path.exists(module):
-        return tried.stdout + tried.stderr
+    module, said = keep_module(crate, room, words)
+    if not module:
+        return said
     toolchain = f"{real}/toolchain"
     commands = [
         [f"{toolchain}/bin/clang", f"--sysroot={toolchain}", *FLAGS, module, "-o", f"{room}/module.o"],

@@ -1,0 +1,96 @@
+//! The declarations of `bindings/c/txc.h`.
+use std::os::raw::c_void;
+
+#[repr(C)]
+pub struct Handle {
+    pub slot: *mut c_void,
+    pub is_open: bool,
+}
+
+#[repr(C)]
+#[derive(Clone, Copy)]
+pub struct Key {
+    pub function: u8,
+    pub count: u8,
+    pub args: [u32; 4],
+}
+
+#[repr(C)]
+#[derive(Clone, Copy)]
+pub struct Tag {
+    pub table: u8,
+    pub kind: u8,
+    pub number: u32,
+}
+
+#[repr(C)]
+#[derive(Clone, Copy)]
+pub struct Reach {
+    pub lo: u32,
+    pub known: u32,
+    pub is_still: bool,
+}
+
+#[repr(C)]
+#[derive(Clone, Copy)]
+pub struct Stored {
+    pub reach: Reach,
+    pub has_evicted: bool,
+    pub evicted: Key,
+    pub evicted_lo: u32,
+}
+
+#[repr(C)]
+#[derive(Clone, Copy)]
+pub struct Counts {
+    pub lookups: u64,
+    pub hits: u64,
+    pub stored: u64,
+    pub kept: u64,
+    pub evicted: u64,
+}
+
+pub const DONE: u32 = 0;
+pub const MISS: u32 = 1;
+pub const KEPT: u32 = 2;
+pub const BAD_ARGUMENT: u32 = 6;
+pub const EMPTY_RANGE: u32 = 7;
+pub const BAD_REACH: u32 = 8;
+pub const OUT_OF_ORDER: u32 = 9;
+pub const VALUE_TOO_LONG: u32 = 10;
+pub const NO_MEMORY: u32 = 11;
+
+extern "C" {
+    pub fn txc_node_open(node: *mut Handle, capacity: usize, recent: usize) -> u32;
+    pub fn txc_node_close(node: *mut Handle) -> u32;
+    pub fn txc_node_lookup(
+        node: *mut Handle,
+        key: *const Key,
+        lo: u32,
+        hi: u32,
+        reach: *mut Reach,
+        value: *mut u8,
+        room: usize,
+        len: *mut usize,
+    ) -> u32;
+    pub fn txc_node_insert(
+        node: *mut Handle,
+        key: *const Key,
+        reach: *const Reach,
+        tags: *const Tag,
+        tag_count: usize,
+        value: *const u8,
+        len: usize,
+        stored: *mut Stored,
+    ) -> u32;
+    pub fn txc_node_event(
+        node: *mut Handle,
+        stamp: u32,
+        tags: *const Tag,
+        tag_count: usize,
+        closed: *mut usize,
+        processed: *mut u32,
+    ) -> u32;
+    pub fn txc_node_sweep(node: *mut Handle, horizon: u32, swept: *mut usize) -> u32;
+    pub fn txc_node_count(node: *mut Handle, function: u8, counts: *mut Counts) -> u32;
+}

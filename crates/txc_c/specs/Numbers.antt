@@ -1,0 +1,45 @@
+-- The numbers that calls return.
+use Rattle.std.specs.Prelude.{ℕ, nat_le, length, if◌then◌else◌, Option, Some, None}
+use Rattle.txc_node.specs.declared.hit.Shown.{Shown}
+use Rattle.txc_node.specs.declared.node.Inserted.{Inserted}
+use Rattle.txc_node.specs.declared.node.Inserted.TheVariants.{Stored, Kept}
+use Rattle.txc_node.specs.declared.op.Op.{Op}
+use Rattle.txc_node.specs.declared.refusal.Refusal.{Refusal}
+use Rattle.txc_node.specs.declared.refusal.Refusal.TheVariants as refusals
+use Rattle.txc_node.specs.declared.reply.Reply.{Reply}
+use Rattle.txc_node.specs.declared.reply.Reply.TheVariants as replies
+use Rattle.txc_node.specs.Steps.{reply_to}
+use Rattle.txc_c.specs.Counted.{Counted}
+use Rattle.txc_c.specs.declared.numbers.TheConstants.{DONE, MISS, KEPT, NO_ROOM, CLOSED, BAD_ARGUMENT, EMPTY_RANGE, BAD_REACH, OUT_OF_ORDER, VALUE_TOO_LONG, NO_MEMORY}
+
+-- the number of a refusal
+abbrev pub refusal_number : Refusal → ℕ
+refusal_number refusals.EmptyRange = EMPTY_RANGE
+refusal_number refusals.BadReach = BAD_REACH
+refusal_number (refusals.OutOfOrder processed) = OUT_OF_ORDER
+refusal_number refusals.ValueTooLong = VALUE_TOO_LONG
+refusal_number refusals.Memory = NO_MEMORY
+
+-- the number of a hit, by the room of the buffer
+abbrev pub hit_number : ℕ → Shown → ℕ
+hit_number room shown = if nat_le (length shown.value) room then DONE else NO_ROOM
+
+-- the number of what an insertion did
+abbrev pub inserted_number : Inserted → ℕ
+inserted_number (Stored reach evicted) = DONE
+inserted_number (Kept entry) = KEPT
+
+-- the number of a reply, by the room of the buffer
+abbrev pub reply_number : ℕ → Reply Shown → ℕ
+reply_number room (replies.Inserted inserted) = inserted_number inserted
+reply_number room (replies.Hit shown) = hit_number room shown
+reply_number room replies.Miss = MISS
+reply_number room (replies.Closed count) = DONE
+reply_number room (replies.Swept count) = DONE
+reply_number room (replies.Refused refusal) = refusal_number refusal
+
+-- the number of a call: the handle has no node; an argument is none of its kind; or that of the reply
+abbrev pub call_number : ℕ → Option Counted → Option Op → ℕ
+call_number room None asked = CLOSED
+call_number room (Some n) None = BAD_ARGUMENT
+call_number room (Some n) (Some op) = reply_number room (reply_to n.cache op)

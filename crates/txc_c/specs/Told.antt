@@ -1,0 +1,62 @@
+-- What a call writes for its caller, by the reply.
+use Rattle.std.specs.Prelude.{◌≡◌, ℕ, List, ◌++◌, drop, length, nat_le, if◌then◌else◌, Option, Some, None}
+use Rattle.txc_node.specs.declared.hit.Shown.{Shown}
+use Rattle.txc_node.specs.declared.node.Inserted.TheVariants.{Stored}
+use Rattle.txc_node.specs.declared.op.Op.{Op}
+use Rattle.txc_node.specs.declared.reply.Reply.{Reply}
+use Rattle.txc_node.specs.declared.reply.Reply.TheVariants as replies
+use Rattle.txc_node.specs.Steps.{reply_to}
+use Rattle.txc_c.specs.Counted.{Counted}
+use Rattle.txc_c.specs.Crossing.{crossing_reach, TellsStored}
+use Rattle.txc_c.specs.declared.crossing.TxcReach.{TxcReach}
+use Rattle.txc_c.specs.declared.crossing.TxcStored.{TxcStored}
+
+-- the reply to a call of a handle, where it comes to a step
+abbrev pub call_reply : Option Counted → Option Op → Option (Reply Shown)
+call_reply None asked = None
+call_reply (Some n) None = None
+call_reply (Some n) (Some op) = Some (reply_to n.cache op)
+
+-- ---- of a hit; any other reply writes nothing
+
+-- its reach
+abbrev pub reach_told : Option (Reply Shown) → TxcReach → TxcReach
+reach_told (Some (replies.Hit shown)) old = crossing_reach shown.reach
+reach_told _ old = old
+
+-- the length of its value
+abbrev pub len_told : Option (Reply Shown) → ℕ → ℕ
+len_told (Some (replies.Hit shown)) old = length shown.value
+len_told _ old = old
+
+-- the value, and after it what stood there, where the buffer has room for it
+abbrev pub written_in : List ℕ → List ℕ → List ℕ
+written_in value buffer =
+    if nat_le (length value) (length buffer) then value ++ drop (length value) buffer else buffer
+
+-- its value
+abbrev pub bytes_told : Option (Reply Shown) → List ℕ → List ℕ
+bytes_told (Some (replies.Hit shown)) old = written_in shown.value old
+bytes_told _ old = old
+
+-- ---- of the others
+
+-- of an entry that was stored its reach, and the entry that was dropped for it; any other reply writes nothing
+abbrev pub StoredTold : Option (Reply Shown) → TxcStored → TxcStored → Type 0
+StoredTold (Some (replies.Inserted (Stored reach evicted))) old new = TellsStored reach evicted new
+StoredTold _ old new = new ≡ old
+
+-- of an event how many entries it closed; any other reply writes nothing
+abbrev pub closed_told : Option (Reply Shown) → ℕ → ℕ
+closed_told (Some (replies.Closed count)) old = count
+closed_told _ old = old
+
+-- of a sweep how many entries it dropped; any other reply writes nothing
+abbrev pub swept_told : Option (Reply Shown) → ℕ → ℕ
+swept_told (Some (replies.Swept count)) old = count
+swept_told _ old = old
+
+-- the stamp of the last event that the node took; of no node nothing is written
+abbrev pub processed_told : Option Counted → ℕ → ℕ
+processed_told None old = old
+processed_told (Some n) old = n.cache.processed

@@ -1,0 +1,79 @@
+//! The handle of a node: a pointer to one that stands on the heap.
+ghost use Rattle.std.specs.Prelude.{◌≡◌, Bool, true, false};
+ghost use Rattle.txc_c.specs.Counted.{Counted};
+
+use crate::counted::CountedNode;
+use crate::parts::Parts;
+use std::alloc::Global;
+use std::marker::Model;
+use std::ptr;
+
+/// A pointer to a node, or to none.
+#[repr(C)]
+#[derive(Drop)]
+pub struct Slot {
+    ptr: *mut u8,
+    alloc: Global,
+    ghost is_full: { Bool },
+    ghost value: { Counted },
+}
+
+impl Model for Slot {
+    ghost use Rattle.std.specs.Box.Ownership.{box_owns};
+    ghost use Rattle.txc_c.specs.Owned.{when};
+    ghost use Rattle.txc_c.specs.contracts.counted.CountedNode.{the_row};
+    ghost use Rattle.std.specs.contracts.impls.GlobalAllocator.TheImpl.{ghosts};
+
+    ghost also_owns = { λ n. when n.is_full (box_owns (ghosts.dealloc_token n.alloc) the_row n.ptr n.value) };
+}
+
+impl Slot {
+    pub(crate) fn empty(alloc: Global) -> Slot
+        ensures { result.is_full ≡ false }
+    {
+        Slot {
+            ptr: ptr::null_mut(),
+            alloc,
+        }
+    }
+
+    pub(crate) fn of_parts(parts: Parts<CountedNode, Global>) -> Slot
+        ensures { (result.is_full ≡ true) × (result.value ≡ parts.value) }
+    {
+        let Parts { ptr, alloc } = parts;
+        Slot {
+            ptr: ptr as *mut u8,
+            alloc,
+        }
+    }
+
+    pub(crate) fn into_parts(self) -> Parts<CountedNode, Global>
+        requires { self.is_full ≡ true }
+        ensures { result.value ≡ self.value }
+    {
+        let Slot { ptr, alloc } = self;
+        Parts {
+            ptr: ptr as *mut CountedNode,
+            alloc,
+        }
+    }
+}
+
+/// The handle of a node, or of none.
+#[repr(C)]
+#[derive(Drop)]
+pub struct TxcNode {
+    pub(crate) slot: Slot,
+    pub(crate) is_open: bool,
+    ghost full: { is_open ≡ slot.is_full },
+}
+
+// What the slot points to may go to another thread, and so may the slot.
+unsafe impl Send for Slot {}
+
+fn crosses<T: Send>(_it: &T) {}
+
+/// A handle may go to another thread: this is compiled only where that is proved. It does nothing.
+pub fn handle_crosses(handle: &TxcNode) {
+    crosses(handle);
+}

@@ -1,0 +1,263 @@
+#!/usr/bin/env python3
+"""Tries the library for callers in C, and its header, from outside: scripts/test.py runs it, with no proof.
+
+usage: scripts/boundary.py [--proved] [--rows FOLDER] [COUNT]
+  --proved   of the proved library, by `make library`; else of one that is compiled for it with no proof
+  FOLDER     plays also NAME.in of it for each NAME.mode that is node or report, whose replies are NAME.out
+  COUNT      how many random scripts are played, by default 2000
+  SEED       (of the environment) what they are made of, by default 1
+  TXCACHE    (of the environment) the program that they are compared with; else the proved one, where it stands, and else one that is
+             compiled for it with no proof, of the modes node and report alone
+
+Of each compiler of C that the machine has: the header's sizes, places and numbers are those of the sources; the examples, and the
+random scripts, are answered byte for byte as `txcache` does; the same with every allocation refused in its turn; odd uses;
+all of that once more under the sanitizers of addresses, leaks and undefined behaviour. Then the tests of the bindings for Rust and
+Python. The last line is `N passed, M failed`; what the machine lacks is skipped by its name.
+"""
+
+import glob
+import os
+import random
+import re
+import shutil
+import subprocess
+import sys
+import tempfile
+
+import exports
+import library
+import run
+import unproved
+
+ROOT = os.path.dirname(os.path.dirname(os.path.abspath(__file__)))
+C = f"{ROOT}/bindings/c"
+SANITIZERS = ["-fsanitize=address,undefined", "-fno-sanitize-recover=all", "-g", "-O1"]
+WARNINGS = ["-std=c11", "-Wall", "-Wextra", "-Werror"]
+# `txcache` with the modes of a node alone: the other crates are not compiled.
+MODES = """
+fn run<N, R: io::Read, W: io::Write>(_rt: &N, alloc: std::alloc::Global, script: txc_settings::Script, settings: Settings, reader: &mut R,
+    writer: &mut W) -> Result<Status, RunFault> {
+    match script {
+        txc_settings::Script::Node(mode) => txc_run::run(alloc, mode, settings, reader, writer),
+        _ => Err(RunFault::Memory),
+    }
+}
+"""
+
+
+class Trial:
+    """What was tried, and what came of it."""
+
+    def __init__(self):
+        self.passed = self.failed = 0
+
+    def note(self, what, is_right, said=""):
+        self.passed += is_right
+        self.failed += not is_right
+        print(f"{'passed' if is_right else 'FAILED'}: {what}" + ("" if is_right else f"\n{said[-2000:]}"), flush=True)
+        return is_right
+
+    def ran(self, what, words, **how):
+        """Runs a command, which is to end well."""
+        ran = subprocess.run(words, stdout=subprocess.PIPE, stderr=subprocess.STDOUT, text=True, errors="replace", **how)
+        last = ran.stdout.rstrip().rpartition("\n")[2]
+        self.note(f"{what}: {last}" if last else what, not ran.returncode, ran.stdout)
+        return ran
+
+
+# ---- scripts
+
+
+def random_key(rng):
+    args = ",".join(str(rng.choice([0, 1, 2, 4294967295])) for _ in range(rng.choice([0, 1, 1, 1, 2, 4])))
+    return f"f{rng.choice([0, 1, 1, 2, 63])}({args})"
+
+
+def random_tags(rng):
+    tags = [rng.choice(["t{}:id={}", "t{}:grp={}", "{}/id/{}", "{}/grp/{}", "t{}:?", "{}/?"]).format(rng.choice([0, 1, 1, 15]), rng.randrange(4))
+            for _ in range(rng.choice([0, 1, 1, 2, 3]))]
+    if rng.random() < 0.05:
+        tags += [f"t1:id={it}" for it in range(rng.randrange(14, 20))]
+    return ",".join(tags) or "-"
+
+
+def random_line(rng, stamp):
+    """A line of mode node, most often well formed, and the stamp of the last event if the node takes it."""
+    low = lambda: max(0, stamp + rng.choice([-3, -2, -1, 0, 0, 0, 1]))
+    kind = rng.random()
+    if kind < 0.35:
+        lo = low()
+        value = "-" if rng.random() < 0.1 else rng.randbytes(rng.choice([1, 1, 2, 16, 1024, 1025]) if rng.random() < 0.2 else 2).hex()
+        reach = rng.choice(["still", "still", "closed"])
+        return f"insert {random_key(rng)} {lo} {max(0, lo + rng.choice([-1, 0, 0, 1, 2]))} {reach} {random_tags(rng)} {value}", stamp
+    if kind < 0.7:
+        lo = low()
+        return f"lookup {random_key(rng)} {lo} {max(0, lo + rng.choice([-1, 0, 1, 5]))}", stamp
+    if kind < 0.93:
+        if rng.random() < 0.9:
+            return f"event {stamp + 1} {random_tags(rng)}", stamp + 1
+        return f"event {rng.choice([0, stamp, stamp + 2, 1048576])} {random_tags(rng)}", stamp
+    if kind < 0.98:
+        return f"sweep {low()}", stamp
+    return rng.choice(["", "# a comment", "#  two  blanks"]), stamp
+
+
+def broken(rng, line):
+    """The line with a byte more, less or another."""
+    at = rng.randrange(len(line) + 1)
+    byte = rng.choice(" 0f,():-tx\t~\x7f")
+    return rng.choice([line[:at] + byte + line[at:], line[:at] + line[at + 1:], line + " 0", " " + line, line + "0" * 4096])
+
+
+def random_script(rng):
+    lines, stamp = [], 0
+    for _ in range(rng.randrange(5, 80)):
+        line, stamp = random_line(rng, stamp)
+        lines.append(broken(rng, line) if rng.random() < 0.003 else line)
+    return "\n".join(lines) + rng.choice(["\n", "\n", ""])
+
+
+def plays(room, count, seed, rows):
+    """What is played, each a capacity, a number of events, a mode and a file, with its wanted text where it has one."""
+    found = []
+    for file in sorted(glob.glob(f"{ROOT}/examples/*.txc")):
+        wanted = {"node": f"{file[:-4]}.out", "report": f"{file[:-4]}.report"}
+        found += [(1024, 64, mode, file, open(it, encoding="utf-8").read()) for mode, it in wanted.items() if os.path.exists(it)]
+    for file in sorted(glob.glob(f"{rows}/*.in")) if rows else []:
+        mode = open(f"{file[:-3]}.mode", encoding="utf-8").read().strip()
+        if mode in ("node", "report"):
+            settings = f"{file[:-3]}.settings"
+            text = open(settings, encoding="utf-8").read() if os.path.exists(settings) else ""
+            sizes = [int(it[1]) if (it := re.search(rf"{key} = (\d+)", text)) else most for key, most in (("capacity", 1024), ("recent", 64))]
+            found.append((*sizes, mode, file, open(f"{file[:-3]}.out", encoding="utf-8").read()))
+    rng = random.Random(seed)
+    for number in range(count):
+        file = f"{room}/{number:05}"
+        with open(file, "w", encoding="utf-8") as it:
+            it.write(random_script(rng))
+        found.append((rng.choice([1, 2, 3, 4, 8, 65536]), rng.choice([1, 2, 4, 4096]), "report" if rng.random() < 0.2 else "node", file, None))
+    return found
+
+
+def reference(room):
+    """The program `txcache`."""
+    if os.environ.get("TXCACHE"):
+        return os.environ["TXCACHE"]
+    if run.is_fresh():
+        return run.PROGRAM
+    lines = {**run.crates("txc_run"), **run.crates("txc_arguments"), "txcache": "txcache: txc_settings txc_run txc_arguments clap\n"}
+    os.makedirs(f"{room}/program")
+    with open(f"{room}/program/crates.txt", "w", encoding="utf-8") as it:
+        it.writelines(lines.values())
+    shutil.copy(f"{ROOT}/HANDLES", f"{room}/program")
+    for name in lines:
+        shutil.copytree(f"{ROOT}/crates/{name}", f"{room}/program/crates/{name}", ignore=shutil.ignore_patterns("out", "must-fail", "more-edits"))
+    main = f"{room}/program/crates/txcache/src/main.rt"
+    with open(main, encoding="utf-8") as it:
+        text = it.read().replace("use txc_modes::{RunFault, Status, exit_of, run};", "use txc_run::{RunFault, Status, exit_of};")
+    with open(main, "w", encoding="utf-8") as it:
+        it.write(text + MODES)
+    said = unproved.build(f"{room}/program/crates/txcache", f"{room}/txcache", ["--steps", "1"])
+    if said:
+        sys.exit(f"{said[-3000:]}boundary: `txcache` does not compile")
+    return f"{room}/txcache"
+
+
+def replies(program, capacity, recent, mode, file):
+    """What `txcache` prints, and then its status."""
+    with open(file, "rb") as it:
+        ran = subprocess.run([program, mode, "--settings", f"capacity = {capacity}\nrecent = {recent}"], stdin=it, stdout=subprocess.PIPE,
+                             stderr=subprocess.DEVNULL)
+    return f"{ran.stdout.decode()}status {ran.returncode}\n"
+
+
+# ---- C
+
+
+def libraries(is_proved, room):
+    """The library's archive, and the one for the sanitizers: compiled with no proof, the library itself is under that of addresses too."""
+    if is_proved:
+        return [library.library(False, f"{room}/library")[0]] * 2
+    os.makedirs(f"{room}/compiled")
+    text = library.exported(f"{room}/compiled")
+    plain = library.object_of(text, f"{room}/plain.o")
+    watched = library.object_of(text, f"{room}/watched.o", ["-O1", "-fsanitize=address"])
+    return [library.make([plain], f"{room}/library")[0], library.make([watched], f"{room}/watched", is_shared=False)[0]]
+
+
+def try_c(trial, room, compiler, archives, played, wanted):
+    """All that is tried of the library by a compiler, once plain and once under the sanitizers, each over an archive."""
+    with open(f"{room}/asserts.c", "w", encoding="utf-8") as it:
+        it.write(exports.asserts())
+    count = exports.asserts().count("_Static_assert")
+    trial.ran(f"{compiler}: {count} sizes, places and numbers of the header", [compiler, *WARNINGS, "-I", C, "-fsyntax-only", f"{room}/asserts.c"])
+    with open(f"{room}/list", "w", encoding="utf-8") as it:
+        it.writelines(f"{capacity} {recent} {mode} {file}\n" for capacity, recent, mode, file, _ in played)
+    for name, flags, archive in ("", ["-O2"], archives[0]), (" under sanitizers", SANITIZERS, archives[1]):
+        built = True
+        for file in ("tests/play.c", "tests/odd.c", "example.c"):
+            wrap = ["-Wl,--wrap=malloc", "-Wl,--wrap=realloc"] if "play" in file else []
+            words = [compiler, *WARNINGS, *flags, "-I", C, f"{C}/{file}", archive, *wrap, "-o", f"{room}/{os.path.basename(file)[:-2]}"]
+            built = built and trial.ran(f"{compiler}: {file}{name}", words).returncode == 0
+        if not built:
+            continue
+        trial.ran(f"{compiler}{name}", [f"{room}/odd"])
+        trial.ran(f"{compiler}: the example{name}", [f"{room}/example"])
+        ran = subprocess.run([f"{room}/play", f"{room}/list"], stdout=subprocess.PIPE, stderr=subprocess.PIPE, text=True, errors="replace")
+        got = dict(re.findall(r"^== (\w+ \S+)\n(.*?)(?=^== |\Z)", ran.stdout, re.M | re.S))
+        other = [it for *_, mode, file, _ in played if got.get(it := f"{mode} {file}") != wanted[it]]
+        trial.note(f"{compiler}{name}: {len(played)} scripts, {len(other)} with other replies", not ran.returncode and not other,
+                   ran.stderr + "".join(f"{it}: {got.get(it)!r}, wanted {wanted[it]!r}\n" for it in other[:3]))
+        # under the sanitizers a tenth of them: each script is played as often as it allocates
+        with open(f"{room}/refused", "w", encoding="utf-8") as it:
+            it.writelines(f"{capacity} {recent} {mode} {file}\n" for capacity, recent, mode, file, _ in played[::10 if name else 1]
+                          if os.path.getsize(file) < 20_000)
+        ran = subprocess.run([f"{room}/play", "--refuse", f"{room}/refused"], stdout=subprocess.PIPE, stderr=subprocess.STDOUT, text=True)
+        total = sum(map(int, re.findall(r": (\d+) allocations refused$", ran.stdout, re.M)))
+        trial.note(f"{compiler}{name}: {total} allocations, each refused in its turn", not ran.returncode and total > 0, ran.stdout)
+
+
+def try_bindings(trial, folder):
+    """The tests and examples of the bindings, over the library of a folder."""
+    where = {**os.environ, "TXC_LIBRARY": folder}
+    if shutil.which("cargo"):
+        with tempfile.TemporaryDirectory(prefix="cargo-") as target:
+            words = ["cargo", "--quiet", "test", "--offline", "--target-dir", target]
+            trial.ran("Rust: tests", words, cwd=f"{ROOT}/bindings/rust", env=where)
+            words = ["cargo", "--quiet", "run", "--offline", "--example", "page", "--target-dir", target]
+            trial.ran("Rust: the example", words, cwd=f"{ROOT}/bindings/rust", env=where)
+    else:
+        print("skipped: Rust, since there is no cargo")
+    if os.path.exists(f"{folder}/libtxc_c.so"):
+        trial.ran("Python: tests", [sys.executable, "-m", "unittest", "-q", "tests"], cwd=f"{ROOT}/bindings/python", env=where)
+        trial.ran("Python: the example", [sys.executable, "example.py"], cwd=f"{ROOT}/bindings/python", env=where)
+    else:
+        print("skipped: Python, since there is no libtxc_c.so")
+
+
+def main():
+    words = sys.argv[1:]
+    rows = words[words.index("--rows") + 1] if "--rows" in words else ""
+    count = next((int(it) for it in words if it.isdigit()), 2000)
+    trial = Trial()
+    unlike = list(exports.differences())
+    trial.note(f"the header: {len(exports.exports())} functions", not unlike, "\n".join(unlike))
+    with tempfile.TemporaryDirectory(prefix="boundary-") as room:
+        archives = libraries("--proved" in words, room)
+        played = plays(room, count, int(os.environ.get("SEED", 1)), rows)
+        program = reference(room)
+        wanted = {f"{mode} {file}": replies(program, capacity, recent, mode, file) for capacity, recent, mode, file, _ in played}
+        unlike = [f"{mode} {file}" for *_, mode, file, text in played if text is not None and not wanted[f"{mode} {file}"].startswith(text)]
+        trial.note(f"txcache: the {sum(text is not None for *_, text in played)} examples and rows", not unlike, "\n".join(unlike))
+        for compiler in ("gcc", "clang"):
+            if shutil.which(compiler):
+                try_c(trial, room, compiler, archives, played, wanted)
+            else:
+                print(f"skipped: {compiler}, which is not there")
+        try_bindings(trial, f"{room}/library")
+    print(f"{trial.passed} passed, {trial.failed} failed")
+    sys.exit(int(trial.failed > 0))
+
+
+if __name__ == "__main__":
+    main()
