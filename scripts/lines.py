@@ -11,11 +11,10 @@ from sources import ROOT
 # Of which kind a word in capitals is, in the names that the tables have for kinds.
 KINDS = {
     "Stamp": "STAMP LO HI KNOWN HORIZON", "Key": "KEY", "Tags": "TAGS", "Bytes": "HEX", "Reach": "still closed", "place": "ACTOR NODE",
-    "table": "TABLE", "number": "ID GROUP FROM TO", "moment": "NOW STALENESS AGE", "function": "FUNCTION", "Text": "BODY",
+    "Table": "TABLE", "Id": "ID GROUP FROM TO", "moment": "NOW STALENESS AGE", "Function": "FUNCTION", "Text": "BODY",
     "QueryName": "by-id by-group all range", "ChangeName": "put remove",
 }  # fmt: skip
 KIND_OF = {word: kind for kind, words in KINDS.items() for word in words.split()}
-NAMES = {"number_word": "number", "LAST_NUMBER": "number"}
 
 
 def forms_shown(text, head):
@@ -38,13 +37,10 @@ def node_forms():
 
 
 def kinds_in(source, term):
-    """The kinds that a term lists, in which the names of lists of the same file stand for those."""
-    kinds = []
-    for it in re.sub(r"[()]|\[\]|Some", "", term).split("∷"):
-        word = it.split()[0] if it.split() else ""
-        whole = re.search(rf"(?m)^{word} = (.*∷.*)$", source) if word else None
-        kinds += kinds_in(source, whole[1]) if whole else [NAMES.get(word, word)] if word else []
-    return kinds
+    """The kinds that a term lists, or that an equation of the same file has for it."""
+    words = re.sub(r"[()]|\[\]|Some", "", term).strip()
+    whole = re.search(rf"(?m)^{re.escape(words)} = (.*)$", source)
+    return kinds_in(source, whole[1]) if whole else [it.split()[0] for it in words.split("∷") if it.strip()]
 
 
 def world_forms():
