@@ -9,7 +9,8 @@
   GATE.md              the table of what the gate takes, from docs/gate.tsv
   FIGURES.md           the table of wrong bodies that were seen refused, from docs/refused.tsv
   EXAMPLES.md          from examples/
-  SCRIPTS.md           nothing of it; but the session of a world has to be that of its script
+  SCRIPTS.md           nothing of it; but the session of a world has to be that of its script, and the lines those of the tables by which
+                       they are read (scripts/lines.py)
   CALLING.md           its code, from the tests
   EMBEDDING.md         its code, from tests/txc_first, the shop and the auction
 
@@ -18,7 +19,7 @@ usage: docs.py [--check]      --check writes nothing, and ends with 1 where a fi
 """
 import re, sys
 
-import claims, pages, promise, refused, sources
+import claims, lines, pages, promise, refused, sources
 from sources import ROOT, crates
 
 LISTS = "## All of them, by crate"
@@ -126,6 +127,8 @@ def check_session(text):
 
 def scripts(text):
     check_session(text)
+    if found := lines.faults(text):
+        sys.exit("\n".join(found))
     return text
 
 

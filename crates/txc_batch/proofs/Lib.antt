@@ -1,4 +1,3 @@
-pub mod JobWords
 pub mod OrderWords
 pub mod JobFaults
 pub mod Crews

@@ -1,21 +1,16 @@
 -- Nothing is wrong with the words of a line of a batch's script that asks for something.
-use Rattle.std.proofs.Common.{◌≡◌, ◌≢◌, ◌⊎◌, ◌≤◌, ℕ, List, [], ◌∷◌, map, length, refl, sym, ap, subst, inl, inr, arith}
+use Rattle.std.proofs.Common.{◌≡◌, ◌⊎◌, ℕ, List, [], ◌∷◌, length, refl, subst, inl, inr, arith}
 use Rattle.std.specs.Prelude.{codes}
-use Rattle.std.specs.List.{All}
-use Rattle.std.proofs.lemmas.List.Elements.{All-head, All-tail}
-use Rattle.txc_tags.specs.Keys.{Call}
-use Rattle.txc_tags.specs.TextKey.{key_text, IsKeyInRange}
-use Rattle.txc_script.specs.LineFaults.{AreOfKinds}
 use Rattle.txc_script.specs.Words.{words_of}
 use Rattle.txc_script.specs.declared.line_fault.CommandFault.{CommandFault}
 use Rattle.txc_script.specs.declared.line_fault.CommandFault.TheVariants as faults
-use Rattle.txc_script.specs.declared.line_fault.WordKind.TheVariants.{Key}
+use Rattle.txc_script.proofs.Offered.{are_of_kinds}
 use Rattle.txc_words.specs.declared.name.LineName.{LineName}
 use Rattle.txc_words.specs.Names.{name_text}
 use Rattle.txc_words.proofs.Offered.{HasKinds, none_after, none_bad}
 use Rattle.txc_work.specs.declared.job.Job.{Job}
-use Rattle.txc_batch.specs.BatchFaults.{job_kinds, IsBatchFault, IsJobFault, IsPreparingFault}
-use Rattle.txc_batch.specs.Orders.{AreJobWords, AsksFor, IsPreparing}
+use Rattle.txc_batch.specs.BatchFaults.{IsBatchFault, IsJobFault, IsPreparingFault}
+use Rattle.txc_batch.specs.Orders.{AreJobWords, AsksFor, IsPreparing, job_kinds}
 use Rattle.txc_batch.specs.Queueing.{QueuedValue}
 use Rattle.txc_batch.specs.declared.order.Order.{Order}
 use Rattle.txc_batch.specs.declared.order.Order.TheVariants.{Write, Pin, Run}
@@ -23,27 +18,12 @@ use Rattle.txc_batch.proofs.OrderWords.{job_asked, no_name, order_early, order_k
 
 -- ---- words that are a job
 
-keys_good : (keys : List Call) → All IsKeyInRange keys → AreOfKinds (map (λ word. Key) (map key_text keys)) (map key_text keys)
-keys_good [] all = tt
-keys_good (k ∷ keys) all = ((k, (All-head IsKeyInRange k keys all, refl)), keys_good keys (All-tail IsKeyInRange k keys all))
-
-all_kinds : (words : List (List ℕ)) (q : QueuedValue) → AreJobWords words q → AreOfKinds (job_kinds words) words
-all_kinds words q h =
-    subst (λ (ws : List (List ℕ)). AreOfKinds (job_kinds ws) ws) (sym h.words_are) ((q.now, (h.now, refl)), ((q.staleness, (h.staleness, refl)), keys_good q.keys h.keys))
-
-some_length : (keys : List Call) → keys ≢ [] → 1 ≤ length (map key_text keys)
-some_length [] some = absurd (some refl)
-some_length (k ∷ keys) some = omega arith
-
-three_words : (words : List (List ℕ)) (q : QueuedValue) → AreJobWords words q → 3 ≤ length words
-three_words words q h = omega (arith, ap length h.words_are, some_length q.keys h.some)
-
 no_job_fault : (words : List (List ℕ)) (q : QueuedValue) (fault : CommandFault) → AreJobWords words q → IsJobFault words fault → ⊥
 no_job_fault words q (faults.Unknown text) h f = f
 no_job_fault words q (faults.Usage line) h f = f
 no_job_fault words q (faults.Count wanted given) h f = f
-no_job_fault words q (faults.Word fault) h f = none_bad (job_kinds words) words fault f.1 (all_kinds words q h)
-no_job_fault words q (faults.Few least given) h f = absurd (omega (arith, three_words words q h, f.0, f.1, f.2))
+no_job_fault words q (faults.Word fault) h f = none_bad (job_kinds words) words fault f.1 (are_of_kinds (job_kinds words) words h.values h.say)
+no_job_fault words q (faults.Few least given) h f = absurd (omega (arith, h.some, f.0, f.1, f.2))
 no_job_fault words q (faults.Misplaced text) h f = f
 
 -- ---- words that are a change or a pin

@@ -1,23 +1,15 @@
 -- What is wrong with the words of a malformed line of a batch's script.
-use Rattle.std.specs.Prelude.{◌≡◌, ◌≢◌, ◌⊎◌, ◌<◌, ◌≤◌, ◌+◌, ℕ, List, [], ◌∷◌, ◌++◌, All, codes, length, map}
+use Rattle.std.specs.Prelude.{◌≡◌, ◌≢◌, ◌⊎◌, ◌<◌, ◌≤◌, ℕ, List, [], ◌∷◌, codes, length}
 use Rattle.txc_script.specs.Excerpts.{excerpt_of}
-use Rattle.txc_script.specs.LineFaults.{IsBadWord, IsOfKind, StopsAt}
+use Rattle.txc_script.specs.LineFaults.{IsBadWord}
 use Rattle.txc_script.specs.declared.line_fault.CommandFault.{CommandFault}
 use Rattle.txc_script.specs.declared.line_fault.CommandFault.TheVariants as faults
-use Rattle.txc_script.specs.declared.line_fault.WordFault.{WordFault}
-use Rattle.txc_script.specs.declared.line_fault.WordKind.{WordKind}
-use Rattle.txc_script.specs.declared.line_fault.WordKind.TheVariants.{Key}
 use Rattle.txc_words.specs.declared.name.LineName.{LineName}
 use Rattle.txc_words.specs.Names.{name_text}
-use Rattle.txc_words.specs.Faults.{moment, IsFaultAfter}
+use Rattle.txc_words.specs.Faults.{IsFaultAfter}
 use Rattle.txc_work.specs.declared.job.Job.{Job}
-use Rattle.txc_batch.specs.Orders.{IsPreparing}
-use Rattle.txc_batch.specs.declared.finding.TheConstants.{LEAST_WORDS}
-
--- of which kinds the words after `job` are to be: two moments, and keys
-abbrev pub job_kinds : List (List ℕ) → List WordKind
-job_kinds (now ∷ staleness ∷ keys) = moment ∷ moment ∷ map (λ word. Key) keys
-job_kinds words = []
+use Rattle.txc_batch.specs.Orders.{IsPreparing, job_kinds}
+use Rattle.txc_batch.specs.declared.reading.TheConstants.{LEAST_WORDS}
 
 -- what is wrong with the words after `job`: there are too few; else one is not of its kind
 abbrev pub IsJobFault : List (List ℕ) → CommandFault → Type 0
@@ -46,18 +38,3 @@ IsBatchFault jobs all fault =
     ((words : List (List ℕ)) × (all ≡ codes "job" ∷ words) × IsJobFault words fault)
     ⊎ ((name : LineName) × (words : List (List ℕ)) × IsPreparing name × (all ≡ name_text name ∷ words)
     × IsPreparingFault jobs name words fault)
-
--- ---- only private functions need this
-
--- the first of a job's keys that is none, after a moment and a staleness
-pub record IsBadKey (keys : List (List ℕ)) (fault : WordFault) : Type 0 where
-  pub good : List (List ℕ)
-  pub word : List ℕ
-  pub others : List (List ℕ)
-  pub keys_are : keys ≡ good ++ word ∷ others
-  pub are_good : All (IsOfKind Key) good
-  pub kind : fault.kind ≡ Key
-  pub is_bad : IsOfKind Key word → ⊥
-  pub number : fault.number ≡ length good + 3
-  pub text : fault.text ≡ excerpt_of word
-  pub stops : StopsAt Key word fault.at

@@ -1,17 +1,25 @@
 -- What the lines of a batch's script ask for.
-use Rattle.std.specs.Prelude.{◌≡◌, ◌≢◌, ℕ, ◌≤◌, List, [], ◌∷◌, All, codes, map}
-use Rattle.std.specs.Fmt.{decimal}
+use Rattle.std.specs.Prelude.{◌≡◌, ℕ, ◌≤◌, List, [], ◌∷◌, Option, Some, None, option_map, codes, length}
+use Rattle.std.specs.List.{filter_map}
 use Rattle.txc_tags.specs.Keys.{Call}
-use Rattle.txc_tags.specs.TextKey.{key_text, IsKeyInRange}
+use Rattle.txc_script.specs.LineFaults.{kinds_for}
+use Rattle.txc_script.specs.SaidWords.{SayAll}
 use Rattle.txc_script.specs.Words.{words_of}
+use Rattle.txc_script.specs.declared.line_fault.WordKind.{WordKind}
+use Rattle.txc_script.specs.declared.line_fault.WordKind.TheVariants as word_kinds
+use Rattle.txc_script.specs.declared.said.ChangeName.TheVariants as changes
+use Rattle.txc_script.specs.declared.said.Said.{Said}
+use Rattle.txc_script.specs.declared.said.Said.TheVariants.{Key, Number}
+use Rattle.txc_words.specs.Faults.{moment}
+use Rattle.txc_words.specs.Names.{name_text}
+use Rattle.txc_words.specs.Said.{SaysAfter, change_said}
 use Rattle.txc_words.specs.declared.name.LineName.{LineName}
 use Rattle.txc_words.specs.declared.name.LineName.TheVariants as names
-use Rattle.txc_words.specs.Parts.{AreChangeWords, ArePinWords}
-use Rattle.txc_words.specs.declared.parts.TheConstants.{LAST_MOMENT}
 use Rattle.txc_work.specs.declared.job.Job.{Job}
 use Rattle.txc_batch.specs.Queueing.{QueuedValue}
 use Rattle.txc_batch.specs.declared.order.Order.{Order}
 use Rattle.txc_batch.specs.declared.order.Order.TheVariants.{Write, Pin, Run}
+use Rattle.txc_batch.specs.declared.reading.TheConstants.{LEAST_WORDS}
 
 -- the names of lines that prepare what jobs run over: of changes, and of pins
 abbrev pub IsPreparing : LineName → Type 0
@@ -20,13 +28,27 @@ IsPreparing names.Remove = Unit {0}
 IsPreparing names.Pin = Unit {0}
 IsPreparing name = ⊥
 
--- the words are a moment, a staleness, and keys, one at least
+-- the kinds of the words after `job`: a moment, a staleness, and keys
+abbrev pub job_kinds : List (List ℕ) → List WordKind
+job_kinds words = kinds_for (moment ∷ moment ∷ []) word_kinds.Key words
+
+-- the key that a word says
+abbrev pub key_said : Said → Option Call
+key_said (Key key) = Some key
+key_said value = None
+
+-- the job that words say
+abbrev pub job_said : List Said → Option QueuedValue
+job_said (Number now ∷ Number staleness ∷ keys) =
+    Some (record { now = now; staleness = staleness; keys = filter_map key_said keys })
+job_said values = None
+
+-- the words are a moment, a staleness, and keys, one at least, which say this job
 pub record AreJobWords (words : List (List ℕ)) (q : QueuedValue) : Type 0 where
-  pub words_are : words ≡ decimal q.now ∷ decimal q.staleness ∷ map key_text q.keys
-  pub now : q.now ≤ LAST_MOMENT
-  pub staleness : q.staleness ≤ LAST_MOMENT
-  pub some : q.keys ≢ []
-  pub keys : All IsKeyInRange q.keys
+  pub values : List Said
+  pub some : LEAST_WORDS ≤ length words
+  pub say : SayAll (job_kinds words) words values
+  pub asks : job_said values ≡ Some q
 
 -- the line is a job
 pub record SpellsJob (line : List ℕ) (q : QueuedValue) : Type 0 where
@@ -34,15 +56,26 @@ pub record SpellsJob (line : List ℕ) (q : QueuedValue) : Type 0 where
   pub line_is : words_of line ≡ codes "job" ∷ words
   pub says : AreJobWords words q
 
+-- what the words after such a name ask for, by what they say
+abbrev pub order_said : LineName → List Said → Option Order
+order_said names.Put values = option_map Write (change_said changes.Put values)
+order_said names.Remove values = option_map Write (change_said changes.Remove values)
+order_said names.Pin (Number now ∷ []) = Some (Pin now)
+order_said name values = None
+
+-- the words after this name ask for this
+pub record Prepares (name : LineName) (words : List (List ℕ)) (order : Order) : Type 0 where
+  pub values : List Said
+  pub say : SaysAfter name words values
+  pub asks : order_said name values ≡ Some order
+
+-- the line is a name and words that ask for this
+abbrev pub SpellsPreparing : List ℕ → Order → Type 0
+SpellsPreparing line order =
+    (name : LineName) × (words : List (List ℕ)) × (words_of line ≡ name_text name ∷ words) × Prepares name words order
+
 -- what a line asks for after lines that asked for these jobs: a change or a pin, before the first job; or a job
 abbrev pub AsksFor : List Job → List ℕ → Order → Type 0
-AsksFor jobs line (Write change) = (jobs ≡ []) × AreChangeWords (words_of line) change
-AsksFor jobs line (Pin now) = (jobs ≡ []) × ArePinWords (words_of line) now
+AsksFor jobs line (Write change) = (jobs ≡ []) × SpellsPreparing line (Write change)
+AsksFor jobs line (Pin now) = (jobs ≡ []) × SpellsPreparing line (Pin now)
 AsksFor jobs line (Run q) = SpellsJob line q
-
--- ---- only private functions need this
-
--- the words are these keys
-pub record AreKeyWords (words : List (List ℕ)) (keys : List Call) : Type 0 where
-  pub words_are : words ≡ map key_text keys
-  pub keys_are : All IsKeyInRange keys

@@ -1,54 +1,71 @@
 //! Reading what a line of a batch's script asks for.
-ghost use Rattle.std.specs.Prelude.{◌≡◌, IfOk, IfErr, IfSome, IfNone};
+ghost use Rattle.std.specs.Prelude.{◌≡◌, IfOk, IfErr, IfSome, IfNone, length};
+ghost use Rattle.std.specs.List.{filter_map};
 ghost use Rattle.txc_script.specs.Unread.{IsNone};
-ghost use Rattle.txc_script.specs.Words.{words_of};
+ghost use Rattle.txc_script.specs.Words.{words_left};
 ghost use Rattle.txc_words.specs.declared.name.LineName.{LineName};
 ghost use Rattle.txc_words.specs.Names.{name_text};
-ghost use Rattle.txc_batch.specs.Orders.{AreJobWords, AreKeyWords, AsksFor, IsPreparing};
+ghost use Rattle.txc_words.specs.Said.{AreBodies};
+ghost use Rattle.txc_batch.specs.Orders.{AreJobWords, AsksFor, IsPreparing, job_said, key_said, order_said};
 
 use crate::order::{Order, Queued};
-use std::alloc::Global;
-use txc_script::{Unread, all_words, count_words, first_word};
+use std::alloc::{AllocError, Global};
+use txc_script::{
+    ChangeName, Said, Unread, WordKind, WordsLeft, all_words, count_words, read_words,
+};
 use txc_tags::Key;
-use txc_words::{LineName, read_change, read_moment, read_pin};
+use txc_words::{LAST_MOMENT, LineName, change_of, read_after_name};
 use txc_work::Job;
 
-/// The keys that the words are.
-fn read_keys(alloc: Global, text: &[u8]) -> Result<Vec<Key>, Unread>
-    ensures answer { IfOk result (λ keys. AreKeyWords (words_of text.now) keys.items) }
-    ensures refused { IfErr result (IsNone (AreKeyWords (words_of text.now))) }
+/// How many words after its name a job has at least.
+pub const LEAST_WORDS: usize = 3;
+
+/// The moment of a job and how stale its snapshot may be. Its other words are keys.
+pub static MOMENTS: [WordKind; 2] = [WordKind::Number(LAST_MOMENT), WordKind::Number(LAST_MOMENT)];
+
+/// The keys that words say.
+fn keys_of(alloc: Global, said: &[Said<'_>]) -> Result<Vec<Key>, AllocError>
+    ensures { IfOk result (λ keys. keys.items ≡ filter_map key_said said.now) }
 {
-    let count = count_words(text);
-    let mut words = all_words(text);
-    let mut keys = Vec::with_capacity(alloc, count)?;
-    for _ in 0..count {
-        match Key::read(words.next()) {
-            Ok(key) => keys.push_reserved(key),
-            Err(_) => return Err(Unread::Malformed),
-        }
-    }
-    Ok(keys)
+    said.iter()
+        .filter_map(|value| match value {
+            Said::Key(key) => Some(key.copy()),
+            _ => None,
+        })
+        .collect(alloc)
 }
 
-/// A job, by the words after its name.
-fn read_queued(alloc: Global, text: &[u8]) -> Result<Queued, Unread>
-    ensures answer { IfOk result (AreJobWords (words_of text.now)) }
-    ensures refused { IfErr result (IsNone (AreJobWords (words_of text.now))) }
+/// The job that words say.
+fn job_of(alloc: Global, said: &[Said<'_>]) -> Result<Option<Queued>, AllocError>
+    ensures { IfOk result (λ job. job ≡ job_said said.now) }
 {
-    let Some((now, text)) = first_word(text) else {
+    match said {
+        [now, staleness, keys @ ..] => match (now, staleness) {
+            (Said::Number(now), Said::Number(staleness)) => Ok(Some(Queued {
+                now: *now,
+                staleness: *staleness,
+                keys: keys_of(alloc, keys)?,
+            })),
+            _ => Ok(None),
+        },
+        _ => Ok(None),
+    }
+}
+
+/// A job, by the words after its name, of which there are so many.
+fn read_queued(alloc: Global, words: WordsLeft<'_>, count: usize) -> Result<Queued, Unread>
+    requires { length (words_left words) ≡ count }
+    ensures answer { IfOk result (AreJobWords (words_left words.entry)) }
+    ensures refused { IfErr result (IsNone (AreJobWords (words_left words.entry))) }
+{
+    if count < LEAST_WORDS {
         return Err(Unread::Malformed);
-    };
-    let Some((staleness, text)) = first_word(text) else {
-        return Err(Unread::Malformed);
-    };
-    let now = read_moment(now)?;
-    let staleness = read_moment(staleness)?;
-    let keys = read_keys(alloc, text)?;
-    Ok(Queued {
-        now,
-        staleness,
-        keys,
-    })
+    }
+    let said = read_words(alloc, MOMENTS.as_slice(), WordKind::Key, words, count)?;
+    match job_of(alloc, said.as_slice())? {
+        Some(job) => Ok(job),
+        None => unreachable!(),
+    }
 }
 
 /// The name of a change or of a pin that the word is.
@@ -65,22 +82,51 @@ pub fn preparing_name(word: &[u8]) -> Option<LineName>
     }
 }
 
+/// What the words after the name of a change or of a pin ask for, by what they say.
+fn order_of(alloc: Global, name: LineName, said: &[Said<'_>]) -> Result<Option<Order>, AllocError>
+    requires { AreBodies said.now }
+    ensures { IfOk result (λ order. order ≡ order_said name said.now) }
+{
+    match name {
+        LineName::Put => match change_of(alloc, ChangeName::Put, said)? {
+            Some(change) => Ok(Some(Order::Write(change))),
+            None => Ok(None),
+        },
+        LineName::Remove => match change_of(alloc, ChangeName::Remove, said)? {
+            Some(change) => Ok(Some(Order::Write(change))),
+            None => Ok(None),
+        },
+        LineName::Pin => match said {
+            [now] => match now {
+                Said::Number(now) => Ok(Some(Order::Pin(*now))),
+                _ => Ok(None),
+            },
+            _ => Ok(None),
+        },
+        _ => Ok(None),
+    }
+}
+
 /// What a line asks for after lines that asked for these jobs.
 pub fn read_order(alloc: Global, jobs: &[Job], line: &[u8]) -> Result<Order, Unread>
     ensures answer { IfOk result (AsksFor jobs.now line.now) }
     ensures refused { IfErr result (IsNone (AsksFor jobs.now line.now)) }
 {
-    let Some((word, text)) = first_word(line) else {
-        return Err(Unread::Malformed);
-    };
+    let count = count_words(line) - 1;
+    let mut words = all_words(line);
+    let word = words.next();
     if word == b"job".as_slice() {
-        return Ok(Order::Run(read_queued(alloc, text)?));
+        return Ok(Order::Run(read_queued(alloc, words, count)?));
     }
     if !jobs.is_empty() {
         return Err(Unread::Malformed);
     }
-    if word == b"pin".as_slice() {
-        return Ok(Order::Pin(read_pin(text)?));
+    let Some(name) = preparing_name(word) else {
+        return Err(Unread::Malformed);
+    };
+    let said = read_after_name(alloc, name, words, count)?;
+    match order_of(alloc, name, said.as_slice())? {
+        Some(order) => Ok(order),
+        None => unreachable!(),
     }
-    Ok(Order::Write(read_change(alloc, line)?))
 }

@@ -5,5 +5,4 @@ pub mod WrittenOneWay
 pub mod GivingUp
 pub mod WorldTexts
 pub mod Answering
-pub mod GoodWords
 pub mod NothingWrong

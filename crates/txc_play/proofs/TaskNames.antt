@@ -1,17 +1,29 @@
 -- What the words of the lines of a world's script ask for.
-use Rattle.std.proofs.Common.{◌≡◌, ℕ, List, [], ◌∷◌, sym, subst, ◌∙◌}
-use Rattle.std.specs.Prelude.{codes}
-use Rattle.txc_rows.specs.declared.query.Change.{Change}
-use Rattle.txc_rows.specs.declared.query.Change.TheVariants as changes
-use Rattle.txc_script.specs.Words.{HasNoBlank, words_of}
+use Rattle.std.proofs.Common.{◌≡◌, ℕ, List, [], ◌∷◌, Option, Some, None, refl, sym, ap, subst, ◌∙◌}
+use Rattle.std.specs.Prelude.{option_map}
+use Rattle.txc_script.specs.LineFaults.{AreOfKinds}
+use Rattle.txc_script.specs.SaidWords.{SayAll}
+use Rattle.txc_script.specs.Words.{words_of}
+use Rattle.txc_script.specs.declared.line_fault.WordKind.{WordKind}
+use Rattle.txc_script.specs.declared.line_fault.WordKind.TheVariants.{Function, Key, Stamp}
+use Rattle.txc_script.specs.declared.said.ChangeName.{ChangeName}
+use Rattle.txc_script.specs.declared.said.ChangeName.TheVariants as changes
+use Rattle.txc_script.specs.declared.said.Said.{Said}
+use Rattle.txc_script.proofs.Offered.{AllSaidOf, all_said_by, say_by, say_some}
+use Rattle.txc_words.specs.Faults.{kinds_of_change, kinds_after_name, moment, place, second_of}
 use Rattle.txc_words.specs.Names.{name_text}
-use Rattle.txc_words.specs.Parts.{change_words}
-use Rattle.txc_play.specs.Tasks.{LineAsksFor, SpellsTask}
+use Rattle.txc_words.specs.Said.{AreBodies, SaysAfter, change_said, query_said}
 use Rattle.txc_words.specs.declared.name.LineName.{LineName}
 use Rattle.txc_words.specs.declared.name.LineName.TheVariants as names
+use Rattle.txc_words.proofs.Offered.{HasChange, HasQuery, HaveBodies, bodies, change_bodies, change_there, has_change, has_query, none_some, own_change, same_name, same_some}
+use Rattle.txc_play.specs.Tasks.{LineAsksFor, SpellsTask, keeper_change, task_said}
 use Rattle.txc_play.specs.declared.task.Task.{Task}
-use Rattle.txc_script.proofs.Offered.{words_alone}
-use Rattle.txc_words.proofs.Offered.{same_name}
+use Rattle.txc_play.specs.declared.task.Task.TheVariants as tasks
+use Rattle.txc_rows.specs.declared.query.Change.{Change}
+use Rattle.txc_rows.specs.declared.query.Query.{Query}
+use Rattle.txc_world.specs.declared.step.Act.TheVariants as acts
+use Rattle.txc_world.specs.declared.step.Keep.TheVariants as keeps
+use Rattle.txc_world.specs.declared.step.Step.TheVariants.{Actor, Keeper}
 
 -- what a line of this name asks for
 pub says_of : (line : List ℕ) (name : LineName) (words : List (List ℕ)) (task : Task) → words_of line ≡ name_text name ∷ words → SpellsTask line task → LineAsksFor name words task
@@ -21,41 +33,80 @@ says_of line name words task e s =
     let others : words ≡ s.1 = cc in
     subst (λ (n : LineName). LineAsksFor n words task) (sym same) (subst (λ (ws : List (List ℕ)). LineAsksFor s.0 ws task) (sym others) s.3)
 
-no_change : (name : List ℕ) (change : Change) → name ∷ [] ≡ change_words change → ⊥
-no_change name (changes.Put row) e = cc
-no_change name (changes.Remove table id) e = cc
-
--- each line has words after its name
-pub some_words : (name : LineName) (task : Task) → LineAsksFor name [] task → ⊥
-some_words names.Put task h = no_change (codes "put") h.0 h.1.0
-some_words names.Remove task h = no_change (codes "remove") h.0 h.1.0
-some_words names.Pin task h = let e = h.1.0 in cc
-some_words names.Query task h = let e = h.2 in cc
-some_words names.Ro task h = let e = h.2.0 in cc
-some_words names.Rw task h = let e = h.1.0 in cc
-some_words names.Session task h = let e = h.3.0 in cc
-some_words names.Call task h = let e = h.2.0 in cc
-some_words names.Step task h = let e = h.1.0 in cc
-some_words names.Finish task h = let e = h.1.0 in cc
-some_words names.Ask task h = let e = h.2.0 in cc
-some_words names.Write task h = let e = h.2.0 in cc
-some_words names.Pins task h = let e = h.1.0 in cc
-some_words names.Commit task h = let e = h.1.0 in cc
-some_words names.Abort task h = let e = h.1.0 in cc
-some_words names.Advance task h = let e = h.1.0 in cc
-some_words names.Sweep task h = let e = h.2.0 in cc
-some_words names.Tidy task h = let e = h.2 in cc
-some_words names.Counts task h = let e = h.2.0 in cc
-
--- a line without a blank asks for nothing
-pub no_blank : (line : List ℕ) (task : Task) → HasNoBlank line → SpellsTask line task → ⊥
-no_blank line task bare s =
-    let both : line ∷ [] ≡ name_text s.0 ∷ s.1 = sym (words_alone line bare) ∙ s.2 in
-    let none : s.1 ≡ [] = cc in
-    some_words s.0 task (subst (λ (ws : List (List ℕ)). LineAsksFor s.0 ws task) none s.3)
-
--- nor does one whose first word is no name
+-- a line whose first word is no name asks for nothing
 pub no_name : (line word : List ℕ) (words : List (List ℕ)) (task : Task) → words_of line ≡ word ∷ words → ((name : LineName) → word ≡ name_text name → ⊥) → SpellsTask line task → ⊥
 no_name line word words task e none s =
     let both : word ∷ words ≡ name_text s.0 ∷ s.1 = sym e ∙ s.2 in
     none s.0 cc
+
+-- ---- words that say what they are to say ask for something
+
+pub record AsksSome (name : LineName) (values : List Said) : Type 0 where
+  pub bodies : AreBodies values
+  pub some : task_said name values ≡ None → ⊥
+
+asks_by : (name : LineName) (words : List (List ℕ)) (values : List Said) (kinds : List WordKind) → SaysAfter name words values → kinds_after_name name (second_of words) ≡ Some kinds → HaveBodies kinds
+    → ((all : AllSaidOf kinds) → task_said name (all_said_by kinds all) ≡ None → ⊥) → AsksSome name values
+asks_by name words values kinds h known texts some =
+    let say = subst (λ (ks : List WordKind). SayAll ks words values) (same_some h.kinds kinds (sym h.known ∙ known)) h.say in
+    let by = say_by kinds words values say in
+    record { bodies = bodies kinds words values texts say; some = λ none. some by.0 (ap (task_said name) (sym by.1) ∙ none) }
+
+none_mapped : {X Y : Type 0} (f : X → Y) (o : Option X) → option_map f o ≡ None → o ≡ None
+none_mapped f None e = refl
+none_mapped f (Some x) e = absurd (none_some (f x) e)
+
+keeps_some : (name : ChangeName) (values : List Said) → (change_said name values ≡ None → ⊥) → keeper_change name values ≡ None → ⊥
+keeps_some name values some none = some (none_mapped (λ (change : Change). tasks.One (Keeper (keeps.Write change))) (change_said name values) none)
+
+own : (line : LineName) (name : ChangeName) (words : List (List ℕ)) (values : List Said) → kinds_after_name line (second_of words) ≡ Some (kinds_of_change name) → SaysAfter line words values
+    → AreBodies values × (keeper_change name values ≡ None → ⊥)
+own line name words values known h =
+    let say = own_change line name words values known h in
+    (bodies (kinds_of_change name) words values (change_bodies name) say, keeps_some name values (change_there name words values say))
+
+by_change : (values : List Said) → HasChange values → AsksSome names.Write values
+by_change values h = subst (AsksSome names.Write) (sym h.are) (record {
+  bodies = bodies (kinds_of_change h.name) h.words h.rest (change_bodies h.name) h.say;
+  some = λ none. change_there h.name h.words h.rest h.say (none_mapped (λ (change : Change). tasks.One (Actor h.actor (acts.Write change))) (change_said h.name h.rest) none);
+})
+
+by_keeper_query : (values : List Said) → HasQuery Stamp values → AsksSome names.Query values
+by_keeper_query values h = subst (AsksSome names.Query) (sym h.are) (record { bodies = h.bodies; some = λ none. h.some (none_mapped (λ (query : Query). tasks.One (Keeper (keeps.Query h.head query))) (query_said h.rest) none) })
+
+by_actor_query : (values : List Said) → HasQuery place values → AsksSome names.Ask values
+by_actor_query values h = subst (AsksSome names.Ask) (sym h.are) (record { bodies = h.bodies; some = λ none. h.some (none_mapped (λ (query : Query). tasks.One (Actor h.head (acts.Ask query))) (query_said h.rest) none) })
+
+pub asks_some : (name : LineName) (words : List (List ℕ)) (values : List Said) → SaysAfter name words values → AsksSome name values
+asks_some names.Put words values h = let o = own names.Put changes.Put words values refl h in record { bodies = o.0; some = o.1 }
+asks_some names.Remove words values h = let o = own names.Remove changes.Remove words values refl h in record { bodies = o.0; some = o.1 }
+asks_some names.Write words values h = by_change values (has_change words values h.kinds h.known h.say)
+asks_some names.Query words values h = by_keeper_query values (has_query Stamp words values h.kinds h.known h.say)
+asks_some names.Ask words values h = by_actor_query values (has_query place words values h.kinds h.known h.say)
+asks_some names.Pin words values h = asks_by names.Pin words values (moment ∷ []) h refl tt (λ all e. none_some _ e)
+asks_some names.Ro words values h = asks_by names.Ro words values (place ∷ moment ∷ moment ∷ Stamp ∷ []) h refl tt (λ all e. none_some _ e)
+asks_some names.Session words values h = asks_by names.Session words values (place ∷ moment ∷ moment ∷ []) h refl tt (λ all e. none_some _ e)
+asks_some names.Call words values h = asks_by names.Call words values (place ∷ Key ∷ []) h refl tt (λ all e. none_some _ e)
+asks_some names.Sweep words values h = asks_by names.Sweep words values (place ∷ Stamp ∷ []) h refl tt (λ all e. none_some _ e)
+asks_some names.Tidy words values h = asks_by names.Tidy words values (moment ∷ moment ∷ []) h refl tt (λ all e. none_some _ e)
+asks_some names.Counts words values h = asks_by names.Counts words values (place ∷ Function ∷ []) h refl tt (λ all e. none_some _ e)
+asks_some names.Rw words values h = asks_by names.Rw words values (place ∷ []) h refl tt (λ all e. none_some _ e)
+asks_some names.Step words values h = asks_by names.Step words values (place ∷ []) h refl tt (λ all e. none_some _ e)
+asks_some names.Finish words values h = asks_by names.Finish words values (place ∷ []) h refl tt (λ all e. none_some _ e)
+asks_some names.Pins words values h = asks_by names.Pins words values (place ∷ []) h refl tt (λ all e. none_some _ e)
+asks_some names.Commit words values h = asks_by names.Commit words values (place ∷ []) h refl tt (λ all e. none_some _ e)
+asks_some names.Abort words values h = asks_by names.Abort words values (place ∷ []) h refl tt (λ all e. none_some _ e)
+asks_some names.Advance words values h = asks_by names.Advance words values (place ∷ []) h refl tt (λ all e. none_some _ e)
+
+-- so do words that are all of their kinds
+
+there_is : (o : Option Task) → (o ≡ None → ⊥) → (task : Task) × (o ≡ Some task)
+there_is None some = absurd (some refl)
+there_is (Some task) some = (task, refl)
+
+pub good_words : (name : LineName) (words : List (List ℕ)) (kinds : List WordKind) → kinds_after_name name (second_of words) ≡ Some kinds → AreOfKinds kinds words → (task : Task) × LineAsksFor name words task
+good_words name words kinds known good =
+    let said = say_some kinds words good in
+    let says : SaysAfter name words said.0 = record { kinds = kinds; known = known; say = said.1 } in
+    let task = there_is (task_said name said.0) (asks_some name words said.0 says).some in
+    (task.0, record { values = said.0; say = says; asks = task.1 })

@@ -1,5 +1,4 @@
 pub mod Tasks
-pub mod TaskReading
 pub mod TaskSteps
 pub mod TaskTexts
 pub mod TaskLaws

@@ -5,7 +5,6 @@
 mod finding;
 mod laws;
 mod outcome;
-mod parts;
 mod player;
 mod playing;
 mod printed;
@@ -18,4 +17,5 @@ mod texts;
 pub use laws::{a_line_of_a_world_is_written_one_way, nothing_is_wrong_with_a_good_line};
 pub use printed::Printed;
 pub use script::{run_world, world_settings};
-pub use task::{FunctionNumber, Task};
+pub use task::Task;
+pub use txc_script::FunctionNumber;

@@ -6,12 +6,12 @@ ghost use Rattle.txc_play.specs.Playing.{HasEndedTxn, HasUnpinned, IsCutShort};
 
 use crate::outcome::{ending_of, is_added, is_unpinned, leaves_hold, stamp_in, taken_out, tidied};
 use crate::printed::Printed;
-use crate::task::{FunctionNumber, Task};
+use crate::task::Task;
 use std::alloc::{AllocError, Global};
 use txc_app::App;
 use txc_cushion::Pin;
 use txc_registry::Cacheable;
-use txc_script::FunctionLine;
+use txc_script::{FunctionLine, FunctionNumber};
 use txc_stamp::Stamp;
 use txc_world::{Act, Keep, Reply, Step, World};
 

@@ -1,195 +1,285 @@
 //! What a line of a world's script asks for.
-ghost use Rattle.std.specs.Prelude.{◌≡◌, ◌≤◌, ℕ, List, [], ◌∷◌, IfOk, IfErr};
-ghost use Rattle.std.specs.Fmt.{decimal};
-ghost use Rattle.txc_script.specs.Words.{words_of};
-ghost use Rattle.txc_words.specs.Names.{name_text};
-ghost use Rattle.txc_play.specs.Tasks.{AreAfterPlace, LineAsksFor, SpellsTask};
+ghost use Rattle.std.specs.Prelude.{◌≡◌, IfOk, IfErr, option_and_then};
 ghost use Rattle.txc_script.specs.Unread.{IsNone};
-ghost use Rattle.txc_play.specs.TaskReading.{IsKeeperChange};
-ghost use Rattle.txc_play.specs.declared.task.Task.{Task};
+ghost use Rattle.txc_words.specs.Said.{AreBodies};
+ghost use Rattle.txc_play.specs.Tasks.{SpellsTask, task_at, keeper_change, place_said, task_said};
 
-use crate::parts::{read_bounds, read_function};
 use crate::task::Task;
-use std::alloc::Global;
-use txc_rows::Change;
-use txc_script::{Malformed, Unread, first_word, one_word, read_stamp, three_words, two_words};
-use txc_tags::Key;
-use txc_words::{LineName, name_of, read_change, read_moment, read_pin, read_place, read_query};
+use std::alloc::{AllocError, Global};
+use txc_ports::Bounds;
+use txc_script::{ChangeName, Said, Unread, all_words, count_words};
+use txc_words::{LineName, change_of, name_of, query_of, read_after_name};
 use txc_world::{Act, Keep, Step};
 
-/// An actor or a node, as the only word.
-fn read_only_place(text: &[u8]) -> Result<usize, Malformed>
-    ensures answer { IfOk result (λ place. AreAfterPlace (words_of text.now) place []) }
-    ensures refused { IfErr result (λ _. (place : ℕ) → AreAfterPlace (words_of text.now) place [] → ⊥) }
-{
-    let word = one_word(text)?;
-    read_place(word)
-}
+// ---- what the words after a line's name ask for, by what they say
 
-/// An actor, and the words after it.
-fn read_actor(text: &[u8]) -> Result<(usize, &[u8]), Malformed>
-    ensures answer { IfOk result (λ r. AreAfterPlace (words_of text.now) r.0 (words_of r.1.now)) }
-    ensures refused { IfErr result (λ _. (place : ℕ) (word : List ℕ) (words : List (List ℕ))
-        → AreAfterPlace (words_of text.now) place (word ∷ words) → ⊥) }
+/// The one actor or node.
+fn place_of(said: &[Said<'_>]) -> Option<usize>
+    ensures { result ≡ place_said said.now }
 {
-    let Some((word, text)) = first_word(text) else {
-        return Err(Malformed);
-    };
-    let actor = read_place(word)?;
-    Ok((actor, text))
-}
-
-/// `query`, by what comes after its name.
-fn read_keeper_query(text: &[u8]) -> Result<Task, Malformed>
-    ensures answer { IfOk result (LineAsksFor LineName.Query (words_of text.now)) }
-    ensures refused { IfErr result (λ _. (task : Task) → LineAsksFor LineName.Query (words_of text.now) task → ⊥) }
-{
-    let Some((stamp, text)) = first_word(text) else {
-        return Err(Malformed);
-    };
-    let stamp = read_stamp(stamp)?;
-    let query = read_query(text)?;
-    Ok(Task::One(Step::Keeper(Keep::Query(stamp, query))))
-}
-
-/// `ro`, by what comes after its name.
-fn read_ro(text: &[u8]) -> Result<Task, Malformed>
-    ensures answer { IfOk result (LineAsksFor LineName.Ro (words_of text.now)) }
-    ensures refused { IfErr result (λ _. (task : Task) → LineAsksFor LineName.Ro (words_of text.now) task → ⊥) }
-{
-    let (actor, text) = read_actor(text)?;
-    let bounds = read_bounds(text)?;
-    Ok(Task::One(Step::Actor(actor, Act::BeginRo(bounds))))
-}
-
-/// `session`, by what comes after its name.
-fn read_session(text: &[u8]) -> Result<Task, Malformed>
-    ensures answer { IfOk result (LineAsksFor LineName.Session (words_of text.now)) }
-    ensures refused { IfErr result (λ _. (task : Task) → LineAsksFor LineName.Session (words_of text.now) task → ⊥) }
-{
-    let (actor, now, staleness) = three_words(text)?;
-    let actor = read_place(actor)?;
-    let now = read_moment(now)?;
-    let staleness = read_moment(staleness)?;
-    Ok(Task::One(Step::BeginIn {
-        actor,
-        now,
-        staleness,
-    }))
-}
-
-/// `call`, by what comes after its name.
-fn read_call(text: &[u8]) -> Result<Task, Malformed>
-    ensures answer { IfOk result (LineAsksFor LineName.Call (words_of text.now)) }
-    ensures refused { IfErr result (λ _. (task : Task) → LineAsksFor LineName.Call (words_of text.now) task → ⊥) }
-{
-    let (actor, key) = two_words(text)?;
-    let actor = read_place(actor)?;
-    let key = Key::read(key)?;
-    Ok(Task::One(Step::Actor(actor, Act::Start(key))))
-}
-
-/// `ask`, by what comes after its name.
-fn read_ask(text: &[u8]) -> Result<Task, Malformed>
-    ensures answer { IfOk result (LineAsksFor LineName.Ask (words_of text.now)) }
-    ensures refused { IfErr result (λ _. (task : Task) → LineAsksFor LineName.Ask (words_of text.now) task → ⊥) }
-{
-    let (actor, text) = read_actor(text)?;
-    let query = read_query(text)?;
-    Ok(Task::One(Step::Actor(actor, Act::Ask(query))))
-}
-
-/// `write`, by what comes after its name.
-fn read_write(alloc: Global, text: &[u8]) -> Result<Task, Unread>
-    ensures answer { IfOk result (LineAsksFor LineName.Write (words_of text.now)) }
-    ensures refused { IfErr result (IsNone (LineAsksFor LineName.Write (words_of text.now))) }
-{
-    let (actor, text) = read_actor(text)?;
-    let change = read_change(alloc, text)?;
-    Ok(Task::One(Step::Actor(actor, Act::Write(change))))
-}
-
-/// `sweep`, by what comes after its name.
-fn read_sweep(text: &[u8]) -> Result<Task, Malformed>
-    ensures answer { IfOk result (LineAsksFor LineName.Sweep (words_of text.now)) }
-    ensures refused { IfErr result (λ _. (task : Task) → LineAsksFor LineName.Sweep (words_of text.now) task → ⊥) }
-{
-    let (node, horizon) = two_words(text)?;
-    let node = read_place(node)?;
-    let horizon = read_stamp(horizon)?;
-    Ok(Task::One(Step::Keeper(Keep::Sweep(node, horizon))))
-}
-
-/// `tidy`, by what comes after its name.
-fn read_tidy(text: &[u8]) -> Result<Task, Malformed>
-    ensures answer { IfOk result (LineAsksFor LineName.Tidy (words_of text.now)) }
-    ensures refused { IfErr result (λ _. (task : Task) → LineAsksFor LineName.Tidy (words_of text.now) task → ⊥) }
-{
-    let (now, age) = two_words(text)?;
-    let now = read_moment(now)?;
-    let age = read_moment(age)?;
-    Ok(Task::Tidy { now, age })
-}
-
-/// `counts`, by what comes after its name.
-fn read_counts(text: &[u8]) -> Result<Task, Malformed>
-    ensures answer { IfOk result (LineAsksFor LineName.Counts (words_of text.now)) }
-    ensures refused { IfErr result (λ _. (task : Task) → LineAsksFor LineName.Counts (words_of text.now) task → ⊥) }
-{
-    let (node, function) = two_words(text)?;
-    let node = read_place(node)?;
-    let function = read_function(function)?;
-    Ok(Task::Counts { node, function })
-}
-
-/// `put` or `remove`, with its name.
-fn read_keeper_change(alloc: Global, line: &[u8]) -> Result<Task, Unread>
-    ensures answer { IfOk result (IsKeeperChange (words_of line.now)) }
-    ensures refused { IfErr result (IsNone (IsKeeperChange (words_of line.now))) }
-{
-    let change = read_change(alloc, line)?;
-    Ok(Task::One(Step::Keeper(Keep::Write(change))))
-}
-
-/// What the words after a line's name ask for.
-pub fn read_named(alloc: Global, name: LineName, line: &[u8], text: &[u8]) -> Result<Task, Unread>
-    requires { words_of line.now ≡ name_text name ∷ words_of text.now }
-    ensures answer { IfOk result (LineAsksFor name (words_of text.now)) }
-    ensures refused { IfErr result (IsNone (LineAsksFor name (words_of text.now))) }
-{
-    match name {
-        LineName::Put => read_keeper_change(alloc, line),
-        LineName::Remove => read_keeper_change(alloc, line),
-        LineName::Pin => Ok(Task::Pin(read_pin(text)?)),
-        LineName::Query => Ok(read_keeper_query(text)?),
-        LineName::Ro => Ok(read_ro(text)?),
-        LineName::Rw => Ok(Task::One(Step::Actor(read_only_place(text)?, Act::BeginRw))),
-        LineName::Session => Ok(read_session(text)?),
-        LineName::Call => Ok(read_call(text)?),
-        LineName::Step => Ok(Task::One(Step::Actor(read_only_place(text)?, Act::Request))),
-        LineName::Finish => Ok(Task::Finish(read_only_place(text)?)),
-        LineName::Ask => Ok(read_ask(text)?),
-        LineName::Write => read_write(alloc, text),
-        LineName::Pins => Ok(Task::Pins(read_only_place(text)?)),
-        LineName::Commit => Ok(Task::Commit(read_only_place(text)?)),
-        LineName::Abort => Ok(Task::Abort(read_only_place(text)?)),
-        LineName::Advance => Ok(Task::One(Step::Keeper(Keep::Advance(read_only_place(text)?)))),
-        LineName::Sweep => Ok(read_sweep(text)?),
-        LineName::Tidy => Ok(read_tidy(text)?),
-        LineName::Counts => Ok(read_counts(text)?),
+    match said {
+        [place] => match place {
+            Said::Number(place) => Some(*place as usize),
+            _ => None,
+        },
+        _ => None,
     }
 }
+
+/// Of a line of this name, which has one actor or node.
+fn task_at(name: LineName, place: usize) -> Option<Task>
+    ensures { result ≡ task_at name place }
+{
+    match name {
+        LineName::Rw => Some(Task::One(Step::Actor(place, Act::BeginRw))),
+        LineName::Step => Some(Task::One(Step::Actor(place, Act::Request))),
+        LineName::Finish => Some(Task::Finish(place)),
+        LineName::Pins => Some(Task::Pins(place)),
+        LineName::Commit => Some(Task::Commit(place)),
+        LineName::Abort => Some(Task::Abort(place)),
+        LineName::Advance => Some(Task::One(Step::Keeper(Keep::Advance(place)))),
+        _ => None,
+    }
+}
+
+/// Of a line of this name, which is to have one actor or node.
+fn placed(name: LineName, said: &[Said<'_>]) -> Option<Task>
+    ensures { result ≡ option_and_then (task_at name) (place_said said.now) }
+{
+    match place_of(said) {
+        Some(place) => task_at(name, place),
+        None => None,
+    }
+}
+
+/// Of `pin`.
+fn pin_of(said: &[Said<'_>]) -> Option<Task>
+    ensures { result ≡ task_said LineName.Pin said.now }
+{
+    match said {
+        [now] => match now {
+            Said::Number(now) => Some(Task::Pin(*now)),
+            _ => None,
+        },
+        _ => None,
+    }
+}
+
+/// Of `ro`.
+fn ro_of(said: &[Said<'_>]) -> Option<Task>
+    ensures { result ≡ task_said LineName.Ro said.now }
+{
+    match said {
+        [actor, now, staleness, at_least] => match (actor, now, staleness, at_least) {
+            (
+                Said::Number(actor),
+                Said::Number(now),
+                Said::Number(staleness),
+                Said::Stamp(at_least),
+            ) => {
+                let bounds = Bounds {
+                    now: *now,
+                    staleness: *staleness,
+                    at_least: *at_least,
+                };
+                Some(Task::One(Step::Actor(*actor as usize, Act::BeginRo(bounds))))
+            }
+            _ => None,
+        },
+        _ => None,
+    }
+}
+
+/// Of `session`.
+fn session_of(said: &[Said<'_>]) -> Option<Task>
+    ensures { result ≡ task_said LineName.Session said.now }
+{
+    match said {
+        [actor, now, staleness] => match (actor, now, staleness) {
+            (Said::Number(actor), Said::Number(now), Said::Number(staleness)) => {
+                Some(Task::One(Step::BeginIn {
+                    actor: *actor as usize,
+                    now: *now,
+                    staleness: *staleness,
+                }))
+            }
+            _ => None,
+        },
+        _ => None,
+    }
+}
+
+/// Of `call`.
+fn call_of(said: &[Said<'_>]) -> Option<Task>
+    ensures { result ≡ task_said LineName.Call said.now }
+{
+    match said {
+        [actor, key] => match (actor, key) {
+            (Said::Number(actor), Said::Key(key)) => {
+                Some(Task::One(Step::Actor(*actor as usize, Act::Start(key.copy()))))
+            }
+            _ => None,
+        },
+        _ => None,
+    }
+}
+
+/// Of `sweep`.
+fn sweep_of(said: &[Said<'_>]) -> Option<Task>
+    ensures { result ≡ task_said LineName.Sweep said.now }
+{
+    match said {
+        [node, horizon] => match (node, horizon) {
+            (Said::Number(node), Said::Stamp(horizon)) => {
+                Some(Task::One(Step::Keeper(Keep::Sweep(*node as usize, *horizon))))
+            }
+            _ => None,
+        },
+        _ => None,
+    }
+}
+
+/// Of `tidy`.
+fn tidy_of(said: &[Said<'_>]) -> Option<Task>
+    ensures { result ≡ task_said LineName.Tidy said.now }
+{
+    match said {
+        [now, age] => match (now, age) {
+            (Said::Number(now), Said::Number(age)) => Some(Task::Tidy {
+                now: *now,
+                age: *age,
+            }),
+            _ => None,
+        },
+        _ => None,
+    }
+}
+
+/// Of `counts`.
+fn counts_of(said: &[Said<'_>]) -> Option<Task>
+    ensures { result ≡ task_said LineName.Counts said.now }
+{
+    match said {
+        [node, function] => match (node, function) {
+            (Said::Number(node), Said::Function(function)) => Some(Task::Counts {
+                node: *node as usize,
+                function: *function,
+            }),
+            _ => None,
+        },
+        _ => None,
+    }
+}
+
+/// Of `query`.
+fn keeper_query(said: &[Said<'_>]) -> Option<Task>
+    ensures { result ≡ task_said LineName.Query said.now }
+{
+    match said {
+        [stamp, rest @ ..] => match (stamp, query_of(rest)) {
+            (Said::Stamp(stamp), Some(query)) => {
+                Some(Task::One(Step::Keeper(Keep::Query(*stamp, query))))
+            }
+            _ => None,
+        },
+        _ => None,
+    }
+}
+
+/// Of `ask`.
+fn actor_query(said: &[Said<'_>]) -> Option<Task>
+    ensures { result ≡ task_said LineName.Ask said.now }
+{
+    match said {
+        [actor, rest @ ..] => match (actor, query_of(rest)) {
+            (Said::Number(actor), Some(query)) => {
+                Some(Task::One(Step::Actor(*actor as usize, Act::Ask(query))))
+            }
+            _ => None,
+        },
+        _ => None,
+    }
+}
+
+/// Of `put` or `remove`.
+fn keeper_change(
+    alloc: Global,
+    name: ChangeName,
+    said: &[Said<'_>],
+) -> Result<Option<Task>, AllocError>
+    requires { AreBodies said.now }
+    ensures { IfOk result (λ task. task ≡ keeper_change name said.now) }
+{
+    match change_of(alloc, name, said)? {
+        Some(change) => Ok(Some(Task::One(Step::Keeper(Keep::Write(change))))),
+        None => Ok(None),
+    }
+}
+
+/// Of `write`.
+fn actor_change(alloc: Global, said: &[Said<'_>]) -> Result<Option<Task>, AllocError>
+    requires { AreBodies said.now }
+    ensures { IfOk result (λ task. task ≡ task_said LineName.Write said.now) }
+{
+    match said {
+        [actor, name, rest @ ..] => match (actor, name) {
+            (Said::Number(actor), Said::Change(name)) => match change_of(alloc, *name, rest)? {
+                Some(change) => Ok(Some(Task::One(Step::Actor(
+                    *actor as usize,
+                    Act::Write(change),
+                )))),
+                None => Ok(None),
+            },
+            _ => Ok(None),
+        },
+        _ => Ok(None),
+    }
+}
+
+/// Of a line of this name.
+fn task_of(alloc: Global, name: LineName, said: &[Said<'_>]) -> Result<Option<Task>, AllocError>
+    requires { AreBodies said.now }
+    ensures { IfOk result (λ task. task ≡ task_said name said.now) }
+{
+    match name {
+        LineName::Put => keeper_change(alloc, ChangeName::Put, said),
+        LineName::Remove => keeper_change(alloc, ChangeName::Remove, said),
+        LineName::Write => actor_change(alloc, said),
+        LineName::Pin => Ok(pin_of(said)),
+        LineName::Query => Ok(keeper_query(said)),
+        LineName::Ask => Ok(actor_query(said)),
+        LineName::Ro => Ok(ro_of(said)),
+        LineName::Session => Ok(session_of(said)),
+        LineName::Call => Ok(call_of(said)),
+        LineName::Sweep => Ok(sweep_of(said)),
+        LineName::Tidy => Ok(tidy_of(said)),
+        LineName::Counts => Ok(counts_of(said)),
+        LineName::Rw => Ok(placed(LineName::Rw, said)),
+        LineName::Step => Ok(placed(LineName::Step, said)),
+        LineName::Finish => Ok(placed(LineName::Finish, said)),
+        LineName::Pins => Ok(placed(LineName::Pins, said)),
+        LineName::Commit => Ok(placed(LineName::Commit, said)),
+        LineName::Abort => Ok(placed(LineName::Abort, said)),
+        LineName::Advance => Ok(placed(LineName::Advance, said)),
+    }
+}
+
+// ---- lines
 
 /// What the line asks for.
 pub fn read_task(alloc: Global, line: &[u8]) -> Result<Task, Unread>
     ensures answer { IfOk result (SpellsTask line.now) }
     ensures refused { IfErr result (IsNone (SpellsTask line.now)) }
 {
-    let Some((word, text)) = first_word(line) else {
+    let count = count_words(line) - 1;
+    let mut words = all_words(line);
+    let word = words.next();
+    let Some(name) = name_of(word) else {
         return Err(Unread::Malformed);
     };
-    match name_of(word) {
-        Some(name) => read_named(alloc, name, line, text),
-        None => Err(Unread::Malformed),
+    let said = read_after_name(alloc, name, words, count)?;
+    match task_of(alloc, name, said.as_slice())? {
+        Some(task) => Ok(task),
+        None => unreachable!(),
     }
 }

@@ -6,6 +6,7 @@ pub mod Scans
 pub mod Blanks
 pub mod HexDigits
 pub mod WordFaults
+pub mod SaidKinds
 pub mod Meanings
 pub mod Forms
 pub mod Counting

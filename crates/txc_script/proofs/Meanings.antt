@@ -6,13 +6,16 @@ use Rattle.std.proofs.lemmas.Bool.Decides.{nat_tests}
 use Rattle.std.proofs.lemmas.Fmt.{decimal_injective}
 use Rattle.std.proofs.lemmas.List.Elements.{recursion_from_All}
 use Rattle.txc_stamp.specs.declared.stamp.TheConstants.{LAST_STAMP}
+use Rattle.txc_tags.specs.declared.key.TheConstants.{LAST_FUNCTION}
+use Rattle.txc_tags.specs.declared.tag.TheConstants.{LAST_TABLE}
+use Rattle.txc_tags.specs.declared.text.number.TheConstants.{LAST_NUMBER}
 use Rattle.txc_tags.proofs.Offered.{same_key_text, same_spelt_text}
 use Rattle.txc_node.specs.Texts.{digit_of, digits_of, hex_text}
 use Rattle.txc_script.specs.Forms.{MaySay, Say, ValueOf, ValuesOf, word_text}
 use Rattle.txc_script.specs.Hex.{IsBytes}
 use Rattle.txc_script.specs.Lines.{still_text}
 use Rattle.txc_script.specs.declared.line_fault.WordKind.{WordKind}
-use Rattle.txc_script.specs.declared.line_fault.WordKind.TheVariants.{Key, Stamp, Reach, Tags, Bytes, Number, Text, QueryName, ChangeName}
+use Rattle.txc_script.specs.declared.line_fault.WordKind.TheVariants.{Key, Stamp, Reach, Tags, Bytes, Table, Id, Function, Number, Text, QueryName, ChangeName}
 
 decimal_known : (most a b : ℕ) → most < 2 ^ 64 → a ≤ most → b ≤ most → decimal a ≡ decimal b → a ≡ b
 decimal_known most a b small h k e = decimal_injective a b (omega arith) (omega arith) e
@@ -64,6 +67,9 @@ value_known Stamp a b small h k e = decimal_known LAST_STAMP a b (omega arith) h
 value_known Reach a b small h k e = still_known a b e
 value_known Tags a b small h k e = same_spelt_text a b h k e
 value_known Bytes a b small h k e = hex_known a b h k e
+value_known Table a b small h k e = decimal_known LAST_TABLE a b (omega arith) h k e
+value_known Id a b small h k e = decimal_known LAST_NUMBER a b (omega arith) h k e
+value_known Function a b small h k e = decimal_known LAST_FUNCTION a b (omega arith) h k e
 value_known (Number most) a b small h k e = decimal_known most a b small h k e
 value_known (Text most) a b small h k e = e
 value_known QueryName a b small h k e = e

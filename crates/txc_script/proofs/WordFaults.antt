@@ -7,7 +7,7 @@ use Rattle.std.proofs.lemmas.List.{length-append, take_rest}
 use Rattle.std.proofs.lemmas.List.Elements.{All-cons, All-nil, All-rest}
 use Rattle.txc_node.specs.Texts.{digits_of, hex_text}
 use Rattle.txc_script.specs.Hex.{IsBytes, IsHexWord}
-use Rattle.txc_script.specs.LineFaults.{IsOfKind, AreOfKinds, AreDigitsOfBytes, IsHex, IsBadWord, StopsAt, HasWholeWords, is_empty, is_foreign}
+use Rattle.txc_script.specs.LineFaults.{IsOfKind, AreOfKinds, kinds_for, AreDigitsOfBytes, IsHex, IsBadWord, StopsAt, HasWholeWords, is_empty, is_foreign}
 use Rattle.txc_script.specs.Lines.{IsPlain}
 use Rattle.txc_script.specs.Words.{words_of}
 use Rattle.txc_script.specs.declared.line.TheConstants.{MAX_LINE_LEN}
@@ -77,11 +77,9 @@ pub record HasTested (kinds : List WordKind) (words : List (List ℕ)) (rest : L
   pub words_are : words ≡ good ++ left
   pub are_good : AreOfKinds good_kinds good
   pub counted : number ≡ length good
-  pub same : length left ≡ length rest
-  pub all : number + length rest ≡ length kinds
 
-pub none_tested : (kinds : List WordKind) (words : List (List ℕ)) → length words ≡ length kinds → HasTested kinds words kinds words 0
-none_tested kinds words e = record { good_kinds = []; good = []; kinds_are = refl; words_are = refl; are_good = tt; counted = refl; same = e; all = omega arith }
+pub none_tested : (kinds : List WordKind) (words : List (List ℕ)) → HasTested kinds words kinds words 0
+none_tested kinds words = record { good_kinds = []; good = []; kinds_are = refl; words_are = refl; are_good = tt; counted = refl }
 
 kinds_more : (ks : List WordKind) (ws : List (List ℕ)) (k : WordKind) (w : List ℕ) → AreOfKinds ks ws → IsOfKind k w → AreOfKinds (ks ++ k ∷ []) (ws ++ w ∷ [])
 kinds_more [] [] k w h is = (is, tt)
@@ -89,52 +87,56 @@ kinds_more [] (v ∷ ws) k w h is = absurd h
 kinds_more (j ∷ ks) [] k w h is = absurd h
 kinds_more (j ∷ ks) (v ∷ ws) k w h is = (h.0, kinds_more ks ws k w h.1 is)
 
-tested_more : (kinds : List WordKind) (words : List (List ℕ)) (rest : List WordKind) (left others : List (List ℕ)) (word : List ℕ) (number : ℕ) (d : WordKind)
-    → HasTested kinds words rest left number → 1 ≤ length rest → left ≡ word ∷ others → IsOfKind (get_or rest 0 d) word → HasTested kinds words (drop 1 rest) others (number + 1)
-tested_more kinds words [] left others word number d h some e is = absurd (omega arith)
-tested_more kinds words (k ∷ rest) left others word number d h some e is = record {
-  good_kinds = h.good_kinds ++ k ∷ [];
+pub more_tested : (kinds : List WordKind) (words : List (List ℕ)) (kind : WordKind) (rest others : List WordKind) (word : List ℕ) (left after : List (List ℕ)) (number : ℕ)
+    → HasTested kinds words rest left number → rest ≡ kind ∷ others → left ≡ word ∷ after → IsOfKind kind word → HasTested kinds words others after (number + 1)
+more_tested kinds words kind rest others word left after number h k e is = record {
+  good_kinds = h.good_kinds ++ kind ∷ [];
   good = h.good ++ word ∷ [];
-  kinds_are = h.kinds_are ∙ sym (append_assoc h.good_kinds (k ∷ []) rest);
-  words_are = h.words_are ∙ ap (λ (ws : List (List ℕ)). h.good ++ ws) e ∙ sym (append_assoc h.good (word ∷ []) others);
-  are_good = kinds_more h.good_kinds h.good k word h.are_good is;
+  kinds_are = h.kinds_are ∙ ap (λ (ks : List WordKind). h.good_kinds ++ ks) k ∙ sym (append_assoc h.good_kinds (kind ∷ []) others);
+  words_are = h.words_are ∙ ap (λ (ws : List (List ℕ)). h.good ++ ws) e ∙ sym (append_assoc h.good (word ∷ []) after);
+  are_good = kinds_more h.good_kinds h.good kind word h.are_good is;
   counted = omega (arith, h.counted, length-append h.good (word ∷ []));
-  same = omega (arith, h.same, ap length e);
-  all = omega (arith, h.all);
 }
 
-pub more_tested : (kinds : List WordKind) (words : List (List ℕ)) (rest : List WordKind) (left others : List (List ℕ)) (word : List ℕ) (number : ℕ) (d : WordKind)
-    → HasTested kinds words rest left number → 1 ≤ length rest → left ≡ word ∷ others → IsOfKind (get_or rest 0 d) word → HasTested kinds words (take (length rest - 1) (drop 1 rest)) others (number + 1)
-more_tested kinds words rest left others word number d h some e is = rw (take_rest rest 1) (tested_more kinds words rest left others word number d h some e is)
-
-pub bad_tested : (kinds : List WordKind) (words : List (List ℕ)) (rest : List WordKind) (left others : List (List ℕ)) (word : List ℕ) (number : ℕ) (d : WordKind) (fault : WordFault)
-    → HasTested kinds words rest left number → fault.number ≡ number + 1 → 1 ≤ length rest → left ≡ word ∷ others → fault.kind ≡ get_or rest 0 d → (IsOfKind (get_or rest 0 d) word → ⊥)
-    → fault.text ≡ excerpt_of word → StopsAt (get_or rest 0 d) word fault.at → IsBadWord kinds words fault
-bad_tested kinds words [] left others word number d fault h next some e kind bad text stops = absurd (omega arith)
-bad_tested kinds words (k ∷ rest) left others word number d fault h next some e kind bad text stops = record {
+pub bad_tested : (kinds : List WordKind) (words : List (List ℕ)) (rest others : List WordKind) (word : List ℕ) (left after : List (List ℕ)) (number : ℕ) (fault : WordFault)
+    → HasTested kinds words rest left number → rest ≡ fault.kind ∷ others → left ≡ word ∷ after → fault.number ≡ number + 1 → (IsOfKind fault.kind word → ⊥)
+    → fault.text ≡ excerpt_of word → StopsAt fault.kind word fault.at → IsBadWord kinds words fault
+bad_tested kinds words rest others word left after number fault h k e next bad text stops = record {
   good_kinds = h.good_kinds;
   good = h.good;
   word = word;
-  other_kinds = rest;
-  others = others;
-  kinds_are = h.kinds_are ∙ ap (λ (j : WordKind). h.good_kinds ++ j ∷ rest) (sym kind);
+  other_kinds = others;
+  others = after;
+  kinds_are = h.kinds_are ∙ ap (λ (ks : List WordKind). h.good_kinds ++ ks) k;
   words_are = h.words_are ∙ ap (λ (ws : List (List ℕ)). h.good ++ ws) e;
   are_good = h.are_good;
-  is_bad = subst (λ (j : WordKind). IsOfKind j word → ⊥) (sym kind) bad;
+  is_bad = bad;
   number = next ∙ ap (λ n. n + 1) h.counted;
   text = text;
-  stops = subst (λ (j : WordKind). StopsAt j word fault.at) (sym kind) stops;
+  stops = stops;
 }
 
-end_nil : {X : Type 0} (xs ys : List X) → length ys ≡ 0 → xs ++ ys ≡ xs
-end_nil xs [] e = append-nil xs
-end_nil xs (y ∷ ys) e = absurd (omega (arith, e))
-
-pub all_tested : (kinds : List WordKind) (words : List (List ℕ)) (rest : List WordKind) (left : List (List ℕ)) (number : ℕ) → HasTested kinds words rest left number → length rest ≡ 0 → AreOfKinds kinds words
-all_tested kinds words rest left number h none =
-    let ks : h.good_kinds ≡ kinds = sym (h.kinds_are ∙ end_nil h.good_kinds rest none) in
-    let ws : h.good ≡ words = sym (h.words_are ∙ end_nil h.good left (h.same ∙ none)) in
+pub all_tested : (kinds : List WordKind) (words : List (List ℕ)) (rest : List WordKind) (left : List (List ℕ)) (number : ℕ) → HasTested kinds words rest left number → rest ≡ [] → left ≡ [] → AreOfKinds kinds words
+all_tested kinds words rest left number h none empty =
+    let ks : h.good_kinds ≡ kinds = sym (h.kinds_are ∙ ap (λ (ks : List WordKind). h.good_kinds ++ ks) none ∙ append-nil h.good_kinds) in
+    let ws : h.good ≡ words = sym (h.words_are ∙ ap (λ (vs : List (List ℕ)). h.good ++ vs) empty ∙ append-nil h.good) in
     subst (λ (v : List (List ℕ)). AreOfKinds kinds v) ws (subst (λ (v : List WordKind). AreOfKinds v h.good) ks h.are_good)
+
+-- ---- the kinds of so many words
+
+pub none_left : {X : Type 0} (xs : List X) → length xs ≡ 0 → xs ≡ []
+none_left [] e = refl
+none_left (x ∷ xs) e = absurd (omega (arith, e))
+
+pub no_kinds : (kinds : List WordKind) (other : WordKind) (words : List (List ℕ)) → words ≡ [] → kinds_for kinds other words ≡ []
+no_kinds kinds other words e = ap (kinds_for kinds other) e
+
+-- as many as there are
+pub same_kinds : (kinds : List WordKind) (other : WordKind) (words : List (List ℕ)) → length words ≡ length kinds → kinds_for kinds other words ≡ kinds
+same_kinds [] other [] e = refl
+same_kinds [] other (word ∷ words) e = absurd (omega (arith, e))
+same_kinds (kind ∷ kinds) other [] e = absurd (omega (arith, e))
+same_kinds (kind ∷ kinds) other (word ∷ words) e = ap (λ (ks : List WordKind). kind ∷ ks) (same_kinds kinds other words (omega (arith, e)))
 
 -- ---- lines
 

@@ -3,6 +3,9 @@ use Rattle.std.specs.Prelude.{◌≡◌, ℕ, ◌≤◌, Bool, List, [], ◌∷�
 use Rattle.std.specs.Fmt.{decimal}
 use Rattle.std.specs.Str.{bytes_eq}
 use Rattle.txc_stamp.specs.declared.stamp.TheConstants.{LAST_STAMP}
+use Rattle.txc_tags.specs.declared.key.TheConstants.{LAST_FUNCTION}
+use Rattle.txc_tags.specs.declared.tag.TheConstants.{LAST_TABLE}
+use Rattle.txc_tags.specs.declared.text.number.TheConstants.{LAST_NUMBER}
 use Rattle.txc_tags.specs.Keys.{Call}
 use Rattle.txc_tags.specs.TextGrammar.{IsTextOf}
 use Rattle.txc_tags.specs.TextKey.{key_text, IsKeyInRange}
@@ -13,7 +16,7 @@ use Rattle.txc_script.specs.Hex.{IsBytes}
 use Rattle.txc_script.specs.Lines.{IsChangeName, IsQueryName, IsTextWord, still_text}
 use Rattle.txc_script.specs.Words.{words_of}
 use Rattle.txc_script.specs.declared.line_fault.WordKind.{WordKind}
-use Rattle.txc_script.specs.declared.line_fault.WordKind.TheVariants.{Key, Stamp, Reach, Tags, Bytes, Number, Text, QueryName, ChangeName}
+use Rattle.txc_script.specs.declared.line_fault.WordKind.TheVariants.{Key, Stamp, Reach, Tags, Bytes, Table, Id, Function, Number, Text, QueryName, ChangeName}
 
 -- ---- what a word says
 
@@ -24,6 +27,9 @@ ValueOf Stamp = ℕ
 ValueOf Reach = Bool
 ValueOf Tags = List SpeltTag
 ValueOf Bytes = List ℕ
+ValueOf Table = ℕ
+ValueOf Id = ℕ
+ValueOf Function = ℕ
 ValueOf (Number most) = ℕ
 ValueOf (Text most) = List ℕ
 ValueOf QueryName = List ℕ
@@ -36,6 +42,9 @@ MaySay Stamp = λ stamp. stamp ≤ LAST_STAMP
 MaySay Reach = λ still. Unit {0}
 MaySay Tags = AreSpeltInRange
 MaySay Bytes = IsBytes
+MaySay Table = λ number. number ≤ LAST_TABLE
+MaySay Id = λ number. number ≤ LAST_NUMBER
+MaySay Function = λ number. number ≤ LAST_FUNCTION
 MaySay (Number most) = λ number. number ≤ most
 MaySay (Text most) = IsTextWord most
 MaySay QueryName = IsQueryName
@@ -48,6 +57,9 @@ word_text Stamp = decimal
 word_text Reach = still_text
 word_text Tags = spelt_tags_text
 word_text Bytes = hex_text
+word_text Table = decimal
+word_text Id = decimal
+word_text Function = decimal
 word_text (Number most) = decimal
 word_text (Text most) = λ text. text
 word_text QueryName = λ name. name

@@ -7,6 +7,7 @@ pub mod Lines
 pub mod Excerpts
 pub mod Forms
 pub mod LineFaults
+pub mod SaidWords
 pub mod FunctionLines
 pub mod Unread
 pub mod Kinds

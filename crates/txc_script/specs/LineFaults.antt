@@ -1,5 +1,5 @@
 -- What is wrong with words, and with the words of a line.
-use Rattle.std.specs.Prelude.{◌≡◌, ◌≢◌, ◌==◌, ◌+◌, ℕ, Bool, false, List, [], ◌∷◌, ◌++◌, Option, Some, None, Result, Ok, Err, length, nat_lt, ◌||◌}
+use Rattle.std.specs.Prelude.{◌≡◌, ◌≢◌, ◌==◌, ◌+◌, ℕ, Bool, false, List, [], ◌∷◌, ◌++◌, Option, Some, None, length, nat_lt, ◌||◌}
 use Rattle.std.specs.List.{list_any, flat_map}
 use Rattle.txc_tags.specs.TextGrammar.{IsLongestPrefix, IsText}
 use Rattle.txc_tags.specs.TextKey.{key_text, IsKeyInRange}
@@ -32,6 +32,12 @@ AreOfKinds [] [] = Unit {0}
 AreOfKinds [] (word ∷ words) = ⊥
 AreOfKinds (kind ∷ kinds) [] = ⊥
 AreOfKinds (kind ∷ kinds) (word ∷ words) = IsOfKind kind word × AreOfKinds kinds words
+
+-- the kinds of so many words: these, and then the other one
+abbrev pub kinds_for : List WordKind → WordKind → List (List ℕ) → List WordKind
+kinds_for kinds other [] = []
+kinds_for [] other (word ∷ words) = other ∷ kinds_for [] other words
+kinds_for (kind ∷ kinds) other (word ∷ words) = kind ∷ kinds_for kinds other words
 
 -- where a key or tags go wrong: no longer prefix of the word begins a key's text, or the text of tags
 abbrev pub StopsAt : WordKind → List ℕ → Option ℕ → Type 0
@@ -92,12 +98,7 @@ IsCommandFault forms all (Word fault) =
     × (length words ≡ length kinds) × IsBadWord kinds words fault
 IsCommandFault forms all fault = ⊥
 
--- ---- only private functions need these
-
--- the word is of this kind; or it is not, and goes wrong there
-abbrev pub IsTested : {T : Type 0} → WordKind → List ℕ → Result T (Option ℕ) → Type 0
-IsTested kind word (Ok done) = IsOfKind kind word
-IsTested kind word (Err at) = (IsOfKind kind word → ⊥) × StopsAt kind word at
+-- ---- only private functions need this
 
 -- the text is the digits of some bytes
 abbrev pub AreDigitsOfBytes : List ℕ → Type 0

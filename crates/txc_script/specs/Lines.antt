@@ -1,5 +1,6 @@
 -- What a line is, and what some of its words are, by how each is written.
-use Rattle.std.specs.Prelude.{◌≡◌, ◌⊎◌, ℕ, ◌≤◌, Bool, true, false, List, [], ◌∷◌, length, codes}
+use Rattle.std.specs.Prelude.{◌≡◌, ℕ, ◌≤◌, Bool, true, false, List, [], ◌∷◌, Option, Some, None, if◌then◌else◌, length, codes}
+use Rattle.std.specs.Str.{bytes_eq}
 use Rattle.std.specs.List.{All, AllByRecursion}
 use Rattle.std.specs.Fmt.{decimal}
 use Rattle.txc_stamp.specs.declared.stamp.TheConstants.{LAST_STAMP}
@@ -9,6 +10,10 @@ use Rattle.txc_tags.specs.TextGrammar.{IsTextOf}
 use Rattle.txc_tags.specs.TextKey.{key_text, IsKeyInRange}
 use Rattle.txc_tags.specs.TextSet.{IsSetOfText}
 use Rattle.txc_script.specs.declared.line.TheConstants.{MAX_LINE_LEN}
+use Rattle.txc_script.specs.declared.said.QueryName.{QueryName}
+use Rattle.txc_script.specs.declared.said.QueryName.TheVariants as queries
+use Rattle.txc_script.specs.declared.said.ChangeName.{ChangeName}
+use Rattle.txc_script.specs.declared.said.ChangeName.TheVariants as changes
 
 -- ---- words
 
@@ -30,14 +35,25 @@ pub record IsTextWord (limit : ℕ) (word : List ℕ) : Type 0 where
   pub most : length word ≤ limit
   pub each : AllByRecursion (λ byte. (33 ≤ byte) × (byte ≤ 126)) word
 
--- the name of a query
-abbrev pub IsQueryName : List ℕ → Type 0
-IsQueryName word =
-    (word ≡ codes "by-id") ⊎ ((word ≡ codes "by-group") ⊎ ((word ≡ codes "all") ⊎ (word ≡ codes "range")))
+-- the name of a query that the word is
+abbrev pub query_named : List ℕ → Option QueryName
+query_named word =
+    if bytes_eq word (codes "by-id") then Some queries.ById
+    else (if bytes_eq word (codes "by-group") then Some queries.ByGroup
+    else (if bytes_eq word (codes "all") then Some queries.All
+    else (if bytes_eq word (codes "range") then Some queries.Range else None)))
 
--- the name of a change
+abbrev pub IsQueryName : List ℕ → Type 0
+IsQueryName word = (name : QueryName) × (query_named word ≡ Some name)
+
+-- the name of a change that the word is
+abbrev pub change_named : List ℕ → Option ChangeName
+change_named word =
+    if bytes_eq word (codes "put") then Some changes.Put
+    else (if bytes_eq word (codes "remove") then Some changes.Remove else None)
+
 abbrev pub IsChangeName : List ℕ → Type 0
-IsChangeName word = (word ≡ codes "put") ⊎ (word ≡ codes "remove")
+IsChangeName word = (name : ChangeName) × (change_named word ≡ Some name)
 
 -- tags in any order and with repeats; the set is what adding them one after the other gives
 abbrev pub IsTagsWord : List ℕ → List Tag → Type 0

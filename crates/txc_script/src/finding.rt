@@ -1,17 +1,19 @@
 //! Finding what is wrong with a malformed line.
-ghost use Rattle.std.specs.Prelude.{◌≡◌, ◌↔◌, IfSome, IfNone, position, length, IsTrue};
+ghost use Rattle.std.specs.Prelude.{◌≡◌, ◌∷◌, ◌↔◌, ℕ, List, IfSome, IfNone, position, length, IsTrue};
 ghost use Rattle.std.specs.List.{list_any};
 ghost use Rattle.txc_script.specs.Kinds.{IsFaultOf, IsMalformed};
-ghost use Rattle.txc_script.specs.Lines.{IsChangeName, IsQueryName, IsTextWord};
+ghost use Rattle.txc_script.specs.Lines.{IsTextWord, change_named, query_named};
 ghost use Rattle.txc_script.specs.Words.{words_of, words_left};
-ghost use Rattle.txc_script.specs.LineFaults.{AreOfKinds, is_foreign, is_empty, IsHex, IsTested, AreDigitsOfBytes, IsBadWord};
+ghost use Rattle.txc_script.specs.SaidWords.{IsWordRead};
+ghost use Rattle.txc_script.specs.LineFaults.{AreOfKinds, is_foreign, is_empty, kinds_for, IsHex, AreDigitsOfBytes, IsBadWord};
 
 use crate::excerpt::Excerpt;
 use crate::hex::read_byte;
 use crate::kind::Script;
 use crate::line::MAX_LINE_LEN;
 use crate::line_fault::{LineFault, WordFault, WordKind};
-use crate::word::{read_stamp, read_still};
+use crate::said::{ChangeName, QueryName, Said, TextWord};
+use crate::word::{read_function, read_id, read_stamp, read_still, read_table};
 use crate::words::{WordsLeft, all_words, count_words};
 use std::alloc::Global;
 use txc_tags::{Key, SetError, TagSet, read_number};
@@ -48,25 +50,25 @@ fn is_hex(word: &[u8]) -> bool
     are_digits(word)
 }
 
-/// Whether the word is a key; if not, where it goes wrong.
-fn test_key(word: &[u8]) -> Result<(), Option<usize>>
-    ensures { IsTested WordKind.Key word.now result }
+/// The key that the word is; if it is none, where it goes wrong.
+fn read_key(word: &[u8]) -> Result<Said<'_>, Option<usize>>
+    ensures { IsWordRead WordKind.Key word.now result }
 {
     match Key::read(word) {
-        Ok(_) => Ok(()),
+        Ok(key) => Ok(Said::Key(key)),
         Err(bad) => Err(Some(bad.at)),
     }
 }
 
 /// Whether the word is tags; if not, where it goes wrong.
-fn test_tags(alloc: Global, word: &[u8]) -> Result<(), Option<usize>>
-    ensures { IsTested WordKind.Tags word.now result }
+fn test_tags(alloc: Global, word: &[u8]) -> Result<Said<'_>, Option<usize>>
+    ensures { IsWordRead WordKind.Tags word.now result }
 {
     match TagSet::read(alloc, word) {
-        Ok(_) => Ok(()),
+        Ok(_) => Ok(Said::Other),
         Err(SetError::BadTag(bad)) => Err(Some(bad.at)),
         // Memory is refused only for a word that is tags.
-        Err(SetError::Memory(_)) => Ok(()),
+        Err(SetError::Memory(_)) => Ok(Said::Other),
     }
 }
 
@@ -80,58 +82,126 @@ fn is_text(most: usize, word: &[u8]) -> bool
     word.iter().all(|byte| *byte >= 0x21 && *byte <= 0x7e)
 }
 
-/// Whether the word is the name of a query.
-fn is_query_name(word: &[u8]) -> bool
-    ensures { IsTrue result ↔ IsQueryName word.now }
+/// The name of a query that the word is.
+pub fn query_name(word: &[u8]) -> Option<QueryName>
+    ensures { result ≡ query_named word.now }
 {
-    match word {
-        b"by-id" => true,
-        b"by-group" => true,
-        b"all" => true,
-        b"range" => true,
-        _ => false,
+    if word == b"by-id".as_slice() {
+        return Some(QueryName::ById);
     }
+    if word == b"by-group".as_slice() {
+        return Some(QueryName::ByGroup);
+    }
+    if word == b"all".as_slice() {
+        return Some(QueryName::All);
+    }
+    if word == b"range".as_slice() {
+        return Some(QueryName::Range);
+    }
+    None
 }
 
-/// Whether the word is the name of a change.
-fn is_change_name(word: &[u8]) -> bool
-    ensures { IsTrue result ↔ IsChangeName word.now }
+/// The name of a change that the word is.
+pub fn change_name(word: &[u8]) -> Option<ChangeName>
+    ensures { result ≡ change_named word.now }
 {
-    match word {
-        b"put" => true,
-        b"remove" => true,
-        _ => false,
+    if word == b"put".as_slice() {
+        return Some(ChangeName::Put);
     }
+    if word == b"remove".as_slice() {
+        return Some(ChangeName::Remove);
+    }
+    None
 }
 
-/// Whether the word is of its kind; if not, where a key or tags go wrong.
-fn test_word(alloc: Global, kind: WordKind, word: &[u8]) -> Result<(), Option<usize>>
-    ensures { IsTested kind word.now result }
+/// What the word says, if it is of its kind; if not, where a key or tags go wrong.
+pub fn read_word(alloc: Global, kind: WordKind, word: &[u8]) -> Result<Said<'_>, Option<usize>>
+    ensures { IsWordRead kind word.now result }
 {
     match kind {
-        WordKind::Key => test_key(word),
+        WordKind::Key => read_key(word),
         WordKind::Tags => test_tags(alloc, word),
         WordKind::Stamp => match read_stamp(word) {
-            Ok(_) => Ok(()),
+            Ok(stamp) => Ok(Said::Stamp(stamp)),
             Err(_) => Err(None),
         },
         WordKind::Reach => match read_still(word) {
-            Ok(_) => Ok(()),
+            Ok(_) => Ok(Said::Other),
+            Err(_) => Err(None),
+        },
+        WordKind::Table => match read_table(word) {
+            Ok(table) => Ok(Said::Table(table)),
+            Err(_) => Err(None),
+        },
+        WordKind::Id => match read_id(word) {
+            Ok(id) => Ok(Said::Id(id)),
+            Err(_) => Err(None),
+        },
+        WordKind::Function => match read_function(word) {
+            Ok(function) => Ok(Said::Function(function)),
             Err(_) => Err(None),
         },
         WordKind::Number(most) => match read_number(word, most) {
-            Some(_) => Ok(()),
+            Some(number) => Ok(Said::Number(number)),
             None => Err(None),
         },
-        WordKind::Bytes if is_hex(word) => Ok(()),
+        WordKind::Bytes if is_hex(word) => Ok(Said::Other),
         WordKind::Bytes => Err(None),
-        WordKind::Text(most) if is_text(most, word) => Ok(()),
+        WordKind::Text(most) if is_text(most, word) => Ok(Said::Text(TextWord::new(word))),
         WordKind::Text(_) => Err(None),
-        WordKind::QueryName if is_query_name(word) => Ok(()),
-        WordKind::QueryName => Err(None),
-        WordKind::ChangeName if is_change_name(word) => Ok(()),
-        WordKind::ChangeName => Err(None),
+        WordKind::QueryName => match query_name(word) {
+            Some(name) => Ok(Said::Query(name)),
+            None => Err(None),
+        },
+        WordKind::ChangeName => match change_name(word) {
+            Some(name) => Ok(Said::Change(name)),
+            None => Err(None),
+        },
     }
+}
+
+/// The first of these kinds, or the other one, and the kinds after it.
+pub fn next_kind(kinds: &[WordKind], other: WordKind) -> (WordKind, &[WordKind])
+    ensures { (word : List ℕ) (words : List (List ℕ)) → kinds_for kinds.now other (word ∷ words)
+        ≡ result.0 ∷ kinds_for result.1.now other words }
+{
+    match kinds.split_first() {
+        Some((kind, after)) => (*kind, after),
+        None => (other, kinds),
+    }
+}
+
+/// The first of the words, of which there are so many, that is not of its kind. The kinds are these, and then the
+/// other one.
+pub fn bad_word_of(
+    alloc: Global,
+    kinds: &[WordKind],
+    other: WordKind,
+    words: WordsLeft<'_>,
+    count: usize,
+) -> Option<WordFault>
+    requires { length (words_left words) ≡ count }
+    ensures answer { IfSome result (IsBadWord (kinds_for kinds.now other (words_left words.entry))
+        (words_left words.entry)) }
+    ensures refused { IfNone result (AreOfKinds (kinds_for kinds.now other (words_left words.entry))
+        (words_left words.entry)) }
+{
+    let mut left = words;
+    let mut rest = kinds;
+    for before in 0..count {
+        let (kind, after) = next_kind(rest, other);
+        let word = left.next();
+        if let Err(at) = read_word(alloc, kind, word) {
+            return Some(WordFault {
+                number: before + 1,
+                kind,
+                at,
+                text: Excerpt::new(word),
+            });
+        }
+        rest = after;
+    }
+    None
 }
 
 /// The first of the words that is not of its kind.
@@ -140,27 +210,7 @@ pub fn bad_word(alloc: Global, kinds: &[WordKind], words: WordsLeft<'_>) -> Opti
     ensures answer { IfSome result (IsBadWord kinds.now (words_left words.entry)) }
     ensures refused { IfNone result (AreOfKinds kinds.now (words_left words.entry)) }
 {
-    let mut left = words;
-    let mut rest = kinds;
-    let mut number = 0;
-    'words: loop {
-        match rest {
-            [] => return None,
-            [kind, others @ ..] => {
-                let word = left.next();
-                if let Err(at) = test_word(alloc, *kind, word) {
-                    return Some(WordFault {
-                        number: number + 1,
-                        kind: *kind,
-                        at,
-                        text: Excerpt::new(word),
-                    });
-                }
-                number += 1;
-                rest = others;
-            }
-        }
-    }
+    bad_word_of(alloc, kinds, WordKind::Key, words, kinds.len())
 }
 
 /// The place of the first byte that no line may have.

@@ -3,6 +3,7 @@ use crate::excerpt::Excerpt;
 use crate::line::MAX_LINE_LEN;
 use std::fmt;
 use txc_stamp::LAST_STAMP;
+use txc_tags::{LAST_FUNCTION, LAST_NUMBER, LAST_TABLE};
 
 /// What a word has to be.
 #[derive(Clone, Copy, Debug, PartialEq, Eq)]
@@ -17,6 +18,12 @@ pub enum WordKind {
     Tags,
     /// Bytes: `-`, or two lower-case hexadecimal digits for each.
     Bytes,
+    /// The number of a table.
+    Table,
+    /// An id or a group.
+    Id,
+    /// The number of a function.
+    Function,
     /// A number of at most so much.
     Number(u64),
     /// A text of at most so many bytes, each of which prints.
@@ -89,6 +96,10 @@ pub struct MalformedLine {
     pub fault: LineFault,
 }
 
+fn write_number<W: fmt::Write>(f: &mut fmt::Formatter<W>, most: u64) -> fmt::Result {
+    write!(f, "a number from 0 to {most}, without leading zeros")
+}
+
 impl fmt::Display for WordKind {
     fn fmt<W: fmt::Write>(&self, f: &mut fmt::Formatter<W>) -> fmt::Result {
         match self {
@@ -99,7 +110,10 @@ impl fmt::Display for WordKind {
             WordKind::Bytes => f.write_str(
                 "bytes as pairs of lower-case hexadecimal digits, or `-`",
             ),
-            WordKind::Number(most) => write!(f, "a number from 0 to {most}, without leading zeros"),
+            WordKind::Table => write_number(f, u64::from(LAST_TABLE)),
+            WordKind::Id => write_number(f, LAST_NUMBER),
+            WordKind::Function => write_number(f, u64::from(LAST_FUNCTION)),
+            WordKind::Number(most) => write_number(f, *most),
             WordKind::Text(most) => write!(f, "1 to {most} bytes"),
             WordKind::QueryName => f.write_str("`by-id`, `by-group`, `all` or `range`"),
             WordKind::ChangeName => f.write_str("`put` or `remove`"),

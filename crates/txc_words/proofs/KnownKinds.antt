@@ -1,23 +1,15 @@
 -- Words that are what they are to be are of known kinds, so that nothing is wrong with them.
-use Rattle.std.proofs.Common.{◌≡◌, ℕ, suc, List, [], ◌∷◌, ◌++◌, Option, Some, None, length, refl, sym, ap, subst, inl, inr, ◌∙◌}
-use Rattle.std.specs.Prelude.{codes}
-use Rattle.std.specs.Fmt.{decimal}
-use Rattle.txc_rows.specs.Values.{RowValue, IsRow}
-use Rattle.txc_rows.specs.declared.query.Change.{Change}
-use Rattle.txc_rows.specs.declared.query.Change.TheVariants as changes
-use Rattle.txc_rows.specs.declared.query.Query.{Query}
-use Rattle.txc_rows.specs.declared.query.Query.TheVariants as queries
+use Rattle.std.proofs.Common.{◌≡◌, ℕ, suc, List, [], ◌∷◌, ◌++◌, Option, Some, None, length, refl, sym, ap, subst, ◌∙◌}
 use Rattle.txc_script.specs.LineFaults.{AreOfKinds, IsBadWord, IsOfKind}
 use Rattle.txc_script.specs.declared.line_fault.CommandFault.{CommandFault}
 use Rattle.txc_script.specs.declared.line_fault.CommandFault.TheVariants as faults
 use Rattle.txc_script.specs.declared.line_fault.WordFault.{WordFault}
 use Rattle.txc_script.specs.declared.line_fault.WordKind.{WordKind}
-use Rattle.txc_script.specs.declared.line_fault.WordKind.TheVariants.{QueryName, ChangeName}
+use Rattle.txc_script.specs.declared.said.Said.{Said}
+use Rattle.txc_script.proofs.Offered.{are_of_kinds}
 use Rattle.txc_words.specs.declared.name.LineName.{LineName}
-use Rattle.txc_words.specs.declared.name.LineName.TheVariants as names
-use Rattle.txc_words.specs.Parts.{AreChangeWords, ArePinWords, IsChangeInRange, IsIdRange, IsPair, IsQueryInRange, change_words, query_words, row_words}
-use Rattle.txc_words.specs.Faults.{IsFaultAfter, IsFirstBad, change_line, kinds_after_name, moment, pair_kinds, place, query_line, range_kinds, row_kinds, second_of, table}
-use Rattle.txc_words.proofs.WordParts.{apart, first_is, others_are}
+use Rattle.txc_words.specs.Faults.{IsFaultAfter, IsFirstBad, kinds_after_name, second_of}
+use Rattle.txc_words.specs.Said.{SaysAfter}
 
 some_kinds : (kinds : List WordKind) → Some kinds ≡ None → ⊥
 some_kinds kinds e = cc
@@ -29,57 +21,8 @@ pub record HasKinds (name : LineName) (words : List (List ℕ)) : Type 0 where
   pub known : kinds_after_name name (second_of words) ≡ Some kinds
   pub good : AreOfKinds kinds words
 
-pub as_words : (name : LineName) (words others : List (List ℕ)) → words ≡ others → HasKinds name others → HasKinds name words
-as_words name words others e h = subst (HasKinds name) (sym e) h
-
-pair_good : (t n : ℕ) → IsPair t n → AreOfKinds pair_kinds (decimal t ∷ decimal n ∷ [])
-pair_good t n h = ((t, (h.is_table, refl)), ((n, (h.is_number, refl)), tt))
-
-range_good : (t a b : ℕ) → IsIdRange t a b → AreOfKinds range_kinds (decimal t ∷ decimal a ∷ decimal b ∷ [])
-range_good t a b h = ((t, (h.is_table, refl)), ((a, (h.is_first, refl)), ((b, (h.is_last, refl)), tt)))
-
-row_good : (row : RowValue) → IsRow row → AreOfKinds row_kinds (row_words row)
-row_good row h = (
-  (row.table, (h.table, refl)),
-  ((row.id, (h.id, refl)), ((row.group, (h.group, refl)), ((row.body, (record { some = h.body.some; most = h.body.most; each = h.body.each }, refl)), tt))),
-)
-
-pub put_kinds : (words : List (List ℕ)) (change : Change) → AreChangeWords (codes "put" ∷ words) change → HasKinds names.Put words
-put_kinds words (changes.Put row) h =
-    as_words names.Put words (row_words row) (others_are (codes "put") (codes "put") words (row_words row) h.0) (record { kinds = row_kinds; known = refl; good = row_good row h.1 })
-put_kinds words (changes.Remove t n) h = absurd (apart (codes "put") (codes "remove") refl (first_is (codes "put") (codes "remove") words (decimal t ∷ decimal n ∷ []) h.0))
-
-pub remove_kinds : (words : List (List ℕ)) (change : Change) → AreChangeWords (codes "remove" ∷ words) change → HasKinds names.Remove words
-remove_kinds words (changes.Put row) h = absurd (apart (codes "remove") (codes "put") refl (first_is (codes "remove") (codes "put") words (row_words row) h.0))
-remove_kinds words (changes.Remove t n) h =
-    as_words names.Remove words (decimal t ∷ decimal n ∷ []) (others_are (codes "remove") (codes "remove") words (decimal t ∷ decimal n ∷ []) h.0)
-    (record { kinds = pair_kinds; known = refl; good = pair_good t n h.1 })
-
-pub pin_kinds : (words : List (List ℕ)) (now : ℕ) → ArePinWords (codes "pin" ∷ words) now → HasKinds names.Pin words
-pin_kinds words now h =
-    as_words names.Pin words (decimal now ∷ []) (others_are (codes "pin") (codes "pin") words (decimal now ∷ []) h.0) (record { kinds = moment ∷ []; known = refl; good = ((now, (h.1, refl)), tt) })
-
--- a word of this kind, and a query
-pub record QueryKinds (first : WordKind) (words : List (List ℕ)) : Type 0 where
-  pub kinds : List WordKind
-  pub known : query_line first (second_of words) ≡ Some kinds
-  pub good : AreOfKinds kinds words
-
-pub query_kinds : (first : WordKind) (word : List ℕ) (q : Query) → IsOfKind first word → IsQueryInRange q → QueryKinds first (word ∷ query_words q)
-query_kinds first word (queries.ById t n) is h = record { kinds = first ∷ QueryName ∷ pair_kinds; known = refl; good = (is, ((codes "by-id", (inl refl, refl)), pair_good t n h)) }
-query_kinds first word (queries.ByGroup t n) is h = record { kinds = first ∷ QueryName ∷ pair_kinds; known = refl; good = (is, ((codes "by-group", (inr (inl refl), refl)), pair_good t n h)) }
-query_kinds first word (queries.All t) is h = record { kinds = first ∷ QueryName ∷ table ∷ []; known = refl; good = (is, ((codes "all", (inr (inr (inl refl)), refl)), ((t, (h, refl)), tt))) }
-query_kinds first word (queries.Range t a b) is h = record { kinds = first ∷ QueryName ∷ range_kinds; known = refl; good = (is, ((codes "range", (inr (inr (inr refl)), refl)), range_good t a b h)) }
-
--- an actor, and a change
-pub record ChangeKinds (words : List (List ℕ)) : Type 0 where
-  pub kinds : List WordKind
-  pub known : change_line (second_of words) ≡ Some kinds
-  pub good : AreOfKinds kinds words
-
-pub write_kinds : (word : List ℕ) (change : Change) → IsOfKind place word → IsChangeInRange change → ChangeKinds (word ∷ change_words change)
-write_kinds word (changes.Put row) is h = record { kinds = place ∷ ChangeName ∷ row_kinds; known = refl; good = (is, ((codes "put", (inl refl, refl)), row_good row h)) }
-write_kinds word (changes.Remove t n) is h = record { kinds = place ∷ ChangeName ∷ pair_kinds; known = refl; good = (is, ((codes "remove", (inr refl, refl)), pair_good t n h)) }
+pub has_kinds : (name : LineName) (words : List (List ℕ)) (values : List Said) → SaysAfter name words values → HasKinds name words
+has_kinds name words values h = record { kinds = h.kinds; known = h.known; good = are_of_kinds h.kinds words values h.say }
 
 -- ---- so that nothing is wrong with them
 

@@ -1,5 +1,4 @@
-pub mod WordParts
 pub mod Names
-pub mod GoodWords
 pub mod KnownKinds
+pub mod Meant
 pub mod Offered

@@ -1,5 +1,6 @@
 -- The names of lines.
-use Rattle.std.proofs.Common.{◌≡◌, ℕ, List, Option, Some, None, refl, sym, ap, ◌∙◌}
+use Rattle.std.proofs.Common.{◌≡◌, ℕ, true, false, List, ◌∷◌, Option, Some, None, refl, sym, ap, ◌∙◌}
+use Rattle.std.proofs.lemmas.Slice.Eq.{bytes_eq-Decides}
 use Rattle.std.specs.Prelude.{codes, if◌then◌else◌}
 use Rattle.std.specs.Str.{bytes_eq}
 use Rattle.txc_words.specs.declared.name.LineName.{LineName}
@@ -53,3 +54,14 @@ read_back names.Counts = refl
 -- no two names have one text
 pub same_name : (a b : LineName) → name_text a ≡ name_text b → a ≡ b
 same_name a b e = let same : Some a ≡ Some b = sym (read_back a) ∙ ap read_name e ∙ read_back b in cc
+
+-- the first word of two lists that are equal, and the others
+pub first_is : (a b : List ℕ) (xs ys : List (List ℕ)) → a ∷ xs ≡ b ∷ ys → a ≡ b
+first_is a b xs ys e = cc
+
+pub others_are : (a b : List ℕ) (xs ys : List (List ℕ)) → a ∷ xs ≡ b ∷ ys → xs ≡ ys
+others_are a b xs ys e = cc
+
+-- two texts of which a test says that they differ
+pub apart : (a b : List ℕ) → bytes_eq a b ≡ false → a ≡ b → ⊥
+apart a b other e = let same : bytes_eq a b ≡ true = (bytes_eq-Decides a b).1 e in cc

@@ -1,19 +1,21 @@
 -- Of which kinds the words of lines are to be, and what is wrong with them.
-use Rattle.std.specs.Prelude.{◌≡◌, ◌≢◌, ◌<◌, ◌≤◌, ℕ, List, [], ◌∷◌, Option, Some, None, if◌then◌else◌, codes, length, take}
-use Rattle.std.specs.Str.{bytes_eq}
+use Rattle.std.specs.Prelude.{◌≡◌, ◌≢◌, ◌<◌, ◌≤◌, ℕ, List, [], ◌∷◌, Option, Some, None, option_map, codes, length, take}
 use Rattle.txc_rows.specs.declared.row.TheConstants.{MAX_BODY_LEN}
 use Rattle.txc_script.specs.LineFaults.{IsBadWord}
 use Rattle.txc_script.specs.declared.line_fault.CommandFault.{CommandFault}
 use Rattle.txc_script.specs.declared.line_fault.CommandFault.TheVariants as faults
 use Rattle.txc_script.specs.declared.line_fault.WordFault.{WordFault}
 use Rattle.txc_script.specs.declared.line_fault.WordKind.{WordKind}
-use Rattle.txc_script.specs.declared.line_fault.WordKind.TheVariants.{Key, Stamp, Number, Text, QueryName, ChangeName}
+use Rattle.txc_script.specs.declared.line_fault.WordKind.TheVariants.{Key, Stamp, Table, Id, Function, Number, Text, QueryName, ChangeName}
+use Rattle.txc_script.specs.declared.said.QueryName as query_names
+use Rattle.txc_script.specs.declared.said.QueryName.TheVariants as queries
+use Rattle.txc_script.specs.declared.said.ChangeName as change_names
+use Rattle.txc_script.specs.declared.said.ChangeName.TheVariants as changes
+use Rattle.txc_script.specs.Lines.{change_named, query_named}
 use Rattle.txc_words.specs.declared.name.LineName.{LineName}
 use Rattle.txc_words.specs.declared.name.LineName.TheVariants as names
-use Rattle.txc_tags.specs.declared.tag.TheConstants.{LAST_TABLE}
-use Rattle.txc_tags.specs.declared.key.TheConstants.{LAST_FUNCTION}
 use Rattle.txc_tags.specs.declared.text.number.TheConstants.{LAST_NUMBER}
-use Rattle.txc_words.specs.declared.parts.TheConstants.{LAST_MOMENT}
+use Rattle.txc_words.specs.declared.said.TheConstants.{LAST_MOMENT}
 
 -- ---- of which kinds words are to be
 
@@ -21,50 +23,35 @@ use Rattle.txc_words.specs.declared.parts.TheConstants.{LAST_MOMENT}
 abbrev pub place : WordKind
 place = Number LAST_NUMBER
 
-abbrev pub table : WordKind
-table = Number LAST_TABLE
-
--- an id or a group
-abbrev pub number_word : WordKind
-number_word = Number LAST_NUMBER
-
 -- a moment, or a time
 abbrev pub moment : WordKind
 moment = Number LAST_MOMENT
 
-abbrev pub function : WordKind
-function = Number LAST_FUNCTION
+-- the kinds of the words after the name of a query
+abbrev pub kinds_of_query : query_names.QueryName → List WordKind
+kinds_of_query queries.ById = Table ∷ Id ∷ []
+kinds_of_query queries.ByGroup = Table ∷ Id ∷ []
+kinds_of_query queries.All = Table ∷ []
+kinds_of_query queries.Range = Table ∷ Id ∷ Id ∷ []
 
--- a table, and an id or a group
-abbrev pub pair_kinds : List WordKind
-pair_kinds = table ∷ number_word ∷ []
-
--- a table, and the first and the last of some ids
-abbrev pub range_kinds : List WordKind
-range_kinds = table ∷ number_word ∷ number_word ∷ []
-
-abbrev pub row_kinds : List WordKind
-row_kinds = table ∷ number_word ∷ number_word ∷ Text MAX_BODY_LEN ∷ []
+-- the kinds of the words after the name of a change
+abbrev pub kinds_of_change : change_names.ChangeName → List WordKind
+kinds_of_change changes.Put = Table ∷ Id ∷ Id ∷ Text MAX_BODY_LEN ∷ []
+kinds_of_change changes.Remove = Table ∷ Id ∷ []
 
 -- a word of this kind, and a query of this name, if it is one
 abbrev pub query_line : WordKind → List ℕ → Option (List WordKind)
-query_line first name =
-    if bytes_eq name (codes "by-id") then Some (first ∷ QueryName ∷ pair_kinds)
-    else (if bytes_eq name (codes "by-group") then Some (first ∷ QueryName ∷ pair_kinds)
-    else (if bytes_eq name (codes "all") then Some (first ∷ QueryName ∷ table ∷ [])
-    else (if bytes_eq name (codes "range") then Some (first ∷ QueryName ∷ range_kinds) else None)))
+query_line first name = option_map (λ query. first ∷ QueryName ∷ kinds_of_query query) (query_named name)
 
 -- an actor, and a change of this name, if it is one
 abbrev pub change_line : List ℕ → Option (List WordKind)
-change_line name =
-    if bytes_eq name (codes "put") then Some (place ∷ ChangeName ∷ row_kinds)
-    else (if bytes_eq name (codes "remove") then Some (place ∷ ChangeName ∷ pair_kinds) else None)
+change_line name = option_map (λ change. place ∷ ChangeName ∷ kinds_of_change change) (change_named name)
 
 -- The kinds of the words after a line's name, the second of which is this one. In three lines that word names a
 -- query or a change, and the words are of no known kinds where it does not.
 abbrev pub kinds_after_name : LineName → List ℕ → Option (List WordKind)
-kinds_after_name names.Put second = Some row_kinds
-kinds_after_name names.Remove second = Some pair_kinds
+kinds_after_name names.Put second = Some (kinds_of_change changes.Put)
+kinds_after_name names.Remove second = Some (kinds_of_change changes.Remove)
 kinds_after_name names.Pin second = Some (moment ∷ [])
 kinds_after_name names.Query second = query_line Stamp second
 kinds_after_name names.Ro second = Some (place ∷ moment ∷ moment ∷ Stamp ∷ [])
@@ -81,7 +68,7 @@ kinds_after_name names.Abort second = Some (place ∷ [])
 kinds_after_name names.Advance second = Some (place ∷ [])
 kinds_after_name names.Sweep second = Some (place ∷ Stamp ∷ [])
 kinds_after_name names.Tidy second = Some (moment ∷ moment ∷ [])
-kinds_after_name names.Counts second = Some (place ∷ function ∷ [])
+kinds_after_name names.Counts second = Some (place ∷ Function ∷ [])
 
 -- the kinds of the first two words after the name of such a line
 abbrev pub first_kinds : LineName → List WordKind

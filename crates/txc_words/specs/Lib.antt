@@ -1,4 +1,4 @@
 pub mod Names
-pub mod Parts
 pub mod Faults
+pub mod Said
 pub mod RefusalTexts

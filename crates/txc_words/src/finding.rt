@@ -11,7 +11,7 @@ use std::alloc::Global;
 use txc_script::{CommandFault, WordsLeft, bad_word};
 
 /// The second of the words, of which there are so many; no bytes where there is none.
-fn second_of(words: WordsLeft<'_>, count: usize) -> &[u8]
+pub fn second_of(words: WordsLeft<'_>, count: usize) -> &[u8]
     requires { count ≡ length (words_left words) }
     ensures { result.now ≡ second_of (words_left words.entry) }
 {

@@ -4,40 +4,43 @@ ghost use Rattle.txc_words.specs.Faults.{change_line, first_kinds, kinds_after_n
 ghost use Rattle.txc_script.specs.declared.line_fault.WordKind.{WordKind};
 
 use crate::name::LineName;
-use crate::parts::LAST_MOMENT;
+use crate::said::LAST_MOMENT;
 use txc_rows::MAX_BODY_LEN;
-use txc_script::WordKind;
-use txc_tags::{LAST_FUNCTION, LAST_NUMBER, LAST_TABLE};
+use txc_script::{ChangeName, QueryName, WordKind, change_name, query_name};
+use txc_tags::LAST_NUMBER;
 
 /// The number of an actor or a node.
 const PLACE: WordKind = WordKind::Number(LAST_NUMBER);
 
-const TABLE: WordKind = WordKind::Number(LAST_TABLE as u64);
-
-/// An id or a group.
-const NUMBER: WordKind = WordKind::Number(LAST_NUMBER);
-
 /// A moment, or a time.
 const MOMENT: WordKind = WordKind::Number(LAST_MOMENT);
 
-/// The number of a function.
-const FUNCTION: WordKind = WordKind::Number(LAST_FUNCTION as u64);
-
 const BODY: WordKind = WordKind::Text(MAX_BODY_LEN);
 
-static PUT: [WordKind; 4] = [TABLE, NUMBER, NUMBER, BODY];
+static PUT: [WordKind; 4] = [WordKind::Table, WordKind::Id, WordKind::Id, BODY];
 
-static REMOVE: [WordKind; 2] = [TABLE, NUMBER];
+static REMOVE: [WordKind; 2] = [WordKind::Table, WordKind::Id];
 
 static PIN: [WordKind; 1] = [MOMENT];
 
 static QUERY: [WordKind; 2] = [WordKind::Stamp, WordKind::QueryName];
 
-static QUERY_PAIR: [WordKind; 4] = [WordKind::Stamp, WordKind::QueryName, TABLE, NUMBER];
+static QUERY_PAIR: [WordKind; 4] = [
+    WordKind::Stamp,
+    WordKind::QueryName,
+    WordKind::Table,
+    WordKind::Id,
+];
 
-static QUERY_TABLE: [WordKind; 3] = [WordKind::Stamp, WordKind::QueryName, TABLE];
+static QUERY_TABLE: [WordKind; 3] = [WordKind::Stamp, WordKind::QueryName, WordKind::Table];
 
-static QUERY_RANGE: [WordKind; 5] = [WordKind::Stamp, WordKind::QueryName, TABLE, NUMBER, NUMBER];
+static QUERY_RANGE: [WordKind; 5] = [
+    WordKind::Stamp,
+    WordKind::QueryName,
+    WordKind::Table,
+    WordKind::Id,
+    WordKind::Id,
+];
 
 static RO: [WordKind; 4] = [PLACE, MOMENT, MOMENT, WordKind::Stamp];
 
@@ -47,17 +50,30 @@ static CALL: [WordKind; 2] = [PLACE, WordKind::Key];
 
 static ASK: [WordKind; 2] = [PLACE, WordKind::QueryName];
 
-static ASK_PAIR: [WordKind; 4] = [PLACE, WordKind::QueryName, TABLE, NUMBER];
+static ASK_PAIR: [WordKind; 4] = [PLACE, WordKind::QueryName, WordKind::Table, WordKind::Id];
 
-static ASK_TABLE: [WordKind; 3] = [PLACE, WordKind::QueryName, TABLE];
+static ASK_TABLE: [WordKind; 3] = [PLACE, WordKind::QueryName, WordKind::Table];
 
-static ASK_RANGE: [WordKind; 5] = [PLACE, WordKind::QueryName, TABLE, NUMBER, NUMBER];
+static ASK_RANGE: [WordKind; 5] = [
+    PLACE,
+    WordKind::QueryName,
+    WordKind::Table,
+    WordKind::Id,
+    WordKind::Id,
+];
 
 static WRITE: [WordKind; 2] = [PLACE, WordKind::ChangeName];
 
-static WRITE_PUT: [WordKind; 6] = [PLACE, WordKind::ChangeName, TABLE, NUMBER, NUMBER, BODY];
+static WRITE_PUT: [WordKind; 6] = [
+    PLACE,
+    WordKind::ChangeName,
+    WordKind::Table,
+    WordKind::Id,
+    WordKind::Id,
+    BODY,
+];
 
-static WRITE_REMOVE: [WordKind; 4] = [PLACE, WordKind::ChangeName, TABLE, NUMBER];
+static WRITE_REMOVE: [WordKind; 4] = [PLACE, WordKind::ChangeName, WordKind::Table, WordKind::Id];
 
 static ONLY_PLACE: [WordKind; 1] = [PLACE];
 
@@ -65,7 +81,7 @@ static SWEEP: [WordKind; 2] = [PLACE, WordKind::Stamp];
 
 static TIDY: [WordKind; 2] = [MOMENT, MOMENT];
 
-static COUNTS: [WordKind; 2] = [PLACE, FUNCTION];
+static COUNTS: [WordKind; 2] = [PLACE, WordKind::Function];
 
 static NOTHING: [WordKind; 0] = [];
 
@@ -74,19 +90,13 @@ fn query_kinds(name: &[u8]) -> Option<&'static [WordKind]>
     ensures answer { IfSome result (λ kinds. query_line WordKind.Stamp name.now ≡ Some kinds.now) }
     ensures refused { IfNone result (query_line WordKind.Stamp name.now ≡ None) }
 {
-    if name == b"by-id".as_slice() {
-        return Some(QUERY_PAIR.as_slice());
+    match query_name(name) {
+        Some(QueryName::ById) => Some(QUERY_PAIR.as_slice()),
+        Some(QueryName::ByGroup) => Some(QUERY_PAIR.as_slice()),
+        Some(QueryName::All) => Some(QUERY_TABLE.as_slice()),
+        Some(QueryName::Range) => Some(QUERY_RANGE.as_slice()),
+        None => None,
     }
-    if name == b"by-group".as_slice() {
-        return Some(QUERY_PAIR.as_slice());
-    }
-    if name == b"all".as_slice() {
-        return Some(QUERY_TABLE.as_slice());
-    }
-    if name == b"range".as_slice() {
-        return Some(QUERY_RANGE.as_slice());
-    }
-    None
 }
 
 /// The kinds of the words of `ask`, of which the second has that name.
@@ -94,19 +104,13 @@ fn ask_kinds(name: &[u8]) -> Option<&'static [WordKind]>
     ensures answer { IfSome result (λ kinds. query_line place name.now ≡ Some kinds.now) }
     ensures refused { IfNone result (query_line place name.now ≡ None) }
 {
-    if name == b"by-id".as_slice() {
-        return Some(ASK_PAIR.as_slice());
+    match query_name(name) {
+        Some(QueryName::ById) => Some(ASK_PAIR.as_slice()),
+        Some(QueryName::ByGroup) => Some(ASK_PAIR.as_slice()),
+        Some(QueryName::All) => Some(ASK_TABLE.as_slice()),
+        Some(QueryName::Range) => Some(ASK_RANGE.as_slice()),
+        None => None,
     }
-    if name == b"by-group".as_slice() {
-        return Some(ASK_PAIR.as_slice());
-    }
-    if name == b"all".as_slice() {
-        return Some(ASK_TABLE.as_slice());
-    }
-    if name == b"range".as_slice() {
-        return Some(ASK_RANGE.as_slice());
-    }
-    None
 }
 
 /// The kinds of the words of `write`, of which the second has that name.
@@ -114,13 +118,11 @@ fn write_kinds(name: &[u8]) -> Option<&'static [WordKind]>
     ensures answer { IfSome result (λ kinds. change_line name.now ≡ Some kinds.now) }
     ensures refused { IfNone result (change_line name.now ≡ None) }
 {
-    if name == b"put".as_slice() {
-        return Some(WRITE_PUT.as_slice());
+    match change_name(name) {
+        Some(ChangeName::Put) => Some(WRITE_PUT.as_slice()),
+        Some(ChangeName::Remove) => Some(WRITE_REMOVE.as_slice()),
+        None => None,
     }
-    if name == b"remove".as_slice() {
-        return Some(WRITE_REMOVE.as_slice());
-    }
-    None
 }
 
 /// The kinds of the words after a line's name, of which the second may name a query or a change.

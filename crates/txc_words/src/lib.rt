@@ -5,10 +5,10 @@
 mod finding;
 mod kinds;
 mod name;
-mod parts;
 mod refusals;
+mod said;
 
 pub use finding::find_after_name;
 pub use name::{LineName, name_of};
-pub use parts::{LAST_MOMENT, read_change, read_moment, read_pin, read_place, read_query};
 pub use refusals::{write_add, write_database, write_transaction};
+pub use said::{LAST_MOMENT, change_of, query_of, read_after_name};
