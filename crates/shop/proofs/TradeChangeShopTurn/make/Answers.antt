@@ -5,7 +5,7 @@ use Rattle.txc_site.specs.RwTxn.{RwTxnValue}
 use Rattle.shop.specs.Shop.{piece_row}
 use Rattle.shop.specs.declared.TheConstants.{PRODUCTS}
 use Rattle.shop.proofs.Pieces.{no_pieces, one_more_piece}
-use Rattle.shop.proofs.TradeChangeShopInTurnShop.make.Goals as goal
+use Rattle.shop.proofs.TradeChangeShopTurn.make.Goals as goal
 
 pub loop-id-init : goal.loop-id-init
 loop-id-init g c = record { functions = refl; written = c.requires.changes ∙ sym no_pieces }

@@ -1,6 +1,6 @@
 use Rattle.std.proofs.Common.{◌≡◌}
 use Rattle.shop.specs.Trade.{first_pieces}
-use Rattle.shop.proofs.TradeChangeShopInTurnShop.make.Given as goal
+use Rattle.shop.proofs.TradeChangeShopTurn.make.Given as goal
 
 abbrev pub invariant-loop-id : goal.invariant-loop-id
 invariant-loop-id g l = record {

@@ -1,5 +1,5 @@
 use Rattle.std.proofs.Common.{◌≤◌}
-use Rattle.shop.proofs.VisitorsVisitorShopInTurnShop.visit.Given as goal
+use Rattle.shop.proofs.VisitorsVisitorShopTurn.visit.Given as goal
 
 abbrev pub invariant-loop-round : goal.invariant-loop-round
 invariant-loop-round g l = record {
