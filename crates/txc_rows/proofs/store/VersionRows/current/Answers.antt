@@ -6,7 +6,7 @@ use Rattle.txc_rows.proofs.StoreLemmas.{still_store, same_view}
 use Rattle.txc_rows.proofs.store.VersionRows.current.Goals as goal
 
 pub invariant_of-self : goal.invariant_of-self
-invariant_of-self c = still_store c.self.inside.replaced c.self.inside.conn c.find_current.new.conn c.find_current.ensures.same.trees c.self.inside.next_place c.self.invariant c.find_current.ensures.same.kept
+invariant_of-self c = still_store c.self.inside.replaced c.self.inside.conn c.find_current.new.conn c.find_current.ensures.same.trees c.self.inside.next_place c.self.invariant.0 c.find_current.ensures.same.kept
 
 pub returns-clause-same : goal.returns-clause-same
 returns-clause-same c = same_view c.self.inside.replaced c.self.inside.conn c.find_current.new.conn c.find_current.ensures.same.trees c.self.inside.kept_from ∙ c.self.view_is
