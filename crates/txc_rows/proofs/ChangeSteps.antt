@@ -1,7 +1,7 @@
 -- What the statements of one change leave together.
 use Rattle.std.proofs.Common.{◌≡◌, ◌≢◌, inl, inr, not, ℕ, suc, ◌+◌, ◌≤◌, ◌==◌, List, [], ◌∷◌, ◌++◌, map, filter, take, length, Bool, true, false, cond, ◌&&◌, Option, Some, None, is_none, Result, Ok, Err, refl, sym, ap, subst, ◌∙◌, append_assoc, append-nil, length-append, arith}
 use Rattle.std.specs.List.{AllByRecursion, Contains}
-use Rattle.std.specs.Prelude.{option_to_list}
+use Rattle.std.specs.Prelude.{option_to_list, if◌then◌else◌}
 use Rattle.std.specs.List.Sorted.{IsPermutation}
 use Rattle.std.proofs.lemmas.List.Sorted.{length_permutation, IsPermutation-refl}
 use Rattle.sqlite.specs.Held.{Held, state}
@@ -10,7 +10,7 @@ use Rattle.sqlite.specs.declared.error.Error.{Error}
 use Rattle.sqlite.proofs.Callers.{one_permutation}
 use Rattle.sqlite_trees.specs.declared.memory.MemStore.{MemStore}
 use Rattle.sqlite.specs.Tree.{IsAscending}
-use Rattle.sqlite_trees.proofs.ListLemmas.{ascending-map, IsPermutation-filter}
+use Rattle.sqlite_trees.proofs.ListLemmas.{all-append, ascending-map, IsPermutation-filter}
 use Rattle.txc_stamp.specs.declared.stamp.TheConstants.{LAST_STAMP}
 use Rattle.txc_rows.specs.Values.{RowValue, IsRow}
 use Rattle.txc_rows.specs.States.{is_at}
@@ -72,6 +72,7 @@ module _ (t i g : ℕ) (one : Placed) (key : has_key t i g one ≡ true) (dead :
   untouched : (y : Placed) → has_key one.version.row.table one.version.row.id one.version.row.group y ≡ false → IsOneCurrent one y → is_touched t i g y ≡ false
   untouched y off alone = go (is_at t i y.version.row) refl (is_current y.version) refl (in_group g y) refl
     where
+      same : (one.version.row.table ≡ t) × (one.version.row.id ≡ i) × (one.version.row.group ≡ g)
       same = key_is t i g one key
 
       go : (a : Bool) → is_at t i y.version.row ≡ a → (b : Bool) → is_current y.version ≡ b → (c : Bool) → in_group g y ≡ c → is_touched t i g y ≡ false
@@ -83,7 +84,6 @@ module _ (t i g : ℕ) (one : Placed) (key : has_key t i g one ≡ true) (dead :
   pub one_touched : (xs : List Placed) → IsIn one xs → HaveOwnKeys xs → IsAscending IsOneCurrent xs → filter (is_touched t i g) xs ≡ one ∷ []
   one_touched [] there own alone = absurd there
   one_touched (x ∷ xs) (inl same) own alone =
-      let k = key_is t i g one key in
       rw (← same) (rw touched (ap (λ rest. one ∷ rest) (none xs (rw (← same) at own.0) (rw (← same) at alone.0))))
     where
       touched : is_touched t i g one ≡ true
@@ -94,7 +94,9 @@ module _ (t i g : ℕ) (one : Placed) (key : has_key t i g one ≡ true) (dead :
       none (y ∷ ys) off only = rw (untouched y off.0 only.0) (none ys off.1 only.1)
   one_touched (x ∷ xs) (inr later) own alone =
       let off = there xs later own.0 alone.0 in
-      rw (untouched x (sym (key_turned _ _ _ _ _ _) ∙ off.0) (one_turned x one off.1)) (one_touched xs later own.1 alone.1)
+      let turned : has_key one.version.row.table one.version.row.id one.version.row.group x ≡ false
+      = key_turned x.version.row.table x.version.row.id x.version.row.group one.version.row.table one.version.row.id one.version.row.group ∙ off.0 in
+      rw (untouched x turned (one_turned x one off.1)) (one_touched xs later own.1 alone.1)
     where
       there : (ys : List Placed) → IsIn one ys → AllByRecursion (λ y. has_key x.version.row.table x.version.row.id x.version.row.group y ≡ false) ys → AllByRecursion (IsOneCurrent x) ys
           → (has_key x.version.row.table x.version.row.id x.version.row.group one ≡ false) × IsOneCurrent x one
@@ -126,6 +128,11 @@ others_put row s place latest x h off = go (length (filter (has_key row.table ro
     go : (b : Bool) → Contains (cond b (latest ++ new_placed place row s ∷ []) (map (renewed place row s) latest)) x
     go true = contains_it _ x (in_left x latest _ (is_in latest x h))
     go false = contains_it _ x (in_mapped (renewed place row s) x latest (rw off refl) (is_in latest x h))
+
+-- more that are known
+pub among_more : (latest old more : List Placed) (b : Bool) → AreAmong latest old → AreAmong latest more → AreAmong latest (if b then old ++ more else old)
+among_more latest old more true before added = all-append (λ x. Contains latest x) old more before added
+among_more latest old more false before added = before
 
 -- what is known of others is known still
 pub known_still : (t i : ℕ) (old new known : List Placed) → KeepsOthers t i old new → AreAmong old known → AreAmong new (filter (λ x. not (is_at t i x.version.row)) known)

@@ -23,12 +23,12 @@ use crate::store_error::{MAX_MATCHING, StoreError};
 use crate::version::Versioned;
 use crate::writes::write_all;
 use sqlite::{Connection, MemStore};
-use std::alloc::Global;
+use std::alloc::{AllocError, Global};
 use std::marker::Model;
 use txc_stamp::Stamp;
 use txc_tags::Table;
 
-/// So many last versions are known at least before they are forgotten.
+/// Where so many last versions are known, they are forgotten for others.
 const MOST_KNOWN: usize = 1024;
 
 /// Row versions in a store in memory: the last of each table, id and group in a table of SQLite, and those that later ones
@@ -165,6 +165,18 @@ fn add_copies(
     Ok(())
 }
 
+/// The versions are known with the others, or in place of them where those are many.
+fn add_known(known: &mut Vec<Placed>, more: Vec<Placed>) -> Result<(), AllocError>
+    ensures { (latest : _) → AreAmong latest known.old.items → AreAmong latest more.items → AreAmong latest known.new.items }
+{
+    if known.len() >= MOST_KNOWN {
+        *known = more;
+        return Ok(());
+    }
+    let mut more = more;
+    known.append(&mut more)
+}
+
 /// The last versions of a table and id that did not die before the stamp come to the found ones, and are known.
 fn find_row(
     conn: &mut Connection<MemStore>,
@@ -188,9 +200,9 @@ fn find_row(
     if rows.len() > MAX_MATCHING - found.len() {
         return Err(StoreError::TooManyRows);
     }
-    let mut placed = all_placed_from(alloc, table, &rows)?;
+    let placed = all_placed_from(alloc, table, &rows)?;
     add_copies(alloc, &placed, found)?;
-    known.append(&mut placed)?;
+    add_known(known, placed)?;
     Ok(())
 }
 
@@ -356,9 +368,6 @@ impl VersionRows {
         ensures refused { result ≡ Err StoreError.TooManyRows
             → MAX_MATCHING < length (filter (suits query.now) self.old) }
     {
-        if self.known.len() >= MOST_KNOWN {
-            self.known.clear();
-        }
         find_current(
             &mut self.conn,
             &mut self.known,

@@ -1,6 +1,4 @@
 use Rattle.std.proofs.Common.{◌≡◌, ◌-◌, ◌++◌, ◌<◌, ◌≤◌, length, map, arith, rules}
-use Rattle.std.specs.List.{Contains}
-use Rattle.sqlite_trees.proofs.ListLemmas.{all-append}
 use Rattle.txc_rows.specs.declared.store_error.TheConstants.{MAX_MATCHING}
 use Rattle.txc_rows.specs.Placed.{version_of}
 use Rattle.txc_rows.specs.Stored.{placed_from}
@@ -14,12 +12,15 @@ returns-then-len-clause-refused c = λ _.
     let many : MAX_MATCHING - length c.args.found.now.items < length rows = search arith in
     row_many c.args.table c.args.id c.args.from (latest_in c.args.conn.now) rows c.in_ok-rows.ensures.versions c.args.found.now.items c.requires.few many
 
+pub returns-in_err-add_known-clause-known : goal.returns-in_err-add_known-clause-known
+returns-in_err-add_known-clause-known c =
+    let is : c.in_ok-placed.placed.items ≡ map placed_from c.in_ok-rows.rows.items = rw c.deref.ensures.value at c.in_ok-placed.ensures in
+    c.add_known.ensures _ c.requires.known (row_among c.args.table c.args.id c.args.from (latest_in c.args.conn.now) c.in_ok-rows.rows.items c.in_ok-rows.ensures.versions c.in_ok-placed.placed.items is)
+
 pub returns-clause-known : goal.returns-clause-known
 returns-clause-known c =
-    let rows = c.in_ok-rows.rows.items in
-    let is : c.in_ok-placed.placed.items ≡ map placed_from rows = rw c.deref.ensures.value at c.in_ok-placed.ensures in
-    let among = row_among c.args.table c.args.id c.args.from (latest_in c.args.conn.now) rows c.in_ok-rows.ensures.versions c.in_ok-placed.placed.items is in
-    rw c.in_ok-append.ensures.items (all-append (λ x. Contains (latest_in c.args.conn.now) x) c.args.known.now.items c.in_ok-placed.placed.items c.requires.known among)
+    let is : c.in_ok-placed.placed.items ≡ map placed_from c.in_ok-rows.rows.items = rw c.deref.ensures.value at c.in_ok-placed.ensures in
+    c.add_known.ensures _ c.requires.known (row_among c.args.table c.args.id c.args.from (latest_in c.args.conn.now) c.in_ok-rows.rows.items c.in_ok-rows.ensures.versions c.in_ok-placed.placed.items is)
 
 pub returns-clause-finds : goal.returns-clause-finds
 returns-clause-finds c =
