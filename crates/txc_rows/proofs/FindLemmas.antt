@@ -110,10 +110,11 @@ module _ (q : Query) (from : ℕ) (replaced : List Placed) (h : Held MemStore) w
     pub replaced_many : MAX_MATCHING < length found + length (asked q from replaced) → MAX_MATCHING < length of_all
     replaced_many many = omega (arith, many, length_permutation _ _ so_far, length-append found (asked q from replaced))
 
+    pub found_both : (all : List Versioned) → IsFinding q from replaced found all → IsPermutation of_all all
+    found_both all finding = rw finding.are (IsPermutation-trans _ _ _ so_far (IsPermutation-append_right found _ _ finding.same))
+
     pub found_all : (all sorted : List Versioned) → IsFinding q from replaced found all → IsPermutation all sorted → IsSorted version_cmp sorted → Finds q (left_from from (versions_of replaced h)) sorted
-    found_all all sorted finding same sorts =
-        let both : IsPermutation of_all all = rw finding.are (IsPermutation-trans _ _ _ so_far (IsPermutation-append_right found _ _ finding.same)) in
-        record { same = IsPermutation-trans _ _ _ both same; sorted = sorts }
+    found_all all sorted finding same sorts = record { same = IsPermutation-trans _ _ _ (found_both all finding) same; sorted = sorts }
 
 -- what is found answers the query in each kept state
 pub all_answer : (q : Query) (vs : List Versioned) (r : Result (Vec Versioned Global) StoreError) → IfOk r (λ found. Finds q vs found.items) → IfOk r (λ found. AnswersStates q vs found.items)

@@ -284,15 +284,13 @@ fn find_last(
     ensures refused { result ≡ Err StoreError.TooManyRows
         → MAX_MATCHING < length (filter (suits query.now) (left_from from (versions_of replaced.now conn.old))) }
 {
-    if replaced.len() > MAX_MATCHING {
-        return find_all(conn, replaced, alloc, query, from);
-    }
     let mut last = Vec::new(alloc);
     find_known(conn, known, alloc, query, from, &mut last)?;
     if replaced.len() <= MAX_MATCHING - last.len() {
         return Ok(last);
     }
-    find_all(conn, replaced, alloc, query, from)
+    replaced.find(alloc, query, from, &mut last)?;
+    Ok(last)
 }
 
 /// The versions that match and have not died, by id and then by birth.
