@@ -3,10 +3,11 @@ use std::hint::spin_loop;
 use std::sync::{Mutex, MutexGuard, Wait};
 
 /// How often the lock is tried before the thread sleeps.
-const TRIES: u32 = 64;
+const TRIES: u32 = 500;
 
-/// How long a thread pauses at most between two tries, in hints to the processor.
-const MOST_PAUSES: u32 = 32;
+/// How long a thread pauses at most between two tries, in hints to the processor. With these numbers it tries
+/// for some 0.4 milliseconds, in which a database answers several queries.
+const MOST_PAUSES: u32 = 16;
 
 // More pauses after each try, since those who try slow down who holds the lock.
 fn pause_after(tried: u32) {
