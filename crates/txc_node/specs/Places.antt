@@ -1,5 +1,5 @@
 -- Where an entry stands: its key, and its first stamp.
-use Rattle.std.proofs.Common.{◌≡◌, ◌==◌, ◌&&◌, Bool, ℕ, true, refl, ap, subst, ◌∙◌}
+use Rattle.std.proofs.Common.{◌≡◌, ◌==◌, ◌&&◌, ◌+◌, ◌*◌, Bool, ℕ, true, refl, ap, subst, ◌∙◌}
 use Rattle.std.specs.Bool.{Decides}
 use Rattle.std.specs.Hash.{HashWrites, same_Alike}
 use borrow.Author.Tests.{eqb-true, eq-eqb}
@@ -7,6 +7,7 @@ use Rattle.txc_tags.proofs.Offered.{same_call_is, same_call_itself, both_true, a
 use Rattle.txc_tags.specs.Keys.{Call, same_call}
 use Rattle.txc_node.specs.declared.entry.Entry.{Entry}
 use Rattle.txc_node.specs.declared.place.Place.{Place}
+use Rattle.txc_node.specs.declared.place.TheConstants.{STAMPS}
 
 -- the place of a key and a first stamp
 abbrev pub place_at : Call → ℕ → Place
@@ -15,6 +16,10 @@ place_at key lo = record { key = key; lo = lo }
 -- the place of an entry
 abbrev pub place_of : Entry → Place
 place_of e = place_at e.key e.reach.lo
+
+-- the function and the first stamp in one number
+abbrev pub head_of : Place → ℕ
+head_of p = p.key.function * STAMPS + p.lo
 
 -- the same key and the same first stamp
 abbrev pub equal_places : Place → Place → Bool

@@ -1,10 +1,13 @@
 //! Where an entry stands.
 ghost use Rattle.std.specs.Prelude.{◌≡◌};
-ghost use Rattle.txc_node.specs.Places.{place_at};
+ghost use Rattle.txc_node.specs.Places.{place_at, head_of};
 
 use std::hash::{Hash, Hasher};
 use txc_stamp::Stamp;
 use txc_tags::Key;
+
+// More than there are stamps.
+const STAMPS: u64 = 4_294_967_296;
 
 /// Where an entry stands: its key, and its first stamp.
 #[derive(Debug, Drop)]
@@ -22,6 +25,13 @@ impl Place {
             key: key.copy(),
             lo,
         }
+    }
+
+    // The function and the first stamp in one number, so that a hasher takes both at once.
+    fn head(&self) -> u64
+        ensures { result ≡ head_of self.now }
+    {
+        u64::from(self.key.function()) * STAMPS + u64::from(self.lo.number())
     }
 
     /// An equal place.
@@ -54,17 +64,16 @@ impl Eq for Place {
 
 impl Hash for Place {
     ghost use Rattle.std.specs.Prelude.{◌++◌};
+    ghost use Rattle.std.specs.List.{flat_map};
     ghost use Rattle.std.specs.Hash as fed;
-    ghost use Rattle.txc_node.specs.Places.{equal_places_alike};
+    ghost use Rattle.txc_node.specs.Places.{equal_places_alike, head_of};
 
-    ghost hash_input = { λ p. fed.u8 p.key.function ++ (fed.slice fed.u32 p.key.args ++ fed.u32 p.lo) };
+    ghost hash_input = { λ p. fed.u64 (head_of p) ++ flat_map fed.u32 p.key.args };
 
-    ghost respects_eq = { equal_places_alike (λ p. fed.u8 p.key.function ++ (fed.slice fed.u32 p.key.args ++ fed.u32 p.lo)) };
+    ghost respects_eq = { equal_places_alike (λ p. fed.u64 (head_of p) ++ flat_map fed.u32 p.key.args) };
 
     fn hash<H: Hasher>(&self, state: &mut H) {
-        let (function, args) = (self.key.function(), self.key.args());
-        function.hash(state);
-        args.hash(state);
-        self.lo.number().hash(state);
+        self.head().hash(state);
+        u32::hash_slice(self.key.args(), state);
     }
 }
