@@ -1,9 +1,11 @@
 //! Places that are listed under the same rows.
 ghost use Rattle.std.specs.Prelude.{List, ◌≡◌, ◌∷◌, [], true, false, OnOk, IsTrue, IsFalse};
+ghost use Rattle.std.specs.List.{AllByRecursion};
 ghost use Rattle.txc_node.specs.declared.place.Place.{Place};
 ghost use Rattle.txc_node.specs.Places.{equal_places};
-ghost use Rattle.txc_node.specs.Indexed.{has_place, is_live};
+ghost use Rattle.txc_node.specs.Indexed.{Closes, IsSpared, has_place, is_live};
 
+use crate::closing::Closing;
 use crate::keyed::KeyedEntries;
 use crate::place::Place;
 use indexmap::IndexSet;
@@ -108,6 +110,31 @@ impl Bucket {
         }
         self.others.swap_remove(place);
         true
+    }
+
+    /// Closes what an event invalidates at these places, and counts it. It keeps those at which still valid
+    /// entries stand, and returns with the count whether there are any.
+    pub(crate) fn close(
+        &mut self,
+        entries: &mut KeyedEntries,
+        closing: &Closing<'_>,
+    ) -> (usize, bool)
+        ensures closes { Closes closing.now.stamp closing.now.tags.now entries.old entries.new result.0 }
+        ensures spared { AllByRecursion (IsSpared closing.now.stamp closing.now.tags.now entries.new.entries)
+            self.old }
+        ensures kept { IsTrue result.1 → (q : Place) → is_live entries.new.entries q ≡ true
+            → has_place self.old q ≡ true → has_place self.new q ≡ true }
+        ensures none { IsFalse result.1 → (q : Place) → has_place self.old q ≡ true
+            → is_live entries.new.entries q ≡ false }
+    {
+        let _len = entries.len();
+        let count = closing.at_each(entries, self.others.as_slice());
+        clean(&mut self.others, entries);
+        let (closed, is_live) = entries.close_at(&self.first, closing);
+        if is_live {
+            return (count + closed, true);
+        }
+        (count + closed, self.drop_first())
     }
 
     /// Keeps those at which still valid entries stand, and says whether there are any.
