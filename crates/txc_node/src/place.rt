@@ -2,6 +2,7 @@
 ghost use Rattle.std.specs.Prelude.{◌≡◌};
 ghost use Rattle.txc_node.specs.Places.{place_at, head_of};
 
+use crate::mixing::{mix, same_call};
 use std::hash::{Hash, Hasher};
 use txc_stamp::Stamp;
 use txc_tags::Key;
@@ -27,7 +28,7 @@ impl Place {
         }
     }
 
-    // The function and the first stamp in one number, so that a hasher takes both at once.
+    // The function and the first stamp in one number.
     fn head(&self) -> u64
         ensures { result ≡ head_of self.now }
     {
@@ -51,7 +52,7 @@ impl PartialEq for Place {
     ghost laws = { partial_equiv_from_equiv (decided equal_places equal_places_decides) };
 
     fn eq(&self, other: &Place) -> bool {
-        self.key == other.key && self.lo == other.lo
+        same_call(&self.key, &other.key) && self.lo == other.lo
     }
 }
 
@@ -63,17 +64,15 @@ impl Eq for Place {
 }
 
 impl Hash for Place {
-    ghost use Rattle.std.specs.Prelude.{◌++◌};
-    ghost use Rattle.std.specs.List.{flat_map};
+    ghost use Rattle.std.specs.List.{fold};
     ghost use Rattle.std.specs.Hash as fed;
-    ghost use Rattle.txc_node.specs.Places.{equal_places_alike, head_of};
+    ghost use Rattle.txc_node.specs.Places.{equal_places_alike, head_of, mixed};
 
-    ghost hash_input = { λ p. fed.u64 (head_of p) ++ flat_map fed.u32 p.key.args };
+    ghost hash_input = { λ p. fed.u64 (fold mixed (head_of p) p.key.args) };
 
-    ghost respects_eq = { equal_places_alike (λ p. fed.u64 (head_of p) ++ flat_map fed.u32 p.key.args) };
+    ghost respects_eq = { equal_places_alike (λ p. fed.u64 (fold mixed (head_of p) p.key.args)) };
 
     fn hash<H: Hasher>(&self, state: &mut H) {
-        self.head().hash(state);
-        u32::hash_slice(self.key.args(), state);
+        mix(self.head(), self.key.args()).hash(state);
     }
 }
