@@ -7,8 +7,8 @@ ghost use Rattle.txc_node.specs.Indexed.{Closes, IsSpared, has_place, is_live};
 
 use crate::closing::Closing;
 use crate::keyed::KeyedEntries;
+use crate::others::{Others, is_live};
 use crate::place::Place;
-use indexmap::IndexSet;
 use std::alloc::{AllocError, Global};
 use std::marker::Model;
 
@@ -16,7 +16,7 @@ use std::marker::Model;
 #[derive(Debug, Drop)]
 pub(crate) struct Bucket {
     first: Place,
-    others: IndexSet<Place>,
+    others: Others,
 }
 
 impl Model for Bucket {
@@ -25,43 +25,17 @@ impl Model for Bucket {
 
     ghost Value = { List Place };
 
-    ghost view = { λ b. b.first ∷ b.others.keys };
-}
-
-// Whether a still valid entry stands at a place.
-fn is_live(entries: &KeyedEntries, place: &Place) -> bool
-    ensures { result ≡ is_live entries.now.entries place.now }
-{
-    match entries.get(place) {
-        None => false,
-        Some(stored) => stored.reach.is_still(),
-    }
-}
-
-// Keeps of the places those at which still valid entries stand.
-fn clean(places: &mut IndexSet<Place>, entries: &KeyedEntries)
-    ensures { (q : Place) → is_live entries.now.entries q ≡ true
-        → has_place places.old.keys q ≡ true → has_place places.new.keys q ≡ true }
-{
-    for i in (0..places.len()).rev() {
-        let stays = match places.get_index(i) {
-            None => true,
-            Some(place) => is_live(entries, place),
-        };
-        if !stays {
-            places.swap_remove_index(i);
-        }
-    }
+    ghost view = { λ b. b.first ∷ b.others };
 }
 
 impl Bucket {
     /// One place.
-    pub(crate) fn one(alloc: Global, place: Place) -> Bucket
+    pub(crate) fn one(place: Place) -> Bucket
         ensures { result ≡ place ∷ [] }
     {
         Bucket {
             first: place,
-            others: IndexSet::new(alloc),
+            others: Others::none(),
         }
     }
 
@@ -73,12 +47,12 @@ impl Bucket {
     }
 
     /// Puts a place among them.
-    pub(crate) fn add(&mut self, place: &Place) -> Result<(), AllocError>
+    pub(crate) fn add(&mut self, alloc: Global, place: &Place) -> Result<(), AllocError>
         ensures listed { OnOk result (has_place self.new place.now ≡ true) }
         ensures kept { (q : Place) → has_place self.old q ≡ true → has_place self.new q ≡ true }
     {
         if self.first != *place {
-            self.others.insert(place.copy())?;
+            self.others.add(alloc, place.copy())?;
         }
         Ok(())
     }
@@ -108,7 +82,7 @@ impl Bucket {
         if self.first == *place {
             return self.drop_first();
         }
-        self.others.swap_remove(place);
+        self.others.remove(place);
         true
     }
 
@@ -129,7 +103,7 @@ impl Bucket {
     {
         let _len = entries.len();
         let count = closing.at_each(entries, self.others.as_slice());
-        clean(&mut self.others, entries);
+        self.others.clean(entries);
         let (closed, is_live) = entries.close_at(&self.first, closing);
         if is_live {
             return (count + closed, true);
@@ -144,7 +118,7 @@ impl Bucket {
         ensures none { IsFalse result → (q : Place) → has_place self.old q ≡ true
             → is_live entries.now.entries q ≡ false }
     {
-        clean(&mut self.others, entries);
+        self.others.clean(entries);
         if is_live(entries, &self.first) {
             return true;
         }

@@ -23,6 +23,7 @@ pub mod laws;
 mod mixing;
 mod node;
 mod op;
+mod others;
 mod place;
 mod record;
 mod refusal;

@@ -38,9 +38,9 @@ fn list(buckets: &mut Buckets, alloc: Global, rows: Rows, place: &Place) -> Resu
         → lists_rows buckets.new.entries r q ≡ true }
 {
     match buckets.get_mut(&rows) {
-        Some(bucket) => bucket.add(place),
+        Some(bucket) => bucket.add(alloc, place),
         None => {
-            buckets.insert(rows, Bucket::one(alloc, place.copy()))?;
+            buckets.insert(rows, Bucket::one(place.copy()))?;
             Ok(())
         }
     }
