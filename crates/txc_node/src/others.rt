@@ -1,5 +1,5 @@
 //! Places that stand behind another one.
-ghost use Rattle.std.specs.Prelude.{◌≡◌, ◌++◌, [], true, false, OnOk, IfOk};
+ghost use Rattle.std.specs.Prelude.{◌≡◌, ◌<◌, ◌↔◌, ◌++◌, [], length, true, false, IsSome, OnOk, IfOk};
 ghost use Rattle.std.specs.Option.{option_to_list};
 ghost use Rattle.txc_node.specs.declared.place.Place.{Place};
 ghost use Rattle.txc_node.specs.Places.{equal_places};
@@ -110,7 +110,8 @@ impl Others {
 
     /// Takes the last one out.
     pub(crate) fn pop(&mut self) -> Option<Place>
-        ensures { self.old ≡ self.new ++ option_to_list result }
+        ensures places { self.old ≡ self.new ++ option_to_list result }
+        ensures found { IsSome result ↔ (0 < length self.old) }
     {
         match &mut self.set {
             None => None,
