@@ -1,6 +1,6 @@
 use Rattle.std.proofs.Common.{Some, None, ◌∙◌}
 use Rattle.txc_node.proofs.Buckets.{live_stored}
-use Rattle.txc_node.proofs.bucket.is_live.Goals as goal
+use Rattle.txc_node.proofs.others.is_live.Goals as goal
 
 pub returns-in-None : goal.returns-in-None
 returns-in-None c = live_stored c.args.entries.now.entries c.args.place.now None (rw c.in-None.is at c.get.ensures)
