@@ -13,8 +13,13 @@
 mod draft;
 mod laws;
 mod pen;
+mod posted;
+mod poster;
 mod row;
 mod seen;
+mod segment;
+mod walker;
+mod window;
 
 pub use draft::{Draft, Drafts};
 pub use laws::{
@@ -22,4 +27,9 @@ pub use laws::{
     prefix_places,
 };
 pub use pen::Pen;
+pub use posted::{Posted, Posts};
+pub use poster::{Poster, Slip};
 pub use row::{AppendError, EventRow, Front, MAX_CAPACITY, Refused};
+pub use segment::{SEGMENT_LEN, Segment};
+pub use walker::Walker;
+pub use window::{Noted, Window};
