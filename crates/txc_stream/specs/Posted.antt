@@ -1,17 +1,18 @@
 -- What is posted of a history, and what a walker has found of it.
-use Rattle.std.specs.Prelude.{◌≡◌, ℕ, ◌+◌, ◌<◌, ◌≤◌, ◌⊎◌, Bool, true, List, [], ◌∷◌, ◌++◌, length, Option, Some, refl}
+use Rattle.std.specs.Prelude.{◌≡◌, ℕ, ◌+◌, ◌<◌, ◌⊎◌, Bool, true, false, List, [], ◌∷◌, ◌++◌, length, Option, Some, refl}
 use Rattle.std.specs.Coded.{Coded, code_by, coded×, coded_list, coded_ℕ, coded_bool, coded_option}
-use mathlib.Core.List.{IsPrefix}
 use Rattle.txc_stream.specs.Names.{Name, stored}
 use Rattle.txc_stream.specs.Shown.{Shown}
 use Rattle.txc_stream.specs.declared.segment.TheConstants.{SEGMENT_LEN}
 
--- the list ends with a record of which this is a note
-pub record EndsNoted {T N : Type 0} (notes : T → N → Type 0) (list : List T) (note : N) : Type 0 where
-  pub before : List T
-  pub last : T
-  pub is : list ≡ before ++ last ∷ []
-  pub noted : notes last note
+-- ---- shelves
+
+-- some at the beginning were dropped; the others are as they were
+pub record IsLeft {A : Type 0} (all left : List A) : Type 0 where
+  pub dropped : List A
+  pub is : all ≡ dropped ++ left
+
+-- ---- posters
 
 -- where the last segment begins, and what was posted in its cells
 pub record PosterValue (T : Type 0) : Type 0 where
@@ -34,38 +35,35 @@ pub record HasRoomMade {T : Type 0} (old new : PosterValue T) : Type 0 where
   pub room : length new.posted < SEGMENT_LEN
   pub either : (new ≡ old) ⊎ (new ≡ record { from = old.from + SEGMENT_LEN; posted = [] })
 
--- the records that a walker has seen, how many of them it has taken, and whether it has found the note of the next
+-- ---- walkers
+
+-- the records that a walker has seen: those that it has taken, and, where it has found one more, this one
 pub record WalkerValue (T : Type 0) : Type 0 where
   pub list : List T
-  pub taken : ℕ
   pub found : Bool
 
 -- the code of a walker, made of that of its records
 abbrev pub walker_code : {T : Type 0} → Coded T → Coded (WalkerValue T)
 walker_code {T} c =
-    code_by (List T × (ℕ × Bool)) (coded× (coded_list c) (coded× coded_ℕ coded_bool))
-    (λ w. (w.list, (w.taken, w.found))) (λ p. record { list = p.0; taken = p.1.0; found = p.1.1 }) (λ _. refl)
+    code_by (List T × Bool) (coded× (coded_list c) coded_bool)
+    (λ w. (w.list, w.found)) (λ p. record { list = p.0; found = p.1 }) (λ _. refl)
 
--- the last cell that was read holds what was posted of the record after those that were taken
-pub record HasFound {T : Type 0} (read : List (Option (List T))) (list : List T) (taken : ℕ) : Type 0 where
+-- the list is the last of those that were read
+pub record IsLastRead {T : Type 0} (read : List (Option (List T))) (list : List T) : Type 0 where
   pub earlier : List (Option (List T))
-  pub posted : List T
-  pub last : read ≡ earlier ++ Some posted ∷ []
-  pub begins : IsPrefix posted list
-  pub next : length posted ≡ taken + 1
+  pub is : read ≡ earlier ++ Some list ∷ []
 
--- what a walker has seen is of the named history, what it reads are the cells of its segment, and what it says
--- that it has found it has
+-- what a walker has seen is of the named history, what it reads are the cells of its segment, and where it has
+-- found a record, it has read what was posted of it
 pub record IsWalker {T : Type 0} (history : Name) (cells : List ℕ) (read : Shown (Option (List T))) (front : Shown T)
-    (taken : ℕ) (found : Bool) : Type 0 where
+    (found : Bool) : Type 0 where
   pub named : front.name ≡ history
   pub reads : read.name ≡ stored cells
-  pub seen : taken ≤ length front.list
-  pub has : found ≡ true → HasFound read.list front.list taken
+  pub has : found ≡ true → IsLastRead read.list front.list
 
--- ---- shelves
-
--- some at the beginning were dropped; the others are as they were
-pub record IsLeft {A : Type 0} (all left : List A) : Type 0 where
-  pub dropped : List A
-  pub is : all ≡ dropped ++ left
+-- it found the record after those that it had seen
+pub record HasFoundNext {T : Type 0} (old new : WalkerValue T) : Type 0 where
+  pub taken : old.found ≡ false
+  pub found : new.found ≡ true
+  pub next : T
+  pub is : new.list ≡ old.list ++ next ∷ []

@@ -2,7 +2,7 @@
 
 ghost use Rattle.std.specs.Prelude.{◌≡◌, ◌+◌, ◌<◌, ◌++◌, ◌∷◌, [], true, false, length, Some, IfOk, OnOk, OnErr};
 ghost use Rattle.std.specs.Arc.{arc_value};
-ghost use Rattle.txc_stream.specs.Posted.{EndsNoted, HasRoomMade};
+ghost use Rattle.txc_stream.specs.Posted.{HasRoomMade};
 ghost use Rattle.txc_stream.specs.declared.segment.TheConstants.{SEGMENT_LEN};
 
 use crate::posted::{Posted, Posts};
@@ -82,11 +82,11 @@ impl<T: Drop, N: Drop, P: Posts<T, N>> Poster<T, N, P> {
         Ok(())
     }
 
-    /// Posts a note of the last record that the front shows. `false` where its cell was not free: then nobody is
+    /// Posts a note of what the front shows, for those who stand before the last record of it. `false` where its cell was not free: then nobody is
     /// told of this record, nor of a later one.
     pub fn post(&mut self, slip: Slip<T, N, P>, note: N, front: Front<T>) -> bool
         requires history { front.name ≡ P.history }
-        requires noted { EndsNoted P.notes front.list note }
+        requires noted { P.notes front.list note }
         requires room { length self.old.posted < SEGMENT_LEN }
         ensures posted { result ≡ true
             → self.new ≡ record self.old { posted = self.old.posted ++ Some front.list ∷ [] } }
@@ -100,11 +100,11 @@ impl<T: Drop, N: Drop, P: Posts<T, N>> Poster<T, N, P> {
         }
     }
 
-    /// One who stands after the records that the front shows, and is told of those that are posted from now on.
+    /// One who has taken the records that the front shows, and walks through those that are posted from now on.
     pub fn walker(&self, front: &Front<T>) -> Result<Walker<T, N, P>, AllocError>
         requires { front.now.name ≡ P.history }
         ensures { IfOk result (λ walker.
-            walker ≡ record { list = front.now.list; taken = length front.now.list; found = false }) }
+            walker ≡ record { list = front.now.list; found = false }) }
     {
         let _shown = self.shown.len();
         let shelf = Arc::try_clone(&self.shelf)?;

@@ -1,6 +1,6 @@
 //! Segments of cells, and the shelf on which they stand.
 
-ghost use Rattle.std.specs.Prelude.{◌≡◌, ◌++◌, ◌∷◌, [], length, IfOk, IfSome, OnOk, OnErr};
+ghost use Rattle.std.specs.Prelude.{◌≡◌, ◌<◌, ◌++◌, ◌∷◌, [], true, length, IfOk, IfSome, OnOk, OnErr};
 ghost use Rattle.std.specs.Arc.{arc_value};
 ghost use Rattle.txc_stream.specs.Posted.{IsLeft};
 ghost use Rattle.txc_stream.specs.declared.segment.TheConstants.{SEGMENT_LEN};
@@ -58,7 +58,9 @@ impl<T: Drop, N: Drop, P: Posts<T, N>> Shelf<T, N, P> {
     }
 
     // Whether nobody stands in the first segment.
-    fn is_first_left(&self) -> bool {
+    fn is_first_left(&self) -> bool
+        ensures { result ≡ true → 0 < length self.now.segments.items }
+    {
         match self.segments.first() {
             Some(segment) => Arc::strong_count(segment) == 1,
             None => false,
