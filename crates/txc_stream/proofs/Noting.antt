@@ -1,5 +1,6 @@
 -- Notes of records, in their order.
-use Rattle.std.proofs.Common.{◌≡◌, ℕ, zero, suc, ◌+◌, ◌-◌, ◌<◌, ◌≤◌, List, [], ◌∷◌, ◌++◌, length, drop, IfSome, Some, slice_get, slice_index_or, refl, sym, ap, subst, ◌∙◌, arith}
+use Rattle.std.proofs.Common.{◌≡◌, ℕ, zero, suc, ◌+◌, ◌-◌, ◌<◌, ◌≤◌, List, [], ◌∷◌, ◌++◌, length, drop, IfSome, Some, slice_get, slice_index_or, max, refl, sym, ap, subst, ◌∙◌, arith}
+use Rattle.std.proofs.Math.Nat.{le-max_right, max-le}
 use Rattle.std.proofs.lemmas.List.{drop-drop, drop-append-le, length-drop}
 use Rattle.txc_stream.specs.Windows.{AreNotes}
 
@@ -53,3 +54,10 @@ module _ {T N : Type 0} (notes : T → N → Type 0) where
   -- one note fewer at the beginning
   pub kept_rest : (xs : List T) (first : ℕ) (ns : List N) → AreNotes notes (drop first xs) ns → AreNotes notes (drop (first + 1) xs) (drop 1 ns)
   kept_rest xs first ns are = subst (λ ys. AreNotes notes ys (drop 1 ns)) (drop-drop 1 first xs) (notes_rest (drop first xs) ns are)
+
+-- the notes before a place are dropped, one after the other
+pub forget_more : (first now next before : ℕ) → now ≤ max first before → now < before → next ≡ now + 1 → next ≤ max first before
+forget_more first now next before high more is = omega (arith, more, is, le-max_right first before)
+
+pub forget_done : (first now before : ℕ) → first ≤ now → now ≤ max first before → before ≤ now → now ≡ max first before
+forget_done first now before low high all = omega (arith, high, max-le {a = first} {b = before} {k = now} low all)

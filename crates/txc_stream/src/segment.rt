@@ -68,6 +68,7 @@ impl<T: Drop, N: Drop, P: Posts<T, N>> Shelf<T, N, P> {
     }
 
     // Drops the segments that come before those in which somebody stands.
+    #[tactic(auto, using(crate::proofs::Shelves::left_all, crate::proofs::Shelves::left_rest))]
     fn drop_left(&mut self)
         ensures { IsLeft self.old.segments.items self.new.segments.items }
     {
@@ -77,6 +78,7 @@ impl<T: Drop, N: Drop, P: Posts<T, N>> Shelf<T, N, P> {
     }
 
     /// Puts one segment more on the shelf, and drops those at its beginning in which nobody stands.
+    #[tactic(auto, using(crate::proofs::Shelves::left_more))]
     pub(crate) fn add(&mut self, segment: Arc<Segment<T, N, P>>) -> Result<(), AllocError>
         ensures added { OnOk result
             (IsLeft (self.old.segments.items ++ segment ∷ []) self.new.segments.items) }

@@ -126,6 +126,7 @@ impl<T, N: Drop, M: Noted<T, N>> Window<T, N, M> {
     }
 
     /// Drops the notes of the records before a place. Those from there on stay. It takes no memory.
+    #[tactic(auto, using(crate::proofs::Noting::forget_more))]
     pub fn forget(&mut self, before: usize)
         requires { before ≤ length self.old.list }
         ensures { self.new ≡ record self.old { first = max self.old.first before; room = self.new.room } }

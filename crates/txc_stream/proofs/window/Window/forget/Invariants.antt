@@ -8,5 +8,5 @@ invariant-loop-self g l = record {
   high : l.self.first ≤ max l.fn.self.first l.before;
 }
 
-abbrev pub decreases-loop : goal.decreases-loop
-decreases-loop g l = l.before - l.self.first
+abbrev pub decreases-loop-self : goal.decreases-loop-self
+decreases-loop-self g l = l.before - l.self.first
