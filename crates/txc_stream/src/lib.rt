@@ -8,6 +8,9 @@
 //!
 //! A history that is not stored takes no memory and has no end. Whoever has its [`Pen`] lengthens it, and each
 //! front of it shows a beginning of what the pen has written.
+//!
+//! Of such a history a [`Window`] keeps a note of each of the last records. Notes can also be posted, in segments
+//! of cells: a [`Walker`] reads them one after the other, and a segment that each has passed is dropped.
 #![tactic(auto)]
 
 mod draft;
