@@ -7,8 +7,8 @@ usage: beside.py PROGRAM OTHER ROWS..
   ROWS      the sizes of the first table
 
 Both do each operation in turn, and the least of some rounds counts. Queries and what a commit reads are asked where no version has died,
-then 500, then as many as half of the rows; puts where few have died and where half have. Then come the longest of 3,000 puts of one row,
-and the memory of the process after 50,000 more.
+then 500, then as many as half of the rows; puts, by the store alone and by commits, where few have died and where half have. Then come
+the longest of 3,000 puts of one row, and the memory of the process after 50,000 more.
 """
 
 import os
@@ -18,7 +18,12 @@ from times import Bench, ROUNDS, shown
 
 # each operation, how many at a time, and what it answers for one
 QUERIES = {"by id": ("id", 20_000, 1), "group of ten": ("group", 4_000, 10), "range of ten": ("range", 4_000, 10)}
-PUTS = {"a put of a changed row": ("write_1", 40, 1), "256 puts in one write": ("write_256", 1, 256)}
+PUTS = {
+    "a put of a changed row": ("write_1", 40, 1),
+    "256 puts in one write": ("write_256", 1, 256),
+    "a commit of one put": ("commit_1", 40, 1),
+    "a commit of 256 puts": ("commit_256", 1, 256),
+}
 ONES = {"a new id": "add", "a removal": "remove", "a change of group": "move"}
 PURGED = 50_000
 LONGEST = 3_000

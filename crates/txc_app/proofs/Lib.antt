@@ -2,3 +2,4 @@ pub mod Evals
 pub mod Offered
 pub mod Answers
 pub mod Claims
+mod Carried

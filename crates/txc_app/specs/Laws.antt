@@ -2,6 +2,7 @@
 use Rattle.std.specs.Prelude.{ℕ, suc, ◌≡◌, ◌<◌, ◌≤◌, nat_lt, if◌then◌else◌, true, false, List, [], ◌∷◌, length, Some}
 use Rattle.std.specs.List.{AllByRecursion}
 use mathlib.Core.List.{IsPrefix}
+use Rattle.txc_stamp.specs.Interval.{Holds}
 use Rattle.txc_tags.specs.declared.tag.Tag.{Tag}
 use Rattle.txc_tags.specs.Keys.{Call}
 use Rattle.txc_tags.specs.Tags.{sets_match}
@@ -75,3 +76,16 @@ pub record IsDoneAfter (next : Next) (k : Call) (q : Query) (rows : List RowValu
 abbrev pub DoneAfterIsTrue : Type 0
 DoneAfterIsTrue = (next : Next) (L : History) (q : Query) (rows : List RowValue) (e : Entry)
     → RowsHold L q rows (Some e.reach) e.tags → IsDoneAfter next e.key q rows e.value → IsTrueIn next L e
+
+-- ---- another history
+
+-- the entry as it begins there: it is known at one stamp, and still valid
+abbrev pub begun_at : ℕ → Entry → Entry
+begun_at t e = record e { reach = record { lo = t; known = t; still = true } }
+
+-- where two histories have the same state, each at a stamp of its own, an entry that is true in the first, holds
+-- at its stamp and is still valid is true in the other as it begins at that one's stamp
+abbrev pub CarriedIsTrue : Type 0
+CarriedIsTrue = (next : Next) (L M : History) (e : Entry) (t u : ℕ)
+    → state_at L t ≡ state_at M u → u ≤ length M → Holds e.reach t → e.reach.still ≡ true
+    → IsTrueIn next L e → IsTrueIn next M (begun_at u e)

@@ -1,5 +1,5 @@
 //! Laws over the definitions alone. None has anything to run: each one's contract is the law.
-ghost use Rattle.txc_app.specs.Laws.{CallsAreOfFunctionsBelow, EqualAnswersDecide, EventLeaves, RightAnswersGiveTheValue, TrueInLonger, FoundRowsHold, DoneAfterIsTrue};
+ghost use Rattle.txc_app.specs.Laws.{CallsAreOfFunctionsBelow, CarriedIsTrue, EqualAnswersDecide, EventLeaves, RightAnswersGiveTheValue, TrueInLonger, FoundRowsHold, DoneAfterIsTrue};
 
 use txc_db::{states_stay, tags_are_sound};
 
@@ -39,3 +39,9 @@ pub fn true_entries_stay()
 {
     states_stay();
 }
+
+/// A true entry that is still valid goes over to another history: it is true there from a stamp with the same
+/// state on, since what a call comes to depends on the state alone.
+pub fn carried_entries_are_true()
+    ensures { CarriedIsTrue }
+{}

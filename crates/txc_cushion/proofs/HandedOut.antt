@@ -1,17 +1,16 @@
 -- The pins that are handed out.
-use Rattle.std.proofs.Common.{◌≡◌, ℕ, ◌+◌, ◌<◌, ◌≤◌, ◌==◌, Bool, true, false, List, length, map, take, get_or, filter, cond, Some, refl, sym, ◌∙◌, ap, arith, All, Contains, eqb-true}
+use Rattle.std.proofs.Common.{◌≡◌, ℕ, ◌+◌, ◌≤◌, Bool, true, false, List, length, map, take, get_or, filter, cond, Some, refl, arith, All, Contains}
 use Rattle.std.proofs.lemmas.Bool.Decides.{nat_tests}
 use Rattle.std.proofs.lemmas.List.{length-take, length-map}
-use Rattle.std.proofs.lemmas.List.Elements.{All-map, All-take, All-filter, All-weaker, All-contains, All-contains_itself, filter_passes, Contains-get_or}
-use Rattle.std.proofs.lemmas.List.Folds.{Any-from_list_any}
+use Rattle.std.proofs.lemmas.List.Elements.{All-map, All-take, All-filter, All-weaker, All-contains_itself, filter_passes}
 use Rattle.txc_db.specs.History.{History, moment_at, IsAllowed}
 use Rattle.txc_cushion.specs.declared.pin.Pin.{Pin}
 use Rattle.txc_cushion.specs.declared.entry.PinEntry.{PinEntry}
-use Rattle.txc_cushion.specs.declared.limits.TheConstants.{MAX_HANDED_OUT, MAX_USERS}
+use Rattle.txc_cushion.specs.declared.limits.TheConstants.{MAX_HANDED_OUT}
 use Rattle.txc_cushion.specs.Pinning.{Falls}
 use Rattle.txc_cushion.specs.Entries.{may_be_handed_out, is_among, with_user}
 use Rattle.txc_cushion.specs.Cushion.{CushionValue, IsCushion, handed_out}
-use Rattle.txc_cushion.proofs.Falling.{falls_filter, falls_take, falls_pins, falls_map, one_of_each}
+use Rattle.txc_cushion.proofs.Falling.{falls_filter, falls_take, falls_pins, falls_map}
 
 -- the history shows the pin of the entry
 abbrev IsShown : History → PinEntry → Type 0
@@ -24,9 +23,6 @@ handed_is_fresh now staleness at_least e may = grind (arith, nat_tests)
 
 pub handed_is_late : (now staleness at_least : ℕ) (e : PinEntry) → may_be_handed_out now staleness at_least e ≡ true → at_least ≤ e.pin.stamp
 handed_is_late now staleness at_least e may = grind (arith, nat_tests)
-
-pub handed_has_room : (now staleness at_least : ℕ) (e : PinEntry) → may_be_handed_out now staleness at_least e ≡ true → e.users < MAX_USERS
-handed_has_room now staleness at_least e may = grind (arith, nat_tests)
 
 -- ---- what is handed out
 
@@ -72,29 +68,9 @@ module _ (c : CushionValue) (now staleness at_least : ℕ) (is : IsCushion c) wh
       let from : All (λ (e : PinEntry). IsFrom e.pin) (filter test c.entries) = λ k d below. (get_or (filter test c.entries) k d, there k d below, refl, passes k d below) in
       All-map IsFrom (λ (e : PinEntry). e.pin) (take MAX_HANDED_OUT (filter test c.entries)) (All-take (λ (e : PinEntry). IsFrom e.pin) MAX_HANDED_OUT (filter test c.entries) from)
 
-  -- an entry whose stamp is handed out passes the test
-  pub among_passes : (e : PinEntry) → Contains c.entries e → is_among e.pin.stamp (handed_out c now staleness at_least) ≡ true → test e ≡ true
-  among_passes e there among =
-      let any = Any-from_list_any (λ (p : Pin). p.stamp == e.pin.stamp) (handed_out c now staleness at_least) among in
-      found any
-    where
-      found : (k : ℕ) × (p : Pin) × (k < length (handed_out c now staleness at_least)) × (get_or (handed_out c now staleness at_least) k p ≡ p) × ((p.stamp == e.pin.stamp) ≡ true) → test e ≡ true
-      found (k, p, below, at, same) = from (All-contains IsFrom (handed_out c now staleness at_least) p handed_from (k, below, at))
-        where
-          from : IsFrom p → test e ≡ true
-          from (f, f_there, f_pin, passes) =
-              let stamps : f.pin.stamp ≡ e.pin.stamp = ap (λ (q : Pin). q.stamp) f_pin ∙ eqb-true p.stamp e.pin.stamp same in
-              let one : f ≡ e = one_of_each c.entries f e is.falls f_there there stamps in
-              sym (ap test one) ∙ passes
-
   -- a stamp that is handed out is pinned
   pub handed_there : All (λ p. (f : PinEntry) × Contains c.entries f × (f.pin ≡ p)) (handed_out c now staleness at_least)
   handed_there = All-weaker IsFrom (λ (p : Pin). (f : PinEntry) × Contains c.entries f × (f.pin ≡ p)) (λ p from. (from.0, from.1, from.2)) (handed_out c now staleness at_least) handed_from
-
-  -- there is room for a user more
-  pub room_for_users : All (λ e. is_among e.pin.stamp (handed_out c now staleness at_least) ≡ true → e.users < MAX_USERS) c.entries
-  room_for_users = λ k d below among.
-      handed_has_room now staleness at_least (get_or c.entries k d) (among_passes (get_or c.entries k d) (Contains-get_or c.entries k d below) among)
 
 -- ---- the entries after it
 

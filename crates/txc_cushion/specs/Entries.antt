@@ -1,5 +1,5 @@
 -- Pins with their users, and lists of them.
-use Rattle.std.specs.Prelude.{ℕ, ◌+◌, ◌-◌, ◌<◌, nat_le, nat_lt, ◌==◌, ◌&&◌, not, Bool, List, [], ◌∷◌, ◌++◌, map, filter, count_by, AllPairs, if◌then◌else◌}
+use Rattle.std.specs.Prelude.{ℕ, ◌+◌, ◌-◌, ◌<◌, nat_le, nat_lt, ◌==◌, ◌&&◌, not, Bool, true, false, List, [], ◌∷◌, ◌++◌, map, filter, count_by, AllPairs, if◌then◌else◌}
 use Rattle.std.specs.List.{list_any}
 use Rattle.txc_cushion.specs.declared.pin.Pin.{Pin}
 use Rattle.txc_cushion.specs.declared.entry.PinEntry.{PinEntry}
@@ -48,6 +48,13 @@ abbrev pub with_user : List Pin → PinEntry → PinEntry
 with_user pins e = if is_among e.pin.stamp pins then record e { users = e.users + 1 } else e
 
 -- ---- given back, added and retired
+
+-- the stamps stand among those of the entries in this order, each with a user
+abbrev pub stand_in_order : List PinEntry → List ℕ → Bool
+stand_in_order entries [] = true
+stand_in_order [] (s ∷ ss) = false
+stand_in_order (e ∷ es) (s ∷ ss) =
+    if e.pin.stamp == s then nat_lt 0 e.users && stand_in_order es ss else stand_in_order es (s ∷ ss)
 
 -- a user fewer for each time that its stamp is named
 abbrev pub without_users : List ℕ → PinEntry → PinEntry

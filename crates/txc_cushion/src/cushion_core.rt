@@ -5,13 +5,13 @@ ghost use Rattle.txc_cushion.specs.Refusals.{IsAddable, IsAddRefused, HaveUsers,
 
 use crate::entry::PinEntry;
 use crate::error::{AddError, UnknownPin};
-use crate::handing::newest_fresh;
+use crate::handing::hand_out;
 use crate::limits::MAX_PINS;
 use crate::pin::pin_of;
 use crate::pins::Pins;
 use crate::places::{is_pinned, put};
 use crate::retiring::{retirable, retire};
-use crate::users::{add_users, check_users, take_users};
+use crate::users::give_back;
 use std::alloc::{AllocError, Global};
 use std::marker::Model;
 use txc_db::{HistoryFront, Pinned};
@@ -79,9 +79,8 @@ impl CushionCore {
             (λ pin. IsAllowed given.front.history pin.stamp now staleness at_least) given.pins.items) }
         ensures unchanged { OnErr result (self.new ≡ self.old) }
     {
-        let pins = newest_fresh(alloc, &self.entries, now, staleness, at_least)?;
         let front = self.front.again()?;
-        add_users(&mut self.entries, &pins);
+        let pins = hand_out(alloc, &mut self.entries, now, staleness, at_least)?;
         Ok(Pins { pins, front })
     }
 
@@ -113,8 +112,7 @@ impl CushionCore {
         ensures refused { IfErr result (λ unknown.
             IsFirstUnused self.old.entries stamps.now unknown.stamp) }
     {
-        check_users(&self.entries, stamps)?;
-        take_users(&mut self.entries, stamps);
+        give_back(&mut self.entries, stamps)?;
         Ok(())
     }
 

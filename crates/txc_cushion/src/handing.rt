@@ -1,6 +1,6 @@
 //! The pins that are handed out.
-ghost use Rattle.std.specs.Prelude.{◌≡◌, take, filter, IfOk};
-ghost use Rattle.txc_cushion.specs.Entries.{pins_of, may_be_handed_out};
+ghost use Rattle.std.specs.Prelude.{◌≡◌, ◌+◌, ◌≤◌, ◌++◌, ◌∷◌, [], map, filter, take, nat_lt, ◌&&◌, if◌then◌else◌, length, IfOk, OnOk, OnErr, vec_capacity};
+ghost use Rattle.txc_cushion.specs.Entries.{EntriesFall, pins_of, may_be_handed_out, with_user};
 ghost use Rattle.txc_cushion.specs.declared.limits.TheConstants.{MAX_HANDED_OUT};
 
 use crate::entry::PinEntry;
@@ -9,21 +9,68 @@ use crate::pin::Pin;
 use std::alloc::{AllocError, Global};
 use txc_stamp::Stamp;
 
-/// The newest of the pins that may be handed out, as many as are handed out at a time.
-pub(crate) fn newest_fresh(
+// Hands out the pin of the entry, which has one user more then: where it may be handed out, and not as many
+// are as are handed out at a time.
+fn hand_out_one(
+    entry: &mut PinEntry,
+    pins: &mut Vec<Pin>,
+    now: u64,
+    staleness: u64,
+    at_least: Stamp,
+)
+    requires { MAX_HANDED_OUT ≤ vec_capacity pins.old }
+    ensures room { MAX_HANDED_OUT ≤ vec_capacity pins.new }
+    ensures users { entry.new
+        ≡ (if nat_lt (length pins.old.items) MAX_HANDED_OUT && may_be_handed_out now staleness at_least entry.old
+        then record entry.old { users = entry.old.users + 1 } else entry.old) }
+    ensures pins { pins.new.items
+        ≡ (if nat_lt (length pins.old.items) MAX_HANDED_OUT && may_be_handed_out now staleness at_least entry.old
+        then pins.old.items ++ entry.old.pin ∷ [] else pins.old.items) }
+{
+    if pins.len() < MAX_HANDED_OUT && entry.may_be_handed_out(now, staleness, at_least) {
+        pins.push(entry.pin).unwrap();
+        entry.users += 1;
+    }
+}
+
+// Hands out the newest that may be, in one pass.
+fn hand_out_each(
+    entries: &mut [PinEntry],
+    pins: &mut Vec<Pin>,
+    now: u64,
+    staleness: u64,
+    at_least: Stamp,
+)
+    requires falls { EntriesFall entries.old }
+    requires none { pins.old.items ≡ [] }
+    requires room { MAX_HANDED_OUT ≤ vec_capacity pins.old }
+    ensures pins { pins.new.items
+        ≡ pins_of (take MAX_HANDED_OUT (filter (may_be_handed_out now staleness at_least) entries.old)) }
+    ensures users { entries.new ≡ map (with_user (pins_of (take MAX_HANDED_OUT
+        (filter (may_be_handed_out now staleness at_least) entries.old)))) entries.old }
+{
+    for entry in entries.iter_mut() {
+        hand_out_one(entry, pins, now, staleness, at_least);
+    }
+}
+
+/// Hands out the newest of the pins that may be handed out, as many as are handed out at a time, and counts
+/// one user more for each.
+pub(crate) fn hand_out(
     alloc: Global,
-    entries: &[PinEntry],
+    entries: &mut Vec<PinEntry>,
     now: u64,
     staleness: u64,
     at_least: Stamp,
 ) -> Result<Vec<Pin>, AllocError>
-    ensures { IfOk result (λ pins. pins.items
-        ≡ pins_of (take MAX_HANDED_OUT (filter (may_be_handed_out now staleness at_least) entries.now))) }
+    requires { EntriesFall entries.old.items }
+    ensures pins { IfOk result (λ pins. pins.items ≡ pins_of (take MAX_HANDED_OUT
+        (filter (may_be_handed_out now staleness at_least) entries.old.items))) }
+    ensures users { OnOk result (entries.new.items ≡ map (with_user (pins_of (take MAX_HANDED_OUT
+        (filter (may_be_handed_out now staleness at_least) entries.old.items)))) entries.old.items) }
+    ensures unchanged { OnErr result (entries.new.items ≡ entries.old.items) }
 {
-    entries
-        .iter()
-        .filter(|entry| entry.may_be_handed_out(now, staleness, at_least))
-        .take(MAX_HANDED_OUT)
-        .map(|entry| entry.pin)
-        .collect(alloc)
+    let mut pins = Vec::with_capacity(alloc, MAX_HANDED_OUT)?;
+    hand_out_each(entries, &mut pins, now, staleness, at_least);
+    Ok(pins)
 }

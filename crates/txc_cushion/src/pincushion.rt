@@ -12,6 +12,7 @@ use crate::pins::Pins;
 use std::alloc::{AllocError, Global};
 use std::sync::{Mutex, Wait};
 use txc_db::{Database, Naming, Pinned};
+use txc_lock::lock_soon;
 use txc_stamp::Stamp;
 
 /// A pincushion that threads share.
@@ -55,7 +56,7 @@ impl<J: Naming> Pincushion<J> {
         ensures answer { IfOk result (CushionMayAnswer J.database_row (λ c given.
             (given.pins.items ≡ handed_out c now staleness at_least) × (given.front ≡ cushion_front c))) }
     {
-        self.lock.lock(rt).fresh(alloc, now, staleness, at_least)
+        lock_soon(rt, &self.lock).fresh(alloc, now, staleness, at_least)
     }
 
     /// Adds a pin, with one user.
@@ -64,7 +65,7 @@ impl<J: Naming> Pincushion<J> {
         ensures refused { IfErr result (CushionMayAnswer J.database_row (λ c.
             IsAddRefused c pinned.now.stamp)) }
     {
-        self.lock.lock(rt).add(pinned)
+        lock_soon(rt, &self.lock).add(pinned)
     }
 
     /// Takes one user away for each stamp named. It takes no memory.
@@ -72,7 +73,7 @@ impl<J: Naming> Pincushion<J> {
         ensures refused { IfErr result (CushionMayAnswer J.database_row (λ c unknown.
             IsFirstUnused c.entries stamps.now unknown.stamp)) }
     {
-        self.lock.lock(rt).give_back(stamps)
+        lock_soon(rt, &self.lock).give_back(stamps)
     }
 
     /// Takes out the pins that no transaction may use and whose moment is more than `age` before `now`, all
@@ -87,6 +88,6 @@ impl<J: Naming> Pincushion<J> {
         ensures answer { IfOk result (CushionMayAnswer J.database_row (λ c stamps.
             stamps.items ≡ retired c now age)) }
     {
-        self.lock.lock(rt).retire(alloc, now, age)
+        lock_soon(rt, &self.lock).retire(alloc, now, age)
     }
 }

@@ -1,48 +1,11 @@
-//! The users of the pins in a list.
-ghost use Rattle.std.specs.Prelude.{◌≡◌, ◌<◌, ◌≤◌, All, map, length, true, OnOk, IfErr};
-ghost use Rattle.txc_cushion.specs.Entries.{is_among, users_of, times, with_user, without_users};
+//! The users of pins that are given back.
+ghost use Rattle.std.specs.Prelude.{◌≡◌, ◌+◌, ◌-◌, ◌<◌, ◌≤◌, ◌==◌, ◌&&◌, nat_lt, if◌then◌else◌, All, map, length, slice_index_or, true, OnErr, OnOk, IfErr};
+ghost use Rattle.txc_cushion.specs.Entries.{stand_in_order, users_of, times, without_users, EntriesFall};
 ghost use Rattle.txc_cushion.specs.Refusals.{HaveUsers, IsFirstUnused};
-ghost use Rattle.txc_cushion.specs.declared.limits.TheConstants.{MAX_USERS};
 
 use crate::entry::PinEntry;
 use crate::error::UnknownPin;
-use crate::pin::Pin;
 use txc_stamp::Stamp;
-
-// Whether one of the pins has this stamp.
-fn is_among(stamp: Stamp, pins: &[Pin]) -> bool
-    ensures { result ≡ is_among stamp pins.now }
-{
-    pins.iter().any(|pin| pin.stamp == stamp)
-}
-
-// One user more, where the pin of the entry is handed out.
-fn add_user(entry: &mut PinEntry, pins: &[Pin])
-    requires { is_among entry.old.pin.stamp pins.now ≡ true → entry.old.users < MAX_USERS }
-    ensures { entry.new ≡ with_user pins.now entry.old }
-{
-    if is_among(entry.pin.stamp, pins) {
-        entry.users += 1;
-    }
-}
-
-// Each entry whose pin is handed out has one user more.
-fn add_user_each(entries: &mut [PinEntry], pins: &[Pin])
-    requires { All (λ e. is_among e.pin.stamp pins.now ≡ true → e.users < MAX_USERS) entries.old }
-    ensures { entries.new ≡ map (with_user pins.now) entries.old }
-{
-    for entry in entries.iter_mut() {
-        add_user(entry, pins);
-    }
-}
-
-/// Each entry whose pin is handed out has one user more.
-pub(crate) fn add_users(entries: &mut Vec<PinEntry>, pins: &[Pin])
-    requires { All (λ e. is_among e.pin.stamp pins.now ≡ true → e.users < MAX_USERS) entries.old.items }
-    ensures { entries.new.items ≡ map (with_user pins.now) entries.old.items }
-{
-    add_user_each(entries, pins);
-}
 
 // How often the stamp is named.
 fn times(stamp: Stamp, stamps: &[Stamp]) -> usize
@@ -64,8 +27,8 @@ fn users_of(entries: &[PinEntry], stamp: Stamp) -> u16
     0
 }
 
-/// Refuses stamps of which one has no user left at its place.
-pub(crate) fn check_users(entries: &[PinEntry], stamps: &[Stamp]) -> Result<(), UnknownPin>
+// Refuses stamps of which one has no user left at its place.
+fn check_users(entries: &[PinEntry], stamps: &[Stamp]) -> Result<(), UnknownPin>
     ensures only_if { OnOk result (HaveUsers entries.now stamps.now) }
     ensures refused { IfErr result (λ e. IsFirstUnused entries.now stamps.now e.stamp) }
 {
@@ -96,10 +59,67 @@ fn take_users_each(entries: &mut [PinEntry], stamps: &[Stamp])
     }
 }
 
-/// Each entry has a user fewer for each time that its stamp is named.
-pub(crate) fn take_users(entries: &mut Vec<PinEntry>, stamps: &[Stamp])
-    requires { All (λ e. times e.pin.stamp stamps.now ≤ e.users) entries.old.items }
-    ensures { entries.new.items ≡ map (without_users stamps.now) entries.old.items }
+// Whether the stamps stand among those of the entries in this order, each with a user.
+fn stand_in_order(entries: &[PinEntry], stamps: &[Stamp]) -> bool
+    ensures { result ≡ stand_in_order entries.now stamps.now }
 {
+    let mut found = 0;
+    for entry in entries {
+        if found < stamps.len() && entry.pin.stamp == stamps[found] {
+            if entry.users == 0 {
+                return false;
+            }
+            found += 1;
+        }
+    }
+    found == stamps.len()
+}
+
+// Takes a user of the entry away, where its stamp is the one after those that were found. It answers how many
+// were found by then.
+fn take_found(entry: &mut PinEntry, stamps: &[Stamp], found: usize) -> usize
+    requires { nat_lt found (length stamps.now) && (entry.old.pin.stamp == slice_index_or stamps.now found 0) ≡ true
+        → 0 < entry.old.users }
+    ensures users { entry.new
+        ≡ (if nat_lt found (length stamps.now) && (entry.old.pin.stamp == slice_index_or stamps.now found 0)
+        then record entry.old { users = entry.old.users - 1 } else entry.old) }
+    ensures found { result
+        ≡ (if nat_lt found (length stamps.now) && (entry.old.pin.stamp == slice_index_or stamps.now found 0)
+        then found + 1 else found) }
+{
+    if found < stamps.len() && entry.pin.stamp == stamps[found] {
+        entry.users -= 1;
+        return found + 1;
+    }
+    found
+}
+
+// Takes a user away for each of the stamps, which stand so, in one pass.
+fn take_users_in_order(entries: &mut [PinEntry], stamps: &[Stamp])
+    requires falls { EntriesFall entries.old }
+    requires order { stand_in_order entries.old stamps.now ≡ true }
+    ensures { entries.new ≡ map (without_users stamps.now) entries.old }
+{
+    let mut found = 0;
+    for entry in entries.iter_mut() {
+        found = take_found(entry, stamps, found);
+    }
+}
+
+/// Takes a user away for each time that a stamp is named, in one pass where they are named in the order in
+/// which they are handed out. Refuses stamps of which one has no user left at its place.
+pub(crate) fn give_back(entries: &mut Vec<PinEntry>, stamps: &[Stamp]) -> Result<(), UnknownPin>
+    requires { EntriesFall entries.old.items }
+    ensures after { OnOk result (entries.new.items ≡ map (without_users stamps.now) entries.old.items) }
+    ensures only_if { OnOk result (HaveUsers entries.old.items stamps.now) }
+    ensures unchanged { OnErr result (entries.new.items ≡ entries.old.items) }
+    ensures refused { IfErr result (λ e. IsFirstUnused entries.old.items stamps.now e.stamp) }
+{
+    if stand_in_order(entries, stamps) {
+        take_users_in_order(entries, stamps);
+        return Ok(());
+    }
+    check_users(entries, stamps)?;
     take_users_each(entries, stamps);
+    Ok(())
 }

@@ -18,6 +18,7 @@ use crate::naming::Naming;
 use crate::pinned::Pinned;
 use std::alloc::{AllocError, Global};
 use std::sync::{Arc, Mutex, Wait};
+use txc_lock::lock_soon;
 use txc_rows::{Change, Query};
 use txc_stamp::Stamp;
 use txc_stream::EventRow;
@@ -72,14 +73,14 @@ impl<J: Naming> Database<J> {
         ensures tag { IfOk result (λ answered. answered.answer.tags ≡ query_tag query.now ∷ []) }
         ensures refused { IfErr result (MayRefuse J.database_row (λ d. IsQueryRefused d query.now stamp)) }
     {
-        self.lock.lock(rt).query(alloc, query, stamp)
+        lock_soon(rt, &self.lock).query(alloc, query, stamp)
     }
 
     /// Holds the newest stamp, so that no vacuum passes it until the hold is released.
     pub fn hold(&self, rt: &impl Wait, alloc: Global) -> Result<Held<J>, DbError>
         ensures refused { IfErr result (MayRefuse J.database_row IsHoldRefused) }
     {
-        let Answered { answer, front } = self.lock.lock(rt).hold(alloc)?;
+        let Answered { answer, front } = lock_soon(rt, &self.lock).hold(alloc)?;
         Ok(Held::new(answer, front))
     }
 
@@ -110,7 +111,7 @@ impl<J: Naming> Database<J> {
         ensures refused { IfErr result
             (MayRefuse J.database_row (λ d. IsSharedCommitRefused d base read.now changes.now)) }
     {
-        self.lock.lock(rt).commit(alloc, base, read, changes)
+        lock_soon(rt, &self.lock).commit(alloc, base, read, changes)
     }
 
     /// Appends a pin of the moment `now`, in milliseconds, and holds its stamp, which is not below
@@ -130,21 +131,21 @@ impl<J: Naming> Database<J> {
         ensures late { IfOk result (λ pinned. at_least ≤ pinned.stamp) }
         ensures refused { IfErr result (MayRefuse J.database_row (λ d. IsPinRefused d at_least)) }
     {
-        self.lock.lock(rt).pin(alloc, now, at_least)
+        lock_soon(rt, &self.lock).pin(alloc, now, at_least)
     }
 
     /// Takes one hold of the stamp away, as a keeper does with those of pins. It takes no memory.
     pub fn unpin(&self, rt: &impl Wait, stamp: Stamp) -> Result<(), DbError>
         ensures refused { IfErr result (MayRefuse J.database_row (λ d. IsUnpinRefused d stamp)) }
     {
-        self.lock.lock(rt).unpin(stamp)
+        lock_soon(rt, &self.lock).unpin(stamp)
     }
 
     /// Makes the horizon the least held stamp, or the newest where none is held, and answers it.
     pub fn vacuum(&self, rt: &impl Wait) -> Result<Stamp, DbError>
         ensures refused { IfErr result (MayRefuse J.database_row IsVacuumRefused) }
     {
-        self.lock.lock(rt).vacuum()
+        lock_soon(rt, &self.lock).vacuum()
     }
 
     /// The database without its lock, once no thread has it any more.

@@ -26,6 +26,10 @@ not_dead ps first q dead live = (elim (equal_places q first) as (λ b. equal_pla
   | false ↦ λ t. refl
 ]) refl
 
+-- what stays behind the first stays
+pub kept_behind : (q first : Place) (ps qs : List Place) → (has_place ps q ≡ true → has_place qs q ≡ true) → has_place (first ∷ ps) q ≡ true → has_place (first ∷ qs) q ≡ true
+kept_behind q first ps qs kept h = (elim (equal_places q first) as (λ b. (b || has_place ps q) ≡ true → (b || has_place qs q) ≡ true) [ true ↦ λ h. refl | false ↦ kept ]) h
+
 -- whether what is stored at a place is still valid
 pub live_stored : (es : List Entry) (q : Place) (o : Option Stored) → o ≡ option_map stored_of (entry_at es q) → unwrap_or (option_map (λ s. s.reach.still) o) false ≡ is_live es q
 unfolding is_live

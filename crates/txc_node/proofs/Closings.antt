@@ -18,9 +18,10 @@ use Rattle.txc_node.specs.declared.stored.Stored.{Stored}
 use Rattle.txc_node.specs.Places.{place_of, equal_places, equal_places_is}
 use Rattle.txc_node.specs.Entries.{same_place, AreApart}
 use Rattle.txc_node.specs.Cache.{is_invalidated, entry_after}
-use Rattle.txc_node.specs.Indexed.{HeldEntries, entry_of, entries_of, ArePlaced, entries_under, reaches_under, in_stead, has_place, equal_rows, lists_rows, AreSparedAt, listed, Relists, is_stale, stored_after, closed_reach, after_at, AreTied, Closes, IsSpared}
+use Rattle.txc_node.specs.Indexed.{HeldEntries, entry_of, entries_of, ArePlaced, entries_under, reaches_under, in_stead, has_place, equal_rows, lists_rows, AreSparedAt, listed, Relists, is_live, is_stale, stored_after, closed_reach, stays_live, after_at, AreTied, Closes, IsSpared}
 use Rattle.txc_node.proofs.Apart.{eqb_sym, after_both, after_apart}
-use Rattle.txc_node.proofs.Pairs.{found_pair}
+use Rattle.txc_node.proofs.Pairs.{found_pair, stored_at}
+use Rattle.txc_node.proofs.Buckets.{live_stored}
 use Rattle.txc_node.proofs.KeyLists.{indexes_by, under_yes, under_no}
 
 -- the entry of the pair at a place
@@ -234,6 +235,14 @@ set_same test (x ∷ ps) s h = (elim (test x.0) as (λ v. cond v (Some x.1) (loo
   | false ↦ λ h. ap (λ ys. x ∷ ys) (set_same test ps s h)
 ]) h
 
+-- what is found where it was set
+set_found : (test : Place → Bool) (ps : List (Place × Stored)) (s w : Stored) → lookup test ps ≡ Some s → lookup test (set_value test ps w) ≡ Some w
+set_found test [] s w h = let none : None ≡ Some s = h in cc
+set_found test (x ∷ ps) s w h = (elim (test x.0) as (λ v. test x.0 ≡ v → cond v (Some x.1) (lookup test ps) ≡ Some s → lookup test (cond v ((x.0, w) ∷ ps) (x ∷ set_value test ps w)) ≡ Some w) [
+  | true ↦ λ t h. ap (λ v. cond v (Some w) (lookup test ps)) t
+  | false ↦ λ t h. ap (λ v. cond v (Some x.1) (lookup test (set_value test ps w))) t ∙ set_found test ps s w h
+]) refl h
+
 no_entry : (test : Place → Bool) (ps : List (Place × Stored)) (o : Entry) → lookup test ps ≡ None → option_map entry_of (lookup_entry test ps) ≡ Some o → true ≡ false
 no_entry test [] o h k = let none : None ≡ Some o = k in cc
 no_entry test (x ∷ ps) o h k = (elim (test x.0) as (λ v. cond v (Some x.1) (lookup test ps) ≡ None → option_map entry_of (cond v (Some x) (lookup_entry test ps)) ≡ Some o → true ≡ false) [
@@ -309,6 +318,16 @@ module _ (stamp : ℕ) (tags : List Tag) where
   spared_at q ps placed = (elim (lookup (equal_places q) ps) as (λ f. lookup (equal_places q) ps ≡ f → IsSpared stamp tags (entries_of (option_map_or (λ s. set_value (equal_places q) ps (stored_after stamp tags s)) f ps)) q) [
     | None ↦ λ t o k. absurd (false≢true (sym (no_entry (equal_places q) ps o t (sym (found_pair q ps placed) ∙ k))))
     | Some s ↦ λ t o k. set_here stamp tags q ps s o t (sym (found_pair q (set_value (equal_places q) ps (stored_after stamp tags s)) (set_placed stamp tags (equal_places q) ps s t placed)) ∙ k)
+  ]) refl
+
+  -- what is still valid there
+  pub live_after : (q : Place) (ps : List (Place × Stored)) → ArePlaced ps → stays_live stamp tags (lookup (equal_places q) ps) ≡ is_live (entries_of (after_at stamp tags q ps)) q
+  live_after q ps placed = (elim (lookup (equal_places q) ps) as (λ f. lookup (equal_places q) ps ≡ f → stays_live stamp tags f ≡ is_live (entries_of (option_map_or (λ s. set_value (equal_places q) ps (stored_after stamp tags s)) f ps)) q) [
+    | None ↦ λ t. live_stored (entries_of ps) q None (sym t ∙ stored_at q ps placed)
+    | Some s ↦ λ t.
+        let w = stored_after stamp tags s in
+        let new = set_value (equal_places q) ps w in
+        live_stored (entries_of new) q (Some w) (sym (set_found (equal_places q) ps s w t) ∙ stored_at q new (set_placed stamp tags (equal_places q) ps s t placed))
   ]) refl
 
   pub closes_more : (a b c : HeldEntries) (m n : ℕ) → Closes stamp tags a b m → Closes stamp tags b c n → Closes stamp tags a c (m + n)

@@ -57,6 +57,70 @@ module _ {S : Type 0} (stamp : ℕ) (tags : List Tag) (tables : List (HashMap Ro
     ]) refl
   ]) refl
 
+live_at : (es : List Entry) (q : Place) (e : Entry) → entry_at es q ≡ Some e → e.reach.still ≡ true → is_live es q ≡ true
+unfolding is_live
+live_at es q e at still = ap (λ f. unwrap_or (option_map (λ o. o.reach.still) f) false) at ∙ still
+
+live_entry : (es : List Entry) (q : Place) → is_live es q ≡ true → (e : Entry) × (entry_at es q ≡ Some e) × (e.reach.still ≡ true)
+unfolding is_live
+live_entry es q h = (elim (entry_at es q) as (λ f. entry_at es q ≡ f → unwrap_or (option_map (λ e. e.reach.still) f) false ≡ true → (e : Entry) × (entry_at es q ≡ Some e) × (e.reach.still ≡ true)) [
+  | None ↦ λ t h. absurd (false≢true h)
+  | Some e ↦ λ t h. (e, t, h)
+]) refl h
+
+-- ---- what an event leaves at a place
+
+module _ (stamp : ℕ) (tags : List Tag) where
+  after_place : (e : Entry) → place_of (entry_after stamp tags e) ≡ place_of e
+  after_place e = elim (is_invalidated stamp tags e) as (λ b. place_of (cond b (record e { reach = closed_at (stamp - 1) e.reach }) e) ≡ place_of e) [ true ↦ refl | false ↦ refl ]
+
+  at_after : (es : List Entry) (q : Place) → entry_at (map (entry_after stamp tags) es) q ≡ option_map (entry_after stamp tags) (entry_at es q)
+  at_after [] q = refl
+  at_after (e ∷ es) q =
+      ap (λ (p : Place). cond (equal_places q p) (Some (entry_after stamp tags e)) (entry_at (map (entry_after stamp tags) es) q)) (after_place e)
+      ∙ (elim (equal_places q (place_of e)) as (λ b. cond b (Some (entry_after stamp tags e)) (entry_at (map (entry_after stamp tags) es) q) ≡ option_map (entry_after stamp tags) (cond b (Some e) (entry_at es q))) [ true ↦ refl | false ↦ at_after es q ])
+
+  unclosed : (e : Entry) → is_invalidated stamp tags e ≡ false → entry_after stamp tags e ≡ e
+  unclosed e h = ap (λ v. cond v (record e { reach = closed_at (stamp - 1) e.reach }) e) h
+
+  -- an event closes no entry that is closed
+  dead_spared : (es : List Entry) (q : Place) → is_live es q ≡ false → IsSpared stamp tags es q
+  dead_spared es q dead e at = (elim e.reach.still as (λ b. e.reach.still ≡ b → (b && (nat_lt e.reach.known stamp && sets_match tags e.tags)) ≡ false) [
+    | true ↦ λ t. absurd (false≢true (sym dead ∙ live_at es q e at t))
+    | false ↦ λ t. refl
+  ]) refl
+
+  -- what is still valid was so before
+  still_before : (old new : HeldEntries) (n : ℕ) (q : Place) (o e : Entry) → Closes stamp tags old new n → entry_at old.entries q ≡ Some o → entry_at new.entries q ≡ Some e
+      → entry_after stamp tags o ≡ entry_after stamp tags e → e.reach.still ≡ true → o.reach.still ≡ true
+  still_before old new n q o e closes at there same still = (elim (is_invalidated stamp tags o) as (λ v. is_invalidated stamp tags o ≡ v → o.reach.still ≡ true) [
+    | true ↦ λ u. (both_true o.reach.still (nat_lt o.reach.known stamp && sets_match tags o.tags) u).0
+    | false ↦ λ u.
+        let own : IsSpared stamp tags old.entries q = λ d k. let both : Some o ≡ Some d = sym at ∙ k in let is : o ≡ d = cc in ap (is_invalidated stamp tags) (sym is) ∙ u in
+        let unhurt : is_invalidated stamp tags e ≡ false = closes.spared q own e there in
+        ap (λ (x : Entry). x.reach.still) (sym (unclosed o u) ∙ same ∙ unclosed e unhurt) ∙ still
+  ]) refl
+
+  pub was_live : (old new : HeldEntries) (n : ℕ) (q : Place) → Closes stamp tags old new n → is_live new.entries q ≡ true → is_live old.entries q ≡ true
+  was_live old new n q closes live =
+      let e = live_entry new.entries q live in
+      let same : option_map (entry_after stamp tags) (entry_at old.entries q) ≡ Some (entry_after stamp tags e.0) =
+      sym (at_after old.entries q) ∙ ap (λ (es : List Entry). entry_at es q) (sym closes.after) ∙ at_after new.entries q ∙ ap (option_map (entry_after stamp tags)) e.1 in
+      (elim (entry_at old.entries q) as (λ f. entry_at old.entries q ≡ f → option_map (entry_after stamp tags) f ≡ Some (entry_after stamp tags e.0) → is_live old.entries q ≡ true) [
+        | None ↦ λ t s. let none : None ≡ Some (entry_after stamp tags e.0) = s in cc
+        | Some o ↦ λ t s.
+            let both : Some (entry_after stamp tags o) ≡ Some (entry_after stamp tags e.0) = s in
+            let is : entry_after stamp tags o ≡ entry_after stamp tags e.0 = cc in
+            live_at old.entries q o t (still_before old new n q o e.0 closes t e.1 is e.2)
+      ]) refl same
+
+  -- an event that has come to each place at which a still valid entry stood has come to all
+  pub spared_still : (old new : HeldEntries) (n : ℕ) (q : Place) → Closes stamp tags old new n → (is_live old.entries q ≡ true → IsSpared stamp tags new.entries q) → IsSpared stamp tags new.entries q
+  spared_still old new n q closes h = (elim (is_live old.entries q) as (λ b. is_live old.entries q ≡ b → IsSpared stamp tags new.entries q) [
+    | true ↦ λ t. h t
+    | false ↦ λ t. closes.spared q (dead_spared old.entries q t)
+  ]) refl
+
 module _ (stamp : ℕ) (tags : List Tag) where
   all_spared : (ps es : List Entry) → ((q : Place) → IsSpared stamp tags ps q) → AllByRecursion (λ o. entry_at ps (place_of o) ≡ Some o) es → AllByRecursion (λ o. is_invalidated stamp tags o ≡ false) es
   all_spared ps [] h stands = tt
@@ -87,10 +151,6 @@ module _ (stamp : ℕ) (tags : List Tag) where
   tags_after tables (e ∷ es) h =
       let T : Entry → Type 0 = λ o. o.reach.still ≡ true → AllByRecursion (λ t. lists tables t (place_of o) ≡ true) o.tags in
       (elim (is_invalidated stamp tags e) as (λ b. T (cond b (record e { reach = closed_at (stamp - 1) e.reach }) e)) [ true ↦ (λ still. absurd (false≢true still)) | false ↦ h.0 ], tags_after tables es h.1)
-
-live_at : (es : List Entry) (q : Place) (e : Entry) → entry_at es q ≡ Some e → e.reach.still ≡ true → is_live es q ≡ true
-unfolding is_live
-live_at es q e at still = ap (λ f. unwrap_or (option_map (λ o. o.reach.still) f) false) at ∙ still
 
 cleaned : {S : Type 0} (all es : List Entry) (tables new : List (HashMap Rows (List Place) S)) → AllByRecursion (λ o. entry_at all (place_of o) ≡ Some o) es → IndexesTags tables es
     → KeepsListed (λ t q. is_live all q ≡ true) tables new → IndexesTags new es

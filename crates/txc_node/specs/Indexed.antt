@@ -169,6 +169,11 @@ closed_reach stamp tags None = None
 closed_reach stamp tags (Some s) =
     if is_stale stamp tags s then Some (closed_at (stamp - 1) s.reach) else None
 
+-- what is stored after it is still valid
+abbrev pub stays_live : ℕ → List Tag → Option Stored → Bool
+stays_live stamp tags None = false
+stays_live stamp tags (Some s) = (stored_after stamp tags s).reach.still
+
 -- the pairs after the event has come to a place
 abbrev pub after_at : ℕ → List Tag → Place → List (Place × Stored) → List (Place × Stored)
 after_at stamp tags q ps =

@@ -1,5 +1,5 @@
 -- Where an entry stands: its key, and its first stamp.
-use Rattle.std.proofs.Common.{◌≡◌, ◌==◌, ◌&&◌, Bool, ℕ, true, refl, ap, subst, ◌∙◌}
+use Rattle.std.proofs.Common.{◌≡◌, ◌==◌, ◌&&◌, ◌+◌, ◌*◌, ◌%◌, ◌^◌, Bool, ℕ, true, refl, ap, subst, ◌∙◌}
 use Rattle.std.specs.Bool.{Decides}
 use Rattle.std.specs.Hash.{HashWrites, same_Alike}
 use borrow.Author.Tests.{eqb-true, eq-eqb}
@@ -7,6 +7,8 @@ use Rattle.txc_tags.proofs.Offered.{same_call_is, same_call_itself, both_true, a
 use Rattle.txc_tags.specs.Keys.{Call, same_call}
 use Rattle.txc_node.specs.declared.entry.Entry.{Entry}
 use Rattle.txc_node.specs.declared.place.Place.{Place}
+use Rattle.txc_node.specs.declared.mixing.TheConstants.{MIX}
+use Rattle.txc_node.specs.declared.place.TheConstants.{STAMPS}
 
 -- the place of a key and a first stamp
 abbrev pub place_at : Call → ℕ → Place
@@ -15,6 +17,14 @@ place_at key lo = record { key = key; lo = lo }
 -- the place of an entry
 abbrev pub place_of : Entry → Place
 place_of e = place_at e.key e.reach.lo
+
+-- the function and the first stamp in one number
+abbrev pub head_of : Place → ℕ
+head_of p = p.key.function * STAMPS + p.lo
+
+-- a number more, in a word of 64 bits
+abbrev pub mixed : ℕ → ℕ → ℕ
+mixed word number = (word * MIX % 2 ^ 64 + number) % 2 ^ 64
 
 -- the same key and the same first stamp
 abbrev pub equal_places : Place → Place → Bool
@@ -37,3 +47,11 @@ equal_places_decides a b =
 
 pub equal_places_alike : (feed : Place → HashWrites) (x y : Place) → equal_places x y ≡ true → feed x ≡ feed y
 equal_places_alike feed = (same_Alike feed equal_places_decides).fed
+
+-- the test of two calls says whether they are one
+pub same_call_decides : (a b : Call) → Decides (same_call a b) (a ≡ b)
+same_call_decides a b =
+    (same_call_is a b, λ e. subst (λ (c : Call). same_call a c ≡ true) e (same_call_itself a))
+
+pub same_call_alike : (feed : Call → HashWrites) (x y : Call) → same_call x y ≡ true → feed x ≡ feed y
+same_call_alike feed = (same_Alike feed same_call_decides).fed

@@ -1,12 +1,14 @@
 //! Places that are listed under the same rows.
 ghost use Rattle.std.specs.Prelude.{List, ◌≡◌, ◌∷◌, [], true, false, OnOk, IsTrue, IsFalse};
+ghost use Rattle.std.specs.List.{AllByRecursion};
 ghost use Rattle.txc_node.specs.declared.place.Place.{Place};
 ghost use Rattle.txc_node.specs.Places.{equal_places};
-ghost use Rattle.txc_node.specs.Indexed.{has_place, is_live};
+ghost use Rattle.txc_node.specs.Indexed.{Closes, IsSpared, has_place, is_live};
 
+use crate::closing::Closing;
 use crate::keyed::KeyedEntries;
+use crate::others::{Others, is_live};
 use crate::place::Place;
-use indexmap::IndexSet;
 use std::alloc::{AllocError, Global};
 use std::marker::Model;
 
@@ -14,7 +16,7 @@ use std::marker::Model;
 #[derive(Debug, Drop)]
 pub(crate) struct Bucket {
     first: Place,
-    others: IndexSet<Place>,
+    others: Others,
 }
 
 impl Model for Bucket {
@@ -23,43 +25,17 @@ impl Model for Bucket {
 
     ghost Value = { List Place };
 
-    ghost view = { λ b. b.first ∷ b.others.keys };
-}
-
-// Whether a still valid entry stands at a place.
-fn is_live(entries: &KeyedEntries, place: &Place) -> bool
-    ensures { result ≡ is_live entries.now.entries place.now }
-{
-    match entries.get(place) {
-        None => false,
-        Some(stored) => stored.reach.is_still(),
-    }
-}
-
-// Keeps of the places those at which still valid entries stand.
-fn clean(places: &mut IndexSet<Place>, entries: &KeyedEntries)
-    ensures { (q : Place) → is_live entries.now.entries q ≡ true
-        → has_place places.old.keys q ≡ true → has_place places.new.keys q ≡ true }
-{
-    for i in (0..places.len()).rev() {
-        let stays = match places.get_index(i) {
-            None => true,
-            Some(place) => is_live(entries, place),
-        };
-        if !stays {
-            places.swap_remove_index(i);
-        }
-    }
+    ghost view = { λ b. b.first ∷ b.others };
 }
 
 impl Bucket {
     /// One place.
-    pub(crate) fn one(alloc: Global, place: Place) -> Bucket
+    pub(crate) fn one(place: Place) -> Bucket
         ensures { result ≡ place ∷ [] }
     {
         Bucket {
             first: place,
-            others: IndexSet::new(alloc),
+            others: Others::none(),
         }
     }
 
@@ -71,12 +47,12 @@ impl Bucket {
     }
 
     /// Puts a place among them.
-    pub(crate) fn add(&mut self, place: &Place) -> Result<(), AllocError>
+    pub(crate) fn add(&mut self, alloc: Global, place: &Place) -> Result<(), AllocError>
         ensures listed { OnOk result (has_place self.new place.now ≡ true) }
         ensures kept { (q : Place) → has_place self.old q ≡ true → has_place self.new q ≡ true }
     {
         if self.first != *place {
-            self.others.insert(place.copy())?;
+            self.others.add(alloc, place.copy())?;
         }
         Ok(())
     }
@@ -106,8 +82,33 @@ impl Bucket {
         if self.first == *place {
             return self.drop_first();
         }
-        self.others.swap_remove(place);
+        self.others.remove(place);
         true
+    }
+
+    /// Closes what an event invalidates at these places, and counts it. It keeps those at which still valid
+    /// entries stand, and returns with the count whether there are any.
+    pub(crate) fn close(
+        &mut self,
+        entries: &mut KeyedEntries,
+        closing: &Closing<'_>,
+    ) -> (usize, bool)
+        ensures closes { Closes closing.now.stamp closing.now.tags.now entries.old entries.new result.0 }
+        ensures spared { AllByRecursion (IsSpared closing.now.stamp closing.now.tags.now entries.new.entries)
+            self.old }
+        ensures kept { IsTrue result.1 → (q : Place) → is_live entries.new.entries q ≡ true
+            → has_place self.old q ≡ true → has_place self.new q ≡ true }
+        ensures none { IsFalse result.1 → (q : Place) → has_place self.old q ≡ true
+            → is_live entries.new.entries q ≡ false }
+    {
+        let _len = entries.len();
+        let count = closing.at_each(entries, self.others.as_slice());
+        self.others.clean(entries);
+        let (closed, is_live) = entries.close_at(&self.first, closing);
+        if is_live {
+            return (count + closed, true);
+        }
+        (count + closed, self.drop_first())
     }
 
     /// Keeps those at which still valid entries stand, and says whether there are any.
@@ -117,7 +118,7 @@ impl Bucket {
         ensures none { IsFalse result → (q : Place) → has_place self.old q ≡ true
             → is_live entries.now.entries q ≡ false }
     {
-        clean(&mut self.others, entries);
+        self.others.clean(entries);
         if is_live(entries, &self.first) {
             return true;
         }

@@ -2,17 +2,16 @@
 ghost use Rattle.std.specs.Prelude.{◌≡◌, true};
 ghost use Rattle.std.specs.List.{AllByRecursion};
 ghost use Rattle.txc_tags.specs.declared.tag.Rows.{Rows};
-ghost use Rattle.txc_tags.specs.Tags.{rows_match};
 ghost use Rattle.txc_node.specs.declared.place.Place.{Place};
-ghost use Rattle.txc_node.specs.Indexed.{AreSparedAt, AreSparedBy, Closes, IsSpared, is_stale, lists_rows, stored_after};
+ghost use Rattle.txc_node.specs.Indexed.{AreSparedAt, Closes, IsSpared, is_stale, lists_rows, stored_after};
 
 use crate::bucket::Bucket;
 use crate::keyed::KeyedEntries;
 use crate::place::Place;
 use crate::stored::Stored;
-use crate::tag_index::{Buckets, TagIndex};
+use crate::tag_index::Buckets;
 use txc_stamp::Stamp;
-use txc_tags::{Rows, Tag, TagSet};
+use txc_tags::TagSet;
 
 /// An event that is being applied: it closes, just below it, the still valid entries that were known below it
 /// and whose tags it matches.
@@ -44,8 +43,8 @@ impl Closing<'_> {
         stale
     }
 
-    // Closes what it invalidates at each of these places, and counts it.
-    fn at_each(&self, entries: &mut KeyedEntries, places: &[Place]) -> usize
+    /// Closes what it invalidates at each of these places, and counts it.
+    pub(crate) fn at_each(&self, entries: &mut KeyedEntries, places: &[Place]) -> usize
         ensures closes { Closes self.now.stamp self.now.tags.now entries.old entries.new result }
         ensures spared { AllByRecursion (IsSpared self.now.stamp self.now.tags.now entries.new.entries)
             places.now }
@@ -53,12 +52,13 @@ impl Closing<'_> {
         let _len = entries.len();
         let mut count: usize = 0;
         for i in 0..places.len() {
-            count += entries.close_at(&places[i], self);
+            let (closed, _) = entries.close_at(&places[i], self);
+            count += closed;
         }
         count
     }
 
-    // The same at the places that are listed together.
+    // Closes what it invalidates at places that are listed together, and counts it.
     fn in_bucket(&self, entries: &mut KeyedEntries, bucket: &Bucket) -> usize
         ensures closes { Closes self.now.stamp self.now.tags.now entries.old entries.new result }
         ensures spared { AllByRecursion (IsSpared self.now.stamp self.now.tags.now entries.new.entries)
@@ -66,23 +66,11 @@ impl Closing<'_> {
     {
         let _len = entries.len();
         let (first, others) = bucket.parts();
-        let count = entries.close_at(first, self);
+        let (count, _) = entries.close_at(first, self);
         count + self.at_each(entries, others)
     }
 
-    // The same at the places under rows of a table.
-    fn under_rows(&self, entries: &mut KeyedEntries, buckets: &Buckets, rows: Rows) -> usize
-        ensures closes { Closes self.now.stamp self.now.tags.now entries.old entries.new result }
-        ensures spared { (q : Place) → lists_rows buckets.now.entries rows q ≡ true
-            → IsSpared self.now.stamp self.now.tags.now entries.new.entries q }
-    {
-        match buckets.get(&rows) {
-            None => 0,
-            Some(bucket) => self.in_bucket(entries, bucket),
-        }
-    }
-
-    // The same at the places under the rows that a table has at an index.
+    // Closes what it invalidates at the places under the rows that a table has at an index, and counts it.
     fn at_index(&self, entries: &mut KeyedEntries, buckets: &Buckets, i: usize) -> usize
         ensures closes { Closes self.now.stamp self.now.tags.now entries.old entries.new result }
         ensures spared { AreSparedAt self.now.stamp self.now.tags.now entries.new.entries
@@ -94,8 +82,8 @@ impl Closing<'_> {
         }
     }
 
-    // The same at the places under all rows of a table.
-    fn in_table(&self, entries: &mut KeyedEntries, buckets: &Buckets) -> usize
+    /// Closes what it invalidates at the places under all rows of a table, and counts it.
+    pub(crate) fn in_table(&self, entries: &mut KeyedEntries, buckets: &Buckets) -> usize
         ensures closes { Closes self.now.stamp self.now.tags.now entries.old entries.new result }
         ensures spared { (r : Rows) (q : Place) → lists_rows buckets.now.entries r q ≡ true
             → IsSpared self.now.stamp self.now.tags.now entries.new.entries q }
@@ -104,45 +92,6 @@ impl Closing<'_> {
         let mut count: usize = 0;
         for i in 0..buckets.len() {
             count += self.at_index(entries, buckets, i);
-        }
-        count
-    }
-
-    // The same at the places under rows of a tag's table that match the tag.
-    fn by_rows(&self, entries: &mut KeyedEntries, buckets: &Buckets, tag: &Tag) -> usize
-        ensures closes { Closes self.now.stamp self.now.tags.now entries.old entries.new result }
-        ensures spared { (r : Rows) (q : Place) → rows_match tag.now.rows r ≡ true
-            → lists_rows buckets.now.entries r q ≡ true
-            → IsSpared self.now.stamp self.now.tags.now entries.new.entries q }
-    {
-        let _len = entries.len();
-        if tag.is_wildcard() {
-            return self.in_table(entries, buckets);
-        }
-        let count = self.under_rows(entries, buckets, tag.rows);
-        count + self.under_rows(entries, buckets, Rows::All)
-    }
-
-    // The same at the places that match a tag.
-    fn by_tag(&self, entries: &mut KeyedEntries, index: &TagIndex, tag: &Tag) -> usize
-        ensures closes { Closes self.now.stamp self.now.tags.now entries.old entries.new result }
-        ensures spared { AreSparedBy self.now.stamp self.now.tags.now entries.new.entries
-            index.now.tables.items tag.now }
-    {
-        let buckets = index.of_table(tag);
-        self.by_rows(entries, buckets, tag)
-    }
-
-    /// The same at the places that match one of its tags.
-    pub(crate) fn by_tags(&self, entries: &mut KeyedEntries, index: &TagIndex) -> usize
-        ensures closes { Closes self.now.stamp self.now.tags.now entries.old entries.new result }
-        ensures spared { AllByRecursion (AreSparedBy self.now.stamp self.now.tags.now entries.new.entries
-            index.now.tables.items) self.now.tags.now }
-    {
-        let _len = entries.len();
-        let mut count: usize = 0;
-        for tag in self.tags.tags() {
-            count += self.by_tag(entries, index, tag);
         }
         count
     }

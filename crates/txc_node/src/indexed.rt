@@ -6,7 +6,7 @@ ghost use Rattle.txc_node.specs.declared.entry.Entry.{Entry};
 ghost use Rattle.txc_node.specs.Places.{place_of, equal_places};
 ghost use Rattle.txc_node.specs.Entries.{others, same_place};
 ghost use Rattle.txc_node.specs.Cache.{is_invalidated, entry_after, has_ended};
-ghost use Rattle.txc_node.specs.Indexed.{IndexesTags, IsFound, IsListed, KeepsListed, entries_under, entry_of, is_live, reaches_under, with_first};
+ghost use Rattle.txc_node.specs.Indexed.{IndexesTags, IsFound, IsListed, KeepsListed, entries_under, entry_of, reaches_under, with_first};
 
 use crate::closing::Closing;
 use crate::entry::Entry;
@@ -44,16 +44,6 @@ impl fmt::Debug for IndexedEntries {
     // The entries alone, since the indexes are made of them.
     fn fmt<W: fmt::Write>(&self, f: &mut fmt::Formatter<W>) -> fmt::Result {
         self.entries.fmt(f)
-    }
-}
-
-// Keeps in the index of the tags of an event those places at which still valid entries stand.
-fn clean_all(index: &mut TagIndex, entries: &KeyedEntries, tags: &TagSet)
-    ensures { KeepsListed (λ t q. is_live entries.now.entries q ≡ true)
-        index.old.tables.items index.new.tables.items }
-{
-    for tag in tags.tags() {
-        index.clean(tag, entries);
     }
 }
 
@@ -223,9 +213,8 @@ impl IndexedEntries {
         ensures count { result ≡ count_by (is_invalidated stamp tags.now) self.old.entries }
     {
         let closing = Closing { stamp, tags };
-        let count = closing.by_tags(&mut self.entries, &self.tags);
+        let count = self.tags.close(&mut self.entries, &closing);
         let _len = self.entries.len();
-        clean_all(&mut self.tags, &self.entries, tags);
         count
     }
 

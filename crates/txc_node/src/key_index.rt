@@ -5,6 +5,7 @@ ghost use Rattle.txc_tags.specs.Keys.{Call};
 ghost use Rattle.txc_node.specs.Indexed.{listed, Relists, in_stead};
 ghost use Rattle.txc_node.specs.Sweeping.{lasting, AreAllLasting};
 
+use crate::call_key::CallKey;
 use crate::sweeping::Sweep;
 use crate::versions::Versions;
 use indexmap::IndexMap;
@@ -13,7 +14,7 @@ use txc_stamp::Reach;
 use txc_tags::Key;
 
 // Keeps of the reaches at an index those that a sweep leaves, and drops the key where there are none.
-fn keep_at(versions: &mut IndexMap<Key, Versions>, i: usize, sweep: &Sweep)
+fn keep_at(versions: &mut IndexMap<CallKey, Versions>, i: usize, sweep: &Sweep)
     ensures lasting { (k : Call) → lasting sweep.now.processed sweep.now.horizon (listed versions.new.entries k)
         ≡ lasting sweep.now.processed sweep.now.horizon (listed versions.old.entries k) }
     ensures from { AreAllLasting sweep.now.processed sweep.now.horizon (drop (i + 1) versions.old.entries)
@@ -32,7 +33,7 @@ fn keep_at(versions: &mut IndexMap<Key, Versions>, i: usize, sweep: &Sweep)
 #[derive(Debug, Drop)]
 pub(crate) struct KeyIndex {
     alloc: Global,
-    pub(crate) versions: IndexMap<Key, Versions>,
+    pub(crate) versions: IndexMap<CallKey, Versions>,
 }
 
 impl KeyIndex {
@@ -51,7 +52,8 @@ impl KeyIndex {
         ensures { MatchOption result (listed self.now.versions.entries key.now ≡ [])
             (λ v. listed self.now.versions.entries key.now ≡ v.now) }
     {
-        self.versions.get(key)
+        let call = CallKey::of(key);
+        self.versions.get(&call)
     }
 
     /// Puts a reach first among those of its key.
@@ -60,11 +62,12 @@ impl KeyIndex {
             Relists key.now (if is_ok result then reach ∷ rs else rs)
             self.old.versions.entries self.new.versions.entries }
     {
-        match self.versions.get_mut(key) {
+        let call = CallKey::of(key);
+        match self.versions.get_mut(&call) {
             Some(versions) => versions.add(reach),
             None => {
                 let one = Versions::one(self.alloc, reach);
-                self.versions.insert(key.copy(), one)?;
+                self.versions.insert(call, one)?;
                 Ok(())
             }
         }
@@ -76,7 +79,8 @@ impl KeyIndex {
         ensures { Relists key.now (reach ∷ remove (listed self.old.versions.entries key.now) at)
             self.old.versions.entries self.new.versions.entries }
     {
-        if let Some(versions) = self.versions.get_mut(key) {
+        let call = CallKey::of(key);
+        if let Some(versions) = self.versions.get_mut(&call) {
             versions.bring_first(at, reach);
         }
     }
@@ -86,7 +90,8 @@ impl KeyIndex {
         ensures { Relists key.now (map (in_stead reach) (listed self.old.versions.entries key.now))
             self.old.versions.entries self.new.versions.entries }
     {
-        if let Some(versions) = self.versions.get_mut(key) {
+        let call = CallKey::of(key);
+        if let Some(versions) = self.versions.get_mut(&call) {
             versions.set(reach);
         }
     }
@@ -97,12 +102,13 @@ impl KeyIndex {
             → listed self.old.versions.entries key.now ≡ r ∷ rs
             → Relists key.now rs self.old.versions.entries self.new.versions.entries }
     {
-        let stays = match self.versions.get_mut(key) {
+        let call = CallKey::of(key);
+        let stays = match self.versions.get_mut(&call) {
             None => true,
             Some(versions) => versions.drop_first(),
         };
         if !stays {
-            self.versions.swap_remove(key);
+            self.versions.swap_remove(&call);
         }
     }
 
@@ -112,12 +118,13 @@ impl KeyIndex {
             Relists key.now (take (length rs - 1) rs)
             self.old.versions.entries self.new.versions.entries }
     {
-        let stays = match self.versions.get_mut(key) {
+        let call = CallKey::of(key);
+        let stays = match self.versions.get_mut(&call) {
             None => true,
             Some(versions) => versions.drop_last(),
         };
         if !stays {
-            self.versions.swap_remove(key);
+            self.versions.swap_remove(&call);
         }
     }
 

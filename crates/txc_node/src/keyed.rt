@@ -9,7 +9,7 @@ ghost use Rattle.txc_node.specs.declared.entry.Entry.{Entry};
 ghost use Rattle.txc_node.specs.Places.{place_of, equal_places};
 ghost use Rattle.txc_node.specs.Entries.{is_best, others, same_place};
 ghost use Rattle.txc_node.specs.Cache.{has_ended};
-ghost use Rattle.txc_node.specs.Indexed.{AreOf, Closes, HoldsApart, IndexesTags, IsFound, IsSpared, Relists, StandsUnder, after_at, closed_reach, entries_under, entry_at, entry_of, listed, reaches_under, stored_of, with_first};
+ghost use Rattle.txc_node.specs.Indexed.{AreOf, Closes, HoldsApart, IndexesTags, IsFound, IsSpared, Relists, StandsUnder, after_at, closed_reach, entries_under, entry_at, entry_of, is_live, listed, reaches_under, stays_live, stored_of, with_first};
 
 use crate::closing::Closing;
 use crate::entry::Entry;
@@ -51,25 +51,28 @@ impl fmt::Debug for KeyedEntries {
     }
 }
 
-// Closes the entry at a place just below an event that invalidates it, and returns its new reach.
+// Closes the entry at a place just below an event that invalidates it. Returns its new reach, and whether a
+// still valid entry stands there now.
 fn close_in(
     cache: &mut LruCache<Place, Stored>,
     place: &Place,
     closing: &Closing<'_>,
-) -> Option<Reach>
+) -> (Option<Reach>, bool)
     ensures entries { cache.new.entries
         ≡ after_at closing.now.stamp closing.now.tags.now place.now cache.old.entries }
     ensures cap { cache.new.cap ≡ cache.old.cap }
-    ensures reach { result ≡ closed_reach closing.now.stamp closing.now.tags.now
+    ensures reach { result.0 ≡ closed_reach closing.now.stamp closing.now.tags.now
+        (lookup (equal_places place.now) cache.old.entries) }
+    ensures live { result.1 ≡ stays_live closing.now.stamp closing.now.tags.now
         (lookup (equal_places place.now) cache.old.entries) }
 {
     match cache.peek_mut(place) {
-        None => None,
+        None => (None, false),
         Some(stored) => {
             if !closing.close(stored) {
-                return None;
+                return (None, stored.reach.is_still());
             }
-            Some(stored.reach)
+            (Some(stored.reach), false)
         }
     }
 }
@@ -153,16 +156,19 @@ impl KeyedEntries {
         }
     }
 
-    /// Closes the entry at a place just below an event that invalidates it, and counts it.
-    pub(crate) fn close_at(&mut self, place: &Place, closing: &Closing<'_>) -> usize
-        ensures closes { Closes closing.now.stamp closing.now.tags.now self.old self.new result }
+    /// Closes the entry at a place just below an event that invalidates it, and counts it. Returns with the
+    /// count whether a still valid entry stands there now.
+    pub(crate) fn close_at(&mut self, place: &Place, closing: &Closing<'_>) -> (usize, bool)
+        ensures closes { Closes closing.now.stamp closing.now.tags.now self.old self.new result.0 }
         ensures spared { IsSpared closing.now.stamp closing.now.tags.now self.new.entries place.now }
+        ensures live { result.1 ≡ is_live self.new.entries place.now }
     {
-        match close_in(&mut self.cache, place, closing) {
-            None => 0,
+        let (closed, is_live) = close_in(&mut self.cache, place, closing);
+        match closed {
+            None => (0, is_live),
             Some(reach) => {
                 self.keys.set(&place.key, reach);
-                1
+                (1, is_live)
             }
         }
     }

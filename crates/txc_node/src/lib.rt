@@ -11,6 +11,7 @@
 #![tactic(auto)]
 
 mod bucket;
+mod call_key;
 mod closing;
 mod counts;
 mod entry;
@@ -19,8 +20,10 @@ mod indexed;
 mod key_index;
 mod keyed;
 pub mod laws;
+mod mixing;
 mod node;
 mod op;
+mod others;
 mod place;
 mod record;
 mod refusal;

@@ -1,10 +1,14 @@
 //! Where an entry stands.
 ghost use Rattle.std.specs.Prelude.{◌≡◌};
-ghost use Rattle.txc_node.specs.Places.{place_at};
+ghost use Rattle.txc_node.specs.Places.{place_at, head_of};
 
+use crate::mixing::{mix, same_call};
 use std::hash::{Hash, Hasher};
 use txc_stamp::Stamp;
 use txc_tags::Key;
+
+// More than there are stamps.
+const STAMPS: u64 = 4_294_967_296;
 
 /// Where an entry stands: its key, and its first stamp.
 #[derive(Debug, Drop)]
@@ -24,6 +28,13 @@ impl Place {
         }
     }
 
+    // The function and the first stamp in one number.
+    fn head(&self) -> u64
+        ensures { result ≡ head_of self.now }
+    {
+        u64::from(self.key.function()) * STAMPS + u64::from(self.lo.number())
+    }
+
     /// An equal place.
     pub(crate) fn copy(&self) -> Place
         ensures { result ≡ self.now }
@@ -41,7 +52,7 @@ impl PartialEq for Place {
     ghost laws = { partial_equiv_from_equiv (decided equal_places equal_places_decides) };
 
     fn eq(&self, other: &Place) -> bool {
-        self.key == other.key && self.lo == other.lo
+        same_call(&self.key, &other.key) && self.lo == other.lo
     }
 }
 
@@ -53,18 +64,15 @@ impl Eq for Place {
 }
 
 impl Hash for Place {
-    ghost use Rattle.std.specs.Prelude.{◌++◌};
+    ghost use Rattle.std.specs.List.{fold};
     ghost use Rattle.std.specs.Hash as fed;
-    ghost use Rattle.txc_node.specs.Places.{equal_places_alike};
+    ghost use Rattle.txc_node.specs.Places.{equal_places_alike, head_of, mixed};
 
-    ghost hash_input = { λ p. fed.u8 p.key.function ++ (fed.slice fed.u32 p.key.args ++ fed.u32 p.lo) };
+    ghost hash_input = { λ p. fed.u64 (fold mixed (head_of p) p.key.args) };
 
-    ghost respects_eq = { equal_places_alike (λ p. fed.u8 p.key.function ++ (fed.slice fed.u32 p.key.args ++ fed.u32 p.lo)) };
+    ghost respects_eq = { equal_places_alike (λ p. fed.u64 (fold mixed (head_of p) p.key.args)) };
 
     fn hash<H: Hasher>(&self, state: &mut H) {
-        let (function, args) = (self.key.function(), self.key.args());
-        function.hash(state);
-        args.hash(state);
-        self.lo.number().hash(state);
+        mix(self.head(), self.key.args()).hash(state);
     }
 }

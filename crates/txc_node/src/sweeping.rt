@@ -5,6 +5,7 @@ ghost use Rattle.txc_tags.specs.Keys.{Call};
 ghost use Rattle.txc_node.specs.Indexed.{entries_of, listed};
 ghost use Rattle.txc_node.specs.Sweeping.{AreStored, AreGoneAt, HasReach, IsGone, Sheds, elsewhere, ends_by};
 
+use crate::call_key::CallKey;
 use crate::place::Place;
 use crate::stored::Stored;
 use crate::tag_index::TagIndex;
@@ -90,7 +91,7 @@ impl Sweep {
         &self,
         cache: &mut LruCache<Place, Stored>,
         index: &mut TagIndex,
-        keys: &IndexMap<Key, Versions>,
+        keys: &IndexMap<CallKey, Versions>,
         i: usize,
     )
         requires stored { AreStored index.old.tables.items cache.old.entries }
@@ -104,7 +105,7 @@ impl Sweep {
     {
         match keys.get_index(i) {
             None => (),
-            Some((key, versions)) => self.at_key(cache, index, key, versions),
+            Some((call, versions)) => self.at_key(cache, index, call.key(), versions),
         }
     }
 
@@ -113,7 +114,7 @@ impl Sweep {
         &self,
         cache: &mut LruCache<Place, Stored>,
         index: &mut TagIndex,
-        keys: &IndexMap<Key, Versions>,
+        keys: &IndexMap<CallKey, Versions>,
     )
         requires stored { AreStored index.old.tables.items cache.old.entries }
         requires reaches { (key : Call) → AllByRecursion (HasReach (entries_of cache.old.entries) key)

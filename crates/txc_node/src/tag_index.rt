@@ -1,14 +1,15 @@
 //! The index of the still valid entries by their tags.
-ghost use Rattle.std.specs.Prelude.{vec_len, ◌≡◌, ◌<◌, true, false, OnOk, Some, slice_get};
+ghost use Rattle.std.specs.Prelude.{vec_len, ◌≡◌, true, false, OnOk};
 ghost use Rattle.std.specs.List.{AllByRecursion};
 ghost use Rattle.txc_tags.specs.declared.tag.Tag.{Tag};
 ghost use Rattle.txc_tags.specs.declared.tag.Rows.{Rows};
 ghost use Rattle.txc_node.specs.declared.place.Place.{Place};
-ghost use Rattle.txc_tags.specs.Tags.{same_tag, has_tag};
+ghost use Rattle.txc_tags.specs.Tags.{same_tag, has_tag, rows_match};
 ghost use Rattle.txc_node.specs.Places.{equal_places};
-ghost use Rattle.txc_node.specs.Indexed.{equal_rows, lists_rows, lists, KeepsListed, is_live};
+ghost use Rattle.txc_node.specs.Indexed.{AreSparedBy, Closes, IsSpared, KeepsListed, equal_rows, is_live, lists, lists_rows};
 
 use crate::bucket::Bucket;
+use crate::closing::Closing;
 use crate::keyed::KeyedEntries;
 use crate::place::Place;
 use indexmap::IndexMap;
@@ -37,9 +38,9 @@ fn list(buckets: &mut Buckets, alloc: Global, rows: Rows, place: &Place) -> Resu
         → lists_rows buckets.new.entries r q ≡ true }
 {
     match buckets.get_mut(&rows) {
-        Some(bucket) => bucket.add(place),
+        Some(bucket) => bucket.add(alloc, place),
         None => {
-            buckets.insert(rows, Bucket::one(alloc, place.copy()))?;
+            buckets.insert(rows, Bucket::one(place.copy()))?;
             Ok(())
         }
     }
@@ -75,7 +76,7 @@ fn clean_rows(buckets: &mut Buckets, rows: Rows, entries: &KeyedEntries)
     }
 }
 
-// The same under all rows of a table.
+// Keeps under all rows of a table the places at which still valid entries stand.
 fn clean_all(buckets: &mut Buckets, entries: &KeyedEntries)
     ensures kept { (r : Rows) (q : Place) → is_live entries.now.entries q ≡ true
         → lists_rows buckets.old.entries r q ≡ true → lists_rows buckets.new.entries r q ≡ true }
@@ -87,6 +88,67 @@ fn clean_all(buckets: &mut Buckets, entries: &KeyedEntries)
         };
         clean_rows(buckets, rows, entries);
     }
+}
+
+// Closes what an event invalidates at the places under rows of a table, and counts it. Of these places it keeps
+// those at which still valid entries stand.
+fn close_rows(
+    buckets: &mut Buckets,
+    rows: Rows,
+    entries: &mut KeyedEntries,
+    closing: &Closing<'_>,
+) -> usize
+    ensures closes { Closes closing.now.stamp closing.now.tags.now entries.old entries.new result }
+    ensures spared { (q : Place) → lists_rows buckets.old.entries rows q ≡ true
+        → IsSpared closing.now.stamp closing.now.tags.now entries.new.entries q }
+    ensures kept { (r : Rows) (q : Place) → is_live entries.new.entries q ≡ true
+        → lists_rows buckets.old.entries r q ≡ true → lists_rows buckets.new.entries r q ≡ true }
+{
+    let Some(bucket) = buckets.get_mut(&rows) else {
+        return 0;
+    };
+    let (count, stays) = bucket.close(entries, closing);
+    if !stays {
+        buckets.swap_remove(&rows);
+    }
+    count
+}
+
+// Closes what an event invalidates at the places under all rows of a table, and counts it. Of these places it
+// keeps those at which still valid entries stand.
+fn close_table(buckets: &mut Buckets, entries: &mut KeyedEntries, closing: &Closing<'_>) -> usize
+    ensures closes { Closes closing.now.stamp closing.now.tags.now entries.old entries.new result }
+    ensures spared { (r : Rows) (q : Place) → lists_rows buckets.old.entries r q ≡ true
+        → IsSpared closing.now.stamp closing.now.tags.now entries.new.entries q }
+    ensures kept { (r : Rows) (q : Place) → is_live entries.new.entries q ≡ true
+        → lists_rows buckets.old.entries r q ≡ true → lists_rows buckets.new.entries r q ≡ true }
+{
+    let count = closing.in_table(entries, buckets);
+    clean_all(buckets, entries);
+    count
+}
+
+// Closes what an event invalidates at the places under those rows of a tag's table that match the tag, and
+// counts it. Of these places it keeps those at which still valid entries stand.
+fn close_by(
+    buckets: &mut Buckets,
+    tag: &Tag,
+    entries: &mut KeyedEntries,
+    closing: &Closing<'_>,
+) -> usize
+    ensures closes { Closes closing.now.stamp closing.now.tags.now entries.old entries.new result }
+    ensures spared { (r : Rows) (q : Place) → rows_match tag.now.rows r ≡ true
+        → lists_rows buckets.old.entries r q ≡ true
+        → IsSpared closing.now.stamp closing.now.tags.now entries.new.entries q }
+    ensures kept { (r : Rows) (q : Place) → is_live entries.new.entries q ≡ true
+        → lists_rows buckets.old.entries r q ≡ true → lists_rows buckets.new.entries r q ≡ true }
+{
+    let _len = entries.len();
+    if tag.is_wildcard() {
+        return close_table(buckets, entries, closing);
+    }
+    let count = close_rows(buckets, tag.rows, entries, closing);
+    count + close_rows(buckets, Rows::All, entries, closing)
 }
 
 // Whether a set has a tag.
@@ -104,14 +166,6 @@ impl TagIndex {
             tables.push(IndexMap::new(alloc))?;
         }
         Ok(TagIndex { alloc, tables })
-    }
-
-    /// The places by the rows of the tag's table.
-    pub(crate) fn of_table(&self, tag: &Tag) -> &Buckets
-        ensures { slice_get self.now.tables.items tag.now.table ≡ Some result.now }
-    {
-        let at = tag.table.number() as usize;
-        &self.tables[at]
     }
 
     // Lists a place under a tag.
@@ -180,18 +234,33 @@ impl TagIndex {
         }
     }
 
-    /// Keeps of the places under tags that match this one those at which still valid entries stand.
-    pub(crate) fn clean(&mut self, tag: &Tag, entries: &KeyedEntries)
-        ensures { KeepsListed (λ t q. is_live entries.now.entries q ≡ true)
+    // Closes what an event invalidates at the places under tags that match this one, and counts it. Of these
+    // places it keeps those at which still valid entries stand.
+    fn close_one(&mut self, tag: &Tag, entries: &mut KeyedEntries, closing: &Closing<'_>) -> usize
+        ensures closes { Closes closing.now.stamp closing.now.tags.now entries.old entries.new result }
+        ensures spared { AreSparedBy closing.now.stamp closing.now.tags.now entries.new.entries
+            self.old.tables.items tag.now }
+        ensures kept { KeepsListed (λ t q. is_live entries.new.entries q ≡ true)
             self.old.tables.items self.new.tables.items }
     {
         let at = tag.table.number() as usize;
-        let buckets = &mut self.tables[at];
-        if tag.is_wildcard() {
-            clean_all(buckets, entries);
-        } else {
-            clean_rows(buckets, tag.rows, entries);
-            clean_rows(buckets, Rows::All, entries);
+        close_by(&mut self.tables[at], tag, entries, closing)
+    }
+
+    /// Closes what an event invalidates at the places under tags that match one of its own, and counts it. Of
+    /// these places it keeps those at which still valid entries stand.
+    pub(crate) fn close(&mut self, entries: &mut KeyedEntries, closing: &Closing<'_>) -> usize
+        ensures closes { Closes closing.now.stamp closing.now.tags.now entries.old entries.new result }
+        ensures spared { AllByRecursion (AreSparedBy closing.now.stamp closing.now.tags.now entries.new.entries
+            self.old.tables.items) closing.now.tags.now }
+        ensures kept { KeepsListed (λ t q. is_live entries.new.entries q ≡ true)
+            self.old.tables.items self.new.tables.items }
+    {
+        let _len = entries.len();
+        let mut count: usize = 0;
+        for tag in closing.tags.tags() {
+            count += self.close_one(tag, entries, closing);
         }
+        count
     }
 }

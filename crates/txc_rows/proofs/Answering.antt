@@ -86,7 +86,7 @@ of_table q from (v ∷ vs) all = go (is_asked q from v) refl (of_table q from vs
     go false e more = more
 
 -- those of the kept ones that a query asks for
-asked_left : (q : Query) (from : ℕ) (vs : List Versioned) → filter (suits q) (left_from from vs) ≡ filter (is_asked q from) vs
+pub asked_left : (q : Query) (from : ℕ) (vs : List Versioned) → filter (suits q) (left_from from vs) ≡ filter (is_asked q from) vs
 asked_left q from [] = refl
 asked_left q from (v ∷ vs) = go (is_left from v) refl (suits q v) refl (asked_left q from vs)
   where

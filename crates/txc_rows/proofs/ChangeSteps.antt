@@ -1,25 +1,27 @@
 -- What the statements of one change leave together.
-use Rattle.std.proofs.Common.{◌≡◌, ℕ, suc, ◌+◌, ◌≤◌, ◌==◌, List, [], ◌∷◌, ◌++◌, map, filter, take, length, Bool, true, false, cond, ◌&&◌, Option, Some, None, is_none, Result, Ok, Err, refl, sym, ap, subst, ◌∙◌, append_assoc, append-nil, length-append, arith}
-use Rattle.std.specs.List.{AllByRecursion}
-use Rattle.std.specs.Prelude.{option_to_list}
+use Rattle.std.proofs.Common.{◌≡◌, ◌≢◌, inl, inr, not, ℕ, suc, ◌+◌, ◌≤◌, ◌==◌, List, [], ◌∷◌, ◌++◌, map, filter, take, length, Bool, true, false, cond, ◌&&◌, Option, Some, None, is_none, Result, Ok, Err, refl, sym, ap, subst, ◌∙◌, append_assoc, append-nil, length-append, arith}
+use Rattle.std.specs.List.{AllByRecursion, Contains}
+use Rattle.std.specs.Prelude.{option_to_list, if◌then◌else◌}
 use Rattle.std.specs.List.Sorted.{IsPermutation}
-use Rattle.std.proofs.lemmas.List.Sorted.{length_permutation}
+use Rattle.std.proofs.lemmas.List.Sorted.{length_permutation, IsPermutation-refl}
 use Rattle.sqlite.specs.Held.{Held, state}
 use Rattle.sqlite.specs.Steps.{over_memory}
 use Rattle.sqlite.specs.declared.error.Error.{Error}
 use Rattle.sqlite.proofs.Callers.{one_permutation}
 use Rattle.sqlite_trees.specs.declared.memory.MemStore.{MemStore}
-use Rattle.sqlite_trees.proofs.ListLemmas.{ascending-map, IsPermutation-filter}
+use Rattle.sqlite.specs.Tree.{IsAscending}
+use Rattle.sqlite_trees.proofs.ListLemmas.{all-append, ascending-map, IsPermutation-filter}
 use Rattle.txc_stamp.specs.declared.stamp.TheConstants.{LAST_STAMP}
 use Rattle.txc_rows.specs.Values.{RowValue, IsRow}
 use Rattle.txc_rows.specs.States.{is_at}
 use Rattle.txc_rows.specs.Versions.{is_current, removed, put}
 use Rattle.txc_rows.specs.declared.placed.Placed.{Placed}
-use Rattle.txc_rows.specs.Placed.{versions_by_place, in_group, is_touched, has_key, closed_placed, new_placed, renewed, put_latest, put_replaced, HaveOwnKeys, AreBelow, AreWellPlaced, AreAll, AddsAtEnd}
+use Rattle.txc_rows.specs.Placed.{versions_by_place, in_group, is_touched, has_key, closed_placed, new_placed, renewed, put_latest, put_replaced, HaveOwnKeys, IsOneCurrent, AreBelow, AreWellPlaced, AreAll, AreAmong, KeepsOthers, AddsAtEnd}
 use Rattle.txc_rows.specs.Kept.{latest_in, versions_of, HasLatest, HasWritten, IsStep}
-use Rattle.txc_rows.proofs.Members.{both_true, and_true}
+use Rattle.txc_rows.proofs.Members.{both_true, and_true, IsIn, is_in, contains_it, in_left}
+use Rattle.txc_rows.proofs.StoredVersions.{hit_is}
 use Rattle.txc_rows.proofs.WriteLemmas.{no_permutation}
-use Rattle.txc_rows.proofs.PutLemmas.{none_of, empty_of, key_is, few_keys, ended_apart, ended_none, ended_below, ended_versions, removed_written, put_written, put_apart}
+use Rattle.txc_rows.proofs.PutLemmas.{none_of, empty_of, key_is, key_turned, one_turned, few_keys, ended_apart, ended_none, ended_below, ended_versions, removed_written, put_written, put_apart}
 
 -- ---- one change
 
@@ -64,6 +66,83 @@ all_pass p (x ∷ xs) e = go (p x) refl e (all_pass p xs)
     go : (b : Bool) → p x ≡ b → length (cond b (x ∷ filter p xs) (filter p xs)) ≡ length (x ∷ xs) → (length (filter p xs) ≡ length xs → AllByRecursion (λ y. p y ≡ true) xs) → AllByRecursion (λ y. p y ≡ true) (x ∷ xs)
     go true is e more = (is, more (omega (arith, e)))
     go false is e more = absurd (omega (arith, e, few_left p xs))
+
+-- where the last version of a put's group is current, it is all that the put touches
+module _ (t i g : ℕ) (one : Placed) (key : has_key t i g one ≡ true) (dead : one.version.died ≡ None) where
+  untouched : (y : Placed) → has_key one.version.row.table one.version.row.id one.version.row.group y ≡ false → IsOneCurrent one y → is_touched t i g y ≡ false
+  untouched y off alone = go (is_at t i y.version.row) refl (is_current y.version) refl (in_group g y) refl
+    where
+      same : (one.version.row.table ≡ t) × (one.version.row.id ≡ i) × (one.version.row.group ≡ g)
+      same = key_is t i g one key
+
+      go : (a : Bool) → is_at t i y.version.row ≡ a → (b : Bool) → is_current y.version ≡ b → (c : Bool) → in_group g y ≡ c → is_touched t i g y ≡ false
+      go false e b f c h = rw e refl
+      go true e true f c h = absurd (rw (same.0, same.1) at alone e dead (hit_is t i y.version (and_true _ _ e f)).2)
+      go true e false f true h = absurd (let on = and_true _ _ e h in let no = rw (same.0, same.1, same.2) at off in cc)
+      go true e false f false h = rw (e, f, h) refl
+
+  pub one_touched : (xs : List Placed) → IsIn one xs → HaveOwnKeys xs → IsAscending IsOneCurrent xs → filter (is_touched t i g) xs ≡ one ∷ []
+  one_touched [] there own alone = absurd there
+  one_touched (x ∷ xs) (inl same) own alone =
+      rw (← same) (rw touched (ap (λ rest. one ∷ rest) (none xs (rw (← same) at own.0) (rw (← same) at alone.0))))
+    where
+      touched : is_touched t i g one ≡ true
+      touched = let two = both_true (is_at t i one.version.row) (in_group g one) key in rw (two.0, dead) refl
+
+      none : (ys : List Placed) → AllByRecursion (λ y. has_key one.version.row.table one.version.row.id one.version.row.group y ≡ false) ys → AllByRecursion (IsOneCurrent one) ys → filter (is_touched t i g) ys ≡ []
+      none [] off only = refl
+      none (y ∷ ys) off only = rw (untouched y off.0 only.0) (none ys off.1 only.1)
+  one_touched (x ∷ xs) (inr later) own alone =
+      let off = there xs later own.0 alone.0 in
+      let turned : has_key one.version.row.table one.version.row.id one.version.row.group x ≡ false
+      = key_turned x.version.row.table x.version.row.id x.version.row.group one.version.row.table one.version.row.id one.version.row.group ∙ off.0 in
+      rw (untouched x turned (one_turned x one off.1)) (one_touched xs later own.1 alone.1)
+    where
+      there : (ys : List Placed) → IsIn one ys → AllByRecursion (λ y. has_key x.version.row.table x.version.row.id x.version.row.group y ≡ false) ys → AllByRecursion (IsOneCurrent x) ys
+          → (has_key x.version.row.table x.version.row.id x.version.row.group one ≡ false) × IsOneCurrent x one
+      there [] h off only = absurd h
+      there (y ∷ ys) (inl same) off only = rw same (off.0, only.0)
+      there (y ∷ ys) (inr more) off only = there ys more off.1 only.1
+
+  pub known_touched : (latest known : List Placed) → AreAmong latest known → Contains known one → HaveOwnKeys latest → IsAscending IsOneCurrent latest → IsPermutation (filter (is_touched t i g) latest) (one ∷ [])
+  known_touched latest known among there own alone = rw (one_touched latest (is_in latest one (each known among (is_in known one there))) own alone) (IsPermutation-refl (one ∷ []))
+    where
+      each : (xs : List Placed) → AreAmong latest xs → IsIn one xs → Contains latest one
+      each [] all h = absurd h
+      each (x ∷ xs) all (inl same) = rw same all.0
+      each (x ∷ xs) all (inr later) = each xs all.1 later
+
+-- ---- the last versions of other tables and ids
+
+in_mapped : (f : Placed → Placed) (x : Placed) (xs : List Placed) → f x ≡ x → IsIn x xs → IsIn x (map f xs)
+in_mapped f x [] same h = absurd h
+in_mapped f x (y ∷ ys) same (inl here) = inl (sym same ∙ ap f here)
+in_mapped f x (y ∷ ys) same (inr later) = inr (in_mapped f x ys same later)
+
+pub others_ended : (t i s : ℕ) (latest : List Placed) → KeepsOthers t i latest (map (closed_placed t i s) latest)
+others_ended t i s latest x h off = contains_it _ x (in_mapped (closed_placed t i s) x latest (rw off refl) (is_in latest x h))
+
+others_put : (row : RowValue) (s place : ℕ) (latest : List Placed) → KeepsOthers row.table row.id latest (put_latest place row s latest)
+others_put row s place latest x h off = go (length (filter (has_key row.table row.id row.group) latest) == 0)
+  where
+    go : (b : Bool) → Contains (cond b (latest ++ new_placed place row s ∷ []) (map (renewed place row s) latest)) x
+    go true = contains_it _ x (in_left x latest _ (is_in latest x h))
+    go false = contains_it _ x (in_mapped (renewed place row s) x latest (rw off refl) (is_in latest x h))
+
+-- more that are known
+pub among_more : (latest old more : List Placed) (b : Bool) → AreAmong latest old → AreAmong latest more → AreAmong latest (if b then old ++ more else old)
+among_more latest old more true before added = all-append (λ x. Contains latest x) old more before added
+among_more latest old more false before added = before
+
+-- what is known of others is known still
+pub known_still : (t i : ℕ) (old new known : List Placed) → KeepsOthers t i old new → AreAmong old known → AreAmong new (filter (λ x. not (is_at t i x.version.row)) known)
+known_still t i old new [] others among = tt
+known_still t i old new (x ∷ xs) others among = go (is_at t i x.version.row) refl (known_still t i old new xs others among.1)
+  where
+    go : (b : Bool) → is_at t i x.version.row ≡ b → AreAmong new (filter (λ y. not (is_at t i y.version.row)) xs)
+        → AreAmong new (cond (not b) (x ∷ filter (λ y. not (is_at t i y.version.row)) xs) (filter (λ y. not (is_at t i y.version.row)) xs))
+    go true e more = more
+    go false e more = (others x among.0 e, more)
 
 module _ (t i g s : ℕ) where
   of_group : (xs : List Placed) → filter (in_group g) (filter (is_touched t i g) xs) ≡ filter (has_key t i g) xs
@@ -211,6 +290,13 @@ module _ (row : RowValue) (s place : ℕ) (old first mid : Held MemStore) (repla
           → put_latest place row s (latest_in mid) ≡ put_latest place row s (map (closed_placed row.table row.id s) (latest_in old))
       go true are all = ap (put_latest place row s) are
       go false are all = ap (put_latest place row s) are ∙ put_unmoved row s place (latest_in old) (stays row.table row.id row.group s (latest_in old) xs touched (all refl))
+
+  pub put_others : (end : Held MemStore) → HasLatest (put_latest place row s (latest_in mid)) end → KeepsOthers row.table row.id (latest_in old) (latest_in end)
+  put_others end puts x h off = rw puts.latest_are (others_put row s place (latest_in mid) x (rw mid_are (go moves)) off)
+    where
+      go : (b : Bool) → Contains (cond b (map (closed_placed row.table row.id s) (latest_in old)) (latest_in old)) x
+      go true = others_ended row.table row.id s (latest_in old) x h off
+      go false = h
 
   pub put_step : s ≤ LAST_STAMP → IsRow row → (end : Held MemStore) → HasLatest (put_latest place row s (latest_in mid)) end
       → HasWritten (put row s (versions_of replaced old)) (place + 1) (replaced ++ map (λ x. closed_placed x.version.row.table x.version.row.id s x) (option_to_list o)) end

@@ -13,7 +13,7 @@ use Rattle.sqlite.specs.Collation.TheVariants.{Binary}
 use Rattle.sqlite_tied.specs.Compute.{everything}
 use Rattle.sqlite.specs.Listing.{understood, reads_listing}
 use Rattle.sqlite.proofs.Callers.{command_of, statement_of, IsPlain}
-use Rattle.txc_rows.specs.declared.texts.TheConstants.{MAKE_LATEST, DROP_LATEST, ADD_LATEST, END_VERSION, RENEW_LATEST, READ_LAST, READ_LEFT, READ_TABLE, READ_ROW, READ_GROUP, READ_RANGE}
+use Rattle.txc_rows.specs.declared.texts.TheConstants.{MAKE_LATEST, DROP_LATEST, ADD_LATEST, END_VERSION, RENEW_LATEST, READ_LAST, READ_PLACED, READ_LEFT, READ_TABLE, READ_ROW, READ_GROUP, READ_RANGE}
 use Rattle.txc_rows.specs.Texts.{no_schema, latest_table, latest_schema}
 
 -- ---- rows that are given
@@ -162,6 +162,13 @@ left_is = record { command = refl; rows = refl; plain = (refl, refl) }
 pub touched_is : AreCellsOf touched_filter READ_LAST.now
 unfolding understood everything
 touched_is = record { command = refl; rows = refl; plain = (refl, refl) }
+
+abbrev pub placed_filter : List Term
+placed_filter = op2 (Compare Eq Binary) (col 1 2) (col 0 0) ∷ op2 (Compare Eq Binary) (col 1 3) (col 0 1) ∷ left_test ∷ []
+
+pub placed_is : AreCellsOf placed_filter READ_PLACED.now
+unfolding understood everything
+placed_is = record { command = refl; rows = refl; plain = (refl, refl) }
 
 -- ---- the table
 

@@ -44,6 +44,9 @@ filter_few p (x ∷ xs) = go (p x) (filter_few p xs)
     go true few = omega (arith, few)
     go false few = omega (arith, few)
 
+pub both_current : (q : Query) (vs found : List Versioned) → IsPermutation (filter (suits q) vs) found → IsPermutation (filter (suits q) (current vs)) (current found)
+both_current q vs found same = subst (λ xs. IsPermutation xs (current found)) (filters_turned is_current (suits q) vs) (IsPermutation-filter is_current _ _ same)
+
 -- ---- the last versions alone
 
 module _ (q : Query) (from : ℕ) where
@@ -72,22 +75,10 @@ module _ (q : Query) (from : ℕ) where
     last_current ended =
         let are : current (found ++ asked q from replaced) ≡ current found
         = filter-append is_current found (asked q from replaced) ∙ ap (λ xs. current found ++ xs) (none_current replaced ended) ∙ append-nil (current found) in
-        subst (IsPermutation (filter (suits q) (current (left_from from (versions_of replaced h))))) are
-        (subst (λ xs. IsPermutation xs (current (found ++ asked q from replaced))) (filters_turned is_current (suits q) (left_from from (versions_of replaced h))) (IsPermutation-filter is_current _ _ all_of))
+        subst (IsPermutation (filter (suits q) (current (left_from from (versions_of replaced h))))) are (both_current q (left_from from (versions_of replaced h)) (found ++ asked q from replaced) all_of)
 
     pub last_few : length found + length replaced ≤ MAX_MATCHING → length (of_all q from replaced h) ≤ MAX_MATCHING
     last_few room = omega (arith, room, length_permutation _ _ all_of, length-append found (asked q from replaced), asked_few replaced)
-
--- ---- all versions
-
-module _ (q : Query) (vs : List Versioned) where
-  pub all_current : (r : Result (Vec Versioned Global) StoreError) → IfOk r (λ found. Finds q vs found.items) → IfOk r (λ found. IsPermutation (filter (suits q) (current vs)) (current found.items))
-  all_current (Ok found) finds = subst (λ xs. IsPermutation xs (current found.items)) (filters_turned is_current (suits q) vs) (IsPermutation-filter is_current _ _ finds.same)
-  all_current (Err e) finds = tt
-
-  pub all_few : (r : Result (Vec Versioned Global) StoreError) → IfOk r (λ found. Finds q vs found.items) → IfOk r (λ found. length found.items ≤ MAX_MATCHING) → OnOk r (length (filter (suits q) vs) ≤ MAX_MATCHING)
-  all_few (Ok found) finds few = omega (arith, few, length_permutation _ _ finds.same)
-  all_few (Err e) finds few = tt
 
 -- ---- the newest state
 

@@ -1,28 +1,33 @@
 -- What is found of the last versions and of the replaced ones is what is found.
-use Rattle.std.proofs.Common.{◌≡◌, ℕ, ◌+◌, ◌-◌, ◌<◌, ◌≤◌, List, [], ◌++◌, map, filter, length, Ok, Err, Result, Vec, Global, IfOk, IsErrAnd, sym, ap, subst, ◌∙◌, append_assoc, length-append, arith}
+use Rattle.std.proofs.Common.{◌≡◌, ℕ, ◌+◌, ◌-◌, ◌<◌, ◌≤◌, List, [], ◌∷◌, ◌++◌, map, filter, length, inl, inr, refl, Ok, Err, Result, Vec, Global, IfOk, IsErrAnd, sym, ap, subst, ◌∙◌, append_assoc, length-append, arith}
 use Rattle.std.proofs.lemmas.List.{map-append, length-map}
 use Rattle.std.proofs.lemmas.List.Elements.{filter-append}
+use Rattle.std.specs.List.{AllByRecursion, Contains}
 use Rattle.std.specs.List.Sorted.{IsPermutation, IsSorted}
 use Rattle.std.proofs.lemmas.List.Sorted.{IsPermutation-map, IsPermutation-sym, IsPermutation-trans, IsPermutation-append_left, IsPermutation-append_right, length_permutation}
-use Rattle.sqlite_trees.proofs.ListLemmas.{IsPermutation-filter}
+use Rattle.sqlite_trees.proofs.ListLemmas.{IsPermutation-filter, filter-map, all-filter, all-permutation}
 use Rattle.txc_rows.specs.declared.store_error.TheConstants.{MAX_MATCHING}
 use Rattle.txc_rows.specs.declared.version.Versioned.{Versioned}
 use Rattle.txc_rows.specs.declared.query.Query.{Query}
+use Rattle.txc_rows.specs.declared.query.Query.TheVariants.{ById}
 use Rattle.txc_rows.specs.Versions.{suits, version_cmp}
 use Rattle.txc_rows.specs.Found.{Finds}
 use Rattle.txc_rows.specs.Keeping.{AnswersStates}
 use Rattle.txc_rows.specs.declared.store_error.StoreError.{StoreError}
 use Rattle.txc_rows.specs.declared.placed.Placed.{Placed}
-use Rattle.txc_rows.specs.Placed.{version_of, versions_by_place, is_left, left_from}
+use Rattle.txc_rows.specs.Placed.{version_of, versions_by_place, is_left, is_row_left, left_from, AreAmong}
 use Rattle.sqlite.specs.Held.{Held}
 use Rattle.sqlite.specs.Order.{Row}
 use Rattle.sqlite_trees.specs.declared.memory.MemStore.{MemStore}
 use Rattle.txc_rows.specs.States.{query_table}
-use Rattle.txc_rows.specs.Stored.{version_shown}
-use Rattle.txc_rows.specs.Kept.{latest_in, versions_of, IsListing, IsFinding}
+use Rattle.txc_rows.specs.Stored.{version_shown, placed_from}
+use Rattle.txc_rows.specs.Kept.{latest_in, versions_of, ArePassing, IsListing, IsFinding}
 use Rattle.txc_rows.proofs.PlaceLemmas.{by_place_permutes}
 use Rattle.txc_rows.proofs.KeepingLemmas.{found_answers}
 use Rattle.txc_rows.proofs.Listed.{all_shown}
+use Rattle.txc_rows.proofs.Members.{IsIn, contains_it}
+use Rattle.txc_rows.proofs.StoredRows.{is_asked}
+use Rattle.txc_rows.proofs.Answering.{asked_left}
 
 module _ (q : Query) (from : ℕ) where
   -- what the query asks for of these
@@ -61,6 +66,32 @@ read_finding q from placed old new rows listing room few are = record {
   few = omega (arith, few, room, ap length are, length-append old (map (version_shown (query_table q)) rows), length-map rows (version_shown (query_table q)));
 }
 
+-- ---- the last versions of one row, with their places
+
+module _ (t i from : ℕ) (latest : List Placed) (rows : List Row) (reads : ArePassing t (is_row_left t i from) latest rows) where
+  row_asked : asked (ById t i) from latest ≡ map version_of (filter (is_row_left t i from) latest)
+  row_asked = asked_left (ById t i) from (map version_of latest) ∙ filter-map (is_asked (ById t i) from) version_of latest
+
+  pub row_finding : (old new : List Versioned) (placed : List Placed) → length old ≤ MAX_MATCHING → length rows ≤ MAX_MATCHING - length old → placed ≡ map placed_from rows → new ≡ old ++ map version_of placed
+      → IsFinding (ById t i) from latest old new
+  row_finding old new placed low few is are = record {
+    more = map version_of placed;
+    same = rw (row_asked, is) (IsPermutation-map version_of _ _ reads.same);
+    are = are;
+    few = omega (arith, low, few, ap length are, length-append old (map version_of placed), length-map placed version_of, ap length is, length-map rows placed_from);
+  }
+
+  pub row_many : (old : List Versioned) → length old ≤ MAX_MATCHING → MAX_MATCHING - length old < length rows → MAX_MATCHING < length old + length (asked (ById t i) from latest)
+  row_many old low many =
+      omega (arith, low, many, ap length row_asked, length-map (filter (is_row_left t i from) latest) version_of, length_permutation _ _ reads.same, length-map rows placed_from)
+
+  pub row_among : (placed : List Placed) → placed ≡ map placed_from rows → AreAmong latest placed
+  row_among placed is = rw is (all-permutation (λ x. Contains latest x) _ _ reads.same (all-filter (λ x. Contains latest x) (is_row_left t i from) latest (each latest (λ x h. contains_it latest x h))))
+    where
+      each : (xs : List Placed) → ((x : Placed) → IsIn x xs → Contains latest x) → AllByRecursion (λ x. Contains latest x) xs
+      each [] on = tt
+      each (x ∷ xs) on = (on x (inl refl), each xs (λ y h. on y (inr h)))
+
 -- ---- the last versions first, and then the replaced ones
 
 module _ (q : Query) (from : ℕ) (replaced : List Placed) (h : Held MemStore) where
@@ -79,10 +110,11 @@ module _ (q : Query) (from : ℕ) (replaced : List Placed) (h : Held MemStore) w
     pub replaced_many : MAX_MATCHING < length found + length (asked q from replaced) → MAX_MATCHING < length of_all
     replaced_many many = omega (arith, many, length_permutation _ _ so_far, length-append found (asked q from replaced))
 
+    pub found_both : (all : List Versioned) → IsFinding q from replaced found all → IsPermutation of_all all
+    found_both all finding = rw finding.are (IsPermutation-trans _ _ _ so_far (IsPermutation-append_right found _ _ finding.same))
+
     pub found_all : (all sorted : List Versioned) → IsFinding q from replaced found all → IsPermutation all sorted → IsSorted version_cmp sorted → Finds q (left_from from (versions_of replaced h)) sorted
-    found_all all sorted finding same sorts =
-        let both : IsPermutation of_all all = rw finding.are (IsPermutation-trans _ _ _ so_far (IsPermutation-append_right found _ _ finding.same)) in
-        record { same = IsPermutation-trans _ _ _ both same; sorted = sorts }
+    found_all all sorted finding same sorts = record { same = IsPermutation-trans _ _ _ (found_both all finding) same; sorted = sorts }
 
 -- what is found answers the query in each kept state
 pub all_answer : (q : Query) (vs : List Versioned) (r : Result (Vec Versioned Global) StoreError) → IfOk r (λ found. Finds q vs found.items) → IfOk r (λ found. AnswersStates q vs found.items)

@@ -1,5 +1,5 @@
 -- What the statements do to a connection over the tables.
-use Rattle.std.proofs.Common.{◌≡◌, ◌⊎◌, inl, inr, ℕ, ℤ, List, [], ◌∷◌, map, filter, Bool, true, false, cond, Some, Ok, Err, Result, OnOk, IfErr, IfOk, refl, sym, ap, subst, ◌∙◌, IsTrue}
+use Rattle.std.proofs.Common.{◌≡◌, ◌⊎◌, inl, inr, ℕ, ℤ, List, [], ◌∷◌, map, filter, Bool, true, false, cond, ◌&&◌, Some, Ok, Err, Result, OnOk, IfErr, IfOk, refl, sym, ap, subst, ◌∙◌, IsTrue}
 use Rattle.std.specs.List.{AllByRecursion, list_all}
 use Rattle.std.specs.List.Sorted.{IsPermutation}
 use Rattle.sqlite.specs.Order.{Row}
@@ -17,15 +17,17 @@ use Rattle.sqlite.proofs.Callers.{IsPlain}
 use Rattle.sqlite_trees.specs.declared.memory.MemStore.{MemStore}
 use borrow.Author.Tests.{eqb-true}
 use Rattle.txc_rows.specs.declared.query.Query.{Query}
-use Rattle.txc_rows.specs.declared.texts.TheConstants.{MOST_READ, READ_LAST, READ_LEFT}
+use Rattle.txc_rows.specs.declared.texts.TheConstants.{MOST_READ, READ_LAST, READ_PLACED, READ_LEFT}
 use Rattle.txc_rows.specs.Holdable.{IsStorable}
 use Rattle.txc_rows.specs.declared.placed.Placed.{Placed}
-use Rattle.txc_rows.specs.Placed.{is_left, placed_left, is_touched}
+use Rattle.txc_rows.specs.Placed.{is_left, placed_left, is_row_left, is_touched}
 use Rattle.txc_rows.specs.Stored.{stored, cells_of, number, placed_all, AreVersionRows}
-use Rattle.txc_rows.specs.Kept.{latest_in, HasTable, HasLatest, IsKept, IsStep, IsCall, IsSame, IsReading, IsLeaving, AreTouched}
+use Rattle.txc_rows.specs.Kept.{latest_in, HasTable, HasLatest, IsKept, IsStep, IsCall, IsSame, IsReading, IsLeaving, ArePassing}
 use Rattle.txc_rows.proofs.Members.{both_true}
-use Rattle.txc_rows.proofs.Commands.{IsListingOf, most_shown, left_filter, touched_filter, left_is, touched_is}
-use Rattle.txc_rows.proofs.StoredRows.{is_asked, left_test_is, touched_test}
+use Rattle.txc_rows.specs.States.{is_at}
+use Rattle.txc_rows.specs.Texts.{latest_schema}
+use Rattle.txc_rows.proofs.Commands.{IsListingOf, AreCellsOf, most_shown, left_filter, touched_filter, placed_filter, left_is, touched_is, placed_is}
+use Rattle.txc_rows.proofs.StoredRows.{is_asked, left_test_is, touched_test, placed_test}
 use Rattle.txc_rows.proofs.LeftLemmas.{cells_read, cells_are, cells_each, placed_rows}
 use Rattle.txc_rows.proofs.WriteLemmas.{Leaves}
 use Rattle.txc_rows.proofs.Refusals.{Refused, query_refused, shown_same}
@@ -114,18 +116,26 @@ ended_call L old mid end (Err e) kept table each leaves base idle ok (inr late) 
 
 -- ---- what is read
 
+-- a reading of what is kept leaves the table as it was
+pub read_same : (text : List ℕ) (params : Row) → IsPlain (understood latest_schema text) → (old new : Held MemStore) → IsKept old → (r : Result (Vec Row Global) Error)
+    → IfOk r (λ rows. Shown text params (state over_memory old) (state over_memory new) rows.items) → IfErr r (FailsToQuery text params (state over_memory old) (state over_memory new)) → IsSame old new
+read_same text params plain old new kept r ok err = go r ok err
+  where
+    here : IsPlain (understood (state over_memory old).now.schema text)
+    here = subst (λ c. IsPlain (understood c text)) (sym kept.table.schema) plain
+
+    go : (o : Result (Vec Row Global) Error) → IfOk o (λ rows. Shown text params (state over_memory old) (state over_memory new) rows.items) → IfErr o (FailsToQuery text params (state over_memory old) (state over_memory new)) → IsSame old new
+    go (Ok rows) shown fails = refused_same old new kept (inl (shown_same text params (state over_memory old) (state over_memory new) rows.items here shown))
+    go (Err e) shown fails = refused_same old new kept (query_refused text params (state over_memory old) (state over_memory new) e here fails)
+
 module _ (q : Query) (from : ℕ) (fs : List Term) (text : List ℕ) (is : IsListingOf fs text) (params : Row)
     (test : (id : ℤ) (x : Placed) → list_all (holds (params ∷ stored id x ∷ [])) fs ≡ is_asked q from x.version) (limit : as_count (eval most_shown (params ∷ [])) ≡ Some MOST_READ) (old new : Held MemStore) (kept : IsKept old) where
-  plain : IsPlain (understood (state over_memory old).now.schema text)
-  plain = subst (λ c. IsPlain (understood c text)) (sym kept.table.schema) is.plain
-
   pub lists : (r : Result (Vec Row Global) Error) → IfOk r (λ rows. Shown text params (state over_memory old) (state over_memory new) rows.items)
       → IfErr r (FailsToQuery text params (state over_memory old) (state over_memory new)) → IsReading q from old new r
   lists (Ok rows) ok err =
-      let same = refused_same old new kept (inl (shown_same text params (state over_memory old) (state over_memory new) rows.items plain ok)) in
       let found = selects fs params text (is_asked q from) MOST_READ test limit is (state over_memory old) (state over_memory new) rows.items kept.table.schema kept.table.latest ok in
-      record { same = same; lists = listing q from (latest_in old) rows.items kept.each found }
-  lists (Err e) ok err = record { same = refused_same old new kept (query_refused text params (state over_memory old) (state over_memory new) e plain err); lists = tt }
+      record { same = read_same text params is.plain old new kept (Ok rows) ok err; lists = listing q from (latest_in old) rows.items kept.each found }
+  lists (Err e) ok err = record { same = read_same text params is.plain old new kept (Err e) ok err; lists = tt }
 
 left_rows : (from : ℕ) (old new : Held MemStore) → IsKept old → (rows : List Row) → Shown READ_LEFT.now (number from ∷ []) (state over_memory old) (state over_memory new) rows
     → IsPermutation (map cells_of (placed_left from (latest_in old))) rows
@@ -136,12 +146,35 @@ pub leaves : (from : ℕ) (old new : Held MemStore) → IsKept old → (r : Resu
     → IfOk r (λ rows. Shown READ_LEFT.now (number from ∷ []) (state over_memory old) (state over_memory new) rows.items)
     → IfErr r (FailsToQuery READ_LEFT.now (number from ∷ []) (state over_memory old) (state over_memory new)) → IsLeaving from old new r
 leaves from old new kept (Ok rows) ok err =
-    let plain = subst (λ c. IsPlain (understood c READ_LEFT.now)) (sym kept.table.schema) left_is.plain in
     let read = left_rows from old new kept rows.items ok in
-    record { same = refused_same old new kept (inl (shown_same READ_LEFT.now (number from ∷ []) (state over_memory old) (state over_memory new) rows.items plain ok)); cells = cells_each _ rows.items read; left = cells_are _ rows.items read }
-leaves from old new kept (Err e) ok err =
-    let plain = subst (λ c. IsPlain (understood c READ_LEFT.now)) (sym kept.table.schema) left_is.plain in
-    record { same = refused_same old new kept (query_refused READ_LEFT.now (number from ∷ []) (state over_memory old) (state over_memory new) e plain err); cells = tt; left = tt }
+    record { same = read_same READ_LEFT.now (number from ∷ []) left_is.plain old new kept (Ok rows) ok err; cells = cells_each _ rows.items read; left = cells_are _ rows.items read }
+leaves from old new kept (Err e) ok err = record { same = read_same READ_LEFT.now (number from ∷ []) left_is.plain old new kept (Err e) ok err; cells = tt; left = tt }
+
+-- the versions of a table that pass
+module _ (t : ℕ) (P : Placed → Bool) (of : (x : Placed) → P x ≡ true → x.version.row.table ≡ t) (fs : List Term) (text : List ℕ) (is : AreCellsOf fs text) (params : Row)
+    (test : (id : ℤ) (x : Placed) → list_all (holds (params ∷ stored id x ∷ [])) fs ≡ P x) where
+  of_table : (xs : List Placed) → AreStorable xs → AllByRecursion (λ x. (x.version.row.table ≡ t) × IsStorable x.version) (filter P xs)
+  of_table [] all = tt
+  of_table (x ∷ xs) all = go (P x) refl (of_table xs all.1)
+    where
+      go : (b : Bool) → P x ≡ b → AllByRecursion (λ y. (y.version.row.table ≡ t) × IsStorable y.version) (filter P xs) → AllByRecursion (λ y. (y.version.row.table ≡ t) × IsStorable y.version) (cond b (x ∷ filter P xs) (filter P xs))
+      go true e more = ((of x e, all.0), more)
+      go false e more = more
+
+  pub passing : (old new : Held MemStore) → HasTable old → AreStorable (latest_in old) → (r : Result (Vec Row Global) Error) → IfOk r (λ rows. Shown text params (state over_memory old) (state over_memory new) rows.items)
+      → IfOk r (λ rows. ArePassing t P (latest_in old) rows.items)
+  passing old new table each (Ok rows) ok =
+      let read = cells_read fs text is params P test (state over_memory old) (state over_memory new) rows.items table.schema table.latest ok in
+      record { each = placed_rows t _ rows.items read (of_table (latest_in old) each); same = cells_are _ rows.items read }
+  passing old new table each (Err e) ok = tt
+
+at_table : (t i : ℕ) (x : Placed) (b : Bool) → is_at t i x.version.row && b ≡ true → x.version.row.table ≡ t
+at_table t i x b e = eqb-true _ _ (both_true _ _ (both_true _ _ e).0).0
+
+pub row_passing : (t i from : ℕ) (old new : Held MemStore) → IsKept old → (r : Result (Vec Row Global) Error) → IfOk r (λ rows. Shown READ_PLACED.now (number t ∷ number i ∷ number from ∷ []) (state over_memory old) (state over_memory new) rows.items)
+    → IfOk r (λ rows. ArePassing t (is_row_left t i from) (latest_in old) rows.items)
+row_passing t i from old new kept =
+    passing t (is_row_left t i from) (λ x e. at_table t i x _ e) placed_filter READ_PLACED.now placed_is (number t ∷ number i ∷ number from ∷ []) (placed_test t i from) old new kept.table kept.each
 
 -- ---- what is read in a transaction
 
@@ -154,15 +187,6 @@ module _ (t i g : ℕ) (old new : Held MemStore) (table : HasTable old) (each : 
 
   plain_last : IsPlain (understood (state over_memory old).now.schema READ_LAST.now)
   plain_last = subst (λ c. IsPlain (understood c READ_LAST.now)) (sym table.schema) touched_is.plain
-
-  of_table : (xs : List Placed) → AreStorable xs → AllByRecursion (λ x. (x.version.row.table ≡ t) × IsStorable x.version) (filter (is_touched t i g) xs)
-  of_table [] all = tt
-  of_table (x ∷ xs) all = go (is_touched t i g x) refl (of_table xs all.1)
-    where
-      go : (b : Bool) → is_touched t i g x ≡ b → AllByRecursion (λ y. (y.version.row.table ≡ t) × IsStorable y.version) (filter (is_touched t i g) xs)
-          → AllByRecursion (λ y. (y.version.row.table ≡ t) × IsStorable y.version) (cond b (x ∷ filter (is_touched t i g) xs) (filter (is_touched t i g) xs))
-      go true e more = let at = both_true _ _ (both_true _ _ e).0 in ((eqb-true _ _ at.0, all.0), more)
-      go false e more = more
 
   kept_base : (e : Error) → Fails e → (state over_memory new).committed ≡ (state over_memory old).committed
   kept_base e (inl fails) = elim (query_refused READ_LAST.now given (state over_memory old) (state over_memory new) e plain_last fails) [ inl same ↦ same.0.committed_is | inr back ↦ (back.undone refl).1 ]
@@ -178,8 +202,5 @@ module _ (t i g : ℕ) (old new : Held MemStore) (table : HasTable old) (each : 
       }
   last_step (Err e) ok err = record { leaves = tt; inside = tt; base = kept_base e err }
 
-  pub last_touched : (r : Result (Vec Row Global) Error) → IfOk r (λ rows. Shown READ_LAST.now given (state over_memory old) (state over_memory new) rows.items) → IfOk r (λ rows. AreTouched t i g (latest_in old) rows.items)
-  last_touched (Ok rows) ok =
-      let read = cells_read touched_filter READ_LAST.now touched_is given (is_touched t i g) (touched_test t i g) (state over_memory old) (state over_memory new) rows.items table.schema table.latest ok in
-      record { each = placed_rows t _ rows.items read (of_table (latest_in old) each); same = cells_are _ rows.items read }
-  last_touched (Err e) ok = tt
+  pub last_touched : (r : Result (Vec Row Global) Error) → IfOk r (λ rows. Shown READ_LAST.now given (state over_memory old) (state over_memory new) rows.items) → IfOk r (λ rows. ArePassing t (is_touched t i g) (latest_in old) rows.items)
+  last_touched = passing t (is_touched t i g) (λ x e. at_table t i x _ e) touched_filter READ_LAST.now touched_is given (touched_test t i g) old new table each

@@ -10,7 +10,7 @@ use Rattle.txc_rows.specs.declared.query.Change.{Change}
 use Rattle.txc_rows.specs.Versions.{after_net, purged}
 use Rattle.txc_rows.specs.Holdable.{IsStorable}
 use Rattle.txc_rows.specs.declared.placed.Placed.{Placed}
-use Rattle.txc_rows.specs.Placed.{versions_by_place, left_from, placed_left, without_front_dead, AreBelow, AreWellPlaced, AreAll, AreSwept}
+use Rattle.txc_rows.specs.Placed.{versions_by_place, left_from, placed_left, without_front_dead, AreBelow, AreWellPlaced, AreAll, AreAmong, AreSwept}
 use Rattle.txc_rows.specs.Kept.{latest_in, versions_of, IsKept, IsCall, IsRoom, IsStore}
 use Rattle.txc_rows.proofs.HeldLemmas.{latest_by}
 use Rattle.txc_rows.proofs.SweepLemmas.{both_below, both_apart, left_alone, none_hidden, dropped_each, dropped_apart, dropped_same, purged_left}
@@ -31,6 +31,9 @@ module _ (replaced : List Placed) (old new : Held MemStore) (same : (state over_
   still_store next store kept =
       let are = latest_by old new same in
       record { kept = kept; apart = subst (λ xs. AreWellPlaced xs replaced) (sym are) store.apart; below = subst (λ xs. AreBelow next (xs ++ replaced)) (sym are) store.below }
+
+  pub still_known : (known : List Placed) → AreAmong (latest_in old) known → AreAmong (latest_in new) known
+  still_known known among = subst (λ xs. AreAmong xs known) (sym (latest_by old new same)) among
 
   pub same_view : (from : ℕ) → left_from from (versions_of replaced new) ≡ left_from from (versions_of replaced old)
   same_view from = ap (λ xs. left_from from (versions_by_place (xs ++ replaced))) (latest_by old new same)

@@ -22,11 +22,11 @@ use Rattle.txc_rows.specs.declared.version.Versioned.{Versioned}
 use Rattle.txc_rows.specs.States.{is_at}
 use Rattle.txc_rows.specs.Versions.{suits, is_current}
 use Rattle.txc_rows.specs.declared.placed.Placed.{Placed}
-use Rattle.txc_rows.specs.Placed.{lasts_to, is_left, is_touched, has_key}
+use Rattle.txc_rows.specs.Placed.{lasts_to, is_left, is_row_left, is_touched, has_key}
 use Rattle.txc_rows.specs.declared.query.Query.{Query}
 use Rattle.txc_rows.specs.declared.query.Query.TheVariants.{ById, ByGroup, All, Range}
 use Rattle.txc_rows.specs.Stored.{stored, cells_of, number, death, IsStored, death_in, placed_in, placed_from, queried_columns, version_shown}
-use Rattle.txc_rows.proofs.Commands.{close_filter, key_filter, left_filter, touched_filter, table_filter, row_filter, group_filter, range_filter, whole}
+use Rattle.txc_rows.proofs.Commands.{close_filter, key_filter, left_filter, touched_filter, placed_filter, table_filter, row_filter, group_filter, range_filter, whole}
 
 pub int_cmp-pos : (a b : ℕ) → int_cmp (pos a) (pos b) ≡ nat_cmp a b
 int_cmp-pos a b = grind (arith, nat_tests)
@@ -96,6 +96,9 @@ touched_is (Some a) g h = rw (value_cmp-apart (number a) Null (λ e. omega (arit
 
 pub touched_test : (t i g : ℕ) (id : ℤ) (x : Placed) → list_all (holds ((number t ∷ number i ∷ number g ∷ []) ∷ stored id x ∷ [])) touched_filter ≡ is_touched t i g x
 touched_test t i g id x = all_three _ _ _ _ _ _ (eq_test x.version.row.table t) (eq_test x.version.row.id i) (touched_is x.version.died x.version.row.group g)
+
+pub placed_test : (t i from : ℕ) (id : ℤ) (x : Placed) → list_all (holds ((number t ∷ number i ∷ number from ∷ []) ∷ stored id x ∷ [])) placed_filter ≡ is_row_left t i from x
+placed_test t i from id x = all_three _ _ _ _ _ _ (eq_test x.version.row.table t) (eq_test x.version.row.id i) (left_is x.version.died from)
 
 pub left_test_is : (from : ℕ) (id : ℤ) (x : Placed) → list_all (holds ((number from ∷ []) ∷ stored id x ∷ [])) left_filter ≡ is_left from x.version
 left_test_is from id x = one _ _ (left_is x.version.died from)

@@ -1,5 +1,5 @@
 -- What a connection over the table of last versions keeps: words that only this crate's private functions promise.
-use Rattle.std.specs.Prelude.{◌≡◌, ◌≤◌, ℕ, true, false, List, ◌++◌, map, filter, length, take, Result, Vec, OnOk, OnErr, IfOk}
+use Rattle.std.specs.Prelude.{◌≡◌, ◌≤◌, ℕ, Bool, true, false, List, ◌++◌, map, filter, length, take, Result, Vec, OnOk, OnErr, IfOk}
 use Rattle.std.specs.declared.alloc.Global.{Global}
 use Rattle.sqlite.specs.declared.error.Error.{Error}
 use Rattle.std.specs.List.{AllByRecursion}
@@ -17,7 +17,7 @@ use Rattle.txc_rows.specs.Versions.{suits}
 use Rattle.txc_rows.specs.Holdable.{IsStorable}
 use Rattle.txc_rows.specs.Texts.{no_schema, latest_schema}
 use Rattle.txc_rows.specs.declared.placed.Placed.{Placed}
-use Rattle.txc_rows.specs.Placed.{version_of, versions_by_place, left_from, placed_left, is_touched, AreBelow, AreWellPlaced, AreAll}
+use Rattle.txc_rows.specs.Placed.{version_of, versions_by_place, left_from, placed_left, AreBelow, AreWellPlaced, AreAll}
 use Rattle.txc_rows.specs.Stored.{placed_all, placed_from, AreVersionRows, AreCells, queried_columns, version_shown}
 
 -- the last versions of each table, id and group, as the transaction sees them
@@ -106,10 +106,10 @@ pub record IsPlacedRow (table : ℕ) (r : Row) : Type 0 where
   pub table_is : (placed_from r).version.row.table ≡ table
   pub version : IsStorable (placed_from r).version
 
--- the rows are the versions that a put of that table, id and group ends or replaces, in any order
-pub record AreTouched (table id group : ℕ) (latest : List Placed) (rows : List Row) : Type 0 where
+-- the rows are those versions of the table that pass, in any order
+pub record ArePassing (table : ℕ) (passes : Placed → Bool) (latest : List Placed) (rows : List Row) : Type 0 where
   pub each : AllByRecursion (IsPlacedRow table) rows
-  pub same : IsPermutation (filter (is_touched table id group) latest) (map placed_from rows)
+  pub same : IsPermutation (filter passes latest) (map placed_from rows)
 
 -- the versions that a query asks for, of those that did not die before a stamp, came to the found ones, of which there
 -- are no more than may match

@@ -1,7 +1,7 @@
 -- Versions with their places in the one list of versions, apart by which are the last of a table, id and group.
 use Rattle.std.specs.Prelude.{◌≡◌, ◌≢◌, ◌⊎◌, ◌<◌, ℕ, Bool, true, false, not, ◌&&◌, ◌||◌, ◌==◌, nat_lt, nat_le, List, [], ◌∷◌, ◌++◌, length, filter, if◌then◌else◌, map, Option, Some, None}
 use Rattle.std.specs.List.Sorted.{IsPermutation}
-use Rattle.std.specs.List.{AllByRecursion}
+use Rattle.std.specs.List.{AllByRecursion, Contains}
 use Rattle.sqlite.specs.Tree.{IsAscending}
 use Rattle.txc_rows.specs.declared.placed.Placed.{Placed}
 use Rattle.txc_rows.specs.declared.version.Versioned.{Versioned}
@@ -66,6 +66,10 @@ in_group group x = x.version.row.group == group
 abbrev pub is_touched : ℕ → ℕ → ℕ → Placed → Bool
 is_touched table id group x = is_at table id x.version.row && (is_current x.version || in_group group x)
 
+-- it is of that table and id, and did not die before the stamp
+abbrev pub is_row_left : ℕ → ℕ → ℕ → Placed → Bool
+is_row_left table id from x = is_at table id x.version.row && is_left from x.version
+
 -- the version after a change of the table and id at the stamp, at the same place
 abbrev pub closed_placed : ℕ → ℕ → ℕ → Placed → Placed
 closed_placed table id stamp x = record x { version = closed table id stamp x.version }
@@ -126,6 +130,14 @@ pub record AreAll (versions : List Versioned) (next : ℕ) (replaced latest : Li
 -- they are the same, or those alone that did not die before the stamp
 abbrev pub AreSwept : ℕ → List Placed → List Placed → Type 0
 AreSwept from old new = (new ≡ old) ⊎ IsPermutation (placed_left from old) new
+
+-- each is one of the last versions
+abbrev pub AreAmong : List Placed → List Placed → Type 0
+AreAmong latest = AllByRecursion (λ x. Contains latest x)
+
+-- the last versions of other tables and ids are there still
+abbrev pub KeepsOthers : ℕ → ℕ → List Placed → List Placed → Type 0
+KeepsOthers table id old new = (x : Placed) → Contains old x → is_at table id x.version.row ≡ false → Contains new x
 
 -- more were added at the end
 pub record AddsAtEnd (old new : List Placed) : Type 0 where

@@ -1,10 +1,12 @@
 //! The statements that read last versions for queries.
 
+ghost use Rattle.std.specs.Prelude.{IfOk};
 ghost use Rattle.txc_rows.specs.declared.query.Query.TheVariants.{ById, ByGroup, All, Range};
-ghost use Rattle.txc_rows.specs.Kept.{IsKept, IsReading};
+ghost use Rattle.txc_rows.specs.Placed.{is_row_left};
+ghost use Rattle.txc_rows.specs.Kept.{latest_in, ArePassing, IsKept, IsReading, IsSame};
 
 use crate::query::Query;
-use crate::texts::{MOST_READ, READ_GROUP, READ_RANGE, READ_ROW, READ_TABLE};
+use crate::texts::{MOST_READ, READ_GROUP, READ_PLACED, READ_RANGE, READ_ROW, READ_TABLE};
 use sqlite::{Connection, Error, MemStore, params};
 use std::alloc::Global;
 use txc_tags::Table;
@@ -85,4 +87,18 @@ pub(crate) fn read(
         Query::All(table) => read_table(conn, table, from),
         Query::Range(table, first, last) => read_range(conn, table, first, last, from),
     }
+}
+
+/// The last versions of a table and id that did not die before the stamp, with their places, in any order.
+pub(crate) fn read_placed(
+    conn: &mut Connection<MemStore>,
+    table: Table,
+    id: u32,
+    from: u32,
+) -> Result<Vec<sqlite::Row>, Error>
+    requires { IsKept conn.old }
+    ensures same { IsSame conn.old conn.new }
+    ensures versions { IfOk result (λ rows. ArePassing table (is_row_left table id from) (latest_in conn.old) rows.items) }
+{
+    conn.query_all(READ_PLACED, params![u32::from(table.number()), id, from])
 }

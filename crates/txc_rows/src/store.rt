@@ -1,9 +1,10 @@
 //! The store of row versions.
 
-ghost use Rattle.std.specs.Prelude.{◌≡◌, ℕ, ◌+◌, ◌^◌, ◌<◌, ◌≤◌, [], Ok, IfOk, IfErr, OnOk, OnErr, length, filter, map};
+ghost use Rattle.std.specs.Prelude.{◌≡◌, ◌++◌, ℕ, ◌+◌, ◌^◌, ◌<◌, ◌≤◌, [], Ok, IfOk, IfErr, OnOk, OnErr, length, filter, map};
 ghost use Rattle.std.specs.List.Sorted.{IsPermutation, IsSorted};
 ghost use Rattle.txc_rows.specs.Versions.{suits, current, purged, after_net, version_cmp};
-ghost use Rattle.txc_rows.specs.Placed.{version_of, left_from, AreSwept, AreWellPlaced};
+ghost use Rattle.txc_rows.specs.declared.query.Query.TheVariants.{ById};
+ghost use Rattle.txc_rows.specs.Placed.{version_of, left_from, AreAmong, AreSwept, AreWellPlaced};
 ghost use Rattle.txc_rows.specs.Kept.{latest_in, versions_of, IsKept, IsCall, IsSame, IsRoom, IsFinding, IsStore};
 ghost use Rattle.txc_rows.specs.States.{State};
 ghost use Rattle.txc_rows.specs.Found.{Finds};
@@ -12,18 +13,23 @@ ghost use Rattle.txc_rows.specs.StoreErrors.{IsStoreRefusal};
 ghost use Rattle.txc_rows.specs.declared.store_error.TheConstants.{MAX_MATCHING};
 
 use crate::counts::Counts;
-use crate::decode::versions_from;
+use crate::decode::{all_placed_from, versions_from};
+use crate::placed::Placed;
 use crate::query::{Change, Query};
-use crate::reads::read;
+use crate::reads::{read, read_placed};
 use crate::replaced::Replaced;
 use crate::statements::{create, rebuild};
 use crate::store_error::{MAX_MATCHING, StoreError};
 use crate::version::Versioned;
 use crate::writes::write_all;
 use sqlite::{Connection, MemStore};
-use std::alloc::Global;
+use std::alloc::{AllocError, Global};
 use std::marker::Model;
 use txc_stamp::Stamp;
+use txc_tags::Table;
+
+/// Where so many last versions are known, they are forgotten for others.
+const MOST_KNOWN: usize = 1024;
 
 /// Row versions in a store in memory: the last of each table, id and group in a table of SQLite, and those that later ones
 /// replaced beside it. Contracts see the list of its versions, the earliest put first.
@@ -35,6 +41,8 @@ pub struct VersionRows {
     next_place: u32,
     /// Versions that died before it are gone, though they may still be stored.
     kept_from: u32,
+    /// Last versions that `current` has read since the last write, so that a put of one does not read it again.
+    known: Vec<Placed>,
     counts: Counts,
     alloc: Global,
 }
@@ -42,14 +50,14 @@ pub struct VersionRows {
 impl Model for VersionRows {
     ghost use Rattle.std.specs.Prelude.{List};
     ghost use Rattle.txc_rows.specs.declared.version.Versioned.{Versioned};
-    ghost use Rattle.txc_rows.specs.Placed.{left_from};
-    ghost use Rattle.txc_rows.specs.Kept.{versions_of, IsStore};
+    ghost use Rattle.txc_rows.specs.Placed.{left_from, AreAmong};
+    ghost use Rattle.txc_rows.specs.Kept.{latest_in, versions_of, IsStore};
 
     ghost Value = { List Versioned };
 
     ghost view = { λ a. left_from a.kept_from (versions_of a.replaced a.conn) };
 
-    ghost invariant = { λ a. IsStore a.next_place a.replaced a.conn };
+    ghost invariant = { λ a. IsStore a.next_place a.replaced a.conn × AreAmong (latest_in a.conn) a.known.items };
 }
 
 /// A connection with the table and no version.
@@ -93,18 +101,22 @@ fn sweep(
 fn make_room(
     conn: &mut Connection<MemStore>,
     replaced: &mut Replaced,
+    known: &mut Vec<Placed>,
     alloc: Global,
     counts: &mut Counts,
     kept_from: u32,
     stamp: u32,
 ) -> Result<u32, sqlite::Error>
-    requires { IsKept conn.old }
-    ensures { (next : ℕ) → IsStore next replaced.old conn.old
+    requires kept { IsKept conn.old }
+    requires known { AreAmong (latest_in conn.old) known.old.items }
+    ensures room { (next : ℕ) → IsStore next replaced.old conn.old
         → IsRoom kept_from stamp next replaced.old conn.old replaced.new conn.new result }
+    ensures known { AreAmong (latest_in conn.new) known.new.items }
 {
     if stamp >= kept_from {
         return Ok(kept_from);
     }
+    known.clear();
     let Ok(left) = replaced.left(alloc, kept_from) else {
         return Err(sqlite::Error::SqliteFailure(sqlite::ErrorCode::OutOfMemory));
     };
@@ -136,6 +148,86 @@ fn find(
     let mut more = versions_from(alloc, query.table(), &rows)?;
     found.append(&mut more)?;
     Ok(())
+}
+
+/// Copies of the versions come to the found ones.
+fn add_copies(
+    alloc: Global,
+    placed: &[Placed],
+    found: &mut Vec<Versioned>,
+) -> Result<(), StoreError>
+    ensures found { OnOk result (found.new.items ≡ found.old.items ++ map version_of placed.now) }
+    ensures refused { IfErr result (λ e. e ≡ StoreError.Memory) }
+{
+    for one in placed {
+        found.push(one.version.copy(alloc)?)?;
+    }
+    Ok(())
+}
+
+/// The versions are known with the others, or in place of them where those are many.
+fn add_known(known: &mut Vec<Placed>, more: Vec<Placed>) -> Result<(), AllocError>
+    ensures { (latest : _) → AreAmong latest known.old.items → AreAmong latest more.items → AreAmong latest known.new.items }
+{
+    if known.len() >= MOST_KNOWN {
+        *known = more;
+        return Ok(());
+    }
+    let mut more = more;
+    known.append(&mut more)
+}
+
+/// The last versions of a table and id that did not die before the stamp come to the found ones, and are known.
+fn find_row(
+    conn: &mut Connection<MemStore>,
+    known: &mut Vec<Placed>,
+    alloc: Global,
+    table: Table,
+    id: u32,
+    from: u32,
+    found: &mut Vec<Versioned>,
+) -> Result<(), StoreError>
+    requires kept { IsKept conn.old }
+    requires known { AreAmong (latest_in conn.old) known.old.items }
+    requires few { length found.old.items ≤ MAX_MATCHING }
+    ensures same { IsSame conn.old conn.new }
+    ensures known { AreAmong (latest_in conn.old) known.new.items }
+    ensures finds { OnOk result (IsFinding (ById table id) from (latest_in conn.old) found.old.items found.new.items) }
+    ensures refused { result ≡ Err StoreError.TooManyRows
+        → MAX_MATCHING < length found.old.items + length (filter (suits (ById table id)) (left_from from (map version_of (latest_in conn.old)))) }
+{
+    let rows = read_placed(conn, table, id, from)?;
+    if rows.len() > MAX_MATCHING - found.len() {
+        return Err(StoreError::TooManyRows);
+    }
+    let placed = all_placed_from(alloc, table, &rows)?;
+    add_copies(alloc, &placed, found)?;
+    add_known(known, placed)?;
+    Ok(())
+}
+
+/// The last versions that match, as `find` has them. Those of one row are known from then on.
+fn find_known(
+    conn: &mut Connection<MemStore>,
+    known: &mut Vec<Placed>,
+    alloc: Global,
+    query: &Query,
+    from: u32,
+    found: &mut Vec<Versioned>,
+) -> Result<(), StoreError>
+    requires kept { IsKept conn.old }
+    requires known { AreAmong (latest_in conn.old) known.old.items }
+    requires few { length found.old.items ≤ MAX_MATCHING }
+    ensures same { IsSame conn.old conn.new }
+    ensures known { AreAmong (latest_in conn.old) known.new.items }
+    ensures finds { OnOk result (IsFinding query.now from (latest_in conn.old) found.old.items found.new.items) }
+    ensures refused { result ≡ Err StoreError.TooManyRows
+        → MAX_MATCHING < length found.old.items + length (filter (suits query.now) (left_from from (map version_of (latest_in conn.old)))) }
+{
+    match *query {
+        Query::ById(table, id) => find_row(conn, known, alloc, table, id, from, found),
+        _ => find(conn, alloc, query, from, found),
+    }
 }
 
 /// By id, and then by birth.
@@ -175,48 +267,52 @@ fn find_all(
 /// match.
 fn find_last(
     conn: &mut Connection<MemStore>,
+    known: &mut Vec<Placed>,
     replaced: &Replaced,
     alloc: Global,
     query: &Query,
     from: u32,
 ) -> Result<Vec<Versioned>, StoreError>
     requires kept { IsKept conn.old }
+    requires known { AreAmong (latest_in conn.old) known.old.items }
     requires apart { AreWellPlaced (latest_in conn.old) replaced.now }
     ensures same { IsSame conn.old conn.new }
+    ensures known { AreAmong (latest_in conn.old) known.new.items }
     ensures finds { IfOk result (λ found. IsPermutation
         (filter (suits query.now) (current (left_from from (versions_of replaced.now conn.old)))) (current found.items)) }
     ensures bound { OnOk result (length (filter (suits query.now) (left_from from (versions_of replaced.now conn.old))) ≤ MAX_MATCHING) }
     ensures refused { result ≡ Err StoreError.TooManyRows
         → MAX_MATCHING < length (filter (suits query.now) (left_from from (versions_of replaced.now conn.old))) }
 {
-    if replaced.len() > MAX_MATCHING {
-        return find_all(conn, replaced, alloc, query, from);
-    }
     let mut last = Vec::new(alloc);
-    find(conn, alloc, query, from, &mut last)?;
+    find_known(conn, known, alloc, query, from, &mut last)?;
     if replaced.len() <= MAX_MATCHING - last.len() {
         return Ok(last);
     }
-    find_all(conn, replaced, alloc, query, from)
+    replaced.find(alloc, query, from, &mut last)?;
+    Ok(last)
 }
 
 /// The versions that match and have not died, by id and then by birth.
 fn find_current(
     conn: &mut Connection<MemStore>,
+    known: &mut Vec<Placed>,
     replaced: &Replaced,
     alloc: Global,
     query: &Query,
     from: u32,
 ) -> Result<Vec<Versioned>, StoreError>
     requires kept { IsKept conn.old }
+    requires known { AreAmong (latest_in conn.old) known.old.items }
     requires apart { AreWellPlaced (latest_in conn.old) replaced.now }
     ensures same { IsSame conn.old conn.new }
+    ensures known { AreAmong (latest_in conn.old) known.new.items }
     ensures finds { IfOk result (λ found. Finds query.now (current (left_from from (versions_of replaced.now conn.old))) found.items) }
     ensures bound { OnOk result (length (filter (suits query.now) (left_from from (versions_of replaced.now conn.old))) ≤ MAX_MATCHING) }
     ensures refused { result ≡ Err StoreError.TooManyRows
         → MAX_MATCHING < length (filter (suits query.now) (left_from from (versions_of replaced.now conn.old))) }
 {
-    let mut found = find_last(conn, replaced, alloc, query, from)?;
+    let mut found = find_last(conn, known, replaced, alloc, query, from)?;
     found.retain(|version| version.died.is_none());
     sort(&mut found)?;
     Ok(found)
@@ -236,6 +332,7 @@ impl VersionRows {
             replaced: Replaced::new(alloc),
             next_place: 0,
             kept_from: 0,
+            known: Vec::new(alloc),
             counts: Counts::NONE,
             alloc,
         })
@@ -271,6 +368,7 @@ impl VersionRows {
     {
         find_current(
             &mut self.conn,
+            &mut self.known,
             &self.replaced,
             self.alloc,
             query,
@@ -289,9 +387,11 @@ impl VersionRows {
         let place = self.next_place;
         let next_place = place_after(place, net.len())?;
         let number = stamp.number();
+        let mut known = std::mem::replace(&mut self.known, Vec::new(self.alloc));
         let kept_from = make_room(
             &mut self.conn,
             &mut self.replaced,
+            &mut known,
             self.alloc,
             &mut self.counts,
             self.kept_from,
@@ -301,6 +401,7 @@ impl VersionRows {
         let written = write_all(
             &mut self.conn,
             &mut self.replaced,
+            &mut known,
             self.alloc,
             net,
             stamp,
@@ -319,6 +420,7 @@ impl VersionRows {
         ensures refused { IfErr result IsStoreRefusal }
     {
         let from = self.kept_from.max(horizon.number() + 1);
+        self.known.clear();
         sweep(&mut self.conn, &mut self.counts, from)?;
         self.replaced.purge(from);
         self.counts.hide(from);

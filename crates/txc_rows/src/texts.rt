@@ -30,6 +30,11 @@ pub(crate) const READ_LAST: &str =
     "SELECT place, table_number, id, born, group_number, body, died FROM latest \
      WHERE table_number = ?1 AND id = ?2 AND (died IS NULL OR group_number = ?3)";
 
+/// The versions of a table and id that did not die before a stamp.
+pub(crate) const READ_PLACED: &str =
+    "SELECT place, table_number, id, born, group_number, body, died FROM latest \
+     WHERE table_number = ?1 AND id = ?2 AND (died IS NULL OR died >= ?3)";
+
 /// The versions that did not die before a stamp.
 pub(crate) const READ_LEFT: &str =
     "SELECT place, table_number, id, born, group_number, body, died FROM latest \

@@ -27,6 +27,7 @@ use std::marker::Model;
 use std::sync::{Mutex, Wait};
 use txc_app::App;
 use txc_db::{Database, HistoryFront, Naming};
+use txc_lock::lock_soon;
 use txc_node::{Counts, Entry, MAX_CAPACITY, MAX_RECENT, Record};
 use txc_stamp::Stamp;
 use txc_stream::{EventRow, Pen};
@@ -116,7 +117,7 @@ impl<A: App, J: Naming> SharedNode<A, J> {
         ensures records { IfOk result (λ pass. pass.records ≡ []) }
         ensures refused { IfErr result (NodeMayRefuse J.node_histories (IsNewPassRefused self.now)) }
     {
-        self.lock.lock(rt).pass(self.settings)
+        lock_soon(rt, &self.lock).pass(self.settings)
     }
 
     /// The row of its records, where they are stored, which anybody reads without the lock. Whoever appends to
@@ -146,7 +147,7 @@ impl<J: Naming> NodePass<J> {
         ensures refused { IfErr result
             (NodeMayRefuse J.node_histories (λ n. IsRefusedThrough IsCountRefused n self.old)) }
     {
-        let counts = node.lock.lock(rt).node_counts(self);
+        let counts = lock_soon(rt, &node.lock).node_counts(self);
         self.is_legal();
         counts
     }
@@ -173,7 +174,7 @@ impl<J: Naming> NodePass<J> {
         ensures refused { IfErr result
             (NodeMayRefuse J.node_histories (λ n. IsRefusedThrough (λ m. IsLookupRefused m lo hi) n self.old)) }
     {
-        let found = node.lock.lock(rt).lookup(alloc, self, key, lo, hi);
+        let found = lock_soon(rt, &node.lock).lookup(alloc, self, key, lo, hi);
         self.is_legal();
         found
     }
@@ -197,7 +198,7 @@ impl<J: Naming> NodePass<J> {
         ensures refused { IfErr result
             (NodeMayRefuse J.node_histories (λ n. IsRefusedThrough IsStepRefused n self.old)) }
     {
-        let insertion = node.lock.lock(rt).insert(alloc, self, entry, front);
+        let insertion = lock_soon(rt, &node.lock).insert(alloc, self, entry, front);
         self.is_legal();
         insertion
     }
@@ -217,7 +218,7 @@ impl<J: Naming> NodePass<J> {
         ensures refused { IfErr result
             (NodeMayRefuse J.node_histories (λ n. IsRefusedThrough IsStepRefused n self.old)) }
     {
-        let advanced = node.lock.lock(rt).advance(alloc, self);
+        let advanced = lock_soon(rt, &node.lock).advance(alloc, self);
         self.is_legal();
         advanced
     }
@@ -237,7 +238,7 @@ impl<J: Naming> NodePass<J> {
         ensures refused { IfErr result
             (NodeMayRefuse J.node_histories (λ n. IsRefusedThrough IsStepRefused n self.old)) }
     {
-        let count = node.lock.lock(rt).sweep(alloc, self, horizon);
+        let count = lock_soon(rt, &node.lock).sweep(alloc, self, horizon);
         self.is_legal();
         count
     }

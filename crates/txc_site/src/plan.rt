@@ -43,9 +43,9 @@ pub struct Plan {
 }
 
 impl Plan {
-    /// One node of 4,096 entries whose records are not stored, and room for 65,536 events.
+    /// Sixteen nodes of 4,096 entries each, whose records are not stored, and room for 65,536 events.
     pub const DEFAULT: Plan = Plan {
-        nodes: 1,
+        nodes: 16,
         capacity: 4096,
         recent: 64,
         renew_after: 5000,

@@ -8,13 +8,21 @@
 //!
 //! A history that is not stored takes no memory and has no end. Whoever has its [`Pen`] lengthens it, and each
 //! front of it shows a beginning of what the pen has written.
+//!
+//! Of such a history a [`Window`] keeps a note of each of the last records. Notes can also be posted, in segments
+//! of cells: a [`Walker`] reads them one after the other, and a segment that each has passed is dropped.
 #![tactic(auto)]
 
 mod draft;
 mod laws;
 mod pen;
+mod posted;
+mod poster;
 mod row;
 mod seen;
+mod segment;
+mod walker;
+mod window;
 
 pub use draft::{Draft, Drafts};
 pub use laws::{
@@ -22,4 +30,9 @@ pub use laws::{
     prefix_places,
 };
 pub use pen::Pen;
+pub use posted::{Posted, Posts};
+pub use poster::{Poster, Slip};
 pub use row::{AppendError, EventRow, Front, MAX_CAPACITY, Refused};
+pub use segment::{SEGMENT_LEN, Segment};
+pub use walker::Walker;
+pub use window::{Noted, Window};

@@ -1,7 +1,8 @@
-use Rattle.std.proofs.Common.{◌+◌, sym, subst}
+use Rattle.std.proofs.Common.{◌+◌, map, sym, subst}
 use Rattle.txc_rows.specs.Versions.{after_write}
+use Rattle.txc_rows.specs.Placed.{closed_placed}
 use Rattle.txc_rows.specs.Kept.{latest_in, versions_of, HasWritten}
-use Rattle.txc_rows.proofs.ChangeSteps.{removed_all}
+use Rattle.txc_rows.proofs.ChangeSteps.{removed_all, others_ended, known_still}
 use Rattle.txc_rows.proofs.writes.write_change.Goals as goal
 
 pub returns-in_ok-ended-in-Remove-clause-step : goal.returns-in_ok-ended-in-Remove-clause-step
@@ -19,3 +20,15 @@ returns-in_ok-ended-in-Remove-clause-step c =
       inside = step.inside;
       base = step.base;
     }
+
+pub returns-in_ok-ended-in-Remove-clause-known : goal.returns-in_ok-ended-in-Remove-clause-known
+returns-in_ok-ended-in-Remove-clause-known c =
+    let old = c.args.tx.now.conn.now in
+    let t = c.in-Remove.table in
+    let i = c.in-Remove.id in
+    rw (c.forget-in-Remove.ensures, c.in_ok-ended-in-Remove.ensures.step.leaves.latest_are) (known_still t i (latest_in old) (map (closed_placed t i c.args.stamp) (latest_in old)) c.args.known.now.items (others_ended t i c.args.stamp (latest_in old)) c.requires.known)
+
+pub returns-in_ok-written-in-Put-clause-known : goal.returns-in_ok-written-in-Put-clause-known
+returns-in_ok-written-in-Put-clause-known c =
+    let row = c.in-Put.row in
+    rw (c.forget.ensures, c.table.ensures, c.id.ensures) (known_still row.table row.id (latest_in c.args.tx.now.conn.now) (latest_in c.write_put.new.tx.conn.now) c.args.known.now.items c.in_ok-written-in-Put.ensures.others c.requires.known)

@@ -9,7 +9,7 @@ use Rattle.sqlite_trees.specs.declared.memory.MemStore.{MemStore}
 use Rattle.txc_rows.specs.Versions.{after_net}
 use Rattle.txc_rows.specs.Holdable.{IsStorable}
 use Rattle.txc_rows.specs.declared.placed.Placed.{Placed}
-use Rattle.txc_rows.specs.Placed.{versions_by_place, AreBelow, AreWellPlaced, AreAll}
+use Rattle.txc_rows.specs.Placed.{versions_by_place, AreBelow, AreWellPlaced, AreAll, AreAmong}
 use Rattle.txc_rows.specs.Stored.{placed_all}
 use Rattle.txc_rows.specs.Kept.{latest_in, versions_of, IsCall, IsKept, HasWritten}
 use Rattle.txc_rows.proofs.PutLemmas.{all_front}
@@ -42,6 +42,7 @@ loop-change-init c =
       base = begun_base old tx c.transaction-tx.ensures.begun;
       rest = ap (λ (d : Database). after_net c.args.stamp c.args.net.now (versions_by_place (placed_all (d.trees 0) ++ c.args.replaced.now))) now;
       same = refl;
+      known = subst (λ (d : Database). AreAmong (placed_all (d.trees 0)) c.args.known.now.items) (sym now) c.requires.known;
       longer = longer_itself c.args.replaced.now;
     }
 
@@ -128,5 +129,6 @@ loop-change-preserved c =
       base = step.base ∙ i.base;
       rest = ap (after_net c.args.stamp (drop (at + 1) net)) left.all.written.versions_are ∙ next ∙ i.rest;
       same = c.in_ok-one.ensures.same_reference ∙ i.same;
+      known = c.in_ok-one.ensures.known;
       longer = longer_then c.args.replaced.now c.loop-change.replaced c.write_change.new.replaced i.longer c.in_ok-one.ensures.longer;
     }

@@ -2,8 +2,8 @@ use Rattle.std.proofs.Common.{◌≡◌, ◌+◌, ◌≤◌, true, drop, length}
 use Rattle.sqlite.specs.Held.{state}
 use Rattle.sqlite.specs.Steps.{over_memory}
 use Rattle.txc_rows.specs.Versions.{after_net}
-use Rattle.txc_rows.specs.Placed.{AddsAtEnd}
-use Rattle.txc_rows.specs.Kept.{versions_of, HasWritten}
+use Rattle.txc_rows.specs.Placed.{AreAmong, AddsAtEnd}
+use Rattle.txc_rows.specs.Kept.{latest_in, versions_of, HasWritten}
 use Rattle.txc_rows.proofs.writes.write_table.Given as goal
 
 abbrev pub invariant-loop-change : goal.invariant-loop-change
@@ -15,5 +15,6 @@ invariant-loop-change l = record {
   base : (state over_memory l.tx.conn.now).committed ≡ (state over_memory l.fn.conn).committed;
   rest : after_net l.stamp (drop l.change-index l.net) (versions_of l.replaced l.tx.conn.now) ≡ after_net l.stamp l.net (versions_of l.fn.replaced l.fn.conn);
   same : l.tx.conn.ghost_name ≡ l.initial.tx.conn.ghost_name;
+  known : AreAmong (latest_in l.tx.conn.now) l.known.items;
   longer : AddsAtEnd l.fn.replaced l.replaced;
 }

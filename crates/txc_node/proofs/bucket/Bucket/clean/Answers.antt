@@ -10,5 +10,5 @@ returns-clause-kept c = λ t q live h.
     let ps = c.args.entries.now.entries in
     let dead : is_live ps i.first ≡ false = sym c.is_live.ensures ∙ c.if-is_live.false in
     let there = subst (λ (qs : List Place). has_place qs q ≡ true) (sym c.self.view_is) h in
-    let kept = c.clean.ensures q live (is_later q i.first i.others.keys (not_dead ps i.first q dead live) there) in
-    c.drop_first.ensures.kept t q i.first c.clean.new.places.keys refl kept
+    let kept = c.clean.ensures q live (is_later q i.first i.others (not_dead ps i.first q dead live) there) in
+    c.drop_first.ensures.kept t q i.first c.clean.new.self refl kept

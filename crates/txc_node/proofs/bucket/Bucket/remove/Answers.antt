@@ -10,4 +10,4 @@ returns-then-eq-clause-kept c = λ t q other h.
     let i = c.self.inside in
     let is : equal_places i.first c.args.place.now ≡ true = sym c.eq.ensures ∙ c.if-eq.true in
     let there = subst (λ (ps : List Place). has_place ps q ≡ true) (sym c.self.view_is) h in
-    c.drop_first.ensures.kept t q i.first i.others.keys (sym c.self.view_is) (is_later q i.first i.others.keys (not_first c.args.place.now i.first q is other) there)
+    c.drop_first.ensures.kept t q i.first i.others (sym c.self.view_is) (is_later q i.first i.others (not_first c.args.place.now i.first q is other) there)

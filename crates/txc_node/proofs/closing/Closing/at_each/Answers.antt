@@ -12,11 +12,11 @@ loop-i-preserved c =
     let stamp = a.self.now.stamp in
     let tags = a.self.now.tags.now in
     let inv = c.loop-i.invariant in
-    let step = c.close_at-count.ensures in
-    let new = c.close_at-count.new.self in
+    let step = c.close_at-closed.ensures in
+    let new = c.close_at-closed.new.self in
     let x = c.index-places-i.result in
     record {
-      closes = closes_more stamp tags a.entries.now c.loop-i.entries new c.loop-i.count c.close_at-count.result inv.closes step.closes;
+      closes = closes_more stamp tags a.entries.now c.loop-i.entries new c.loop-i.count c.close_at-closed.result.0 inv.closes step.closes;
       spared = below_more (λ k. (d : Place) → IsSpared stamp tags new.entries (get_or a.places.now k d)) c.loop-i.i
           (λ k l d. step.closes.spared (get_or a.places.now k d) (inv.spared k l d))
           (λ d. subst (IsSpared stamp tags new.entries) (get_or_read a.places.now c.loop-i.i x c.loop-i-test.true c.index-places-i.is d) step.spared);

@@ -2,11 +2,14 @@ use Rattle.std.proofs.Common.{◌∙◌}
 use Rattle.txc_rows.specs.Placed.{left_from}
 use Rattle.txc_rows.specs.Kept.{versions_of}
 use Rattle.txc_rows.proofs.CurrentLemmas.{all_newest}
-use Rattle.txc_rows.proofs.StoreLemmas.{still_store, same_view}
+use Rattle.txc_rows.proofs.StoreLemmas.{still_store, still_known, same_view}
 use Rattle.txc_rows.proofs.store.VersionRows.current.Goals as goal
 
 pub invariant_of-self : goal.invariant_of-self
-invariant_of-self c = still_store c.self.inside.replaced c.self.inside.conn c.find_current.new.conn c.find_current.ensures.same.trees c.self.inside.next_place c.self.invariant c.find_current.ensures.same.kept
+invariant_of-self c =
+    let was = c.self.inside in
+    let same = c.find_current.ensures.same in
+    (still_store was.replaced was.conn c.find_current.new.conn same.trees was.next_place c.self.invariant.0 same.kept, still_known was.replaced was.conn c.find_current.new.conn same.trees c.find_current.new.known.items c.find_current.ensures.known)
 
 pub returns-clause-same : goal.returns-clause-same
 returns-clause-same c = same_view c.self.inside.replaced c.self.inside.conn c.find_current.new.conn c.find_current.ensures.same.trees c.self.inside.kept_from ∙ c.self.view_is

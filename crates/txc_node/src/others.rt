@@ -1,0 +1,141 @@
+//! Places that stand behind another one.
+ghost use Rattle.std.specs.Prelude.{◌≡◌, ◌<◌, ◌↔◌, ◌++◌, [], length, true, false, IsSome, OnOk, IfOk};
+ghost use Rattle.std.specs.Option.{option_to_list};
+ghost use Rattle.txc_node.specs.declared.place.Place.{Place};
+ghost use Rattle.txc_node.specs.Places.{equal_places};
+ghost use Rattle.txc_node.specs.Indexed.{has_place, is_live};
+
+use crate::keyed::KeyedEntries;
+use crate::place::Place;
+use indexmap::IndexSet;
+use std::alloc::{AllocError, Global};
+use std::marker::Model;
+
+/// Places that stand behind another one. Most often there is none, so that their set has a block of its own.
+#[derive(Debug, Drop)]
+pub(crate) struct Others {
+    set: Option<Box<IndexSet<Place>>>,
+}
+
+impl Model for Others {
+    ghost use Rattle.std.specs.Prelude.{List, [], unwrap_or, option_map};
+    ghost use Rattle.txc_node.specs.declared.place.Place.{Place};
+
+    ghost Value = { List Place };
+
+    ghost view = { λ o. unwrap_or (option_map (λ b. b.value.keys) o.set) [] };
+}
+
+// Whether a still valid entry stands at a place.
+pub(crate) fn is_live(entries: &KeyedEntries, place: &Place) -> bool
+    ensures { result ≡ is_live entries.now.entries place.now }
+{
+    match entries.get(place) {
+        None => false,
+        Some(stored) => stored.reach.is_still(),
+    }
+}
+
+// Keeps of the places those at which still valid entries stand.
+fn clean(places: &mut IndexSet<Place>, entries: &KeyedEntries)
+    ensures { (q : Place) → is_live entries.now.entries q ≡ true
+        → has_place places.old.keys q ≡ true → has_place places.new.keys q ≡ true }
+{
+    for i in (0..places.len()).rev() {
+        let stays = match places.get_index(i) {
+            None => true,
+            Some(place) => is_live(entries, place),
+        };
+        if !stays {
+            places.swap_remove_index(i);
+        }
+    }
+}
+
+// A set of one place.
+fn one(alloc: Global, place: Place) -> Result<IndexSet<Place>, AllocError>
+    ensures { IfOk result (λ set. has_place set.keys place ≡ true) }
+{
+    let mut set = IndexSet::new(alloc);
+    set.insert(place)?;
+    Ok(set)
+}
+
+// Puts a place among those of a set.
+fn insert(set: &mut IndexSet<Place>, place: Place) -> Result<(), AllocError>
+    ensures listed { OnOk result (has_place set.new.keys place ≡ true) }
+    ensures kept { (q : Place) → has_place set.old.keys q ≡ true → has_place set.new.keys q ≡ true }
+{
+    set.insert(place)?;
+    Ok(())
+}
+
+// Takes a place out of a set.
+fn remove(set: &mut IndexSet<Place>, place: &Place)
+    ensures { (q : Place) → equal_places place.now q ≡ false
+        → has_place set.old.keys q ≡ true → has_place set.new.keys q ≡ true }
+{
+    set.swap_remove(place);
+}
+
+impl Others {
+    /// None.
+    pub(crate) fn none() -> Others
+        ensures { result ≡ [] }
+    {
+        Others { set: None }
+    }
+
+    /// The places.
+    pub(crate) fn as_slice(&self) -> &[Place]
+        ensures { result.now ≡ self.now }
+    {
+        match &self.set {
+            None => &[],
+            Some(set) => set.as_slice(),
+        }
+    }
+
+    /// Puts a place among them.
+    pub(crate) fn add(&mut self, alloc: Global, place: Place) -> Result<(), AllocError>
+        ensures listed { OnOk result (has_place self.new place ≡ true) }
+        ensures kept { (q : Place) → has_place self.old q ≡ true → has_place self.new q ≡ true }
+    {
+        if let Some(set) = &mut self.set {
+            return insert(set, place);
+        }
+        self.set = Some(Box::new(alloc, one(alloc, place)?)?);
+        Ok(())
+    }
+
+    /// Takes the last one out.
+    pub(crate) fn pop(&mut self) -> Option<Place>
+        ensures places { self.old ≡ self.new ++ option_to_list result }
+        ensures found { IsSome result ↔ (0 < length self.old) }
+    {
+        match &mut self.set {
+            None => None,
+            Some(set) => set.pop(),
+        }
+    }
+
+    /// Takes a place off.
+    pub(crate) fn remove(&mut self, place: &Place)
+        ensures { (q : Place) → equal_places place.now q ≡ false
+            → has_place self.old q ≡ true → has_place self.new q ≡ true }
+    {
+        if let Some(set) = &mut self.set {
+            remove(set, place);
+        }
+    }
+
+    /// Keeps those at which still valid entries stand.
+    pub(crate) fn clean(&mut self, entries: &KeyedEntries)
+        ensures { (q : Place) → is_live entries.now.entries q ≡ true
+            → has_place self.old q ≡ true → has_place self.new q ≡ true }
+    {
+        if let Some(set) = &mut self.set {
+            clean(set, entries);
+        }
+    }
+}

@@ -1,0 +1,51 @@
+//! What is posted of a history, for those who walk through it.
+
+ghost use Rattle.std.specs.Prelude.{◌≡◌};
+
+use crate::row::Front;
+use std::marker::{Model, PhantomData};
+
+/// Of which history something is posted, and which notes are of a prefix of it.
+pub trait Posts<T, N> {
+    ghost use Rattle.std.specs.Prelude.{List};
+    ghost use Rattle.txc_stream.specs.Names.{Name};
+
+    ghost history: { Name };
+
+    ghost notes: { List T → N → Type 0 };
+}
+
+/// A front of the history up to a record, and a note of it. Contracts see the front's list.
+#[derive(Drop)]
+pub struct Posted<T, N, P: Posts<T, N>> {
+    pub(crate) note: N,
+    pub(crate) front: Front<T>,
+    of: PhantomData<P>,
+}
+
+impl<T, N, P: Posts<T, N>> Model for Posted<T, N, P> {
+    ghost use Rattle.std.specs.Prelude.{◌≡◌, List};
+    ghost use Rattle.std.specs.Coded.{coded_list};
+
+    ghost Value = { List T };
+
+    ghost coded = { coded_list T.code };
+
+    ghost view = { λ p. p.front.list };
+
+    ghost invariant = { λ p. (p.front.name ≡ P.history) × P.notes p.front.list p.note };
+}
+
+impl<T, N, P: Posts<T, N>> Posted<T, N, P> {
+    pub(crate) fn new(note: N, front: Front<T>) -> Posted<T, N, P>
+        requires history { front.name ≡ P.history }
+        requires noted { P.notes front.list note }
+        ensures { result ≡ front.list }
+    {
+        Posted {
+            note,
+            front,
+            of: PhantomData,
+        }
+    }
+}

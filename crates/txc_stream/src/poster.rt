@@ -1,0 +1,114 @@
+//! Who posts a history, for those who walk through it.
+
+ghost use Rattle.std.specs.Prelude.{◌≡◌, ◌+◌, ◌<◌, ◌++◌, ◌∷◌, [], true, false, length, Some, IfOk, OnOk, OnErr};
+ghost use Rattle.std.specs.Arc.{arc_value};
+ghost use Rattle.txc_stream.specs.Posted.{HasRoomMade};
+ghost use Rattle.txc_stream.specs.declared.segment.TheConstants.{SEGMENT_LEN};
+
+use crate::posted::{Posted, Posts};
+use crate::row::Front;
+use crate::segment::{SEGMENT_LEN, Segment, Shelf};
+use crate::walker::Walker;
+use std::alloc::{AllocError, Global};
+use std::marker::Model;
+use std::sync::{Arc, Mutex, Wait};
+
+/// Memory for what is posted of one record.
+#[derive(Drop)]
+pub struct Slip<T, N, P: Posts<T, N>> {
+    cell: Box<Option<Posted<T, N, P>>>,
+}
+
+/// Posts the records of a history as they are appended. It stands in the last segment.
+///
+/// Contracts see where this segment begins, and what was posted in it.
+#[derive(Drop)]
+pub struct Poster<T, N, P: Posts<T, N>> {
+    shelf: Arc<Mutex<Shelf<T, N, P>>>,
+    tail: Arc<Segment<T, N, P>>,
+    shown: Front<Option<Posted<T, N, P>>>,
+}
+
+impl<T, N, P: Posts<T, N>> Model for Poster<T, N, P> {
+    ghost use Rattle.std.specs.Arc.{arc_value};
+    ghost use Rattle.txc_stream.specs.Posted.{PosterValue, poster_code, IsPoster};
+
+    ghost Value = { PosterValue T };
+
+    ghost coded = { poster_code T.code };
+
+    ghost view = { λ p. record { from = (arc_value p.tail).from; posted = p.shown.list } };
+
+    ghost invariant = { λ p. IsPoster (arc_value p.tail).cells p.shown };
+}
+
+impl<T: Drop, N: Drop, P: Posts<T, N>> Poster<T, N, P> {
+    /// Nothing is posted yet of the named history. The records after the first `from` are to be.
+    pub fn new(alloc: Global, from: usize) -> Result<Poster<T, N, P>, AllocError>
+        ensures { IfOk result (λ poster. poster ≡ record { from = from; posted = [] }) }
+    {
+        let tail = Arc::new(alloc, Segment::new(alloc, from)?)?;
+        let mut shelf = Shelf::new(alloc);
+        shelf.add(Arc::try_clone(&tail)?)?;
+        let shelf = Arc::new(alloc, Mutex::new(shelf))?;
+        let shown = tail.cells.start();
+        Ok(Poster { shelf, tail, shown })
+    }
+
+    /// Memory for one record more. Where it is refused, what was posted is as it was.
+    pub fn prepare(&mut self, rt: &impl Wait, alloc: Global) -> Result<Slip<T, N, P>, AllocError>
+        ensures made { OnOk result (HasRoomMade self.old self.new) }
+        ensures unchanged { OnErr result (self.new ≡ self.old) }
+    {
+        let cell = Box::new(alloc, None)?;
+        if self.shown.len() >= SEGMENT_LEN {
+            self.begin_segment(rt, alloc)?;
+        }
+        Ok(Slip { cell })
+    }
+
+    // Goes on in a new segment, which it puts on the shelf.
+    fn begin_segment(&mut self, rt: &impl Wait, alloc: Global) -> Result<(), AllocError>
+        ensures begun { OnOk result (self.new ≡ record { from = self.old.from + SEGMENT_LEN; posted = [] }) }
+        ensures unchanged { OnErr result (self.new ≡ self.old) }
+    {
+        let Some(from) = self.tail.from.checked_add(SEGMENT_LEN) else {
+            return Err(AllocError);
+        };
+        let next = Arc::new(alloc, Segment::new(alloc, from)?)?;
+        self.shelf.lock(rt).add(Arc::try_clone(&next)?)?;
+        self.shown = next.cells.start();
+        self.tail = next;
+        Ok(())
+    }
+
+    /// Posts a note of what the front shows, for those who stand before the last record of it. `false` where its cell was not free: then nobody is
+    /// told of this record, nor of a later one.
+    pub fn post(&mut self, slip: Slip<T, N, P>, note: N, front: Front<T>) -> bool
+        requires history { front.name ≡ P.history }
+        requires noted { P.notes front.list note }
+        requires room { length self.old.posted < SEGMENT_LEN }
+        ensures posted { result ≡ true
+            → self.new ≡ record self.old { posted = self.old.posted ++ Some front.list ∷ [] } }
+        ensures unchanged { result ≡ false → self.new ≡ self.old }
+    {
+        let Slip { mut cell } = slip;
+        *cell = Some(Posted::new(note, front));
+        match self.tail.cells.append(&mut self.shown, cell) {
+            Ok(()) => true,
+            Err(_) => false,
+        }
+    }
+
+    /// One who has taken the records that the front shows, and walks through those that are posted from now on.
+    pub fn walker(&self, front: &Front<T>) -> Result<Walker<T, N, P>, AllocError>
+        requires { front.now.name ≡ P.history }
+        ensures { IfOk result (λ walker.
+            walker ≡ record { list = front.now.list; found = false }) }
+    {
+        let _shown = self.shown.len();
+        let shelf = Arc::try_clone(&self.shelf)?;
+        let segment = Arc::try_clone(&self.tail)?;
+        Ok(Walker::new(shelf, segment, self.shown.again(), front.again()))
+    }
+}

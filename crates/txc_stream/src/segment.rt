@@ -1,0 +1,91 @@
+//! Segments of cells, and the shelf on which they stand.
+
+ghost use Rattle.std.specs.Prelude.{◌≡◌, ◌<◌, ◌++◌, ◌∷◌, [], true, length, IfOk, IfSome, OnOk, OnErr};
+ghost use Rattle.std.specs.Arc.{arc_value};
+ghost use Rattle.txc_stream.specs.Posted.{IsLeft};
+ghost use Rattle.txc_stream.specs.declared.segment.TheConstants.{SEGMENT_LEN};
+
+use crate::posted::{Posted, Posts};
+use crate::row::EventRow;
+use std::alloc::{AllocError, Global};
+use std::sync::Arc;
+
+/// How many records a segment has cells for.
+pub const SEGMENT_LEN: usize = 1_024;
+
+/// Cells for a run of records: those after the first `from`, in order. A cell that holds nothing was given up.
+#[derive(Drop)]
+pub struct Segment<T, N, P: Posts<T, N>> {
+    pub(crate) cells: EventRow<Option<Posted<T, N, P>>>,
+    pub(crate) from: usize,
+}
+
+impl<T, N, P: Posts<T, N>> Segment<T, N, P> {
+    pub(crate) fn new(alloc: Global, from: usize) -> Result<Segment<T, N, P>, AllocError>
+        ensures { IfOk result (λ segment. (segment.from ≡ from) × (length segment.cells ≡ SEGMENT_LEN)) }
+    {
+        let cells = EventRow::new(alloc, SEGMENT_LEN)?;
+        Ok(Segment { cells, from })
+    }
+}
+
+/// The segments in which somebody may still stand, the earliest first.
+#[derive(Drop)]
+pub(crate) struct Shelf<T, N, P: Posts<T, N>> {
+    segments: Vec<Arc<Segment<T, N, P>>>,
+}
+
+impl<T: Drop, N: Drop, P: Posts<T, N>> Shelf<T, N, P> {
+    /// A shelf on which nothing stands.
+    pub(crate) fn new(alloc: Global) -> Shelf<T, N, P>
+        ensures { result.segments.items ≡ [] }
+    {
+        Shelf {
+            segments: Vec::new(alloc),
+        }
+    }
+
+    /// A handle of the segment that begins there, if it is on the shelf.
+    pub(crate) fn beginning_at(&self, from: usize) -> Option<Arc<Segment<T, N, P>>>
+        ensures { IfSome result (λ segment. (arc_value segment).from ≡ from) }
+    {
+        for segment in &self.segments {
+            if segment.from == from {
+                return Arc::try_clone(segment).ok();
+            }
+        }
+        None
+    }
+
+    // Whether nobody stands in the first segment.
+    fn is_first_left(&self) -> bool
+        ensures { result ≡ true → 0 < length self.now.segments.items }
+    {
+        match self.segments.first() {
+            Some(segment) => Arc::strong_count(segment) == 1,
+            None => false,
+        }
+    }
+
+    // Drops the segments that come before those in which somebody stands.
+    #[tactic(auto, using(crate::proofs::Shelves::left_all, crate::proofs::Shelves::left_rest))]
+    fn drop_left(&mut self)
+        ensures { IsLeft self.old.segments.items self.new.segments.items }
+    {
+        while self.is_first_left() {
+            drop(self.segments.remove(0));
+        }
+    }
+
+    /// Puts one segment more on the shelf, and drops those at its beginning in which nobody stands.
+    #[tactic(auto, using(crate::proofs::Shelves::left_more))]
+    pub(crate) fn add(&mut self, segment: Arc<Segment<T, N, P>>) -> Result<(), AllocError>
+        ensures added { OnOk result
+            (IsLeft (self.old.segments.items ++ segment ∷ []) self.new.segments.items) }
+        ensures left { OnErr result (IsLeft self.old.segments.items self.new.segments.items) }
+    {
+        self.drop_left();
+        self.segments.push(segment)?;
+        Ok(())
+    }
+}

@@ -1,0 +1,138 @@
+//! A history that exists in the proofs alone, and notes of its last records.
+
+ghost use Rattle.std.specs.Prelude.{◌≡◌, ◌+◌, ◌^◌, ◌<◌, ◌≤◌, ◌++◌, ◌∷◌, [], length, max, IfSome, OnOk, slice_get};
+ghost use Rattle.txc_stream.specs.Names.{unstored};
+ghost use Rattle.txc_stream.specs.Windows.{front_of_window};
+
+use crate::draft::Draft;
+use crate::pen::Pen;
+use crate::row::Front;
+use std::alloc::{AllocError, Global};
+use std::collections::VecDeque;
+use std::marker::{Model, PhantomData};
+
+/// Which notes are of a record.
+pub trait Noted<T, N> {
+    ghost notes: { T → N → Type 0 };
+}
+
+/// A history that exists in the proofs alone, with a note of each of its last records.
+///
+/// Contracts see what the history is called, its records, how many of them, from the first on, have no note any
+/// more, and for how many notes more there is room.
+#[derive(Drop)]
+pub struct Window<T, N, M: Noted<T, N>> {
+    pen: Pen<T>,
+    front: Front<T>,
+    first: usize,
+    notes: VecDeque<N>,
+    of: PhantomData<M>,
+}
+
+impl<T, N, M: Noted<T, N>> Model for Window<T, N, M> {
+    ghost use Rattle.std.specs.Prelude.{◌-◌};
+    ghost use Rattle.std.specs.VecDeque.{deque_len, deque_capacity};
+    ghost use Rattle.txc_stream.specs.Windows.{WindowValue, window_code, IsWindow};
+
+    ghost Value = { WindowValue T };
+
+    ghost coded = { window_code T.code };
+
+    ghost view = { λ w. record {
+      name = w.front.name;
+      list = w.front.list;
+      first = w.first;
+      room = deque_capacity w.notes - deque_len w.notes;
+    } };
+
+    ghost invariant = { λ w. IsWindow M.notes w.pen.number w.pen.list w.front w.first w.notes.items };
+}
+
+impl<T, N, M: Noted<T, N>> Window<T, N, M> {
+    /// The history of the pen, which has no records yet.
+    pub fn new(alloc: Global, mut pen: Pen<T>) -> Window<T, N, M>
+        requires { pen.list ≡ [] }
+        ensures name { result.name ≡ unstored pen.number }
+        ensures list { result.list ≡ [] }
+        ensures first { result.first ≡ 0 }
+    {
+        let front = pen.start();
+        Window {
+            pen,
+            front,
+            first: 0,
+            notes: VecDeque::new(alloc),
+            of: PhantomData,
+        }
+    }
+
+    /// A front that shows the whole of it.
+    pub fn front(&self) -> &Front<T>
+        ensures { result.now ≡ front_of_window self.now }
+    {
+        &self.front
+    }
+
+    /// How many of its records have no note any more.
+    pub fn first(&self) -> usize
+        ensures first { result ≡ self.now.first }
+        ensures within { result ≤ length self.now.list }
+    {
+        self.first
+    }
+
+    /// The note of the record at a place, counted from 0.
+    pub fn get(&self, at: usize) -> &N
+        requires kept { self.now.first ≤ at }
+        requires shown { at < length self.now.list }
+        ensures { IfSome (slice_get self.now.list at) (λ x. M.notes x result.now) }
+    {
+        &self.notes[at - self.first]
+    }
+
+    /// Makes room for one note more.
+    pub fn reserve(&mut self) -> Result<(), AllocError>
+        ensures same { self.new ≡ record self.old { room = self.new.room } }
+        ensures room { OnOk result (0 < self.new.room) }
+    {
+        self.notes.reserve(1)?;
+        Ok(())
+    }
+
+    /// Appends the record that was drafted, with a note of it. Nothing refuses it.
+    pub fn append(&mut self, note: N, draft: Draft<T>)
+        requires noted { M.notes draft.value note }
+        requires room { 0 < self.old.room }
+        requires counted { length self.old.list + 1 < 2 ^ 64 }
+        ensures { self.new ≡ record self.old {
+          list = self.old.list ++ draft.value ∷ [];
+          room = self.new.room;
+        } }
+    {
+        self.notes.push_back_reserved(note);
+        self.pen.append(&mut self.front, draft);
+    }
+}
+
+impl<T, N: Drop, M: Noted<T, N>> Window<T, N, M> {
+    // Drops the first note that is kept.
+    fn forget_first(&mut self)
+        requires { self.old.first < length self.old.list }
+        ensures { self.new ≡ record self.old { first = self.old.first + 1; room = self.new.room } }
+    {
+        let _len = self.front.len();
+        drop(self.notes.pop_front());
+        self.first += 1;
+    }
+
+    /// Drops the notes of the records before a place. Those from there on stay. It takes no memory.
+    #[tactic(auto, using(crate::proofs::Noting::forget_more))]
+    pub fn forget(&mut self, before: usize)
+        requires { before ≤ length self.old.list }
+        ensures { self.new ≡ record self.old { first = max self.old.first before; room = self.new.room } }
+    {
+        while self.first < before {
+            self.forget_first();
+        }
+    }
+}
