@@ -8,7 +8,7 @@ use Rattle.txc_stream.specs.declared.segment.TheConstants.{SEGMENT_LEN}
 -- ---- shelves
 
 -- some at the beginning were dropped; the others are as they were
-pub record IsLeft {A : Type 0} (all left : List A) : Type 0 where
+pub record AreLeft {A : Type 0} (all left : List A) : Type 0 where
   pub dropped : List A
   pub is : all ≡ dropped ++ left
 

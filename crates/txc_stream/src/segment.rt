@@ -2,7 +2,7 @@
 
 ghost use Rattle.std.specs.Prelude.{◌≡◌, ◌<◌, ◌++◌, ◌∷◌, [], true, length, IfOk, IfSome, OnOk, OnErr};
 ghost use Rattle.std.specs.Arc.{arc_value};
-ghost use Rattle.txc_stream.specs.Posted.{IsLeft};
+ghost use Rattle.txc_stream.specs.Posted.{AreLeft};
 ghost use Rattle.txc_stream.specs.declared.segment.TheConstants.{SEGMENT_LEN};
 
 use crate::posted::{Posted, Posts};
@@ -70,7 +70,7 @@ impl<T: Drop, N: Drop, P: Posts<T, N>> Shelf<T, N, P> {
     // Drops the segments that come before those in which somebody stands.
     #[tactic(auto, using(crate::proofs::Shelves::left_all, crate::proofs::Shelves::left_rest))]
     fn drop_left(&mut self)
-        ensures { IsLeft self.old.segments.items self.new.segments.items }
+        ensures { AreLeft self.old.segments.items self.new.segments.items }
     {
         while self.is_first_left() {
             drop(self.segments.remove(0));
@@ -81,8 +81,8 @@ impl<T: Drop, N: Drop, P: Posts<T, N>> Shelf<T, N, P> {
     #[tactic(auto, using(crate::proofs::Shelves::left_more))]
     pub(crate) fn add(&mut self, segment: Arc<Segment<T, N, P>>) -> Result<(), AllocError>
         ensures added { OnOk result
-            (IsLeft (self.old.segments.items ++ segment ∷ []) self.new.segments.items) }
-        ensures left { OnErr result (IsLeft self.old.segments.items self.new.segments.items) }
+            (AreLeft (self.old.segments.items ++ segment ∷ []) self.new.segments.items) }
+        ensures left { OnErr result (AreLeft self.old.segments.items self.new.segments.items) }
     {
         self.drop_left();
         self.segments.push(segment)?;
