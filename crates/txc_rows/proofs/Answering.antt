@@ -10,7 +10,7 @@ use Rattle.sqlite.specs.Query.{Output, output, limited, as_count}
 use Rattle.sqlite.specs.Program.{overlay}
 use Rattle.sqlite.specs.State.{State, Shown}
 use Rattle.sqlite.proofs.Callers.{reads_as}
-use Rattle.sqlite_trees.proofs.ListLemmas.{map-map, filter-map, pull_back, all-map, all-permutation}
+use Rattle.sqlite_trees.proofs.ListLemmas.{map-map, filter-map, pull_back, all_both, all-filter, all-map, all-permutation}
 use Rattle.txc_rows.specs.declared.version.Versioned.{Versioned}
 use Rattle.txc_rows.specs.declared.query.Query.{Query}
 use Rattle.txc_rows.specs.declared.texts.TheConstants.{MOST_READ}
@@ -22,10 +22,10 @@ use Rattle.txc_rows.specs.Placed.{version_of, is_left, left_from}
 use Rattle.txc_rows.specs.Kept.{IsShown, IsListing}
 use Rattle.txc_rows.specs.Texts.{latest_schema}
 use Rattle.txc_rows.specs.Stored.{stored, placed_in, placed_all, queried_columns, version_shown, IsStored, AreVersionRows}
-use Rattle.txc_rows.proofs.Members.{both_true}
+use Rattle.txc_rows.proofs.Members.{both_true, passing}
 use Rattle.txc_rows.proofs.Commands.{alone, shown_columns, most_shown, listed, shown_names, IsListingOf}
 use Rattle.txc_rows.proofs.StoredRows.{select_stored, is_asked, shown_again, answered, IsPage}
-use Rattle.txc_rows.proofs.Finding.{of_its_table}
+use Rattle.txc_rows.proofs.SaysLemmas.{of_its_table}
 
 -- what the query shows, by no order
 abbrev out : Versioned → Output
@@ -77,13 +77,9 @@ read_back t (v ∷ vs) all =
     (rw (one, more.0) refl, (record { is = ap queried_columns (sym one); version = subst IsStorable (sym one) all.0.1 }, more.1))
 
 of_table : (q : Query) (from : ℕ) (vs : List Versioned) → AllByRecursion IsStorable vs → AllByRecursion (λ v. (v.row.table ≡ query_table q) × IsStorable v) (filter (is_asked q from) vs)
-of_table q from [] all = tt
-of_table q from (v ∷ vs) all = go (is_asked q from v) refl (of_table q from vs all.1)
-  where
-    go : (b : Bool) → is_asked q from v ≡ b → AllByRecursion (λ w. (w.row.table ≡ query_table q) × IsStorable w) (filter (is_asked q from) vs)
-        → AllByRecursion (λ w. (w.row.table ≡ query_table q) × IsStorable w) (cond b (v ∷ filter (is_asked q from) vs) (filter (is_asked q from) vs))
-    go true e more = ((of_its_table q v (both_true (suits q v) (is_left from v) e).0, all.0), more)
-    go false e more = more
+of_table q from vs all =
+    all_both (λ v. is_asked q from v ≡ true) IsStorable _ (λ v e is. (of_its_table q v.row (both_true (suits q v) (is_left from v) e).0, is)) _ (passing (is_asked q from) vs)
+    (all-filter IsStorable (is_asked q from) vs all)
 
 -- those of the kept ones that a query asks for
 pub asked_left : (q : Query) (from : ℕ) (vs : List Versioned) → filter (suits q) (left_from from vs) ≡ filter (is_asked q from) vs

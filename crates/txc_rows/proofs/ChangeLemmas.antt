@@ -1,12 +1,12 @@
 -- What one change leaves.
-use Rattle.std.proofs.Common.{◌≡◌, ◌⊎◌, inl, inr, ℕ, [], ◌∷◌, ◌++◌, filter, Bool, true, false, not, nat_lt, ◌&&◌, ◌||◌, ◌==◌, ap, arith}
+use Rattle.std.proofs.Common.{◌≡◌, ◌⊎◌, inl, inr, ℕ, [], ◌∷◌, filter, Bool, true, false, not, nat_lt, ◌&&◌, ◌||◌, ◌==◌, ap, arith}
 use Rattle.std.proofs.lemmas.Bool.Decides.{nat_tests}
 use borrow.Author.Tests.{eq-eqb}
 use Rattle.txc_rows.specs.declared.query.Change.{Change}
 use Rattle.txc_rows.specs.declared.query.Change.TheVariants.{Put, Remove}
 use Rattle.txc_rows.specs.States.{RowValue, State, row_before, is_at, after_change}
 use Rattle.txc_rows.specs.Net.{change_table, change_id}
-use Rattle.txc_rows.proofs.Members.{IsIn, and_true, not_true_is, in_filter, from_filter, in_left, in_right}
+use Rattle.txc_rows.proofs.Members.{IsIn, and_true, not_true_is, in_filter, from_filter, in_left, in_right, from_append}
 
 -- the change is of the row's key
 abbrev pub is_of : Change → RowValue → Bool
@@ -37,13 +37,8 @@ other_there (Put row) r s h off = elim (order_cases r.table r.id row.table row.i
 ]
 other_there (Remove t i) r s h off = in_filter (λ (x : RowValue). not (is_at t i x)) r s h (ap not off)
 
-pub cut : (r row : RowValue) (xs ys : State) → IsIn r (xs ++ row ∷ ys) → (IsIn r xs) ⊎ ((r ≡ row) ⊎ IsIn r ys)
-cut r row [] ys h = inr h
-cut r row (z ∷ zs) ys (inl same) = inl (inl same)
-cut r row (z ∷ zs) ys (inr later) = elim (cut r row zs ys later) [ inl h ↦ inl (inr h) | inr h ↦ inr h ]
-
 pub from_change : (c : Change) (r : RowValue) (s : State) → IsIn r (after_change c s) → (Makes c r) ⊎ (IsIn r s × (is_of c r ≡ false))
-from_change (Put row) r s h = elim (cut r row (filter (λ x. row_before x row) s) (filter (λ x. row_before row x) s) h) [
+from_change (Put row) r s h = elim (from_append r (filter (λ x. row_before x row) s) (row ∷ filter (λ x. row_before row x) s) h) [
   | inl low ↦ let it = from_filter (λ (x : RowValue). row_before x row) r s low in inr (it.0, order_apart r.table r.id row.table row.id it.1)
   | inr more ↦ elim more [
     | inl same ↦ inl same

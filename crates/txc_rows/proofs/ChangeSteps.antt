@@ -1,5 +1,7 @@
 -- What the statements of one change leave together.
-use Rattle.std.proofs.Common.{◌≡◌, ◌≢◌, inl, inr, not, ℕ, suc, ◌+◌, ◌≤◌, ◌==◌, List, [], ◌∷◌, ◌++◌, map, filter, take, length, Bool, true, false, cond, ◌&&◌, Option, Some, None, is_none, Result, Ok, Err, refl, sym, ap, subst, ◌∙◌, append_assoc, append-nil, length-append, arith}
+use Rattle.std.proofs.Common.{◌≡◌, inl, inr, not, ℕ, ◌+◌, ◌≤◌, ◌==◌, List, [], ◌∷◌, ◌++◌, map, filter, take, length, Bool, true, false, cond, ◌&&◌, Option, Some, None, is_none, Result, Ok, Err, refl, sym, ap, subst, ◌∙◌, append_assoc, append-nil, length-append, arith}
+use Rattle.std.proofs.Math.Seq.{take-append_seam}
+use Rattle.std.proofs.lemmas.List.{length-map}
 use Rattle.std.specs.List.{AllByRecursion, Contains}
 use Rattle.std.specs.Prelude.{option_to_list, if◌then◌else◌}
 use Rattle.std.specs.List.Sorted.{IsPermutation}
@@ -10,7 +12,7 @@ use Rattle.sqlite.specs.declared.error.Error.{Error}
 use Rattle.sqlite.proofs.Callers.{one_permutation}
 use Rattle.sqlite_trees.specs.declared.memory.MemStore.{MemStore}
 use Rattle.sqlite.specs.Tree.{IsAscending}
-use Rattle.sqlite_trees.proofs.ListLemmas.{all-append, ascending-map, IsPermutation-filter}
+use Rattle.sqlite_trees.proofs.ListLemmas.{filter-map, filter_none, all_both, all-append, ascending-map, IsPermutation-filter}
 use Rattle.txc_stamp.specs.declared.stamp.TheConstants.{LAST_STAMP}
 use Rattle.txc_rows.specs.Values.{RowValue, IsRow}
 use Rattle.txc_rows.specs.States.{is_at}
@@ -18,10 +20,10 @@ use Rattle.txc_rows.specs.Versions.{is_current, removed, put}
 use Rattle.txc_rows.specs.declared.placed.Placed.{Placed}
 use Rattle.txc_rows.specs.Placed.{versions_by_place, in_group, is_touched, has_key, closed_placed, new_placed, renewed, put_latest, put_replaced, HaveOwnKeys, IsOneCurrent, AreBelow, AreWellPlaced, AreAll, AreAmong, KeepsOthers, AddsAtEnd}
 use Rattle.txc_rows.specs.Kept.{latest_in, versions_of, HasLatest, HasWritten, IsStep}
-use Rattle.txc_rows.proofs.Members.{both_true, and_true, IsIn, is_in, contains_it, in_left}
+use Rattle.txc_rows.proofs.Members.{bool_cases, both_true, and_true, IsIn, is_in, contains_it, in_left, in_map, all_in, few_left, none_of}
 use Rattle.txc_rows.proofs.StoredVersions.{hit_is}
 use Rattle.txc_rows.proofs.WriteLemmas.{no_permutation}
-use Rattle.txc_rows.proofs.PutLemmas.{none_of, empty_of, key_is, key_turned, one_turned, few_keys, ended_apart, ended_none, ended_below, ended_versions, removed_written, put_written, put_apart}
+use Rattle.txc_rows.proofs.PutLemmas.{empty_of, key_is, key_turned, one_turned, few_keys, ended_apart, ended_none, ended_below, ended_versions, removed_written, put_written, put_apart}
 
 -- ---- one change
 
@@ -51,21 +53,12 @@ short_same [] ys few same = sym (no_permutation ys same)
 short_same (x ∷ []) ys few same = sym (one_permutation x ys same)
 short_same (x ∷ y ∷ xs) ys few same = absurd (omega (arith, few))
 
-pub few_left : {X : Type 0} (p : X → Bool) (xs : List X) → length (filter p xs) ≤ length xs
-few_left p [] = omega arith
-few_left p (x ∷ xs) = go (p x) (few_left p xs)
-  where
-    go : (b : Bool) → length (filter p xs) ≤ length xs → length (cond b (x ∷ filter p xs) (filter p xs)) ≤ length (x ∷ xs)
-    go true few = omega (arith, few)
-    go false few = omega (arith, few)
-
 all_pass : {X : Type 0} (p : X → Bool) (xs : List X) → length (filter p xs) ≡ length xs → AllByRecursion (λ x. p x ≡ true) xs
 all_pass p [] e = tt
-all_pass p (x ∷ xs) e = go (p x) refl e (all_pass p xs)
-  where
-    go : (b : Bool) → p x ≡ b → length (cond b (x ∷ filter p xs) (filter p xs)) ≡ length (x ∷ xs) → (length (filter p xs) ≡ length xs → AllByRecursion (λ y. p y ≡ true) xs) → AllByRecursion (λ y. p y ≡ true) (x ∷ xs)
-    go true is e more = (is, more (omega (arith, e)))
-    go false is e more = absurd (omega (arith, e, few_left p xs))
+all_pass p (x ∷ xs) e = elim (bool_cases (p x)) [
+  | inl is ↦ (is, all_pass p xs (omega (arith, rw is at e)))
+  | inr is ↦ absurd (omega (arith, rw is at e, few_left p xs))
+]
 
 -- where the last version of a put's group is current, it is all that the put touches
 module _ (t i g : ℕ) (one : Placed) (key : has_key t i g one ≡ true) (dead : one.version.died ≡ None) where
@@ -90,44 +83,32 @@ module _ (t i g : ℕ) (one : Placed) (key : has_key t i g one ≡ true) (dead :
       touched = let two = both_true (is_at t i one.version.row) (in_group g one) key in rw (two.0, dead) refl
 
       none : (ys : List Placed) → AllByRecursion (λ y. has_key one.version.row.table one.version.row.id one.version.row.group y ≡ false) ys → AllByRecursion (IsOneCurrent one) ys → filter (is_touched t i g) ys ≡ []
-      none [] off only = refl
-      none (y ∷ ys) off only = rw (untouched y off.0 only.0) (none ys off.1 only.1)
+      none ys off only = filter_none _ ys (all_both _ (IsOneCurrent one) _ untouched ys off only)
   one_touched (x ∷ xs) (inr later) own alone =
-      let off = there xs later own.0 alone.0 in
+      let off = all_in _ xs one own.0 later in
+      let apart = all_in (IsOneCurrent x) xs one alone.0 later in
       let turned : has_key one.version.row.table one.version.row.id one.version.row.group x ≡ false
-      = key_turned x.version.row.table x.version.row.id x.version.row.group one.version.row.table one.version.row.id one.version.row.group ∙ off.0 in
-      rw (untouched x turned (one_turned x one off.1)) (one_touched xs later own.1 alone.1)
-    where
-      there : (ys : List Placed) → IsIn one ys → AllByRecursion (λ y. has_key x.version.row.table x.version.row.id x.version.row.group y ≡ false) ys → AllByRecursion (IsOneCurrent x) ys
-          → (has_key x.version.row.table x.version.row.id x.version.row.group one ≡ false) × IsOneCurrent x one
-      there [] h off only = absurd h
-      there (y ∷ ys) (inl same) off only = rw same (off.0, only.0)
-      there (y ∷ ys) (inr more) off only = there ys more off.1 only.1
+      = key_turned x.version.row.table x.version.row.id x.version.row.group one.version.row.table one.version.row.id one.version.row.group ∙ off in
+      rw (untouched x turned (one_turned x one apart)) (one_touched xs later own.1 alone.1)
 
   pub known_touched : (latest known : List Placed) → AreAmong latest known → Contains known one → HaveOwnKeys latest → IsAscending IsOneCurrent latest → IsPermutation (filter (is_touched t i g) latest) (one ∷ [])
-  known_touched latest known among there own alone = rw (one_touched latest (is_in latest one (each known among (is_in known one there))) own alone) (IsPermutation-refl (one ∷ []))
-    where
-      each : (xs : List Placed) → AreAmong latest xs → IsIn one xs → Contains latest one
-      each [] all h = absurd h
-      each (x ∷ xs) all (inl same) = rw same all.0
-      each (x ∷ xs) all (inr later) = each xs all.1 later
+  known_touched latest known among there own alone = rw (one_touched latest (is_in latest one (all_in (λ x. Contains latest x) known one among (is_in known one there))) own alone) (IsPermutation-refl (one ∷ []))
 
 -- ---- the last versions of other tables and ids
 
-in_mapped : (f : Placed → Placed) (x : Placed) (xs : List Placed) → f x ≡ x → IsIn x xs → IsIn x (map f xs)
-in_mapped f x [] same h = absurd h
-in_mapped f x (y ∷ ys) same (inl here) = inl (sym same ∙ ap f here)
-in_mapped f x (y ∷ ys) same (inr later) = inr (in_mapped f x ys same later)
-
 pub others_ended : (t i s : ℕ) (latest : List Placed) → KeepsOthers t i latest (map (closed_placed t i s) latest)
-others_ended t i s latest x h off = contains_it _ x (in_mapped (closed_placed t i s) x latest (rw off refl) (is_in latest x h))
+others_ended t i s latest x h off =
+    let same : closed_placed t i s x ≡ x = rw off refl in
+    contains_it _ x (subst (λ y. IsIn y (map (closed_placed t i s) latest)) same (in_map (closed_placed t i s) x latest (is_in latest x h)))
 
 others_put : (row : RowValue) (s place : ℕ) (latest : List Placed) → KeepsOthers row.table row.id latest (put_latest place row s latest)
 others_put row s place latest x h off = go (length (filter (has_key row.table row.id row.group) latest) == 0)
   where
     go : (b : Bool) → Contains (cond b (latest ++ new_placed place row s ∷ []) (map (renewed place row s) latest)) x
     go true = contains_it _ x (in_left x latest _ (is_in latest x h))
-    go false = contains_it _ x (in_mapped (renewed place row s) x latest (rw off refl) (is_in latest x h))
+    go false =
+        let same : renewed place row s x ≡ x = rw off refl in
+        contains_it _ x (subst (λ y. IsIn y (map (renewed place row s) latest)) same (in_map (renewed place row s) x latest (is_in latest x h)))
 
 -- more that are known
 pub among_more : (latest old more : List Placed) (b : Bool) → AreAmong latest old → AreAmong latest more → AreAmong latest (if b then old ++ more else old)
@@ -137,12 +118,10 @@ among_more latest old more false before added = before
 -- what is known of others is known still
 pub known_still : (t i : ℕ) (old new known : List Placed) → KeepsOthers t i old new → AreAmong old known → AreAmong new (filter (λ x. not (is_at t i x.version.row)) known)
 known_still t i old new [] others among = tt
-known_still t i old new (x ∷ xs) others among = go (is_at t i x.version.row) refl (known_still t i old new xs others among.1)
-  where
-    go : (b : Bool) → is_at t i x.version.row ≡ b → AreAmong new (filter (λ y. not (is_at t i y.version.row)) xs)
-        → AreAmong new (cond (not b) (x ∷ filter (λ y. not (is_at t i y.version.row)) xs) (filter (λ y. not (is_at t i y.version.row)) xs))
-    go true e more = more
-    go false e more = (others x among.0 e, more)
+known_still t i old new (x ∷ xs) others among = elim (bool_cases (is_at t i x.version.row)) [
+  | inl e ↦ rw e (known_still t i old new xs others among.1)
+  | inr e ↦ rw e (others x among.0 e, known_still t i old new xs others among.1)
+]
 
 module _ (t i g s : ℕ) where
   of_group : (xs : List Placed) → filter (in_group g) (filter (is_touched t i g) xs) ≡ filter (has_key t i g) xs
@@ -168,14 +147,13 @@ module _ (t i g s : ℕ) where
 
   grouped : (xs : List Placed) → AllByRecursion (λ x. in_group g x ≡ true) (filter (is_touched t i g) xs) → Stays xs
   grouped [] all = tt
-  grouped (x ∷ xs) all = go (is_touched t i g x) refl all (grouped xs)
+  grouped (x ∷ xs) all = elim (bool_cases (is_touched t i g x)) [
+    | inl e ↦ let ones = rw e at all in (λ hit. and_true _ _ (both_true (is_at t i x.version.row) (is_current x.version) hit).0 ones.0, grouped xs ones.1)
+    | inr e ↦ (λ hit. absurd (let f = touched hit in let h = e in cc), grouped xs (rw e at all))
+  ]
     where
       touched : is_at t i x.version.row && is_current x.version ≡ true → is_touched t i g x ≡ true
       touched hit = let two = both_true (is_at t i x.version.row) (is_current x.version) hit in rw (two.0, two.1) refl
-
-      go : (b : Bool) → is_touched t i g x ≡ b → AllByRecursion (λ y. in_group g y ≡ true) (cond b (x ∷ filter (is_touched t i g) xs) (filter (is_touched t i g) xs)) → (AllByRecursion (λ y. in_group g y ≡ true) (filter (is_touched t i g) xs) → Stays xs) → Stays (x ∷ xs)
-      go true e all more = (λ hit. and_true _ _ (both_true (is_at t i x.version.row) (is_current x.version) hit).0 all.0, more all.1)
-      go false e all more = (λ hit. absurd (let f = touched hit in let h = e in cc), more all)
 
   pub stays : (latest xs : List Placed) → IsPermutation (filter (is_touched t i g) latest) xs → length (filter (in_group g) xs) ≡ length xs → Stays latest
   stays latest xs same all =
@@ -199,21 +177,14 @@ module _ (t i g s : ℕ) where
       go false e more = more
 
   pub hits_length : (latest : List Placed) → length (filter (has_key t i g) (ended latest)) ≡ length (filter (has_key t i g) latest)
-  hits_length [] = refl
-  hits_length (x ∷ xs) = go (has_key t i g x) (hits_length xs)
-    where
-      go : (b : Bool) → length (filter (has_key t i g) (ended xs)) ≡ length (filter (has_key t i g) xs)
-          → length (cond b (closed_placed t i s x ∷ filter (has_key t i g) (ended xs)) (filter (has_key t i g) (ended xs))) ≡ length (cond b (x ∷ filter (has_key t i g) xs) (filter (has_key t i g) xs))
-      go true more = ap suc more
-      go false more = more
+  hits_length latest = ap length (filter-map (has_key t i g) (closed_placed t i s) latest) ∙ length-map (filter (has_key t i g) latest) (closed_placed t i s)
 
   unended : (xs : List Placed) → Stays xs → AllByRecursion (λ x. has_key t i g x ≡ false) xs → ended xs ≡ xs
   unended [] stay off = refl
-  unended (x ∷ xs) stay off = go (is_at t i x.version.row && is_current x.version) refl (unended xs stay.1 off.1)
-    where
-      go : (b : Bool) → is_at t i x.version.row && is_current x.version ≡ b → ended xs ≡ xs → ended (x ∷ xs) ≡ x ∷ xs
-      go true e more = absurd (let f = stay.0 e in let h = off.0 in cc)
-      go false e more = rw (e, more) refl
+  unended (x ∷ xs) stay off = elim (bool_cases (is_at t i x.version.row && is_current x.version)) [
+    | inl e ↦ absurd (let f = stay.0 e in let h = off.0 in cc)
+    | inr e ↦ rw (e, unended xs stay.1 off.1) refl
+  ]
 
 -- where no current one is of another group, nothing need end before the put
 pub put_unmoved : (row : RowValue) (s place : ℕ) (latest : List Placed) → Stays row.table row.id row.group s latest → put_latest place row s latest ≡ put_latest place row s (map (closed_placed row.table row.id s) latest)
@@ -243,18 +214,14 @@ none_listed : {X : Type 0} (o : Option X) → is_none o ≡ (length (option_to_l
 none_listed None = refl
 none_listed (Some x) = refl
 
+no_length : {X : Type 0} (xs : List X) → length xs ≡ 0 → xs ≡ []
+no_length [] e = refl
+no_length (x ∷ xs) e = absurd (omega (arith, e))
+
 -- what is popped of one at most
 pub popped : {X : Type 0} (xs rest : List X) (o : Option X) → length xs ≤ 1 → xs ≡ rest ++ option_to_list o → (o ≡ None → length xs ≡ 0) → option_to_list o ≡ xs
-popped {X = X} xs rest None few are none = sym (no_length xs (none refl))
-  where
-    no_length : {Y : Type 0} (ys : List Y) → length ys ≡ 0 → ys ≡ []
-    no_length [] e = refl
-    no_length (y ∷ ys) e = absurd (omega (arith, e))
-popped {X = X} xs rest (Some x) few are none = go rest (omega (arith, few, ap length are, length-append rest (x ∷ []))) ∙ sym are
-  where
-    go : (ys : List X) → length ys ≡ 0 → x ∷ [] ≡ ys ++ x ∷ []
-    go [] e = refl
-    go (y ∷ ys) e = absurd (omega (arith, e))
+popped xs rest None few are none = sym (no_length xs (none refl))
+popped xs rest (Some x) few are none = ap (λ ys. ys ++ x ∷ []) (sym (no_length rest (omega (arith, few, ap length are, length-append rest (x ∷ []))))) ∙ sym are
 
 -- ---- a put from what it reads to what it leaves
 
@@ -321,8 +288,4 @@ longer_then xs ys zs a b = record { more = a.more ++ b.more; are = b.are ∙ ap 
 
 -- those that were added are taken back
 pub taken_back : (xs ys : List Placed) → AddsAtEnd xs ys → take (length xs) ys ≡ xs
-taken_back xs ys h = ap (take (length xs)) h.are ∙ front xs h.more
-  where
-    front : (us vs : List Placed) → take (length us) (us ++ vs) ≡ us
-    front [] vs = refl
-    front (u ∷ us) vs = ap (λ ws. u ∷ ws) (front us vs)
+taken_back xs ys h = ap (take (length xs)) h.are ∙ take-append_seam xs h.more

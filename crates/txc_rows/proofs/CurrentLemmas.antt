@@ -1,6 +1,6 @@
 -- What is found of the versions that have not died.
-use Rattle.std.proofs.Common.{◌≡◌, ◌≢◌, ℕ, ◌+◌, ◌≤◌, nat_le, List, [], ◌∷◌, ◌++◌, map, filter, length, Bool, true, false, cond, Option, Some, None, is_none, not, Ok, Err, Result, Vec, Global, IfOk, OnOk, refl, ap, subst, ◌∙◌, append-nil, length-append, arith}
-use Rattle.std.proofs.lemmas.Bool.Decides.{nat_tests}
+use Rattle.std.proofs.Common.{◌≡◌, ◌≢◌, ℕ, ◌+◌, ◌≤◌, List, [], ◌∷◌, ◌++◌, map, filter, length, Bool, true, false, cond, Option, Some, None, is_none, not, Ok, Err, Result, Vec, Global, IfOk, refl, ap, subst, ◌∙◌, append-nil, length-append, arith}
+use borrow.Author.Tests.{le-leb}
 use Rattle.std.specs.List.{AllByRecursion}
 use Rattle.std.specs.List.Sorted.{IsPermutation}
 use Rattle.std.proofs.lemmas.List.{length-map}
@@ -20,29 +20,11 @@ use Rattle.txc_rows.specs.Found.{Finds}
 use Rattle.txc_rows.specs.Says.{AreUpTo}
 use Rattle.txc_rows.specs.Keeping.{AnswersNewest}
 use Rattle.txc_rows.specs.Kept.{latest_in, versions_of, IsFinding}
+use Rattle.txc_rows.proofs.Members.{few_left, filters_turned}
 use Rattle.txc_rows.proofs.FindLemmas.{asked, of_all, found_latest}
 use Rattle.txc_rows.proofs.KeepingLemmas.{keeps_purged, found_answers}
 
 -- ---- what is left out of a list
-
-filters_turned : (p q : Versioned → Bool) (vs : List Versioned) → filter p (filter q vs) ≡ filter q (filter p vs)
-filters_turned p q [] = refl
-filters_turned p q (v ∷ vs) = go (p v) (q v) refl refl (filters_turned p q vs)
-  where
-    go : (a b : Bool) → p v ≡ a → q v ≡ b → filter p (filter q vs) ≡ filter q (filter p vs)
-        → filter p (cond b (v ∷ filter q vs) (filter q vs)) ≡ filter q (cond a (v ∷ filter p vs) (filter p vs))
-    go true true e f same = rw (e, f) (ap (λ xs. v ∷ xs) same)
-    go true false e f same = rw f same
-    go false true e f same = rw e same
-    go false false e f same = same
-
-filter_few : {X : Type 0} (p : X → Bool) (xs : List X) → length (filter p xs) ≤ length xs
-filter_few p [] = omega arith
-filter_few p (x ∷ xs) = go (p x) (filter_few p xs)
-  where
-    go : (b : Bool) → length (filter p xs) ≤ length xs → length (cond b (x ∷ filter p xs) (filter p xs)) ≤ length (x ∷ xs)
-    go true few = omega (arith, few)
-    go false few = omega (arith, few)
 
 pub both_current : (q : Query) (vs found : List Versioned) → IsPermutation (filter (suits q) vs) found → IsPermutation (filter (suits q) (current vs)) (current found)
 both_current q vs found same = subst (λ xs. IsPermutation xs (current found)) (filters_turned is_current (suits q) vs) (IsPermutation-filter is_current _ _ same)
@@ -65,7 +47,7 @@ module _ (q : Query) (from : ℕ) where
       go true true (Some d) f e none = rw (f, e) none
 
   asked_few : (xs : List Placed) → length (asked q from xs) ≤ length xs
-  asked_few xs = omega (arith, filter_few (suits q) (left_from from (map version_of xs)), filter_few (is_left from) (map version_of xs), length-map xs version_of)
+  asked_few xs = omega (arith, few_left (suits q) (left_from from (map version_of xs)), few_left (is_left from) (map version_of xs), length-map xs version_of)
 
   module _ (replaced : List Placed) (h : Held MemStore) (old found : List Versioned) (none : old ≡ []) (finding : IsFinding q from (latest_in h) old found) where
     all_of : IsPermutation (of_all q from replaced h) (found ++ asked q from replaced)
@@ -82,9 +64,6 @@ module _ (q : Query) (from : ℕ) where
 
 -- ---- the newest state
 
-low_is : (a b : ℕ) → a ≤ b → nat_le a b ≡ true
-low_is a b low = grind (arith, nat_tests)
-
 -- where nothing has happened after a stamp, those that have not died are those that a purge up to it leaves
 no_later : (t : ℕ) (vs : List Versioned) → AreUpTo t vs → current vs ≡ purged t vs
 no_later t [] all = refl
@@ -93,7 +72,7 @@ no_later t (v ∷ vs) all = go v.died all.0.1 (no_later t vs all.1)
     go : (d : Option ℕ) → ((s : ℕ) → d ≡ Some s → s ≤ t) → current vs ≡ purged t vs
         → cond (is_none d) (v ∷ current vs) (current vs) ≡ cond (not (died_by t d)) (v ∷ purged t vs) (purged t vs)
     go None low same = ap (λ xs. v ∷ xs) same
-    go (Some d) low same = rw (low_is d t (low d refl)) same
+    go (Some d) low same = rw (le-leb d t (low d refl)) same
 
 newest_answers : (q : Query) (vs found : List Versioned) → Finds q (current vs) found → AnswersNewest q vs found
 newest_answers q vs found finds states horizon newest keeps =

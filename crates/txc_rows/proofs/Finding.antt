@@ -1,27 +1,26 @@
 -- What is found are versions by id and birth.
-use Rattle.std.proofs.Common.{◌≡◌, ◌⊎◌, inl, inr, ℕ, suc, ◌+◌, ◌<◌, ◌≤◌, List, [], ◌∷◌, filter, length, Bool, true, false, true≢false, cond, ◌&&◌, Some, refl, sym, ap, ◌∙◌, arith}
+use Rattle.std.proofs.Common.{◌≡◌, ◌⊎◌, inl, inr, ℕ, suc, ◌+◌, ◌<◌, ◌≤◌, List, [], ◌∷◌, filter, Bool, true, false, true≢false, cond, ◌&&◌, refl, sym, ap, ◌∙◌, arith}
 use Rattle.std.specs.declared.cmp.Ordering.TheVariants.{Equal}
 use Rattle.std.specs.Ordering.{is_lt, nat_cmp}
 use Rattle.std.specs.Cmp.{IsTotalOrder, IsStrictWeakOrder, tied_itself}
-use borrow.Author.Tests.{ltb-false, eqb-true}
+use borrow.Author.Tests.{ltb-true, ltb-false, leb-true}
 use Rattle.std.specs.Prelude.{nat_le}
-use Rattle.std.proofs.lemmas.Bool.Decides.{nat_tests}
 use Rattle.std.specs.Prelude.{nat_lt, map}
 use Rattle.txc_rows.proofs.StoredRows.{is_lt-nat_cmp}
 use Rattle.std.specs.List.{AllByRecursion}
 use Rattle.std.specs.List.Sorted.{IsPermutation, IsSorted}
 use Rattle.std.proofs.lemmas.Cmp.{then_total, on_total, nat_cmp_total}
 use Rattle.std.proofs.lemmas.List.MinMax.{ranks_by}
-use Rattle.std.proofs.lemmas.List.Sorted.{IsPermutation-refl, IsPermutation-trans, IsPermutation-cons, IsPermutation-middle, length_permutation}
-use Rattle.sqlite_trees.proofs.ListLemmas.{along_permutation, all-permutation}
+use Rattle.std.proofs.lemmas.List.Sorted.{IsPermutation-refl, IsPermutation-trans, IsPermutation-cons, IsPermutation-middle}
+use Rattle.sqlite_trees.proofs.ListLemmas.{along_permutation, all_weaker, all-permutation}
 use Rattle.txc_rows.specs.declared.version.Versioned.{Versioned}
 use Rattle.txc_rows.specs.declared.query.Query.{Query}
-use Rattle.txc_rows.specs.declared.query.Query.TheVariants.{ById, ByGroup, All, Range}
 use Rattle.txc_rows.specs.Values.{RowValue}
-use Rattle.txc_rows.specs.States.{query_table}
 use Rattle.txc_rows.specs.Found.{Finds}
 use Rattle.txc_rows.specs.Versions.{is_visible, lives_at, shown_at, suits, version_cmp, Follows, Pairwise, IsVersion, AreVersions}
 use Rattle.txc_rows.specs.Says.{IdsRise}
+use Rattle.txc_rows.proofs.Members.{bool_cases, both_true}
+use Rattle.txc_rows.proofs.SaysLemmas.{of_its_table}
 use Rattle.txc_rows.proofs.VersionLemmas.{kept_versions}
 
 pub version_total : IsTotalOrder version_cmp
@@ -29,16 +28,6 @@ version_total = then_total (on_total (λ v. v.row.id) nat_cmp_total) (on_total (
 
 version_ranks : IsStrictWeakOrder (λ v w. is_lt (version_cmp v w))
 version_ranks = ranks_by version_total (λ v. v)
-
-front : (a b : Bool) → a && b ≡ true → a ≡ true
-front true b e = refl
-front false b e = e
-
-pub of_its_table : (q : Query) (v : Versioned) → suits q v ≡ true → v.row.table ≡ query_table q
-of_its_table (ById t i) v e = eqb-true _ _ (front _ _ e)
-of_its_table (ByGroup t g) v e = eqb-true _ _ (front _ _ e)
-of_its_table (All t) v e = eqb-true _ _ e
-of_its_table (Range t a b) v e = eqb-true _ _ (front _ _ e)
 
 -- ---- in the order of the query too, each version follows those before it
 
@@ -51,11 +40,7 @@ turned v w (inr h) = inl h
 
 meet : (vs : List Versioned) → Pairwise Follows vs → Pairwise Meets vs
 meet [] h = tt
-meet (v ∷ vs) h = (each vs h.0, meet vs h.1)
-  where
-    each : (ws : List Versioned) → AllByRecursion (Follows v) ws → AllByRecursion (Meets v) ws
-    each [] a = tt
-    each (w ∷ ws) a = (inl a.0, each ws a.1)
+meet (v ∷ vs) h = (all_weaker (Follows v) (Meets v) (λ w follows. inl follows) vs h.0, meet vs h.1)
 
 pairs_permute : (xs ys : List Versioned) → IsPermutation xs ys → IsPermutation xs ys × (Pairwise Meets xs → Pairwise Meets ys)
 pairs_permute = along_permutation (λ ps qs. IsPermutation ps qs × (Pairwise Meets ps → Pairwise Meets qs))
@@ -74,11 +59,7 @@ least_first : (v : Versioned) (ws : List Versioned) → IsSorted version_cmp (v 
 least_first v [] h = tt
 least_first v (w ∷ ws) h =
     let next : is_lt (version_cmp w v) ≡ false = h 0 v (omega arith) (omega arith) in
-    (next, on ws (least_first w ws (tail_sorted v (w ∷ ws) h)) next)
-  where
-    on : (us : List Versioned) → AllByRecursion (λ u. is_lt (version_cmp u w) ≡ false) us → is_lt (version_cmp w v) ≡ false → AllByRecursion (λ u. is_lt (version_cmp u v) ≡ false) us
-    on [] a next = tt
-    on (u ∷ us) a next = (version_ranks.chain u w v a.0 next, on us a.1 next)
+    (next, all_weaker _ _ (λ u first. version_ranks.chain u w v first next) ws (least_first w ws (tail_sorted v (w ∷ ws) h)))
 
 -- of one id the earlier comes first
 ordered_births : (v w : Versioned) → v.row.id ≡ w.row.id → is_lt (version_cmp w v) ≡ false → v.born ≤ w.born
@@ -107,45 +88,22 @@ found_versions vs found h same sorted =
 pub finds_versions : (q : Query) (vs found : List Versioned) → AreVersions vs → Finds q vs found → AreVersions found
 finds_versions q vs found h finds = found_versions (filter (suits q) vs) found (kept_versions (suits q) vs h) finds.same finds.sorted
 
-pub found_length : (q : Query) (vs found : List Versioned) → Finds q vs found → length found ≡ length (filter (suits q) vs)
-found_length q vs found h = length_permutation _ found h.same
-
 -- ---- what is shown at a stamp rises by id
 
-two : (a b : Bool) → a && b ≡ true → (a ≡ true) × (b ≡ true)
-two true b e = (refl, e)
-two false b e = absurd (let f = e in cc)
-
-lives : (s d : ℕ) → lives_at s (Some d) ≡ true → s < d
-lives s d h = grind (arith, nat_tests)
-
-below_of : (a b : ℕ) → nat_lt a b ≡ true → a < b
-below_of a b h = grind (arith, nat_tests)
-
-born_by : (a b : ℕ) → nat_le a b ≡ true → a ≤ b
-born_by a b h = grind (arith, nat_tests)
-
-cmp_cases : (x y : ℕ) → x ≤ y → (nat_lt x y ≡ true) ⊎ (x ≡ y)
-cmp_cases x y low = go (nat_lt x y) refl
-  where
-    go : (c : Bool) → nat_lt x y ≡ c → (nat_lt x y ≡ true) ⊎ (x ≡ y)
-    go true e = inl e
-    go false e = let high = ltb-false _ _ e in inr (omega arith)
-
 rising : (t : ℕ) (v w : Versioned) → v.row.table ≡ w.row.table → is_visible t v ≡ true → is_visible t w ≡ true → Follows v w → is_lt (version_cmp w v) ≡ false → v.row.id < w.row.id
-rising t v w table a b f h = go (nat_lt v.row.id w.row.id) refl
-  where
-    go : (c : Bool) → nat_lt v.row.id w.row.id ≡ c → v.row.id < w.row.id
-    go true e = below_of _ _ e
-    go false e = elim (cmp_cases w.row.id v.row.id (ltb-false _ _ e)) [
-      | inl less ↦ absurd (true≢false (rw less at h))
-      | inr same ↦
-          let dead = f.died table (sym same) in
-          let late : t < dead.0 = lives t dead.0 (ap (lives_at t) (sym dead.1) ∙ (two (nat_le v.born t) (lives_at t v.died) a).1) in
-          let early : w.born ≤ t = born_by w.born t (two (nat_le w.born t) (lives_at t w.died) b).0 in
-          let order : dead.0 ≤ w.born = dead.2 in
-          absurd (omega (arith, late, early, order))
-    ]
+rising t v w table a b f h = elim (bool_cases (nat_lt v.row.id w.row.id)) [
+  | inl e ↦ ltb-true _ _ e
+  | inr e ↦ elim (bool_cases (nat_lt w.row.id v.row.id)) [
+    | inl less ↦ absurd (true≢false (rw less at h))
+    | inr more ↦
+        let same : v.row.id ≡ w.row.id = omega (arith, ltb-false _ _ e, ltb-false _ _ more) in
+        let dead = f.died table same in
+        let late : t < dead.0 = ltb-true t dead.0 (ap (lives_at t) (sym dead.1) ∙ (both_true (nat_le v.born t) (lives_at t v.died) a).1) in
+        let early : w.born ≤ t = leb-true w.born t (both_true (nat_le w.born t) (lives_at t w.died) b).0 in
+        let order : dead.0 ≤ w.born = dead.2 in
+        absurd (omega (arith, late, early, order))
+  ]
+]
 
 above : (t : ℕ) (q : Query) (v : Versioned) → suits q v ≡ true → is_visible t v ≡ true → (ws : List Versioned) → AllByRecursion (Follows v) ws → AllByRecursion (λ w. is_lt (version_cmp w v) ≡ false) ws
     → AllByRecursion (λ (s : RowValue). v.row.id < s.id) (shown_at q t ws)
@@ -155,8 +113,8 @@ above t q v fits seen (w ∷ ws) f l = go (is_visible t w && suits q w) refl (ab
     go : (b : Bool) → is_visible t w && suits q w ≡ b → AllByRecursion (λ (s : RowValue). v.row.id < s.id) (shown_at q t ws)
         → AllByRecursion (λ (s : RowValue). v.row.id < s.id) (map (λ x. x.row) (cond b (w ∷ filter (λ x. is_visible t x && suits q x) ws) (filter (λ x. is_visible t x && suits q x) ws)))
     go true e on =
-        let both = two _ _ e in
-        let table : v.row.table ≡ w.row.table = of_its_table q v fits ∙ sym (of_its_table q w both.1) in
+        let both = both_true (is_visible t w) (suits q w) e in
+        let table : v.row.table ≡ w.row.table = of_its_table q v.row fits ∙ sym (of_its_table q w.row both.1) in
         (rising t v w table seen both.0 f.0 l.0, on)
     go false e on = on
 
@@ -165,5 +123,5 @@ shown_rises t q [] f s = tt
 shown_rises t q (v ∷ vs) f s = go (is_visible t v && suits q v) refl (shown_rises t q vs f.1 (tail_sorted v vs s))
   where
     go : (b : Bool) → is_visible t v && suits q v ≡ b → IdsRise (shown_at q t vs) → IdsRise (map (λ x. x.row) (cond b (v ∷ filter (λ x. is_visible t x && suits q x) vs) (filter (λ x. is_visible t x && suits q x) vs)))
-    go true e on = let both = two _ _ e in (above t q v both.1 both.0 vs f.0 (least_first v vs s), on)
+    go true e on = let both = both_true (is_visible t v) (suits q v) e in (above t q v both.1 both.0 vs f.0 (least_first v vs s), on)
     go false e on = on

@@ -1,7 +1,8 @@
 -- What the statements do to a connection over the tables.
-use Rattle.std.proofs.Common.{◌≡◌, ◌⊎◌, inl, inr, ℕ, ℤ, List, [], ◌∷◌, map, filter, Bool, true, false, cond, ◌&&◌, Some, Ok, Err, Result, OnOk, IfErr, IfOk, refl, sym, ap, subst, ◌∙◌, IsTrue}
+use Rattle.std.proofs.Common.{◌≡◌, ◌⊎◌, inl, inr, ℕ, ℤ, List, [], ◌∷◌, map, filter, Bool, true, false, ◌&&◌, Some, Ok, Err, Result, OnOk, IfErr, IfOk, refl, sym, ap, subst, ◌∙◌, IsTrue}
 use Rattle.std.specs.List.{AllByRecursion, list_all}
 use Rattle.std.specs.List.Sorted.{IsPermutation}
+use Rattle.sqlite_trees.proofs.ListLemmas.{all_both, all-filter}
 use Rattle.sqlite.specs.Order.{Row}
 use Rattle.sqlite.specs.Term.{Term, holds, eval}
 use Rattle.sqlite.specs.Query.{as_count}
@@ -23,7 +24,7 @@ use Rattle.txc_rows.specs.declared.placed.Placed.{Placed}
 use Rattle.txc_rows.specs.Placed.{is_left, placed_left, is_row_left, is_touched}
 use Rattle.txc_rows.specs.Stored.{stored, cells_of, number, placed_all, AreVersionRows}
 use Rattle.txc_rows.specs.Kept.{latest_in, HasTable, HasLatest, IsKept, IsStep, IsCall, IsSame, IsReading, IsLeaving, ArePassing}
-use Rattle.txc_rows.proofs.Members.{both_true}
+use Rattle.txc_rows.proofs.Members.{both_true, passing as passes}
 use Rattle.txc_rows.specs.States.{is_at}
 use Rattle.txc_rows.specs.Texts.{latest_schema}
 use Rattle.txc_rows.proofs.Commands.{IsListingOf, AreCellsOf, most_shown, left_filter, touched_filter, placed_filter, left_is, touched_is, placed_is}
@@ -154,12 +155,7 @@ leaves from old new kept (Err e) ok err = record { same = read_same READ_LEFT.no
 module _ (t : ℕ) (P : Placed → Bool) (of : (x : Placed) → P x ≡ true → x.version.row.table ≡ t) (fs : List Term) (text : List ℕ) (is : AreCellsOf fs text) (params : Row)
     (test : (id : ℤ) (x : Placed) → list_all (holds (params ∷ stored id x ∷ [])) fs ≡ P x) where
   of_table : (xs : List Placed) → AreStorable xs → AllByRecursion (λ x. (x.version.row.table ≡ t) × IsStorable x.version) (filter P xs)
-  of_table [] all = tt
-  of_table (x ∷ xs) all = go (P x) refl (of_table xs all.1)
-    where
-      go : (b : Bool) → P x ≡ b → AllByRecursion (λ y. (y.version.row.table ≡ t) × IsStorable y.version) (filter P xs) → AllByRecursion (λ y. (y.version.row.table ≡ t) × IsStorable y.version) (cond b (x ∷ filter P xs) (filter P xs))
-      go true e more = ((of x e, all.0), more)
-      go false e more = more
+  of_table xs all = all_both (λ x. P x ≡ true) _ _ (λ x e is. (of x e, is)) (filter P xs) (passes P xs) (all-filter (λ x. IsStorable x.version) P xs all)
 
   pub passing : (old new : Held MemStore) → HasTable old → AreStorable (latest_in old) → (r : Result (Vec Row Global) Error) → IfOk r (λ rows. Shown text params (state over_memory old) (state over_memory new) rows.items)
       → IfOk r (λ rows. ArePassing t P (latest_in old) rows.items)

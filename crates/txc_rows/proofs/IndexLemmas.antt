@@ -12,7 +12,7 @@ use Rattle.std.specs.BTreeMap.Range.{range_contains}
 use Rattle.std.specs.declared.ops.Bound.TheVariants.{Included, Excluded}
 use Rattle.std.proofs.lemmas.List.Sorted.{IsPermutation-refl, IsPermutation-sym, IsPermutation-trans, IsPermutation-cons, IsPermutation-middle, IsPermutation-map, length_permutation}
 use Rattle.std.proofs.lemmas.List.{length-map}
-use Rattle.sqlite_trees.proofs.ListLemmas.{all-filter, all-permutation, filter_none, filter_same, IsPermutation-flat_map, IsPermutation-filter}
+use Rattle.sqlite_trees.proofs.ListLemmas.{all_of, all_weaker, all-filter, all-permutation, filter_none, filter_same, IsPermutation-flat_map, IsPermutation-filter}
 use Rattle.txc_rows.specs.declared.placed.Placed.{Placed}
 use Rattle.txc_rows.specs.declared.replaced.Spot.{Spot}
 use Rattle.txc_rows.specs.declared.query.Query.{Query}
@@ -82,8 +82,7 @@ spot_itself s = itself s.table s.key s.number
     itself a b c = grind (arith, nat_tests)
 
 pub all_differ : (s : Spot) (ss : List Spot) → AllByRecursion (λ t. t.number ≢ s.number) ss → AllByRecursion (λ t. spot_cmp s t ≢ Equal) ss
-all_differ s [] all = tt
-all_differ s (t ∷ ts) all = (spot_differs s t all.0, all_differ s ts all.1)
+all_differ s ss all = all_weaker _ (λ t. spot_cmp s t ≢ Equal) (spot_differs s) ss all
 
 not_equal : (o : Ordering) → o ≢ Equal → is_eq o ≡ false
 not_equal Less off = refl
@@ -91,8 +90,7 @@ not_equal Equal off = absurd (off refl)
 not_equal Greater off = refl
 
 pub none_equal : (s : Spot) (ss : List Spot) → AllByRecursion (λ t. t.number ≢ s.number) ss → AllByRecursion (λ t. is_eq (spot_cmp s t) ≡ false) ss
-none_equal s [] all = tt
-none_equal s (t ∷ ts) all = (not_equal _ (spot_differs s t all.0), none_equal s ts all.1)
+none_equal s ss all = all_weaker _ _ (λ t apart. not_equal _ (spot_differs s t apart)) ss all
 
 -- ---- the spots of versions
 
@@ -195,12 +193,7 @@ between_grind t a b table key number low = grind (arith, nat_tests)
 
 pub between_spots : (t a b : ℕ) (ss : List Spot) → AllByRecursion FitsSpot ss
     → filter (range_contains spot_cmp (Included (record { table = t; key = a; number = 0 })) (Included (record { table = t; key = b; number = 18446744073709551615 }))) ss ≡ filter (is_between t a b) ss
-between_spots t a b ss fit = filter_same _ _ ss (each ss fit)
-  where
-    each : (xs : List Spot) → AllByRecursion FitsSpot xs
-        → AllByRecursion (λ s. range_contains spot_cmp (Included (record { table = t; key = a; number = 0 })) (Included (record { table = t; key = b; number = 18446744073709551615 })) s ≡ is_between t a b s) xs
-    each [] all = tt
-    each (x ∷ xs) all = (between_grind t a b x.table x.key x.number all.0.1, each xs all.1)
+between_spots t a b ss fit = filter_same _ _ ss (all_weaker FitsSpot _ (λ s fits. between_grind t a b s.table s.key s.number fits.1) ss fit)
 
 none_grind : (t a b table key number : ℕ) → b < a → ((table == t) && (nat_le a key && nat_le key b)) ≡ false
 none_grind t a b table key number low = grind (arith, nat_tests)
@@ -210,11 +203,7 @@ both_off true = refl
 both_off false = refl
 
 pub none_between : (t a b : ℕ) (s : Spot) (ss : List Spot) → b < a → filter (range_contains spot_cmp (Included s) (Excluded s)) ss ≡ filter (is_between t a b) ss
-none_between t a b s ss low = filter_same _ _ ss (each ss)
-  where
-    each : (xs : List Spot) → AllByRecursion (λ x. range_contains spot_cmp (Included s) (Excluded s) x ≡ is_between t a b x) xs
-    each [] = tt
-    each (x ∷ xs) = (both_off (is_le (spot_cmp s x)) ∙ sym (none_grind t a b x.table x.key x.number low), each xs)
+none_between t a b s ss low = filter_same _ _ ss (all_of _ (λ x. both_off (is_le (spot_cmp s x)) ∙ sym (none_grind t a b x.table x.key x.number low)) ss)
 
 -- ---- what a query looks up
 
@@ -222,14 +211,10 @@ between_one : (t i table key : ℕ) → ((table == t) && (nat_le i key && nat_le
 between_one t i table key = grind (arith, nat_tests)
 
 pub between_all : (t : ℕ) (ss : List Spot) → AllByRecursion FitsSpot ss → filter (is_between t 0 4294967295) ss ≡ filter (λ s. s.table == t) ss
-between_all t ss fit = filter_same _ _ ss (each ss fit)
+between_all t ss fit = filter_same _ _ ss (all_weaker FitsSpot _ (λ s fits. whole s.table t s.key fits.0) ss fit)
   where
     whole : (a b key : ℕ) → key < 4294967296 → ((a == b) && (nat_le 0 key && nat_le key 4294967295)) ≡ (a == b)
     whole a b key low = grind (arith, nat_tests)
-
-    each : (xs : List Spot) → AllByRecursion FitsSpot xs → AllByRecursion (λ s. is_between t 0 4294967295 s ≡ (s.table == t)) xs
-    each [] all = tt
-    each (x ∷ xs) all = (whole x.table t x.key all.0.0, each xs all.1)
 
 asked_spots : (q : Query) (first : ℕ) (xs : List Placed) (ids groups : List Spot) → AreIndexed first xs ids groups
     → IsPermutation (filter (λ x. suits q x.version) xs) (picked first xs (filter (spot_suits q) (spots_asked q ids groups)))
@@ -285,19 +270,15 @@ module _ (q : Query) (from first : ℕ) (xs : List Placed) (ids groups : List Sp
       go (Range t a b) = high version_id ids h.by_id
 
 -- the ids and the groups are numbers of a machine
-pub ids_fit : (first : ℕ) (xs : List Placed) (ids groups : List Spot) → AreIndexed first xs ids groups → AllByRecursion (λ x. IsStorable x.version) xs → AllByRecursion FitsSpot ids
-ids_fit first xs ids groups h each = all-permutation FitsSpot _ ids h.by_id (spots_fit version_id first xs (low xs each) h.fits)
-  where
-    low : (ys : List Placed) → AllByRecursion (λ x. IsStorable x.version) ys → AllByRecursion (λ x. version_id x ≤ 4294967295) ys
-    low [] all = tt
-    low (y ∷ ys) all = (all.0.row.id, low ys all.1)
+module _ (first : ℕ) (xs : List Placed) (ids groups : List Spot) (h : AreIndexed first xs ids groups) (each : AllByRecursion (λ x. IsStorable x.version) xs) where
+  fit : (key : Placed → ℕ) (spots : List Spot) → IsPermutation (spots_from key first xs) spots → ((x : Placed) → IsStorable x.version → key x ≤ 4294967295) → AllByRecursion FitsSpot spots
+  fit key spots same low = all-permutation FitsSpot _ spots same (spots_fit key first xs (all_weaker _ _ low xs each) h.fits)
 
-pub groups_fit : (first : ℕ) (xs : List Placed) (ids groups : List Spot) → AreIndexed first xs ids groups → AllByRecursion (λ x. IsStorable x.version) xs → AllByRecursion FitsSpot groups
-groups_fit first xs ids groups h each = all-permutation FitsSpot _ groups h.by_group (spots_fit version_group first xs (low xs each) h.fits)
-  where
-    low : (ys : List Placed) → AllByRecursion (λ x. IsStorable x.version) ys → AllByRecursion (λ x. version_group x ≤ 4294967295) ys
-    low [] all = tt
-    low (y ∷ ys) all = (all.0.row.group, low ys all.1)
+  pub ids_fit : AllByRecursion FitsSpot ids
+  ids_fit = fit version_id ids h.by_id (λ x is. is.row.id)
+
+  pub groups_fit : AllByRecursion FitsSpot groups
+  groups_fit = fit version_group groups h.by_group (λ x is. is.row.group)
 
 -- ---- one spot after another
 
@@ -312,10 +293,6 @@ module _ (from first : ℕ) (xs : List Placed) (s : Spot) (ss : List Spot) where
 
   pub taken_left : (x : Placed) → slice_get xs (s.number - first) ≡ Some x → is_left from x.version ≡ true → taken (s ∷ ss) ≡ x.version ∷ taken ss
   taken_left x e f = rw (e, f) refl
-
-pub not_false : (b : Bool) → not b ≡ false → b ≡ true
-not_false true e = refl
-not_false false e = absurd (let f = e in cc)
 
 -- two that a success gives give a third
 pub both_ok : {X E A B C : Type 0} (r : Result X E) → OnOk r A → OnOk r B → (A → B → C) → OnOk r C

@@ -1,6 +1,5 @@
 -- The versions of a store go on saying the kept states, and what is found of them shows the answers.
-use Rattle.std.proofs.Common.{◌≡◌, ◌⊎◌, inl, inr, ℕ, zero, suc, ◌+◌, ◌-◌, ◌≤◌, nat_le, true, false, not, List, [], filter, refl, sym, subst, ◌∙◌, add-zero, arith}
-use Rattle.std.proofs.lemmas.Bool.Decides.{nat_tests}
+use Rattle.std.proofs.Common.{◌≡◌, inl, inr, ℕ, zero, suc, ◌+◌, ◌-◌, ◌≤◌, not, List, [], filter, refl, sym, subst, ◌∙◌, add-zero, arith}
 use Rattle.std.proofs.lemmas.List.Sorted.{IsPermutation-sym, Contains-permutation}
 use Rattle.txc_rows.specs.declared.version.Versioned.{Versioned}
 use Rattle.txc_rows.specs.declared.query.Query.{Query}
@@ -12,9 +11,9 @@ use Rattle.txc_rows.specs.Found.{Finds}
 use Rattle.txc_rows.specs.Holdable.{IsStorable}
 use Rattle.std.specs.List.{AllByRecursion}
 use Rattle.txc_rows.specs.Keeping.{KeepsStates, KeepsWritten, KeepsPurged, AnswersStates}
-use Rattle.txc_rows.proofs.Members.{is_in, contains_it, bool_cases, in_filter, from_filter}
+use Rattle.txc_rows.proofs.Members.{is_in, contains_it, in_filter, from_filter}
 use Rattle.txc_rows.proofs.Rising.{changes_state}
-use Rattle.txc_rows.proofs.SaysLemmas.{says_answer, says_nothing, says_written, says_quiet, says_purged}
+use Rattle.txc_rows.proofs.SaysLemmas.{newest_or, says_answer, says_nothing, says_written, says_quiet, says_purged}
 use Rattle.txc_rows.proofs.Writable.{net_is_writable}
 use Rattle.txc_rows.proofs.VersionLemmas.{written_versions, kept_versions}
 use Rattle.txc_rows.proofs.Clean.{purged_twice, clean_net}
@@ -33,18 +32,8 @@ keeps_nothing states empty = record {
 
 -- ---- stamps at which no state changes
 
--- the last stamp, or one before it
-last_or : (t n : ℕ) → t ≤ suc n → (t ≡ suc n) ⊎ (t ≤ n)
-last_or t n h = elim (bool_cases (nat_le t n)) [ inl low ↦ inr (le_of t n low) | inr high ↦ inl (last t n h high) ]
-  where
-    le_of : (a b : ℕ) → nat_le a b ≡ true → a ≤ b
-    le_of a b e = grind (arith, nat_tests)
-
-    last : (a b : ℕ) → a ≤ suc b → nat_le a b ≡ false → a ≡ suc b
-    last a b e f = grind (arith, nat_tests)
-
 one_more_state : (states : ℕ → State) (horizon newest : ℕ) (vs : List Versioned) → KeepsStates states horizon newest vs → IsState (states (suc newest)) → (t : ℕ) → horizon ≤ t → t ≤ suc newest → IsState (states t)
-one_more_state states horizon newest vs keeps next t low high = elim (last_or t newest high) [
+one_more_state states horizon newest vs keeps next t low high = elim (newest_or t newest high) [
   | inl now ↦ rw now next
   | inr then ↦ keeps.each t low then
 ]

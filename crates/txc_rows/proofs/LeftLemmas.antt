@@ -12,7 +12,7 @@ use Rattle.sqlite.specs.Tree.{rowid}
 use Rattle.sqlite.specs.Edit.{id_in}
 use Rattle.sqlite.specs.State.{State, Shown}
 use Rattle.sqlite.proofs.Callers.{reads_as}
-use Rattle.sqlite_trees.proofs.ListLemmas.{map-map, filter-map, all-permutation}
+use Rattle.sqlite_trees.proofs.ListLemmas.{map-map, filter-map, all_of, all_weaker, all-map, all-permutation}
 use Rattle.txc_rows.specs.Holdable.{IsStorable}
 use Rattle.txc_rows.specs.declared.placed.Placed.{Placed}
 use Rattle.txc_rows.specs.Texts.{latest_schema}
@@ -46,8 +46,7 @@ one_table fs project params P test g shows table rows each page =
     subst (λ xs. IsPermutation xs rows) are (subst (IsPermutation _) (sym page.rows) moved)
 
 all_cells : (xs : List Placed) → AllByRecursion AreCells (map cells_of xs)
-all_cells [] = tt
-all_cells (x ∷ xs) = (ap cells_of (sym (cells_again x)), all_cells xs)
+all_cells xs = all-map AreCells cells_of xs (all_of _ (λ x. ap cells_of (sym (cells_again x))) xs)
 
 from_cells : (xs : List Placed) → map placed_from (map cells_of xs) ≡ xs
 from_cells [] = refl
@@ -69,10 +68,7 @@ pub cells_each : (xs : List Placed) (rows : List Row) → IsPermutation (map cel
 cells_each xs rows same = all-permutation AreCells _ rows same (all_cells xs)
 
 pub placed_rows : (t : ℕ) (xs : List Placed) (rows : List Row) → IsPermutation (map cells_of xs) rows → AllByRecursion (λ x. (x.version.row.table ≡ t) × IsStorable x.version) xs → AllByRecursion (IsPlacedRow t) rows
-placed_rows t xs rows same each = all-permutation (IsPlacedRow t) _ rows same (go xs each)
+placed_rows t xs rows same each = all-permutation (IsPlacedRow t) _ rows same (all-map (IsPlacedRow t) cells_of xs (all_weaker _ _ again xs each))
   where
-    go : (ys : List Placed) → AllByRecursion (λ x. (x.version.row.table ≡ t) × IsStorable x.version) ys → AllByRecursion (IsPlacedRow t) (map cells_of ys)
-    go [] all = tt
-    go (y ∷ ys) all =
-        let again = cells_again y in
-        (record { is = ap cells_of (sym again); table_is = subst (λ x. x.version.row.table ≡ t) (sym again) all.0.0; version = subst (λ x. IsStorable x.version) (sym again) all.0.1 }, go ys all.1)
+    again : (x : Placed) → (x.version.row.table ≡ t) × IsStorable x.version → IsPlacedRow t (cells_of x)
+    again x is = let same = sym (cells_again x) in record { is = ap cells_of same; table_is = subst (λ y. y.version.row.table ≡ t) same is.0; version = subst (λ y. IsStorable y.version) same is.1 }

@@ -1,5 +1,5 @@
 -- The row of a table and id.
-use Rattle.std.proofs.Common.{◌≡◌, inl, inr, ℕ, [], ◌∷◌, Bool, true, false, true≢false, cond, not, nat_lt, ◌&&◌, ◌||◌, ◌==◌, Option, Some, None, refl, sym, ap, subst, ◌∙◌, arith}
+use Rattle.std.proofs.Common.{◌≡◌, inl, inr, ℕ, [], ◌∷◌, Bool, true, false, true≢false, cond, not, nat_lt, ◌&&◌, ◌||◌, ◌==◌, Option, Some, None, refl, sym, ap, ◌∙◌, arith}
 use Rattle.std.proofs.lemmas.Bool.Decides.{nat_tests}
 use borrow.Author.Tests.{eqb-true}
 use Rattle.std.specs.List.{AllByRecursion}
@@ -8,19 +8,17 @@ use Rattle.txc_rows.specs.declared.query.Change.TheVariants.{Put, Remove}
 use Rattle.txc_rows.specs.States.{RowValue, State, row_before, IsState, is_at, row_at, after_change}
 use Rattle.txc_rows.specs.Net.{change_table, change_id}
 use Rattle.txc_rows.specs.Laws.{is_change_of, made_by, ChangeUpdates}
-use Rattle.txc_rows.proofs.Members.{IsIn, both_true, not_true_is, from_filter}
+use Rattle.txc_rows.proofs.Members.{IsIn, bool_cases, both_true, not_true_is, from_filter, all_in}
 use Rattle.txc_rows.proofs.ChangeLemmas.{is_of, made_there, other_there, from_change, made_of}
 use Rattle.txc_rows.proofs.Rising.{change_state}
 
 -- ---- one row of a key
 
 level : (x q : RowValue) (xs : State) → AllByRecursion (λ y. row_before x y ≡ true) xs → IsIn q xs → x.table ≡ q.table → x.id ≡ q.id → ⊥
-level x q [] all b t i = absurd b
-level x q (y ∷ ys) all (inl same) t i = off x.table x.id q.table q.id (subst (λ (z : RowValue). row_before x z ≡ true) (sym same) all.0) t i
+level x q xs all b t i = off x.table x.id q.table q.id (all_in (λ y. row_before x y ≡ true) xs q all b) t i
   where
     off : (a b c d : ℕ) → nat_lt a c || ((a == c) && nat_lt b d) ≡ true → a ≡ c → b ≡ d → ⊥
     off a b c d e f g = grind (arith, nat_tests)
-level x q (y ∷ ys) all (inr later) t i = level x q ys all.1 later t i
 
 table_is : (a b : RowValue) → a ≡ b → a.table ≡ b.table
 table_is a b e = ap (λ (y : RowValue). y.table) e
@@ -114,8 +112,4 @@ updated_other c s t i h off = same_found t i (after_change c s) s (change_state 
     (λ r at k. other_there c r s k (apart_from t i c r at off))
 
 pub change_updates : ChangeUpdates
-change_updates c s t i h = go (is_change_of t i c) refl
-  where
-    go : (b : Bool) → is_change_of t i c ≡ b → row_at t i (after_change c s) ≡ cond b (made_by c) (row_at t i s)
-    go true e = updated_here c s t i h e
-    go false e = updated_other c s t i h e
+change_updates c s t i h = elim (bool_cases (is_change_of t i c)) [ inl e ↦ rw e (updated_here c s t i h e) | inr e ↦ rw e (updated_other c s t i h e) ]

@@ -1,6 +1,8 @@
 -- Tests, and what stands in a list: promises say so by std's `Contains`, inductions by `IsIn`, which is the same.
-use Rattle.std.proofs.Common.{◌≡◌, inl, inr, ℕ, zero, suc, ◌<◌, List, [], ◌∷◌, length, get_or, Bool, true, false, true≢false, not, refl, sym, arith}
-use Rattle.std.specs.List.{Contains}
+use Rattle.std.proofs.Common.{◌≡◌, inl, inr, ℕ, zero, suc, ◌<◌, ◌⊎◌, List, [], ◌∷◌, ◌++◌, map, filter, ◌≤◌, length, get_or, Bool, true, false, true≢false, cond, not, refl, sym, ap, subst, arith}
+use Rattle.std.proofs.lemmas.List.Elements.{recursion_from_All, filter_passes}
+use Rattle.std.proofs.lemmas.List.Sums.{length-filter, count_by-le-length}
+use Rattle.std.specs.List.{AllByRecursion, Contains}
 pub use Rattle.txc_tags.proofs.Offered.{bool_cases, both_true, and_true, IsIn, any_there, any_found, in_filter, from_filter, in_left, in_right}
 
 pub not_true_is : (b : Bool) → not b ≡ true → b ≡ false
@@ -19,3 +21,44 @@ pub contains_it : {X : Type 0} (xs : List X) (x : X) → IsIn x xs → Contains 
 contains_it [] x h = absurd h
 contains_it (y ∷ ys) x (inl same) = (zero, omega arith, sym same)
 contains_it (y ∷ ys) x (inr later) = let it = contains_it ys x later in (suc it.0, omega (arith, it.1), it.2)
+
+pub from_append : {X : Type 0} (x : X) (xs ys : List X) → IsIn x (xs ++ ys) → (IsIn x xs) ⊎ (IsIn x ys)
+from_append x [] ys h = inr h
+from_append x (y ∷ xs) ys (inl same) = inl (inl same)
+from_append x (y ∷ xs) ys (inr later) = elim (from_append x xs ys later) [ inl h ↦ inl (inr h) | inr h ↦ inr h ]
+
+pub in_map : {X Y : Type 0} (f : X → Y) (x : X) (xs : List X) → IsIn x xs → IsIn (f x) (map f xs)
+in_map f x [] h = absurd h
+in_map f x (y ∷ ys) (inl same) = inl (ap f same)
+in_map f x (y ∷ ys) (inr later) = inr (in_map f x ys later)
+
+pub from_map : {X Y : Type 0} (f : X → Y) (y : Y) (xs : List X) → IsIn y (map f xs) → (x : X) × IsIn x xs × (y ≡ f x)
+from_map f y [] h = absurd h
+from_map f y (x ∷ xs) (inl same) = (x, inl refl, same)
+from_map f y (x ∷ xs) (inr later) = let it = from_map f y xs later in (it.0, inr it.1, it.2)
+
+pub all_in : {X : Type 0} (P : X → Type 0) (xs : List X) (x : X) → AllByRecursion P xs → IsIn x xs → P x
+all_in P [] x all h = absurd h
+all_in P (y ∷ ys) x all (inl same) = subst P (sym same) all.0
+all_in P (y ∷ ys) x all (inr later) = all_in P ys x all.1 later
+
+pub few_left : {X : Type 0} (p : X → Bool) (xs : List X) → length (filter p xs) ≤ length xs
+few_left p xs = omega (arith, length-filter p xs, count_by-le-length p xs)
+
+pub none_of : {X : Type 0} (p : X → Bool) (xs : List X) → filter p xs ≡ [] → AllByRecursion (λ x. p x ≡ false) xs
+none_of p [] e = tt
+none_of p (x ∷ xs) e = elim (bool_cases (p x)) [ inl hit ↦ absurd (let f = rw hit at e in cc) | inr off ↦ (off, none_of p xs (rw off at e)) ]
+
+pub passing : {X : Type 0} (p : X → Bool) (xs : List X) → AllByRecursion (λ x. p x ≡ true) (filter p xs)
+passing p xs = recursion_from_All _ (filter p xs) (filter_passes p xs)
+
+pub filters_turned : {X : Type 0} (p q : X → Bool) (xs : List X) → filter p (filter q xs) ≡ filter q (filter p xs)
+filters_turned p q [] = refl
+filters_turned {X} p q (x ∷ xs) = go (p x) (q x) refl refl (filters_turned p q xs)
+  where
+    go : (a b : Bool) → p x ≡ a → q x ≡ b → filter p (filter q xs) ≡ filter q (filter p xs)
+        → filter p (cond b (x ∷ filter q xs) (filter q xs)) ≡ filter q (cond a (x ∷ filter p xs) (filter p xs))
+    go true true e f same = rw (e, f) (ap (λ ys. x ∷ ys) same)
+    go true false e f same = rw f same
+    go false true e f same = rw e same
+    go false false e f same = same

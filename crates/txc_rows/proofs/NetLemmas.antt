@@ -1,19 +1,18 @@
 -- Net changes lead where the changes lead, and change what differs.
-use Rattle.std.proofs.Common.{◌≡◌, inl, inr, ℕ, List, [], ◌∷◌, filter, Bool, true, false, true≢false, cond, not, nat_lt, ◌&&◌, ◌||◌, ◌==◌, Option, Some, None, refl, sym, ap, subst, ◌∙◌, arith}
+use Rattle.std.proofs.Common.{◌≡◌, inl, inr, ℕ, List, [], ◌∷◌, filter, Bool, true, false, true≢false, cond, nat_lt, ◌&&◌, ◌||◌, ◌==◌, Option, Some, None, refl, sym, ap, subst, ◌∙◌, arith}
 use Rattle.std.proofs.lemmas.Bool.Decides.{nat_tests}
-use borrow.Author.Tests.{eqb-true, eq-eqb}
+use borrow.Author.Tests.{eqb-true, eq-eqb, not-false}
 use Rattle.std.specs.List.{AllByRecursion, list_any, list_all}
+use Rattle.sqlite_trees.proofs.ListLemmas.{all_weaker, all-filter}
 use Rattle.txc_rows.specs.declared.query.Change.{Change}
 use Rattle.txc_rows.specs.declared.query.Change.TheVariants.{Put, Remove}
 use Rattle.txc_rows.specs.States.{RowValue, State, IsState, is_at, row_at, after_change, after_changes}
-use Rattle.txc_rows.specs.Values.{same_row}
-use Rattle.txc_rows.specs.RowTags.{has_row}
 use Rattle.txc_rows.specs.Net.{change_table, change_id, same_key, key_before, changes_state, placed, settled, net_changes, KeysRise, IsNet}
 use Rattle.txc_rows.specs.Laws.{NetLeads, NetIsDifference, is_change_of}
 use Rattle.txc_rows.proofs.Members.{IsIn, bool_cases, both_true, and_true, not_true_is, any_there, any_found}
 use Rattle.txc_rows.proofs.ChangeLemmas.{is_of, Makes, made_there, other_there, from_change, made_of}
 use Rattle.txc_rows.proofs.Rising.{changes_state as changed_state, same_rows}
-use Rattle.txc_rows.proofs.RowTests.{same_row_is, has_there}
+use Rattle.txc_rows.proofs.RowTests.{has_row_in, has_there}
 use Rattle.txc_rows.proofs.Lookups.{is_change_at, apart_from, one_key, found_is, found_from, same_found}
 
 -- ---- what all changes leave: what the last change of the row's key makes, or what was there
@@ -107,8 +106,7 @@ abbrev pub Over : Change → List Change → Type 0
 Over c = AllByRecursion (λ d. key_before c d ≡ true)
 
 over_trans : (c d : Change) (ds : List Change) → key_before c d ≡ true → Over d ds → Over c ds
-over_trans c d [] e h = tt
-over_trans c d (x ∷ xs) e h = (key_trans (change_table c) (change_id c) (change_table d) (change_id d) (change_table x) (change_id x) e h.0, over_trans c d xs e h.1)
+over_trans c d ds e h = all_weaker (λ x. key_before d x ≡ true) (λ x. key_before c x ≡ true) (λ x after. key_trans (change_table c) (change_id c) (change_table d) (change_id d) (change_table x) (change_id x) e after) ds h
 
 over_placed : (d c : Change) (ds : List Change) → key_before d c ≡ true → Over d ds → Over d (placed c ds)
 over_placed d c [] e h = (e, tt)
@@ -133,30 +131,18 @@ settled_rises [] = tt
 settled_rises (c ∷ cs) = placed_rises c (settled cs) (settled_rises cs)
 
 module _ (p : Change → Bool) where
-  over_kept : (c : Change) (ds : List Change) → Over c ds → Over c (filter p ds)
-  over_kept c [] h = tt
-  over_kept c (d ∷ ds) h = let rest = over_kept c ds h.1 in elim (p d) as (λ b. Over c (cond b (d ∷ filter p ds) (filter p ds))) [ true ↦ (h.0, rest) | false ↦ rest ]
-
   kept_rises : (ds : List Change) → KeysRise ds → KeysRise (filter p ds)
   kept_rises [] h = tt
-  kept_rises (d ∷ ds) h = let rest = kept_rises ds h.1 in elim (p d) as (λ b. KeysRise (cond b (d ∷ filter p ds) (filter p ds))) [ true ↦ (over_kept d ds h.0, rest) | false ↦ rest ]
+  kept_rises (d ∷ ds) h = let rest = kept_rises ds h.1 in elim (p d) as (λ b. KeysRise (cond b (d ∷ filter p ds) (filter p ds))) [ true ↦ (all-filter (λ x. key_before d x ≡ true) p ds h.0, rest) | false ↦ rest ]
 
   each_kept : (ds : List Change) → list_all p (filter p ds) ≡ true
   each_kept [] = refl
-  each_kept (d ∷ ds) = go (p d) refl (each_kept ds)
-    where
-      go : (b : Bool) → p d ≡ b → list_all p (filter p ds) ≡ true → list_all p (cond b (d ∷ filter p ds) (filter p ds)) ≡ true
-      go true e on = and_true (p d) _ e on
-      go false e on = on
+  each_kept (d ∷ ds) = elim (bool_cases (p d)) [ inl e ↦ rw e (and_true (p d) _ e (each_kept ds)) | inr e ↦ rw e (each_kept ds) ]
 
 -- ---- leaving out what changes nothing
 
 idle_from : (c : Change) (r : RowValue) (s : State) → IsState s → is_of c r ≡ true → changes_state s c ≡ false → Makes c r → IsIn r s
-idle_from (Put row) r s h at idle m = let has : has_row s row ≡ true = not_false_is _ idle in let it = any_found (same_row row) s has in subst (λ (x : RowValue). IsIn x s) (sym (same_row_is row it.0 it.2) ∙ sym m) it.1
-  where
-    not_false_is : (b : Bool) → not b ≡ false → b ≡ true
-    not_false_is true e = refl
-    not_false_is false e = absurd (true≢false e)
+idle_from (Put row) r s h at idle m = subst (λ (x : RowValue). IsIn x s) (sym m) (has_row_in s row (not-false _ idle))
 idle_from (Remove t i) r s h at idle m = absurd m
 
 idle_to : (c : Change) (r : RowValue) (s : State) → IsState s → is_of c r ≡ true → changes_state s c ≡ false → IsIn r s → Makes c r
@@ -188,8 +174,8 @@ kept_alike s h (c ∷ cs) r rise = go (is_of c r) refl (changes_state s c) refl 
   where
     go : (a : Bool) → is_of c r ≡ a → (b : Bool) → changes_state s c ≡ b → Alike (last_of (filter (changes_state s) cs) r) (last_of cs r) r s
         → Alike (last_of (cond b (c ∷ filter (changes_state s) cs) (filter (changes_state s) cs)) r) (or_else (last_of cs r) (is_of c r) c) r s
-    go true at true e on = rw (at, none_of c cs r rise.0 at, none_of c (filter (changes_state s) cs) r (over_kept (changes_state s) c cs rise.0) at) (record { to = λ m. m; back = λ m. m })
-    go true at false e on = rw (at, none_of c cs r rise.0 at, none_of c (filter (changes_state s) cs) r (over_kept (changes_state s) c cs rise.0) at) (record { to = idle_to c r s h at e; back = idle_from c r s h at e })
+    go true at true e on = rw (at, none_of c cs r rise.0 at, none_of c (filter (changes_state s) cs) r (all-filter (λ d. key_before c d ≡ true) (changes_state s) cs rise.0) at) (record { to = λ m. m; back = λ m. m })
+    go true at false e on = rw (at, none_of c cs r rise.0 at, none_of c (filter (changes_state s) cs) r (all-filter (λ d. key_before c d ≡ true) (changes_state s) cs rise.0) at) (record { to = idle_to c r s h at e; back = idle_from c r s h at e })
     go false at true e on = rw (at, plain c (last_of cs r), plain c (last_of (filter (changes_state s) cs) r)) on
     go false at false e on = rw (at, plain c (last_of cs r)) on
 

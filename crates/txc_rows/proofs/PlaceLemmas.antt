@@ -1,12 +1,14 @@
 -- The order of places: it is that of the list however the versions stand in the tables.
-use Rattle.std.proofs.Common.{◌≡◌, ◌≢◌, ℕ, ◌<◌, ◌≤◌, List, [], ◌∷◌, ◌++◌, map, filter, Bool, true, false, cond, not, nat_lt, refl, sym, ap, ◌∙◌, arith}
+use Rattle.std.proofs.Common.{◌≡◌, ◌≢◌, inl, inr, ℕ, ◌<◌, ◌≤◌, List, [], ◌∷◌, ◌++◌, map, filter, Bool, true, false, cond, not, nat_lt, refl, sym, ap, ◌∙◌, arith}
+use borrow.Author.Tests.{ltb-true, ltb-false, lt-ltb, le-ltb}
 use Rattle.std.proofs.lemmas.Bool.Decides.{nat_tests}
 use Rattle.std.specs.List.{AllByRecursion}
 use Rattle.std.specs.List.Sorted.{IsPermutation}
 use Rattle.std.proofs.lemmas.List.Sorted.{IsPermutation-refl, IsPermutation-trans, IsPermutation-cons, IsPermutation-middle}
 use Rattle.sqlite.specs.Tree.{IsAscending}
-use Rattle.sqlite_trees.proofs.ListLemmas.{along_permutation, all-permutation, all-filter}
+use Rattle.sqlite_trees.proofs.ListLemmas.{along_permutation, all_weaker, all-permutation, all-filter}
 use Rattle.txc_rows.specs.declared.placed.Placed.{Placed}
+use Rattle.txc_rows.proofs.Members.{bool_cases}
 use Rattle.txc_rows.specs.Placed.{put_at_place, by_place, HaveOwnPlaces, AreBelow}
 
 -- ---- a relation of each two, in whichever order, holds of them in any order
@@ -35,33 +37,20 @@ by_place_permutes [] = IsPermutation-refl []
 by_place_permutes (x ∷ xs) = IsPermutation-trans _ _ _ (IsPermutation-cons x _ _ (by_place_permutes xs)) (put_in_permutes x (by_place xs))
 
 turned : (m n : ℕ) → m ≢ n → nat_lt m n ≡ not (nat_lt n m)
-turned m n apart = go (nat_lt m n) refl (nat_lt n m) refl
-  where
-    one : nat_lt m n ≡ true → nat_lt n m ≡ true → ⊥
-    one a b = grind (arith, nat_tests)
-
-    none : nat_lt m n ≡ false → nat_lt n m ≡ false → m ≡ n
-    none a b = grind (arith, nat_tests)
-
-    go : (a : Bool) → nat_lt m n ≡ a → (b : Bool) → nat_lt n m ≡ b → nat_lt m n ≡ not (nat_lt n m)
-    go true e true f = absurd (one e f)
-    go true e false f = rw (e, f) refl
-    go false e true f = rw (e, f) refl
-    go false e false f = absurd (apart (none e f))
+turned m n apart = elim (bool_cases (nat_lt n m)) [
+  | inl e ↦ rw e (le-ltb m n (let low = ltb-true n m e in omega arith))
+  | inr e ↦ rw e (lt-ltb m n (let low = ltb-false n m e in omega (arith, apart)))
+]
 
 lt_through : (a b c : ℕ) → nat_lt a b ≡ true → nat_lt b c ≡ true → nat_lt a c ≡ true
 lt_through a b c h k = grind (arith, nat_tests)
 
-not_through : (a b c : ℕ) → nat_lt a b ≡ true → nat_lt a c ≡ false → nat_lt b c ≡ false
-not_through a b c h k = grind (arith, nat_tests)
-
 -- the order of two puts is none where their places differ
 put_in_turned : (x y : Placed) → x.place ≢ y.place → (zs : List Placed) → put_at_place x (put_at_place y zs) ≡ put_at_place y (put_at_place x zs)
-put_in_turned x y apart [] = go (nat_lt y.place x.place) refl
-  where
-    go : (b : Bool) → nat_lt y.place x.place ≡ b → put_at_place x (put_at_place y []) ≡ put_at_place y (put_at_place x [])
-    go true e = let f : nat_lt x.place y.place ≡ false = turned x.place y.place apart ∙ ap not e in rw (e, f) refl
-    go false e = let f : nat_lt x.place y.place ≡ true = turned x.place y.place apart ∙ ap not e in rw (e, f) refl
+put_in_turned x y apart [] = elim (bool_cases (nat_lt y.place x.place)) [
+  | inl e ↦ let f : nat_lt x.place y.place ≡ false = turned x.place y.place apart ∙ ap not e in rw (e, f) refl
+  | inr e ↦ let f : nat_lt x.place y.place ≡ true = turned x.place y.place apart ∙ ap not e in rw (e, f) refl
+]
 put_in_turned x y apart (z ∷ zs) = go (nat_lt x.place z.place) refl (nat_lt y.place z.place) refl (nat_lt x.place y.place) refl (put_in_turned x y apart zs)
   where
     back : (b : Bool) → nat_lt x.place y.place ≡ b → nat_lt y.place x.place ≡ not b
@@ -93,11 +82,10 @@ by_place_same xs ys same = (along_permutation (λ ps qs. IsPermutation ps qs × 
 module _ (f : Placed → Placed) (keeps : (x : Placed) → (f x).place ≡ x.place) where
   put_in_mapped : (x : Placed) (ys : List Placed) → put_at_place (f x) (map f ys) ≡ map f (put_at_place x ys)
   put_in_mapped x [] = refl
-  put_in_mapped x (y ∷ ys) = go (nat_lt x.place y.place) refl (put_in_mapped x ys)
-    where
-      go : (b : Bool) → nat_lt x.place y.place ≡ b → put_at_place (f x) (map f ys) ≡ map f (put_at_place x ys) → put_at_place (f x) (map f (y ∷ ys)) ≡ map f (put_at_place x (y ∷ ys))
-      go true e more = let here : nat_lt (f x).place (f y).place ≡ true = rw (keeps x, keeps y) e in rw (here, e) refl
-      go false e more = let here : nat_lt (f x).place (f y).place ≡ false = rw (keeps x, keeps y) e in rw (here, e) (ap (λ rest. f y ∷ rest) more)
+  put_in_mapped x (y ∷ ys) = elim (bool_cases (nat_lt x.place y.place)) [
+    | inl e ↦ let here : nat_lt (f x).place (f y).place ≡ true = rw (keeps x, keeps y) e in rw (here, e) refl
+    | inr e ↦ let here : nat_lt (f x).place (f y).place ≡ false = rw (keeps x, keeps y) e in rw (here, e) (ap (λ rest. f y ∷ rest) (put_in_mapped x ys))
+  ]
 
   pub by_place_mapped : (xs : List Placed) → by_place (map f xs) ≡ map f (by_place xs)
   by_place_mapped [] = refl
@@ -108,11 +96,10 @@ put_in_before x n [] low = let e : nat_lt x.place n.place ≡ true = lower x.pla
   where
     lower : (a b : ℕ) → a < b → nat_lt a b ≡ true
     lower a b h = grind (arith, nat_tests)
-put_in_before x n (y ∷ ys) low = go (nat_lt x.place y.place) refl (put_in_before x n ys low)
-  where
-    go : (b : Bool) → nat_lt x.place y.place ≡ b → put_at_place x (ys ++ n ∷ []) ≡ put_at_place x ys ++ n ∷ [] → put_at_place x ((y ∷ ys) ++ n ∷ []) ≡ put_at_place x (y ∷ ys) ++ n ∷ []
-    go true e more = rw e refl
-    go false e more = rw e (ap (λ rest. y ∷ rest) more)
+put_in_before x n (y ∷ ys) low = elim (bool_cases (nat_lt x.place y.place)) [
+  | inl e ↦ rw e refl
+  | inr e ↦ rw e (ap (λ rest. y ∷ rest) (put_in_before x n ys low))
+]
 
 pub by_place_last : (n : Placed) (xs : List Placed) → AreBelow n.place xs → by_place (xs ++ n ∷ []) ≡ by_place xs ++ n ∷ []
 by_place_last n [] low = refl
@@ -130,12 +117,8 @@ put_in_rises x (y ∷ ys) up = go (nat_lt x.place y.place) refl (put_in_rises x 
     high_of : (a b : ℕ) → nat_lt a b ≡ false → b ≤ a
     high_of a b h = grind (arith, nat_tests)
 
-    over : (zs : List Placed) → x.place ≤ y.place → AllByRecursion (λ b. y.place ≤ b.place) zs → AllByRecursion (λ b. x.place ≤ b.place) zs
-    over [] low all = tt
-    over (z ∷ zs) low all = (let a = all.0 in omega arith, over zs low all.1)
-
     go : (b : Bool) → nat_lt x.place y.place ≡ b → IsAscending (λ a c. a.place ≤ c.place) (put_at_place x ys) → IsAscending (λ a c. a.place ≤ c.place) (cond b (x ∷ y ∷ ys) (y ∷ put_at_place x ys))
-    go true e more = let low = low_of x.place y.place e in ((low, over ys low up.0), up)
+    go true e more = let low = low_of x.place y.place e in ((low, all_weaker (λ z. y.place ≤ z.place) (λ z. x.place ≤ z.place) (λ z high. omega (arith, low, high)) ys up.0), up)
     go false e more = (all-permutation (λ b. y.place ≤ b.place) (x ∷ ys) (put_at_place x ys) (put_in_permutes x ys) (high_of x.place y.place e, up.0), more)
 
 by_place_rises : (xs : List Placed) → IsAscending (λ a b. a.place ≤ b.place) (by_place xs)
@@ -149,24 +132,16 @@ module _ (p : Placed → Bool) where
   put_in_first x (y ∷ ys) all = rw all.0 refl
 
   put_in_left : (x : Placed) (ys : List Placed) → IsAscending (λ a b. a.place ≤ b.place) ys → filter p (put_at_place x ys) ≡ cond (p x) (put_at_place x (filter p ys)) (filter p ys)
-  put_in_left x [] up = go (p x) refl
-    where
-      go : (b : Bool) → p x ≡ b → filter p (x ∷ []) ≡ cond (p x) (x ∷ []) []
-      go true e = rw e refl
-      go false e = rw e refl
+  put_in_left x [] up = refl
   put_in_left x (y ∷ ys) up = go (nat_lt x.place y.place) refl (p x) refl (p y) refl (put_in_left x ys up.1)
     where
       below : (a b c : ℕ) → nat_lt a b ≡ true → b ≤ c → nat_lt a c ≡ true
       below a b c h k = grind (arith, nat_tests)
 
-      after : (zs : List Placed) → nat_lt x.place y.place ≡ true → AllByRecursion (λ b. y.place ≤ b.place) zs → AllByRecursion (λ b. nat_lt x.place b.place ≡ true) zs
-      after [] low all = tt
-      after (z ∷ zs) low all = (below x.place y.place z.place low all.0, after zs low all.1)
-
       go : (b : Bool) → nat_lt x.place y.place ≡ b → (c : Bool) → p x ≡ c → (d : Bool) → p y ≡ d → filter p (put_at_place x ys) ≡ cond (p x) (put_at_place x (filter p ys)) (filter p ys)
           → filter p (put_at_place x (y ∷ ys)) ≡ cond (p x) (put_at_place x (filter p (y ∷ ys))) (filter p (y ∷ ys))
       go true e true f true g more = rw (e, f, g, e) refl
-      go true e true f false g more = rw (e, f, g) (sym (put_in_first x (filter p ys) (all-filter _ p ys (after ys e up.0))))
+      go true e true f false g more = rw (e, f, g) (sym (put_in_first x (filter p ys) (all-filter _ p ys (all_weaker (λ z. y.place ≤ z.place) _ (λ z high. below x.place y.place z.place e high) ys up.0))))
       go true e false f d g more = rw (e, f) refl
       go false e true f true g more = rw (e, f, g, e) (ap (λ rest. y ∷ rest) (more ∙ rw f refl))
       go false e true f false g more = rw (e, f, g) (more ∙ rw f refl)

@@ -7,7 +7,7 @@ use Rattle.std.specs.List.{AllByRecursion}
 use Rattle.std.specs.List.Sorted.{IsPermutation}
 use Rattle.std.proofs.lemmas.List.Sorted.{IsPermutation-refl, IsPermutation-trans, IsPermutation-sym, IsPermutation-cons, IsPermutation-append_left, IsPermutation-append_right, IsPermutation-append_comm}
 use Rattle.sqlite.specs.Tree.{IsAscending}
-use Rattle.sqlite_trees.proofs.ListLemmas.{map-map, all-append, all-map, all-permutation, ascending-append, ascending-map, ascending_weaker, IsPermutation-same, filter_none}
+use Rattle.sqlite_trees.proofs.ListLemmas.{map-map, all_of, all_weaker, all_both, all-filter, all-append, all-map, all-permutation, ascending-append, ascending-map, ascending_weaker, IsPermutation-same, filter_none}
 use Rattle.txc_stamp.specs.declared.stamp.TheConstants.{LAST_STAMP}
 use Rattle.txc_rows.specs.Values.{RowValue, IsRow}
 use Rattle.txc_rows.specs.States.{is_at}
@@ -15,7 +15,7 @@ use Rattle.txc_rows.specs.Versions.{is_current, closed, removed}
 use Rattle.txc_rows.specs.Holdable.{IsStorable}
 use Rattle.txc_rows.specs.declared.placed.Placed.{Placed}
 use Rattle.txc_rows.specs.Placed.{version_of, by_place, versions_by_place, has_key, closed_placed, new_placed, renewed, put_latest, put_replaced, HaveOwnPlaces, HaveOwnKeys, AreBelow, IsOneCurrent, AreWellPlaced, AreWritten}
-use Rattle.txc_rows.proofs.Members.{bool_cases, both_true, and_true}
+use Rattle.txc_rows.proofs.Members.{bool_cases, both_true, and_true, none_of, passing}
 use Rattle.txc_rows.proofs.StoredVersions.{hit_is, holdable_closed, closed_dead}
 use Rattle.txc_rows.proofs.PlaceLemmas.{pairs_permuted, by_place_same, by_place_mapped, by_place_last, own_places_permuted}
 
@@ -32,14 +32,6 @@ all_back P (x ∷ xs) ys all = all_back P xs ys all.1
 pub pairs_front : {A : Type 0} (R : A → A → Type 0) (xs ys : List A) → IsAscending R (xs ++ ys) → IsAscending R xs
 pairs_front R [] ys pairs = tt
 pairs_front R (x ∷ xs) ys pairs = (all_front (R x) xs ys pairs.0, pairs_front R xs ys pairs.1)
-
-pub none_of : {A : Type 0} (p : A → Bool) (xs : List A) → filter p xs ≡ [] → AllByRecursion (λ x. p x ≡ false) xs
-none_of p [] e = tt
-none_of p (x ∷ xs) e = go (p x) refl (none_of p xs)
-  where
-    go : (b : Bool) → p x ≡ b → (filter p xs ≡ [] → AllByRecursion (λ y. p y ≡ false) xs) → AllByRecursion (λ y. p y ≡ false) (x ∷ xs)
-    go true at on = absurd (let f = rw at at e in cc)
-    go false at on = (at, on (rw at at e))
 
 pub empty_of : {A : Type 0} (xs : List A) → length xs == 0 ≡ true → xs ≡ []
 empty_of [] e = refl
@@ -75,10 +67,6 @@ still_one t i s x y h at current = closed_dead t i s y.version (h at (alive (is_
     alive true e f = absurd (let g = f in cc)
     alive false e f = f
 
-all_holdable : (t i s : ℕ) → s ≤ LAST_STAMP → (xs : List Placed) → AllByRecursion (λ x. IsStorable x.version) xs → AllByRecursion (λ x. IsStorable x.version) (map (closed_placed t i s) xs)
-all_holdable t i s low [] all = tt
-all_holdable t i s low (x ∷ xs) all = (holdable_closed t i s low x.version all.0, all_holdable t i s low xs all.1)
-
 pub ended_apart : (t i s : ℕ) → s ≤ LAST_STAMP → (latest earlier : List Placed) → AreWellPlaced latest earlier → AreWellPlaced (map (closed_placed t i s) latest) earlier
 ended_apart t i s low latest earlier h =
     let all = ended_all t i s latest earlier h.ended in
@@ -87,7 +75,7 @@ ended_apart t i s low latest earlier h =
       keys = ascending-map _ (closed_placed t i s) latest h.keys;
       current = ascending-map IsOneCurrent (closed_placed t i s) latest (ascending_weaker IsOneCurrent _ (still_one t i s) latest h.current);
       ended = h.ended;
-      each = rw all (all_holdable t i s low (latest ++ earlier) h.each);
+      each = rw all (all-map (λ x. IsStorable x.version) (closed_placed t i s) (latest ++ earlier) (all_weaker _ _ (λ x is. holdable_closed t i s low x.version is) (latest ++ earlier) h.each));
     }
 
 pub ended_below : (t i s next : ℕ) (latest earlier : List Placed) → AllByRecursion (λ x. x.version.died ≢ None) earlier → AreBelow next (latest ++ earlier) → AreBelow next (map (closed_placed t i s) latest ++ earlier)
@@ -98,12 +86,14 @@ abbrev pub HasNoCurrent : ℕ → ℕ → List Placed → Type 0
 HasNoCurrent t i = AllByRecursion (λ x. is_at t i x.version.row ≡ true → x.version.died ≢ None)
 
 pub ended_none : (t i s : ℕ) (xs : List Placed) → HasNoCurrent t i (map (closed_placed t i s) xs)
-ended_none t i s [] = tt
-ended_none t i s (x ∷ xs) = (λ at dead. go (is_at t i x.version.row && is_current x.version) refl at dead, ended_none t i s xs)
+ended_none t i s xs = all-map (λ x. is_at t i x.version.row ≡ true → x.version.died ≢ None) (closed_placed t i s) xs (all_of _ each xs)
   where
-    go : (b : Bool) → is_at t i x.version.row && is_current x.version ≡ b → is_at t i x.version.row ≡ true → cond b (Some s) x.version.died ≡ None → ⊥
-    go true e at f = let g = f in cc
-    go false e at f = let current : is_current x.version ≡ true = rw f refl in let hit = and_true _ _ at current in cc
+    each : (x : Placed) → is_at t i x.version.row ≡ true → (closed_placed t i s x).version.died ≢ None
+    each x at = go (is_at t i x.version.row && is_current x.version) refl
+      where
+        go : (b : Bool) → is_at t i x.version.row && is_current x.version ≡ b → cond b (Some s) x.version.died ≡ None → ⊥
+        go true e f = let g = f in cc
+        go false e f = let current : is_current x.version ≡ true = rw f refl in let hit = and_true _ _ at current in cc
 
 at_turned : (a b c d : ℕ) → (c == a) && (d == b) ≡ true → (a == c) && (b == d) ≡ true
 at_turned a b c d e = grind (arith, nat_tests)
@@ -114,22 +104,19 @@ one_turned x y one at current dead = one (at_turned y.version.row.table y.versio
 -- at most one of a table and id is current
 pub few_current : (t i : ℕ) (xs : List Placed) → IsAscending IsOneCurrent xs → length (filter (λ x. is_at t i x.version.row && is_current x.version) xs) ≤ 1
 few_current t i [] h = omega arith
-few_current t i (x ∷ xs) h = go (is_at t i x.version.row && is_current x.version) refl (few_current t i xs h.1)
+few_current t i (x ∷ xs) h = elim (bool_cases (is_at t i x.version.row && is_current x.version)) [
+  | inl e ↦ rw (e, filter_none _ xs (all_weaker (IsOneCurrent x) _ (none e) xs h.0)) (omega arith)
+  | inr e ↦ rw e (few_current t i xs h.1)
+]
   where
-    same_at : (a b c d : ℕ) → a ≡ t → b ≡ i → c ≡ t → d ≡ i → (c == a) && (d == b) ≡ true
-    same_at a b c d e f g k = rw (e, f, g, k) (and_true _ _ (eq-eqb t t refl) (eq-eqb i i refl))
-
-    none : is_at t i x.version.row && is_current x.version ≡ true → (ys : List Placed) → AllByRecursion (IsOneCurrent x) ys → filter (λ y. is_at t i y.version.row && is_current y.version) ys ≡ []
-    none hit [] all = refl
-    none hit (y ∷ ys) all = elim (bool_cases (is_at t i y.version.row && is_current y.version)) [
-      | inl hits ↦ let a = hit_is t i x.version hit in let b = hit_is t i y.version hits in absurd (all.0 (same_at _ _ _ _ a.0 a.1 b.0 b.1) a.2 b.2)
-      | inr off ↦ rw off (none hit ys all.1)
+    none : is_at t i x.version.row && is_current x.version ≡ true → (y : Placed) → IsOneCurrent x y → is_at t i y.version.row && is_current y.version ≡ false
+    none hit y one = elim (bool_cases (is_at t i y.version.row && is_current y.version)) [
+      | inl hits ↦
+          let a = hit_is t i x.version hit in
+          let b = hit_is t i y.version hits in
+          absurd (one (and_true _ _ (eq-eqb _ _ (b.0 ∙ sym a.0)) (eq-eqb _ _ (b.1 ∙ sym a.1))) a.2 b.2)
+      | inr off ↦ off
     ]
-
-    go : (b : Bool) → is_at t i x.version.row && is_current x.version ≡ b → length (filter (λ y. is_at t i y.version.row && is_current y.version) xs) ≤ 1
-        → length (filter (λ y. is_at t i y.version.row && is_current y.version) (x ∷ xs)) ≤ 1
-    go true e more = let rest = none e xs h.0 in rw (e, rest) (omega arith)
-    go false e more = rw e more
 
 -- ---- keys
 
@@ -140,10 +127,7 @@ key_is t i g x e =
     (eqb-true _ _ at.0, eqb-true _ _ at.1, eqb-true _ _ two.1)
 
 pub key_turned : (t i g u j k : ℕ) → (((t == u) && (i == j)) && (g == k)) ≡ (((u == t) && (j == i)) && (k == g))
-key_turned t i g u j k = rw (turn t u, turn i j, turn g k) refl
-  where
-    turn : (a b : ℕ) → (a == b) ≡ (b == a)
-    turn a b = grind (arith, nat_tests)
+key_turned t i g u j k = grind (arith, nat_tests)
 
 -- those after one with the key do not have it
 others_off : (t i g : ℕ) (x : Placed) → has_key t i g x ≡ true → (ys : List Placed) → AllByRecursion (λ y. has_key x.version.row.table x.version.row.id x.version.row.group y ≡ false) ys → AllByRecursion (λ y. has_key t i g y ≡ false) ys
@@ -151,11 +135,13 @@ others_off t i g x e ys all = let same = key_is t i g x e in rw (same.0, same.1,
 
 pub few_keys : (t i g : ℕ) (xs : List Placed) → HaveOwnKeys xs → length (filter (has_key t i g) xs) ≤ 1
 few_keys t i g [] own = omega arith
-few_keys t i g (x ∷ xs) own = go (has_key t i g x) refl (few_keys t i g xs own.1)
-  where
-    go : (b : Bool) → has_key t i g x ≡ b → length (filter (has_key t i g) xs) ≤ 1 → length (filter (has_key t i g) (x ∷ xs)) ≤ 1
-    go true e more = let rest = filter_none (has_key t i g) xs (others_off t i g x e xs own.0) in rw (e, rest) (omega arith)
-    go false e more = rw e more
+few_keys t i g (x ∷ xs) own = elim (bool_cases (has_key t i g x)) [
+  | inl e ↦ rw (e, filter_none (has_key t i g) xs (others_off t i g x e xs own.0)) (omega arith)
+  | inr e ↦ rw e (few_keys t i g xs own.1)
+]
+
+higher : (place : ℕ) (xs : List Placed) → AreBelow place xs → AreBelow (place + 1) xs
+higher place xs below = all_weaker (λ x. x.place < place) (λ x. x.place < place + 1) (λ x low. omega (arith, low)) xs below
 
 -- ---- a put
 
@@ -187,44 +173,35 @@ module _ (place s : ℕ) (row : RowValue) where
   moved : (xs ys zs : List Placed) → IsPermutation ((xs ++ zs) ++ ys) ((xs ++ ys) ++ zs)
   moved xs ys zs = rw (append_assoc xs zs ys, append_assoc xs ys zs) (IsPermutation-append_right xs _ _ (IsPermutation-append_comm zs ys))
 
-  put_permutes : (latest earlier : List Placed) → HaveOwnKeys latest → IsPermutation (put_latest place row s latest ++ put_replaced row latest earlier) ((latest ++ earlier) ++ new ∷ [])
-  put_permutes latest earlier own = go (length (filter here latest) == 0) refl
+  swapped : (latest : List Placed) → HaveOwnKeys latest → IsPermutation (put_latest place row s latest ++ filter here latest) (latest ++ new ∷ [])
+  swapped latest own = go (length (filter here latest) == 0) refl
     where
-      go : (b : Bool) → length (filter here latest) == 0 ≡ b → IsPermutation (cond b (latest ++ new ∷ []) (map (renewed place row s) latest) ++ (earlier ++ filter here latest)) ((latest ++ earlier) ++ new ∷ [])
-      go true e = let none = empty_of (filter here latest) e in rw (none, append-nil earlier) (moved latest earlier (new ∷ []))
-      go false e =
-          let some = renewed_permutes latest own e in
-          IsPermutation-trans _ _ _ (IsPermutation-same _ _ (sym (append_assoc (map (renewed place row s) latest) earlier (filter here latest))))
-          (IsPermutation-trans _ _ _ (moved (map (renewed place row s) latest) (filter here latest) earlier)
-          (IsPermutation-trans _ _ _ (IsPermutation-append_left earlier _ _ some) (moved latest earlier (new ∷ []))))
+      go : (b : Bool) → length (filter here latest) == 0 ≡ b → IsPermutation (cond b (latest ++ new ∷ []) (map (renewed place row s) latest) ++ filter here latest) (latest ++ new ∷ [])
+      go true e = rw (empty_of (filter here latest) e, append-nil (latest ++ new ∷ [])) (IsPermutation-refl (latest ++ new ∷ []))
+      go false e = renewed_permutes latest own e
 
   module _ (latest earlier : List Placed) (h : AreWellPlaced latest earlier) (low : AreBelow place (latest ++ earlier)) where
     all : List Placed
     all = latest ++ earlier
 
-    none_new : (xs : List Placed) → AreBelow place xs → AllByRecursion (λ x. AllByRecursion (λ y. x.place ≢ y.place) (new ∷ [])) xs
-    none_new [] below = tt
-    none_new (x ∷ xs) below = ((λ e. (let l = below.0 in omega arith), tt), none_new xs below.1)
-
     own_then : HaveOwnPlaces ((latest ++ earlier) ++ new ∷ [])
-    own_then = ascending-append (λ x y. x.place ≢ y.place) (latest ++ earlier) (new ∷ []) h.places (tt, tt) (none_new (latest ++ earlier) low)
+    own_then = ascending-append (λ x y. x.place ≢ y.place) (latest ++ earlier) (new ∷ []) h.places (tt, tt) (all_weaker (λ x. x.place < place) (λ x. AllByRecursion (λ y. x.place ≢ y.place) (new ∷ [])) (λ x below. (λ e. omega (arith, below, e), tt)) (latest ++ earlier) low)
 
     permutes : IsPermutation (put_latest place row s latest ++ put_replaced row latest earlier) ((latest ++ earlier) ++ new ∷ [])
-    permutes = put_permutes latest earlier h.keys
+    permutes =
+        IsPermutation-trans _ _ _ (IsPermutation-same _ _ (sym (append_assoc (put_latest place row s latest) earlier (filter here latest))))
+        (IsPermutation-trans _ _ _ (moved (put_latest place row s latest) (filter here latest) earlier)
+        (IsPermutation-trans _ _ _ (IsPermutation-append_left earlier _ _ (swapped latest h.keys)) (moved latest earlier (new ∷ []))))
 
     pub put_versions : versions_by_place (put_latest place row s latest ++ put_replaced row latest earlier) ≡ versions_by_place (latest ++ earlier) ++ new.version ∷ []
     put_versions =
         ap (map version_of) (sym (by_place_same _ _ (IsPermutation-sym _ _ permutes) own_then) ∙ by_place_last new (latest ++ earlier) low)
         ∙ map-append version_of (by_place (latest ++ earlier)) (new ∷ [])
 
-    higher : (xs : List Placed) → AreBelow place xs → AreBelow (place + 1) xs
-    higher [] below = tt
-    higher (x ∷ xs) below = (let l = below.0 in omega arith, higher xs below.1)
-
     pub put_below : AreBelow (place + 1) (put_latest place row s latest ++ put_replaced row latest earlier)
     put_below =
         all-permutation (λ x. x.place < place + 1) _ _ (IsPermutation-sym _ _ permutes)
-        (all-append (λ x. x.place < place + 1) (latest ++ earlier) (new ∷ []) (higher (latest ++ earlier) low) (omega arith, tt))
+        (all-append (λ x. x.place < place + 1) (latest ++ earlier) (new ∷ []) (higher place (latest ++ earlier) low) (omega arith, tt))
 
     module _ (none : HasNoCurrent row.table row.id latest) (is : IsRow row) (stamp : s ≤ LAST_STAMP) where
       own_key : (xs : List Placed) → HaveOwnKeys xs → HaveOwnKeys (map (renewed place row s) xs)
@@ -240,40 +217,26 @@ module _ (place s : ℕ) (row : RowValue) where
               → has_key (renewed place row s x).version.row.table (renewed place row s x).version.row.id (renewed place row s x).version.row.group (renewed place row s y) ≡ false
           still x y off = let a = key_kept x in let b = key_kept y in rw (a.0, a.1, a.2, b.0, b.1, b.2) off
 
-      new_key : (xs : List Placed) → AllByRecursion (λ x. here x ≡ false) xs → AllByRecursion (λ x. AllByRecursion (λ y. has_key x.version.row.table x.version.row.id x.version.row.group y ≡ false) (new ∷ [])) xs
-      new_key [] off = tt
-      new_key (x ∷ xs) off = ((key_turned row.table row.id row.group x.version.row.table x.version.row.id x.version.row.group ∙ off.0, tt), new_key xs off.1)
+      new_key : (x : Placed) → here x ≡ false → AllByRecursion (λ y. has_key x.version.row.table x.version.row.id x.version.row.group y ≡ false) (new ∷ [])
+      new_key x off = (key_turned row.table row.id row.group x.version.row.table x.version.row.id x.version.row.group ∙ off, tt)
 
       keys_then : HaveOwnKeys (put_latest place row s latest)
       keys_then = go (length (filter here latest) == 0) refl
         where
           go : (b : Bool) → length (filter here latest) == 0 ≡ b → HaveOwnKeys (cond b (latest ++ new ∷ []) (map (renewed place row s) latest))
-          go true e = ascending-append _ latest (new ∷ []) h.keys (tt, tt) (new_key latest (none_of here latest (empty_of (filter here latest) e)))
+          go true e = ascending-append _ latest (new ∷ []) h.keys (tt, tt) (all_weaker _ _ new_key latest (none_of here latest (empty_of (filter here latest) e)))
           go false e = own_key latest h.keys
 
-      new_one : (xs : List Placed) → HasNoCurrent row.table row.id xs → AllByRecursion (λ x. AllByRecursion (IsOneCurrent x) (new ∷ [])) xs
-      new_one [] off = tt
-      new_one (x ∷ xs) off = ((λ at current. absurd (off.0 (at_turned x.version.row.table x.version.row.id row.table row.id at) current), tt), new_one xs off.1)
-
-      swapped : IsPermutation (put_latest place row s latest ++ filter here latest) (latest ++ new ∷ [])
-      swapped = go (length (filter here latest) == 0) refl
-        where
-          go : (b : Bool) → length (filter here latest) == 0 ≡ b → IsPermutation (cond b (latest ++ new ∷ []) (map (renewed place row s) latest) ++ filter here latest) (latest ++ new ∷ [])
-          go true e = rw (empty_of (filter here latest) e, append-nil (latest ++ new ∷ [])) (IsPermutation-refl (latest ++ new ∷ []))
-          go false e = renewed_permutes latest h.keys e
+      new_one : (x : Placed) → (is_at row.table row.id x.version.row ≡ true → x.version.died ≢ None) → AllByRecursion (IsOneCurrent x) (new ∷ [])
+      new_one x off = (λ at current. absurd (off (at_turned x.version.row.table x.version.row.id row.table row.id at) current), tt)
 
       one_then : IsAscending IsOneCurrent (put_latest place row s latest)
       one_then =
-          let pushed = ascending-append IsOneCurrent latest (new ∷ []) h.current (tt, tt) (new_one latest none) in
-          pairs_front IsOneCurrent _ (filter here latest) ((pairs_permuted IsOneCurrent one_turned _ _ (IsPermutation-sym _ _ swapped)).1 pushed)
+          let pushed = ascending-append IsOneCurrent latest (new ∷ []) h.current (tt, tt) (all_weaker _ _ new_one latest none) in
+          pairs_front IsOneCurrent _ (filter here latest) ((pairs_permuted IsOneCurrent one_turned _ _ (IsPermutation-sym _ _ (swapped latest h.keys))).1 pushed)
 
       dead_there : (xs : List Placed) → HasNoCurrent row.table row.id xs → AllByRecursion (λ x. x.version.died ≢ None) (filter here xs)
-      dead_there [] off = tt
-      dead_there (x ∷ xs) off = go (here x) refl (dead_there xs off.1)
-        where
-          go : (b : Bool) → here x ≡ b → AllByRecursion (λ y. y.version.died ≢ None) (filter here xs) → AllByRecursion (λ y. y.version.died ≢ None) (cond b (x ∷ filter here xs) (filter here xs))
-          go true e more = (off.0 (both_true _ _ e).0, more)
-          go false e more = more
+      dead_there xs off = all_both (λ x. here x ≡ true) (λ x. is_at row.table row.id x.version.row ≡ true → x.version.died ≢ None) (λ x. x.version.died ≢ None) (λ x e alive. alive (both_true (is_at row.table row.id x.version.row) _ e).0) (filter here xs) (passing here xs) (all-filter _ here xs off)
 
       holdable : IsStorable new.version
       holdable = record { row = is; born = stamp; died = λ d e. absurd (let f = e in cc) }
@@ -294,12 +257,8 @@ pub removed_written : (t i s place : ℕ) → s ≤ LAST_STAMP → (latest earli
     → AreWritten (removed t i s (versions_by_place (latest ++ earlier))) (place + 1) (map (closed_placed t i s) latest ++ earlier)
 removed_written t i s place low latest earlier h below = record {
   versions_are = ended_versions t i s latest earlier h.ended;
-  below = ended_below t i s (place + 1) latest earlier h.ended (higher (latest ++ earlier) below);
+  below = ended_below t i s (place + 1) latest earlier h.ended (higher place (latest ++ earlier) below);
 }
-  where
-    higher : (xs : List Placed) → AreBelow place xs → AreBelow (place + 1) xs
-    higher [] below = tt
-    higher (x ∷ xs) below = (let l = below.0 in omega arith, higher xs below.1)
 
 pub put_written : (s place : ℕ) (row : RowValue) (latest earlier : List Placed) → AreWellPlaced latest earlier → AreBelow place (latest ++ earlier)
     → AreWritten (versions_by_place (latest ++ earlier) ++ record { row = row; born = s; died = None } ∷ []) (place + 1) (put_latest place row s latest ++ put_replaced row latest earlier)

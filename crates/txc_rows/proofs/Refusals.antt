@@ -1,12 +1,10 @@
 -- What a refusal leaves.
-use Rattle.std.proofs.Common.{◌≡◌, ◌⊎◌, inl, inr, ℕ, List, Bool, true, false, Err, Result, subst}
-use Rattle.std.specs.Prelude.{MatchBool}
+use Rattle.std.proofs.Common.{◌⊎◌, inl, inr, ℕ, List, subst}
 use Rattle.sqlite.specs.Order.{Row}
 use Rattle.sqlite.specs.Clock.{timed}
 use Rattle.sqlite.specs.Listing.{understood}
 use Rattle.sqlite.specs.declared.error.Error.{Error}
-use Rattle.sqlite.specs.declared.error.Error.TheVariants.{ExecuteReturnedResults}
-use Rattle.sqlite.specs.State.{State, Shown, ShowsRows, IsUnchanged, IsRolledBack, IsNotRun, FailsToQuery, FailsToShow, Executes, ExecutesIn, RunsCommand, shows_rows}
+use Rattle.sqlite.specs.State.{State, Shown, ShowsRows, IsUnchanged, IsRolledBack, IsNotRun, FailsToQuery, FailsToShow}
 use Rattle.sqlite.proofs.Callers.{IsPlain}
 
 -- a plain query changes nothing
@@ -31,13 +29,3 @@ query_refused sql params old new e plain (inl h) = not_run old new sql params e 
 query_refused sql params old new e plain (inr h) =
     let none = (subst IsPlain h.1.is plain).0 in
     inl (subst (FailsToShow old new sql h.0 (timed params h.0.formats h.1.now) e) none h.2).3
-
-pub execute_refused : (sql : List ℕ) (params : Row) (old new : State) (e : Error) → Executes sql params old new (Err e) → Refused old new
-unfolding ExecutesIn
-execute_refused sql params old new e (inl h) = not_run old new sql params e h
-execute_refused sql params old new e (inr h) = ran (shows_rows false h.0) h.2
-  where
-    ran : (b : Bool) → MatchBool b ((◌≡◌ {A = Result ℕ Error} (Err e) (Err ExecuteReturnedResults)) × IsUnchanged old new) (RunsCommand old new sql h.0 (timed params h.0.formats h.1.now) (Err e)) → Refused old new
-    ran true it = inl it.1
-    ran false (inl it) = inl it.1
-    ran false (inr it) = inr it.3

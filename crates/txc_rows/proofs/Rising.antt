@@ -6,8 +6,7 @@ use Rattle.txc_rows.specs.declared.query.Change.{Change}
 use Rattle.txc_rows.specs.declared.query.Change.TheVariants.{Put, Remove}
 use Rattle.txc_rows.specs.States.{RowValue, State, row_before, IsState, is_at, after_change, after_changes}
 use Rattle.txc_rows.specs.Laws.{StatesAreRows}
-use Rattle.txc_rows.proofs.Members.{IsIn, is_in, contains_it, from_filter}
-use Rattle.txc_rows.proofs.ChangeLemmas.{cut}
+use Rattle.txc_rows.proofs.Members.{IsIn, is_in, contains_it, from_filter, from_append, all_in}
 
 lt_trans : (a b c d e f : ℕ) → nat_lt a c || ((a == c) && nat_lt b d) ≡ true → nat_lt c e || ((c == e) && nat_lt d f) ≡ true → nat_lt a e || ((a == e) && nat_lt b f) ≡ true
 lt_trans a b c d e f h k = grind (arith, nat_tests)
@@ -25,9 +24,7 @@ abbrev pub Above : RowValue → State → Type 0
 Above r = AllByRecursion (λ s. row_before r s ≡ true)
 
 above_in : (r x : RowValue) (s : State) → Above r s → IsIn x s → row_before r x ≡ true
-above_in r x [] a h = absurd h
-above_in r x (y ∷ ys) a (inl same) = subst (λ (z : RowValue). row_before r z ≡ true) (sym same) a.0
-above_in r x (y ∷ ys) a (inr later) = above_in r x ys a.1 later
+above_in r x s a h = all_in (λ y. row_before r y ≡ true) s x a h
 
 above_from : (r : RowValue) (s : State) → ((x : RowValue) → IsIn x s → row_before r x ≡ true) → Above r s
 above_from r [] all = tt
@@ -45,7 +42,7 @@ filter_state p (r ∷ rs) h =
 between : (row : RowValue) (xs ys : State) → IsState xs → IsState ys → ((x : RowValue) → IsIn x xs → row_before x row ≡ true) → Above row ys → IsState (xs ++ row ∷ ys)
 between row [] ys hx hy low high = (high, hy)
 between row (x ∷ xs) ys hx hy low high = (
-  above_from x (xs ++ row ∷ ys) (λ z h. elim (cut z row xs ys h) [
+  above_from x (xs ++ row ∷ ys) (λ z h. elim (from_append z xs (row ∷ ys) h) [
     | inl inside ↦ above_in x z xs hx.0 inside
     | inr it ↦ elim it [
       | inl same ↦ subst (λ (w : RowValue). row_before x w ≡ true) (sym same) (low x (inl refl))

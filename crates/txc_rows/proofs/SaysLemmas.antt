@@ -1,8 +1,10 @@
 -- How versions say states.
-use Rattle.std.proofs.Common.{◌≡◌, ◌⊎◌, inl, inr, ℕ, suc, ◌<◌, ◌≤◌, List, [], ◌∷◌, ◌++◌, map, filter, cond, not, Option, Some, None, is_none, Bool, true, false, true≢false, nat_le, nat_lt, ◌&&◌, ◌||◌, ◌==◌, refl, sym, ap, subst, ◌∙◌, arith}
+use Rattle.std.proofs.Common.{◌≡◌, ◌⊎◌, inl, inr, ℕ, suc, ◌<◌, ◌≤◌, List, [], ◌∷◌, ◌++◌, map, filter, cond, not, Option, Some, None, is_none, Bool, true, false, true≢false, nat_le, nat_lt, ◌&&◌, ◌||◌, ◌==◌, refl, sym, ap, subst, ◌∙◌, append-nil, arith}
 use Rattle.std.proofs.lemmas.Bool.Decides.{nat_tests}
-use borrow.Author.Tests.{eqb-true}
+use borrow.Author.Tests.{eqb-true, lt-ltb, le-ltb, le-leb, lt-leb, leb-true, leb-false}
 use Rattle.std.specs.List.{AllByRecursion, Contains}
+use Rattle.sqlite_trees.proofs.ListLemmas.{map-map, filter-map, filter-filter, filter_same, all_of, all_weaker, all-append, all-filter, all-map}
+use Rattle.std.proofs.lemmas.List.Elements.{filter-append}
 use Rattle.txc_rows.specs.declared.query.Query.{Query}
 use Rattle.txc_rows.specs.declared.query.Query.TheVariants.{ById, ByGroup, All, Range}
 use Rattle.txc_rows.specs.declared.query.Change.{Change}
@@ -14,7 +16,7 @@ use Rattle.txc_rows.specs.Versions.{lives_at, is_visible, row_of, visible_rows, 
 use Rattle.txc_rows.specs.Says.{VersionsSay, AreUpTo, IdsRise}
 use Rattle.txc_rows.specs.Laws.{SaysNothing, SaysAgree, SaysWritten, SaysQuiet, SaysPurged, SaysAnswer}
 use Rattle.txc_rows.proofs.ChangeLemmas.{made_there, other_there, from_change}
-use Rattle.txc_rows.proofs.Members.{IsIn, bool_cases, both_true, and_true, not_true_is, is_in, contains_it, in_filter, from_filter, in_left, in_right}
+use Rattle.txc_rows.proofs.Members.{IsIn, bool_cases, both_true, and_true, not_true_is, is_in, contains_it, in_filter, from_filter, in_left, in_right, from_append, in_map, from_map, all_in}
 
 -- ---- what versions say, by `IsIn`
 
@@ -38,56 +40,13 @@ pub record Behind (p : Versioned → Bool) (vs : List Versioned) (r : RowValue) 
   pub passes : p version ≡ true
   pub is : r ≡ version.row
 
-mapped_in : (v : Versioned) (vs : List Versioned) → IsIn v vs → IsIn v.row (map row_of vs)
-mapped_in v [] h = absurd h
-mapped_in v (w ∷ ws) (inl same) = inl (ap row_of same)
-mapped_in v (w ∷ ws) (inr later) = inr (mapped_in v ws later)
-
-from_mapped : (r : RowValue) (vs : List Versioned) → IsIn r (map row_of vs) → (v : Versioned) × IsIn v vs × (r ≡ v.row)
-from_mapped r [] h = absurd h
-from_mapped r (w ∷ ws) (inl same) = (w, inl refl, same)
-from_mapped r (w ∷ ws) (inr later) = let it = from_mapped r ws later in (it.0, inr it.1, it.2)
-
 behind : (p : Versioned → Bool) (vs : List Versioned) (r : RowValue) → IsIn r (map row_of (filter p vs)) → Behind p vs r
-behind p vs r h = let it = from_mapped r (filter p vs) h in let at = from_filter p it.0 vs it.1 in record { version = it.0; stands = at.0; passes = at.1; is = it.2 }
+behind p vs r h = let it = from_map row_of r (filter p vs) h in let at = from_filter p it.0 vs it.1 in record { version = it.0; stands = at.0; passes = at.1; is = it.2 }
 
 pub in_front : (p : Versioned → Bool) (vs : List Versioned) (r : RowValue) → Behind p vs r → IsIn r (map row_of (filter p vs))
-in_front p vs r b = subst (λ (x : RowValue). IsIn x (map row_of (filter p vs))) (sym b.is) (mapped_in b.version (filter p vs) (in_filter p b.version vs b.stands b.passes))
-
--- ---- versions after a removal
-
-in_removed : (t i s : ℕ) (v : Versioned) (vs : List Versioned) → IsIn v vs → IsIn (closed t i s v) (removed t i s vs)
-in_removed t i s v [] h = absurd h
-in_removed t i s v (w ∷ ws) (inl same) = inl (ap (closed t i s) same)
-in_removed t i s v (w ∷ ws) (inr later) = inr (in_removed t i s v ws later)
-
-from_removed : (t i s : ℕ) (w : Versioned) (vs : List Versioned) → IsIn w (removed t i s vs) → (v : Versioned) × IsIn v vs × (w ≡ closed t i s v)
-from_removed t i s w [] h = absurd h
-from_removed t i s w (v ∷ vs) (inl same) = (v, inl refl, same)
-from_removed t i s w (v ∷ vs) (inr later) = let it = from_removed t i s w vs later in (it.0, inr it.1, it.2)
-
-from_end : {X : Type 0} (x y : X) (xs : List X) → IsIn x (xs ++ y ∷ []) → (IsIn x xs) ⊎ (x ≡ y)
-from_end x y [] (inl same) = inr same
-from_end x y [] (inr h) = absurd h
-from_end x y (z ∷ zs) (inl same) = inl (inl same)
-from_end x y (z ∷ zs) (inr later) = elim (from_end x y zs later) [ inl h ↦ inl (inr h) | inr h ↦ inr h ]
+in_front p vs r b = subst (λ (x : RowValue). IsIn x (map row_of (filter p vs))) (sym b.is) (in_map row_of b.version (filter p vs) (in_filter p b.version vs b.stands b.passes))
 
 -- ---- sight
-
-lt_is : (a b : ℕ) → a < b → nat_lt a b ≡ true
-lt_is a b h = grind (arith, nat_tests)
-
-lt_off : (a b : ℕ) → b ≤ a → nat_lt a b ≡ false
-lt_off a b h = grind (arith, nat_tests)
-
-le_off : (a b : ℕ) → b < a → nat_le a b ≡ false
-le_off a b h = grind (arith, nat_tests)
-
-le_is : (a b : ℕ) → a ≤ b → nat_le a b ≡ true
-le_is a b h = grind (arith, nat_tests)
-
-le_of : (a b : ℕ) → nat_le a b ≡ true → a ≤ b
-le_of a b h = grind (arith, nat_tests)
 
 and_off : (a b : Bool) → b ≡ false → a && b ≡ false
 and_off true b e = e
@@ -98,7 +57,7 @@ seen_before : (t s i n : ℕ) (v : Versioned) → t < s → is_visible t (closed
 seen_before t s i n v early = ap (λ b. nat_le v.born t && b) (go (is_at i n v.row) v.died)
   where
     go : (b : Bool) (x : Option ℕ) → lives_at t (cond (b && is_none x) (Some s) x) ≡ lives_at t x
-    go true None = lt_is t s early
+    go true None = lt-ltb t s early
     go true (Some d) = refl
     go false None = refl
     go false (Some d) = refl
@@ -108,8 +67,8 @@ gone : (s i n : ℕ) (v : Versioned) → ((d : ℕ) → v.died ≡ Some d → d 
 gone s i n v upto at = and_off (nat_le v.born s) _ (go v.died refl)
   where
     go : (x : Option ℕ) → v.died ≡ x → lives_at s (cond (is_at i n v.row && is_none v.died) (Some s) v.died) ≡ false
-    go None e = rw (at, e) (lt_off s s (omega arith))
-    go (Some d) e = rw (at, e) (lt_off s d (upto d e))
+    go None e = rw (at, e) (le-ltb s s (omega arith))
+    go (Some d) e = rw (at, e) (le-ltb s d (upto d e))
 
 -- and a version of another key is as it was
 pub left : (s i n : ℕ) (v : Versioned) → is_at i n v.row ≡ false → closed i n s v ≡ v
@@ -117,28 +76,24 @@ left s i n v off = ap (λ b. record v { died = cond (b && is_none v.died) (Some 
 
 -- ---- one change
 
+closed_by : (s i n : ℕ) (v : Versioned) → ((d : ℕ) → v.died ≡ Some d → d ≤ s) → (d : ℕ) → (closed i n s v).died ≡ Some d → d ≤ s
+closed_by s i n v dead d e = go (is_at i n v.row && is_none v.died) e
+  where
+    go : (b : Bool) → cond b (Some s) v.died ≡ Some d → d ≤ s
+    go true f = let same : s ≡ d = cc in omega arith
+    go false f = dead d f
+
+abbrev IsUpTo : ℕ → Versioned → Type 0
+IsUpTo t v = (v.born ≤ t) × ((d : ℕ) → v.died ≡ Some d → d ≤ t)
+
 abbrev DeadBy : ℕ → List Versioned → Type 0
 DeadBy s = AllByRecursion (λ v. (d : ℕ) → v.died ≡ Some d → d ≤ s)
 
-dead_in : (s : ℕ) (v : Versioned) (vs : List Versioned) → DeadBy s vs → IsIn v vs → (d : ℕ) → v.died ≡ Some d → d ≤ s
-dead_in s v [] all h = absurd h
-dead_in s v (w ∷ ws) all (inl same) = subst (λ (x : Versioned). (d : ℕ) → x.died ≡ Some d → d ≤ s) (sym same) all.0
-dead_in s v (w ∷ ws) all (inr later) = dead_in s v ws all.1 later
-
 dead_removed : (s i n : ℕ) (vs : List Versioned) → DeadBy s vs → DeadBy s (removed i n s vs)
-dead_removed s i n [] all = tt
-dead_removed s i n (v ∷ vs) all = (λ d e. go (is_at i n v.row && is_none v.died) d e, dead_removed s i n vs all.1)
-  where
-    go : (b : Bool) (d : ℕ) → cond b (Some s) v.died ≡ Some d → d ≤ s
-    go true d e = let same : s ≡ d = cc in omega arith
-    go false d e = all.0 d e
-
-dead_end : (s : ℕ) (v : Versioned) (vs : List Versioned) → DeadBy s vs → v.died ≡ None → DeadBy s (vs ++ v ∷ [])
-dead_end s v [] all none = (λ d e. absurd (let f = sym none ∙ e in cc), tt)
-dead_end s v (w ∷ ws) all none = (all.0, dead_end s v ws all.1 none)
+dead_removed s i n vs all = all-map (λ v. (d : ℕ) → v.died ≡ Some d → d ≤ s) (closed i n s) vs (all_weaker _ _ (closed_by s i n) vs all)
 
 dead_after : (s : ℕ) (c : Change) (vs : List Versioned) → DeadBy s vs → DeadBy s (after_write s c vs)
-dead_after s (Put row) vs all = dead_end s (record { row = row; born = s; died = None }) (removed row.table row.id s vs) (dead_removed s row.table row.id vs all) refl
+dead_after s (Put row) vs all = all-append (λ v. (d : ℕ) → v.died ≡ Some d → d ≤ s) (removed row.table row.id s vs) (record { row = row; born = s; died = None } ∷ []) (dead_removed s row.table row.id vs all) (λ d e. absurd (let f = e in cc), tt)
 dead_after s (Remove i n) vs all = dead_removed s i n vs all
 
 -- the rows of the other keys
@@ -149,12 +104,12 @@ pub record IsOther (i n : ℕ) (s : State) (r : RowValue) : Type 0 where
 -- what is seen after a removal are the rows of other keys
 seen_removed : (s i n : ℕ) (vs : List Versioned) (st : State) (r : RowValue) → DeadBy s vs → VersionsSay s vs st → Behind (is_visible s) (removed i n s vs) r → IsOther i n st r
 seen_removed s i n vs st r dead says b =
-    let it = from_removed i n s b.version vs b.stands in
+    let it = from_map (closed i n s) b.version vs b.stands in
     let v = it.0 in
     let seen : is_visible s (closed i n s v) ≡ true = ap (is_visible s) (sym it.2) ∙ b.passes in
     let is : r ≡ v.row = b.is ∙ ap row_of it.2 in
     elim (bool_cases (is_at i n v.row)) [
-      | inl at ↦ absurd (true≢false (sym seen ∙ gone s i n v (dead_in s v vs dead it.1) at))
+      | inl at ↦ absurd (true≢false (sym seen ∙ gone s i n v (all_in (λ (x : Versioned). (d : ℕ) → x.died ≡ Some d → d ≤ s) vs v dead it.1) at))
       | inr off ↦ record {
         stands = said_only s vs st r says (in_front (is_visible s) vs r (record { version = v; stands = it.1; passes = ap (is_visible s) (sym (left s i n v off)) ∙ seen; is = is }));
         apart = ap (is_at i n) is ∙ off;
@@ -165,23 +120,23 @@ removed_seen : (s i n : ℕ) (vs : List Versioned) (st : State) (r : RowValue) �
 removed_seen s i n vs st r says o =
     let b = behind (is_visible s) vs r (said_each s vs st r says o.stands) in
     let same : closed i n s b.version ≡ b.version = left s i n b.version (ap (is_at i n) (sym b.is) ∙ o.apart) in
-    record { version = b.version; stands = subst (λ (x : Versioned). IsIn x (removed i n s vs)) same (in_removed i n s b.version vs b.stands); passes = b.passes; is = b.is }
+    record { version = b.version; stands = subst (λ (x : Versioned). IsIn x (removed i n s vs)) same (in_map (closed i n s) b.version vs b.stands); passes = b.passes; is = b.is }
 
 one_change : (s : ℕ) (c : Change) (vs : List Versioned) (st : State) → DeadBy s vs → VersionsSay s vs st → VersionsSay s (after_write s c vs) (after_change c st)
 one_change s (Put row) vs st dead says = says_of s (put row s vs) (after_change (Put row) st) each only
   where
     each : (r : RowValue) → IsIn r (after_change (Put row) st) → IsIn r (visible_rows s (put row s vs))
     each r h = in_front (is_visible s) (put row s vs) r (elim (from_change (Put row) r st h) [
-      | inl same ↦ record { version = record { row = row; born = s; died = None }; stands = in_right _ (removed row.table row.id s vs) _ (inl refl); passes = and_true (nat_le s s) true (le_is s s (omega arith)) refl; is = same }
+      | inl same ↦ record { version = record { row = row; born = s; died = None }; stands = in_right _ (removed row.table row.id s vs) _ (inl refl); passes = and_true (nat_le s s) true (le-leb s s (omega arith)) refl; is = same }
       | inr other ↦ let b = removed_seen s row.table row.id vs st r says (record { stands = other.0; apart = other.1 }) in record { version = b.version; stands = in_left b.version (removed row.table row.id s vs) _ b.stands; passes = b.passes; is = b.is }
     ])
 
     only : (r : RowValue) → IsIn r (visible_rows s (put row s vs)) → IsIn r (after_change (Put row) st)
     only r h =
         let b = behind (is_visible s) (put row s vs) r h in
-        elim (from_end b.version (record { row = row; born = s; died = None }) (removed row.table row.id s vs) b.stands) [
+        elim (from_append b.version (removed row.table row.id s vs) (record { row = row; born = s; died = None } ∷ []) b.stands) [
           | inl old ↦ let o = seen_removed s row.table row.id vs st r dead says (record { version = b.version; stands = old; passes = b.passes; is = b.is }) in other_there (Put row) r st o.stands o.apart
-          | inr same ↦ made_there (Put row) r st (b.is ∙ ap row_of same)
+          | inr new ↦ elim new [ inl same ↦ made_there (Put row) r st (b.is ∙ ap row_of same) | inr none ↦ absurd none ]
         ]
 one_change s (Remove i n) vs st dead says = says_of s (removed i n s vs) (after_change (Remove i n) st)
     (λ r h. let it = from_filter (λ (x : RowValue). not (is_at i n x)) r st h in in_front (is_visible s) (removed i n s vs) r (removed_seen s i n vs st r says (record { stands = it.0; apart = not_true_is _ it.1 })))
@@ -194,24 +149,16 @@ all_changes s (c ∷ cs) vs st dead says = all_changes s cs (after_write s c vs)
 -- ---- other stamps
 
 upto_weaker : (t : ℕ) (vs : List Versioned) → AreUpTo t vs → AreUpTo (suc t) vs
-upto_weaker t [] h = tt
-upto_weaker t (v ∷ vs) h = ((let b = h.0.0 in omega arith, λ d e. let k = h.0.1 d e in omega arith), upto_weaker t vs h.1)
+upto_weaker t vs h = all_weaker (IsUpTo t) (IsUpTo (suc t)) (λ v k. (let b = k.0 in omega arith, λ d e. let low = k.1 d e in omega arith)) vs h
 
 dead_upto : (t : ℕ) (vs : List Versioned) → AreUpTo t vs → DeadBy t vs
-dead_upto t [] h = tt
-dead_upto t (v ∷ vs) h = (h.0.1, dead_upto t vs h.1)
+dead_upto t vs h = all_weaker (IsUpTo t) _ (λ v k. k.1) vs h
 
 upto_removed : (s i n : ℕ) (vs : List Versioned) → AreUpTo s vs → AreUpTo s (removed i n s vs)
-upto_removed s i n [] h = tt
-upto_removed s i n (v ∷ vs) h = ((h.0.0, λ d e. go (is_at i n v.row && is_none v.died) d e), upto_removed s i n vs h.1)
-  where
-    go : (b : Bool) (d : ℕ) → cond b (Some s) v.died ≡ Some d → d ≤ s
-    go true d e = let same : s ≡ d = cc in omega arith
-    go false d e = h.0.1 d e
+upto_removed s i n vs h = all-map (IsUpTo s) (closed i n s) vs (all_weaker (IsUpTo s) _ (λ v k. (k.0, closed_by s i n v k.1)) vs h)
 
 upto_end : (s : ℕ) (row : RowValue) (vs : List Versioned) → AreUpTo s vs → AreUpTo s (vs ++ record { row = row; born = s; died = None } ∷ [])
-upto_end s row [] h = ((omega arith, λ d e. absurd (let f = e in cc)), tt)
-upto_end s row (v ∷ vs) h = (h.0, upto_end s row vs h.1)
+upto_end s row vs h = all-append (IsUpTo s) vs _ h ((omega arith, λ d e. absurd (let f = e in cc)), tt)
 
 upto_after : (s : ℕ) (net : List Change) (vs : List Versioned) → AreUpTo s vs → AreUpTo s (after_net s net vs)
 upto_after s [] vs h = h
@@ -228,16 +175,11 @@ later_sight : (t : ℕ) (v : Versioned) → (v.born ≤ t) × ((d : ℕ) → v.d
 later_sight t v h = go v.died refl
   where
     go : (x : Option ℕ) → v.died ≡ x → nat_le v.born (suc t) && lives_at (suc t) x ≡ nat_le v.born t && lives_at t x
-    go None e = rw (le_is v.born t h.0, le_is v.born (suc t) (omega (arith, h.0))) refl
-    go (Some d) e = let low = h.1 d e in rw (lt_off t d low, lt_off (suc t) d (omega arith)) (and_off (nat_le v.born (suc t)) false refl ∙ sym (and_off (nat_le v.born t) false refl))
+    go None e = rw (le-leb v.born t h.0, le-leb v.born (suc t) (omega (arith, h.0))) refl
+    go (Some d) e = let low = h.1 d e in rw (le-ltb t d low, le-ltb (suc t) d (omega arith)) (and_off (nat_le v.born (suc t)) false refl ∙ sym (and_off (nat_le v.born t) false refl))
 
 quiet_rows : (t : ℕ) (vs : List Versioned) → AreUpTo t vs → visible_rows (suc t) vs ≡ visible_rows t vs
-quiet_rows t [] h = refl
-quiet_rows t (v ∷ vs) h = rw (later_sight t v h.0) (go (is_visible t v) (quiet_rows t vs h.1))
-  where
-    go : (b : Bool) → visible_rows (suc t) vs ≡ visible_rows t vs → map row_of (cond b (v ∷ filter (is_visible (suc t)) vs) (filter (is_visible (suc t)) vs)) ≡ map row_of (cond b (v ∷ filter (is_visible t) vs) (filter (is_visible t) vs))
-    go true e = ap (λ (rs : List RowValue). v.row ∷ rs) e
-    go false e = e
+quiet_rows t vs h = ap (map row_of) (filter_same (is_visible (suc t)) (is_visible t) vs (all_weaker _ _ (later_sight t) vs h))
 
 quiet : (t : ℕ) (vs : List Versioned) (s : State) → AreUpTo t vs → VersionsSay t vs s → VersionsSay (suc t) vs s × AreUpTo (suc t) vs
 quiet t vs s h says = (says_at t (suc t) vs vs s (quiet_rows t vs h) says, upto_weaker t vs h)
@@ -248,25 +190,16 @@ written t net vs s h says =
     (all_changes (suc t) net vs s (dead_upto (suc t) vs on.1) on.0, upto_after (suc t) net vs on.1)
 
 removed_rows : (t s i n : ℕ) (vs : List Versioned) → t < s → visible_rows t (removed i n s vs) ≡ visible_rows t vs
-removed_rows t s i n [] early = refl
-removed_rows t s i n (v ∷ vs) early = rw (seen_before t s i n v early) (go (is_visible t v) (removed_rows t s i n vs early))
-  where
-    go : (b : Bool) → visible_rows t (removed i n s vs) ≡ visible_rows t vs
-        → map row_of (cond b (closed i n s v ∷ filter (is_visible t) (removed i n s vs)) (filter (is_visible t) (removed i n s vs))) ≡ map row_of (cond b (v ∷ filter (is_visible t) vs) (filter (is_visible t) vs))
-    go true e = ap (λ (rs : List RowValue). v.row ∷ rs) e
-    go false e = e
+removed_rows t s i n vs early =
+    ap (map row_of) (filter-map (is_visible t) (closed i n s) vs)
+    ∙ map-map row_of (closed i n s) (filter (λ v. is_visible t (closed i n s v)) vs)
+    ∙ ap (map row_of) (filter_same (λ v. is_visible t (closed i n s v)) (is_visible t) vs (all_of _ (λ v. seen_before t s i n v early) vs))
 
 end_rows : (t s : ℕ) (row : RowValue) (vs : List Versioned) → t < s → visible_rows t (vs ++ record { row = row; born = s; died = None } ∷ []) ≡ visible_rows t vs
-end_rows t s row [] early = rw (le_off s t early) refl
-end_rows t s row (v ∷ vs) early = go (is_visible t v) (end_rows t s row vs early)
-  where
-    new : List Versioned
-    new = vs ++ record { row = row; born = s; died = None } ∷ []
-
-    go : (b : Bool) → visible_rows t (vs ++ record { row = row; born = s; died = None } ∷ []) ≡ visible_rows t vs
-        → map row_of (cond b (v ∷ filter (is_visible t) (vs ++ record { row = row; born = s; died = None } ∷ [])) (filter (is_visible t) (vs ++ record { row = row; born = s; died = None } ∷ []))) ≡ map row_of (cond b (v ∷ filter (is_visible t) vs) (filter (is_visible t) vs))
-    go true e = ap (λ (rs : List RowValue). v.row ∷ rs) e
-    go false e = e
+end_rows t s row vs early =
+    let new : List Versioned = record { row = row; born = s; died = None } ∷ [] in
+    let none : filter (is_visible t) new ≡ [] = rw (lt-leb s t early) refl in
+    ap (map row_of) (filter-append (is_visible t) vs new ∙ ap (λ ws. filter (is_visible t) vs ++ ws) none ∙ append-nil (filter (is_visible t) vs))
 
 net_rows : (t s : ℕ) (net : List Change) (vs : List Versioned) → t < s → visible_rows t (after_net s net vs) ≡ visible_rows t vs
 net_rows t s [] vs early = refl
@@ -283,30 +216,24 @@ dead_unseen h t v late dead = and_off (nat_le v.born t) _ (go v.died dead)
   where
     go : (x : Option ℕ) → died_by h x ≡ true → lives_at t x ≡ false
     go None e = absurd (true≢false (sym e))
-    go (Some d) e = let low = le_of d h e in lt_off t d (omega arith)
+    go (Some d) e = let low = leb-true d h e in le-ltb t d (omega arith)
 
 purged_rows : (h t : ℕ) (vs : List Versioned) → h ≤ t → visible_rows t (purged h vs) ≡ visible_rows t vs
-purged_rows h t [] late = refl
-purged_rows h t (v ∷ vs) late = go (died_by h v.died) refl (purged_rows h t vs late)
+purged_rows h t vs late = ap (map row_of) (filter-filter (is_visible t) (λ v. not (died_by h v.died)) left_in vs)
   where
-    go : (b : Bool) → died_by h v.died ≡ b → visible_rows t (purged h vs) ≡ visible_rows t vs
-        → visible_rows t (cond (not b) (v ∷ purged h vs) (purged h vs)) ≡ map row_of (cond (is_visible t v) (v ∷ filter (is_visible t) vs) (filter (is_visible t) vs))
-    go true e on = rw (dead_unseen h t v late e) on
-    go false e on = elim (is_visible t v) as (λ b. map row_of (cond b (v ∷ filter (is_visible t) (purged h vs)) (filter (is_visible t) (purged h vs))) ≡ map row_of (cond b (v ∷ filter (is_visible t) vs) (filter (is_visible t) vs))) [
-      | true ↦ ap (λ (rs : List RowValue). v.row ∷ rs) on
-      | false ↦ on
-    ]
+    left_in : (v : Versioned) → is_visible t v ≡ true → not (died_by h v.died) ≡ true
+    left_in v seen = elim (bool_cases (died_by h v.died)) [ inl dead ↦ absurd (true≢false (sym seen ∙ dead_unseen h t v late dead)) | inr off ↦ ap not off ]
 
 purge_says : (horizon t : ℕ) (vs : List Versioned) (s : State) → horizon ≤ t → VersionsSay t vs s → VersionsSay t (purged horizon vs) s
 purge_says h t vs s late says = says_at t t vs (purged h vs) s (purged_rows h t vs late) says
 
 -- ---- answers
 
-of_table : (q : Query) (r : RowValue) → matches q r ≡ true → r.table ≡ query_table q
-of_table (ById table id) r e = eqb-true _ _ (both_true (r.table == table) (r.id == id) e).0
-of_table (ByGroup table group) r e = eqb-true _ _ (both_true (r.table == table) (r.group == group) e).0
-of_table (All table) r e = eqb-true _ _ e
-of_table (Range table first last) r e = eqb-true _ _ (both_true (r.table == table) (nat_le first r.id && nat_le r.id last) e).0
+pub of_its_table : (q : Query) (r : RowValue) → matches q r ≡ true → r.table ≡ query_table q
+of_its_table (ById table id) r e = eqb-true _ _ (both_true (r.table == table) (r.id == id) e).0
+of_its_table (ByGroup table group) r e = eqb-true _ _ (both_true (r.table == table) (r.group == group) e).0
+of_its_table (All table) r e = eqb-true _ _ e
+of_its_table (Range table first last) r e = eqb-true _ _ (both_true (r.table == table) (nat_le first r.id && nat_le r.id last) e).0
 
 by_id : (t i u j : ℕ) → t ≡ u → i < j → (nat_lt t u || ((t == u) && nat_lt i j)) ≡ true
 by_id t i u j e low = grind (arith, nat_tests)
@@ -317,7 +244,7 @@ risen q (r ∷ rs) fit rise = (under rs (λ s k. fit s (inr k)) rise.0, risen q 
   where
     under : (ss : List RowValue) → ((s : RowValue) → IsIn s ss → matches q s ≡ true) → AllByRecursion (λ (s : RowValue). r.id < s.id) ss → AllByRecursion (λ (s : RowValue). row_before r s ≡ true) ss
     under [] f a = tt
-    under (s ∷ ss) f a = (by_id r.table r.id s.table s.id (of_table q r (fit r (inl refl)) ∙ sym (of_table q s (f s (inl refl)))) a.0, under ss (λ x k. f x (inr k)) a.1)
+    under (s ∷ ss) f a = (by_id r.table r.id s.table s.id (of_its_table q r (fit r (inl refl)) ∙ sym (of_its_table q s (f s (inl refl)))) a.0, under ss (λ x k. f x (inr k)) a.1)
 
 pub says_answer : SaysAnswer
 says_answer q t vs found s st says from_found to_found rise =
@@ -356,11 +283,8 @@ says_agree states others horizon newest vs same says = record {
 }
 
 -- the last stamp, or one before it
-newest_or : (t n : ℕ) → t ≤ suc n → (t ≡ suc n) ⊎ (t ≤ n)
-newest_or t n h = elim (bool_cases (nat_le t n)) [ inl low ↦ inr (le_of t n low) | inr high ↦ inl (last t n h high) ]
-  where
-    last : (a b : ℕ) → a ≤ suc b → nat_le a b ≡ false → a ≡ suc b
-    last a b e f = grind (arith, nat_tests)
+pub newest_or : (t n : ℕ) → t ≤ suc n → (t ≡ suc n) ⊎ (t ≤ n)
+newest_or t n h = elim (bool_cases (nat_le t n)) [ inl low ↦ inr (leb-true t n low) | inr high ↦ inl (let above = leb-false t n high in omega arith) ]
 
 pub says_written : SaysWritten
 says_written states horizon newest net vs kept leads says = record {
@@ -386,12 +310,8 @@ says_quiet states horizon newest vs kept same says = record {
     new : VersionsSay (suc newest) vs (states newest) × AreUpTo (suc newest) vs
     new = quiet newest vs (states newest) says.upto (says.kept newest kept (omega arith))
 
-upto_purged : (newest horizon : ℕ) (vs : List Versioned) → AreUpTo newest vs → AreUpTo newest (purged horizon vs)
-upto_purged newest horizon [] all = tt
-upto_purged newest horizon (v ∷ vs) all = let rest = upto_purged newest horizon vs all.1 in elim (died_by horizon v.died) as (λ b. AreUpTo newest (cond (not b) (v ∷ purged horizon vs) (purged horizon vs))) [ true ↦ rest | false ↦ (all.0, rest) ]
-
 pub says_purged : SaysPurged
 says_purged states horizon newest next vs later says = record {
   kept = λ t low high. purge_says next t vs (states t) low (says.kept t (omega arith) high);
-  upto = upto_purged newest next vs says.upto;
+  upto = all-filter (IsUpTo newest) (λ v. not (died_by next v.died)) vs says.upto;
 }

@@ -1,7 +1,7 @@
 -- What a store can hold it can hold after each change.
 use Rattle.std.proofs.Common.{◌≡◌, ◌≢◌, ℕ, ◌≤◌, List, [], ◌∷◌, filter, Bool, true, false, cond, ◌&&◌, ◌==◌, Option, None, Some, is_none, refl, arith}
 use borrow.Author.Tests.{eqb-true, eq-eqb}
-use Rattle.std.specs.List.{AllByRecursion}
+use Rattle.sqlite_trees.proofs.ListLemmas.{all_of, all_weaker, all-append, all-filter, all-map}
 use Rattle.txc_stamp.specs.declared.stamp.TheConstants.{LAST_STAMP}
 use Rattle.txc_rows.specs.declared.version.Versioned.{Versioned}
 use Rattle.txc_rows.specs.declared.query.Change.{Change}
@@ -11,7 +11,7 @@ use Rattle.txc_rows.specs.States.{is_at}
 use Rattle.txc_rows.specs.Versions.{is_current, closed, removed, put, after_write}
 use Rattle.txc_rows.specs.Holdable.{IsStorable, HasEnded, AreHeld, IsWritable}
 use Rattle.txc_rows.proofs.Members.{both_true}
-use Rattle.txc_rows.proofs.Pairs.{all_mapped, pairs_mapped, all_pushed, pairs_pushed, all_left, pairs_left}
+use Rattle.txc_rows.proofs.Pairs.{pairs_mapped, pairs_pushed, pairs_left}
 
 none_is : (d : Option ℕ) → is_none d ≡ true → d ≡ None
 none_is None e = refl
@@ -44,26 +44,25 @@ closed_dead t i s v dead = go (is_at t i v.row && is_current v)
 
 held_removed : (t i s : ℕ) → s ≤ LAST_STAMP → (vs : List Versioned) → AreHeld vs → AreHeld (removed t i s vs)
 held_removed t i s low vs h = record {
-  each = all_mapped IsStorable (closed t i s) (holdable_closed t i s low) vs h.each;
+  each = all-map IsStorable (closed t i s) vs (all_weaker IsStorable _ (holdable_closed t i s low) vs h.each);
   ended = pairs_mapped HasEnded (closed t i s) (λ v w dead a b. closed_dead t i s v (dead a b)) vs h.ended;
 }
 
 -- a change of a table and id leaves no current version of them
-none_current : (s : ℕ) (row : RowValue) (vs : List Versioned) → AllByRecursion (λ v. HasEnded v (record { row = row; born = s; died = None })) (removed row.table row.id s vs)
-none_current s row [] = tt
-none_current s row (v ∷ vs) = (λ a b. go (is_at row.table row.id v.row && is_current v) refl a b, none_current s row vs)
+none_current : (s : ℕ) (row : RowValue) (v : Versioned) → HasEnded (closed row.table row.id s v) (record { row = row; born = s; died = None })
+none_current s row v a b = go (is_at row.table row.id v.row && is_current v) refl
   where
-    go : (c : Bool) → is_at row.table row.id v.row && is_current v ≡ c → v.row.table ≡ row.table → v.row.id ≡ row.id → cond c (Some s) v.died ≡ None → ⊥
-    go true hit a b e = cc
-    go false off a b e = let hit = hit_from row.table row.id v a b e in cc
+    go : (c : Bool) → is_at row.table row.id v.row && is_current v ≡ c → cond c (Some s) v.died ≡ None → ⊥
+    go true hit e = cc
+    go false off e = let hit = hit_from row.table row.id v a b e in cc
 
 held_put : (s : ℕ) → s ≤ LAST_STAMP → (row : RowValue) → IsRow row → (vs : List Versioned) → AreHeld vs → AreHeld (put row s vs)
 held_put s low row is vs h =
     let new : Versioned = record { row = row; born = s; died = None } in
     let before = held_removed row.table row.id s low vs h in
     record {
-      each = all_pushed IsStorable new (record { row = is; born = low; died = λ d e. absurd (let f = e in cc) }) (removed row.table row.id s vs) before.each;
-      ended = pairs_pushed HasEnded new (removed row.table row.id s vs) (none_current s row vs) before.ended;
+      each = all-append IsStorable (removed row.table row.id s vs) (new ∷ []) before.each (record { row = is; born = low; died = λ d e. absurd (let f = e in cc) }, tt);
+      ended = pairs_pushed HasEnded new (removed row.table row.id s vs) (all-map (λ v. HasEnded v new) (closed row.table row.id s) vs (all_of _ (none_current s row) vs)) before.ended;
     }
 
 pub held_write : (s : ℕ) (c : Change) (vs : List Versioned) → IsWritable s c → AreHeld vs → AreHeld (after_write s c vs)
@@ -71,4 +70,4 @@ held_write s (Put row) vs can h = held_put s can.0 row can.1 vs h
 held_write s (Remove table id) vs can h = held_removed table id s can vs h
 
 pub held_kept : (p : Versioned → Bool) (vs : List Versioned) → AreHeld vs → AreHeld (filter p vs)
-held_kept p vs h = record { each = all_left IsStorable p vs h.each; ended = pairs_left HasEnded p vs h.ended }
+held_kept p vs h = record { each = all-filter IsStorable p vs h.each; ended = pairs_left HasEnded p vs h.ended }

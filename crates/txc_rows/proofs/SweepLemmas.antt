@@ -1,12 +1,13 @@
 -- What is left of the versions where those that died are hidden, swept away or purged.
 use Rattle.std.proofs.Common.{◌≡◌, ◌≢◌, ℕ, ◌+◌, ◌<◌, ◌≤◌, max, nat_le, List, [], ◌∷◌, ◌++◌, map, Bool, true, false, cond, not, ◌&&◌, None, Some, Option, refl, sym, ap, subst, ◌∙◌, arith, inl, inr}
 use Rattle.std.proofs.lemmas.Bool.Decides.{nat_tests}
+use borrow.Author.Tests.{le-leb}
 use Rattle.std.proofs.lemmas.List.Elements.{filter-append}
 use Rattle.std.specs.List.{AllByRecursion}
 use Rattle.std.specs.List.Sorted.{IsPermutation}
 use Rattle.std.proofs.lemmas.List.Sorted.{IsPermutation-refl, IsPermutation-append_left}
 use Rattle.sqlite.specs.Tree.{IsAscending}
-use Rattle.sqlite_trees.proofs.ListLemmas.{filter-map, filter-filter, filter_same, all-append, all-filter, all-permutation, ascending-append, ascending-filter, IsPermutation-filter}
+use Rattle.sqlite_trees.proofs.ListLemmas.{filter-map, filter-filter, filter_same, filter_all, all_of, all_weaker, all-append, all-filter, all-permutation, ascending-append, ascending-filter, IsPermutation-filter}
 use Rattle.txc_rows.specs.declared.version.Versioned.{Versioned}
 use Rattle.txc_rows.specs.declared.query.Change.{Change}
 use Rattle.txc_rows.specs.declared.query.Change.TheVariants.{Put, Remove}
@@ -108,11 +109,7 @@ module _ (from : ℕ) (latest earlier last : List Placed) (swept : AreSwept from
   dropped_each P each = all-append P last dropped (swept_each P from latest last swept (all_front P latest earlier each)) (front_each P from earlier (all_back P latest earlier each))
 
   across : AllByRecursion (λ x. AllByRecursion (λ y. x.place ≢ y.place) earlier) latest → AllByRecursion (λ x. AllByRecursion (λ y. x.place ≢ y.place) dropped) last
-  across all = each last (swept_each _ from latest last swept all)
-    where
-      each : (xs : List Placed) → AllByRecursion (λ x. AllByRecursion (λ y. x.place ≢ y.place) earlier) xs → AllByRecursion (λ x. AllByRecursion (λ y. x.place ≢ y.place) dropped) xs
-      each [] h = tt
-      each (x ∷ xs) h = (front_each (λ y. x.place ≢ y.place) from earlier h.0, each xs h.1)
+  across all = all_weaker (λ x. AllByRecursion (λ y. x.place ≢ y.place) earlier) _ (λ x apart. front_each (λ y. x.place ≢ y.place) from earlier apart) last (swept_each _ from latest last swept all)
 
   pub dropped_apart : AreWellPlaced latest earlier → AreWellPlaced last dropped
   dropped_apart h =
@@ -136,18 +133,10 @@ module _ (from : ℕ) (latest earlier last : List Placed) (swept : AreSwept from
 -- from stamp 0 on none is hidden
 all_last : (died : Option ℕ) → lasts_to 0 died ≡ true
 all_last None = refl
-all_last (Some d) = low d
-  where
-    low : (n : ℕ) → nat_le 0 n ≡ true
-    low n = grind (arith, nat_tests)
+all_last (Some d) = le-leb 0 d (omega arith)
 
 pub none_hidden : (vs : List Versioned) → left_from 0 vs ≡ vs
-none_hidden [] = refl
-none_hidden (v ∷ vs) = go (is_left 0 v) (all_last v.died) (none_hidden vs)
-  where
-    go : (b : Bool) → b ≡ true → left_from 0 vs ≡ vs → cond b (v ∷ left_from 0 vs) (left_from 0 vs) ≡ v ∷ vs
-    go true e more = ap (λ rest. v ∷ rest) more
-    go false e more = absurd (let off = e in cc)
+none_hidden vs = filter_all (is_left 0) vs (all_of _ (λ v. all_last v.died) vs)
 
 -- ---- a purge
 
@@ -172,25 +161,15 @@ purged_left from h (v ∷ vs) = go (is_left from v) refl (not (has_died_by h v))
 -- ---- a write
 
 module _ (from s : ℕ) (low : from ≤ s) where
-  late : nat_le from s ≡ true
-  late = holds from s low
-    where
-      holds : (a b : ℕ) → a ≤ b → nat_le a b ≡ true
-      holds a b h = grind (arith, nat_tests)
-
   -- what ends at the stamp is left
   ends_left : (t i : ℕ) (v : Versioned) → is_left from (closed t i s v) ≡ is_left from v
   ends_left t i v = elim (bool_cases (is_at t i v.row && is_current v)) [
-    | inl hit ↦ let current : v.died ≡ None = (hit_is t i v hit).2 in rw (hit, current) late
+    | inl hit ↦ let current : v.died ≡ None = (hit_is t i v hit).2 in rw (hit, current) (le-leb from s low)
     | inr off ↦ rw off refl
   ]
 
-  all_end : (t i : ℕ) (vs : List Versioned) → AllByRecursion (λ v. is_left from (closed t i s v) ≡ is_left from v) vs
-  all_end t i [] = tt
-  all_end t i (v ∷ vs) = (ends_left t i v, all_end t i vs)
-
   removed_left : (t i : ℕ) (vs : List Versioned) → left_from from (removed t i s vs) ≡ removed t i s (left_from from vs)
-  removed_left t i vs = filter-map (is_left from) (closed t i s) vs ∙ ap (map (closed t i s)) (filter_same _ (is_left from) vs (all_end t i vs))
+  removed_left t i vs = filter-map (is_left from) (closed t i s) vs ∙ ap (map (closed t i s)) (filter_same _ (is_left from) vs (all_of _ (ends_left t i) vs))
 
   put_left : (row : RowValue) (vs : List Versioned) → left_from from (put row s vs) ≡ put row s (left_from from vs)
   put_left row vs =

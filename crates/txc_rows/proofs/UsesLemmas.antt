@@ -1,6 +1,7 @@
 -- Through all that is done to a store its versions keep the states.
-use Rattle.std.proofs.Common.{◌≡◌, ℕ, ◌<◌, ◌≤◌, max, nat_le, true, false, not, List, [], ◌∷◌, fold, refl, sym, ap, subst, ◌∙◌, arith}
+use Rattle.std.proofs.Common.{◌≡◌, ℕ, ◌<◌, ◌≤◌, max, not, List, [], ◌∷◌, fold, refl, sym, ap, subst, ◌∙◌, arith}
 use Rattle.std.proofs.lemmas.Bool.Decides.{nat_tests}
+use borrow.Author.Tests.{le-leb, lt-leb}
 use Rattle.std.specs.List.{AllByRecursion}
 use Rattle.txc_rows.specs.declared.version.Versioned.{Versioned}
 use Rattle.txc_rows.specs.declared.query.Change.{Change}
@@ -33,12 +34,6 @@ held_net : (stamp : ℕ) (net : List Change) (vs : List Versioned) → AllByRecu
 held_net stamp [] vs can held = held
 held_net stamp (c ∷ cs) vs can held = held_net stamp cs (after_write stamp c vs) can.1 (held_write stamp c vs can.0 held)
 
-before_it : (stamp t : ℕ) → t < stamp → nat_le stamp t ≡ false
-before_it stamp t h = grind (arith, nat_tests)
-
-from_it : (stamp t : ℕ) → stamp ≤ t → nat_le stamp t ≡ true
-from_it stamp t h = grind (arith, nat_tests)
-
 low_max : (a b : ℕ) → a ≤ max a b
 low_max a b = grind (arith, nat_tests)
 
@@ -56,7 +51,7 @@ keeps_uses : (uses : List Use) (states : ℕ → State) (horizon newest : ℕ) (
 keeps_uses [] states horizon newest vs keeps stays held rising = record { last = newest; keeps = keeps; stays = stays }
 keeps_uses (write net stamp ∷ uses) states horizon newest vs keeps stays held rising =
     keeps_uses uses next horizon stamp (after_net stamp net vs) (keeps_written net stamp vs written.each next horizon newest before leads)
-    (λ t low. rw (from_it stamp t low, from_it stamp stamp (omega arith)) (ap (after_changes net) (stays t (omega arith) ∙ sym (stays stamp (omega arith))))) written (subst (λ s. AreUsesInOrder s horizon stamp uses) (sym changed) rising.3)
+    (λ t low. rw (le-leb stamp t low, le-leb stamp stamp (omega arith)) (ap (after_changes net) (stays t (omega arith) ∙ sym (stays stamp (omega arith))))) written (subst (λ s. AreUsesInOrder s horizon stamp uses) (sym changed) rising.3)
   where
     next : ℕ → State
     next t = use_at t (states t) (write net stamp)
@@ -68,10 +63,10 @@ keeps_uses (write net stamp ∷ uses) states horizon newest vs keeps stays held 
     written = held_net stamp net vs rising.2 held
 
     as_before : (t : ℕ) → t < stamp → states t ≡ next t
-    as_before t low = rw (before_it stamp t low) refl
+    as_before t low = rw (lt-leb stamp t low) refl
 
     changed : next stamp ≡ after_changes net (states newest)
-    changed = rw (from_it stamp stamp (omega arith)) (ap (after_changes net) (stays stamp (omega arith)))
+    changed = rw (le-leb stamp stamp (omega arith)) (ap (after_changes net) (stays stamp (omega arith)))
 
     before : KeepsStates next horizon newest vs
     before = agreed_kept states next horizon newest vs (λ t low high. as_before t (omega arith)) keeps

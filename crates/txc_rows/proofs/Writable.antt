@@ -1,8 +1,9 @@
 -- Net changes may be written one after another.
-use Rattle.std.proofs.Common.{◌≡◌, inl, inr, ℕ, suc, ◌≤◌, List, [], ◌∷◌, ◌++◌, true, false, true≢false, nat_lt, nat_le, ◌&&◌, ◌||◌, ◌==◌, None, refl, sym, subst, ◌∙◌, arith}
+use Rattle.std.proofs.Common.{◌≡◌, inl, inr, ℕ, suc, ◌≤◌, List, [], ◌∷◌, ◌++◌, true, false, true≢false, nat_lt, ◌&&◌, ◌||◌, ◌==◌, None, refl, sym, subst, ◌∙◌, arith}
 use Rattle.std.proofs.lemmas.Bool.Decides.{nat_tests}
-use borrow.Author.Tests.{eqb-true}
+use borrow.Author.Tests.{eqb-true, le-leb}
 use Rattle.std.specs.List.{AllByRecursion, list_all}
+use Rattle.sqlite_trees.proofs.ListLemmas.{all_both}
 use Rattle.txc_rows.specs.declared.version.Versioned.{Versioned}
 use Rattle.txc_rows.specs.declared.query.Change.{Change}
 use Rattle.txc_rows.specs.declared.query.Change.TheVariants.{Put, Remove}
@@ -57,8 +58,7 @@ key_apart c d before = off (change_table c) (change_id c) (change_table d) (chan
     off t i u j h a b = grind (arith, nat_tests)
 
 all_still : (s : ℕ) (c : Change) (vs : List Versioned) (cs : List Change) → AllByRecursion (λ d. key_before c d ≡ true) cs → AllByRecursion (λ d. IsChange s d vs) cs → AllByRecursion (λ d. IsChange s d (after_write s c vs)) cs
-all_still s c vs [] a h = tt
-all_still s c vs (d ∷ cs) a h = (still s c d vs (key_apart c d a.0) h.0, all_still s c vs cs a.1 h.1)
+all_still s c vs cs a h = all_both (λ d. key_before c d ≡ true) (λ d. IsChange s d vs) _ (λ d before is. still s c d vs (key_apart c d before) is) cs a h
 
 each_then : (s : ℕ) (net : List Change) (vs : List Versioned) → KeysRise net → AllByRecursion (λ c. IsChange s c vs) net → AreChanges s net vs
 each_then s [] vs rise h = tt
@@ -70,11 +70,8 @@ each_then s (c ∷ cs) vs rise h = (h.0, each_then s cs (after_write s c vs) ris
 current_row : (n : ℕ) (v : Versioned) (vs : List Versioned) (s : State) → VersionsSay n vs s → IsIn v vs → v.born ≤ n → v.died ≡ None → IsIn v.row s
 current_row n v vs s says stands low alive = said_only n vs s v.row says (in_front (is_visible n) vs v.row (record { version = v; stands = stands; passes = seen; is = refl }))
   where
-    le_is : (a b : ℕ) → a ≤ b → nat_le a b ≡ true
-    le_is a b h = grind (arith, nat_tests)
-
     seen : is_visible n v ≡ true
-    seen = rw (alive, le_is v.born n low) refl
+    seen = rw (alive, le-leb v.born n low) refl
 
 over_each : (n : ℕ) (row : RowValue) (vs ws : List Versioned) (s : State) → VersionsSay n vs s → ((v : Versioned) → IsIn v ws → IsIn v vs) → AreUpTo n ws
     → has_row s row ≡ false → IsChange (suc n) (Put row) ws

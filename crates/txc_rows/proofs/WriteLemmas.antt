@@ -20,7 +20,7 @@ use Rattle.sqlite.specs.Listing.{understood}
 use Rattle.sqlite.specs.State.{State, mode_of, Executes}
 use Rattle.sqlite.proofs.Callers.{command_of, statement_of, runs_as, one_permutation, IsPlain}
 use Rattle.sqlite_rules.proofs.ListLemmas.{all_has, has_filtered}
-use Rattle.sqlite_trees.proofs.ListLemmas.{filter-map}
+use Rattle.sqlite_trees.proofs.ListLemmas.{filter-map, all_of, all_weaker, all-map}
 use Rattle.sqlite_trees.proofs.TreeLemmas.{IsTable-put_row, all-put_row}
 use Rattle.std.specs.declared.cmp.Ordering.TheVariants.{Less}
 use Rattle.txc_rows.specs.Values.{RowValue}
@@ -33,7 +33,7 @@ use Rattle.txc_rows.specs.declared.texts.TheConstants.{ADD_LATEST, END_VERSION, 
 use Rattle.txc_rows.proofs.Commands.{whole, endless, alone, terms, add_latest_is, add_latest_plain, close_filter, close_project, close_is, close_plain, key_filter, renew_project, renew_is, renew_plain}
 use Rattle.txc_rows.specs.Texts.{latest_table, latest_schema}
 use Rattle.txc_rows.proofs.StoredRows.{close_test, renew_test, select_stored, placed_again, asked, answered, IsPage}
-use Rattle.txc_rows.proofs.Tables.{IsKeyed, next_above, put_row_last, replaced}
+use Rattle.txc_rows.proofs.Tables.{IsKeyed, next_above, put_row_last, spared, replaced}
 use Rattle.txc_rows.proofs.Steps.{cast_null, cast_int, inserts_rows, updates_rows, one_more}
 use Rattle.txc_rows.proofs.PutLemmas.{key_is}
 
@@ -44,8 +44,7 @@ pub record Leaves (latest : List Placed) (s : State) : Type 0 where
   pub latest_are : placed_all (s.now.trees 0) ≡ latest
 
 pub keyed_all : (rows : List Row) → AllByRecursion IsStored rows → AllByRecursion IsKeyed rows
-keyed_all [] all = tt
-keyed_all (r ∷ rows) all = (ap rowid all.0, keyed_all rows all.1)
+keyed_all rows all = all_weaker IsStored IsKeyed (λ r is. ap rowid is) rows all
 
 is_stored : (id : ℤ) (x : Placed) → IsStored (stored id x)
 is_stored id x = ap (stored id) (sym (placed_again id x))
@@ -105,38 +104,25 @@ module _ (fs project : List Term) (params : Row) (P : Placed → Bool) (test : (
     abbrev changed : Row → Row
     changed r = stored (id_in (rowid r)) (F (placed_in r))
 
-    spared : (rows : List Row) → AllByRecursion IsStored rows → AllByRecursion (λ r. P (placed_in r) ≡ false → changed r ≡ r) rows
-    spared [] all = tt
-    spared (r ∷ rows) all = (λ off. rw (spares (placed_in r) off) (sym all.0), spared rows all.1)
-
-    all_spared : (rows : List Row) → AllByRecursion IsStored rows → filter (λ r. P (placed_in r)) rows ≡ [] → map changed rows ≡ rows
-    all_spared [] all none = refl
-    all_spared (r ∷ rows) all none = go (P (placed_in r)) refl (all_spared rows all.1)
-      where
-        go : (b : Bool) → P (placed_in r) ≡ b → (filter (λ y. P (placed_in y)) rows ≡ [] → map changed rows ≡ rows) → map changed (r ∷ rows) ≡ r ∷ rows
-        go true e on = absurd (let h = rw e at none in cc)
-        go false e on = rw (spares (placed_in r) e, on (rw e at none)) (ap (λ x. x ∷ rows) (sym all.0))
+    all_spares : (rows : List Row) → AllByRecursion IsStored rows → AllByRecursion (λ r. P (placed_in r) ≡ false → changed r ≡ r) rows
+    all_spares rows all = all_weaker IsStored _ (λ r is off. rw (spares (placed_in r) off) (sym is)) rows all
 
     updates_page : (db : Trees) (given : List Row) → AreVersionRows (db 0) → length (filter (λ r. P (placed_in r)) (db 0)) ≤ 1 → IsPage fs project endless params (db 0) given
         → edited db (edit_of db latest_table (ids_of given) Given 1 given) ≡ map changed (db 0)
     updates_page db given rows few page = go (filter (λ r. P (placed_in r)) (db 0)) refl few
       where
         go : (hits : List Row) → filter (λ r. P (placed_in r)) (db 0) ≡ hits → length hits ≤ 1 → edited db (edit_of db latest_table (ids_of given) Given 1 given) ≡ map changed (db 0)
-        go [] is short = rw (given_none (db 0) given rows.each is page) (sym (all_spared (db 0) rows.each is))
+        go [] is short = rw (given_none (db 0) given rows.each is page) (sym (spared (λ r. P (placed_in r)) changed (db 0) is (all_spares (db 0) rows.each)))
         go (x ∷ []) is short =
             let there = has_filtered (λ r. P (placed_in r)) (db 0) x (rw is (inl refl)) in
             ap (λ g. edited db (edit_of db latest_table (ids_of g) Given 1 g)) (given_one (db 0) given x rows.each is page)
             ∙ edits db (id_in (rowid x)) (placed_in x) there.1
-            ∙ replaced (λ r. P (placed_in r)) changed x refl (db 0) rows.table (keyed_all (db 0) rows.each) (spared (db 0) rows.each) is
+            ∙ replaced (λ r. P (placed_in r)) changed x refl (db 0) rows.table (keyed_all (db 0) rows.each) (all_spares (db 0) rows.each) is
         go (x ∷ y ∷ more) is short = absurd (omega arith)
 
     stored_changed : (rows : List Row) → AreVersionRows rows → AreVersionRows (map changed rows)
-    stored_changed rows h = record { table = up rows h.table h.each; each = each rows }
+    stored_changed rows h = record { table = up rows h.table h.each; each = all-map IsStored changed rows (all_of _ (λ r. is_stored _ _) rows) }
       where
-        each : (xs : List Row) → AllByRecursion IsStored (map changed xs)
-        each [] = tt
-        each (x ∷ xs) = (is_stored _ _, each xs)
-
         above : (r : Row) → IsStored r → (xs : List Row) → AllByRecursion IsStored xs → AllByRecursion (λ x. value_cmp (rowid r) (rowid x) ≡ Less) xs
             → AllByRecursion (λ x. value_cmp (rowid (changed r)) (rowid x) ≡ Less) (map changed xs)
         above r is [] all more = tt

@@ -2,12 +2,13 @@ use Rattle.std.proofs.Common.{◌≡◌, ◌≤◌, ◌<◌, ◌-◌, ◌++◌, 
 use Rattle.std.proofs.lemmas.List.{length-map}
 use Rattle.std.proofs.lemmas.Map.Iter.{rest_more}
 use Rattle.std.specs.Map.Iter.{deref}
+use borrow.Author.Tests.{not-false}
 use Rattle.std.specs.List.{slice_get, AllByRecursion}
 use Rattle.txc_rows.specs.declared.replaced.Spot.{Spot}
 use Rattle.txc_rows.specs.declared.store_error.TheConstants.{MAX_MATCHING}
 use Rattle.txc_rows.specs.Placed.{version_of, is_left, placed_left}
 use Rattle.txc_rows.specs.Indexed.{picked}
-use Rattle.txc_rows.proofs.IndexLemmas.{got, taken, taken_left, not_false}
+use Rattle.txc_rows.proofs.IndexLemmas.{got, taken, taken_left}
 use Rattle.txc_rows.proofs.replaced.take_found.Goals as goal
 
 pub returns-then-len-ge-MAX_MATCHING-clause-refused : goal.returns-then-len-ge-MAX_MATCHING-clause-refused
@@ -17,7 +18,7 @@ returns-then-len-ge-MAX_MATCHING-clause-refused c = λ many.
     let next = rest_more deref c.loop-spot.spot-iterator c.next.new.self c.next.result c.in-Some.spot c.in-Some.is c.next.ensures.steps in
     let x = c.in-Some-get.placed.now in
     let there : slice_get xs (s.number - c.args.first) ≡ Some x = got xs (s.number - c.args.first) x (search (arith, rules)) (search rules) in
-    let left : is_left c.args.from x.version ≡ true = not_false _ (sym c.died_before.ensures ∙ c.if-died_before.false) in
+    let left : is_left c.args.from x.version ≡ true = not-false _ (sym c.died_before.ensures ∙ c.if-died_before.false) in
     let more = ap (taken c.args.from c.args.first xs s c.next.new.self) next ∙ taken_left c.args.from c.args.first xs s c.next.new.self x there left in
     let i = c.loop-spot.invariant in
     let full : MAX_MATCHING ≤ length c.loop-spot.found.items = search (arith, rules) in
@@ -38,7 +39,7 @@ loop-spot-preserved c =
     let next = rest_more deref c.loop-spot.spot-iterator c.next.new.self c.next.result c.in-Some.spot c.in-Some.is c.next.ensures.steps in
     let x = c.in-Some-get.placed.now in
     let there : slice_get xs (s.number - c.args.first) ≡ Some x = got xs (s.number - c.args.first) x (search (arith, rules)) (search rules) in
-    let left : is_left c.args.from x.version ≡ true = not_false _ (sym c.died_before.ensures ∙ c.if-died_before.false) in
+    let left : is_left c.args.from x.version ≡ true = not-false _ (sym c.died_before.ensures ∙ c.if-died_before.false) in
     let more = ap (taken c.args.from c.args.first xs s c.next.new.self) next ∙ taken_left c.args.from c.args.first xs s c.next.new.self x there left in
     let i = c.loop-spot.invariant in
     let rest = taken c.args.from c.args.first xs s c.next.new.self c.next.new.self in

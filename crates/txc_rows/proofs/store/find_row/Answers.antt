@@ -1,4 +1,4 @@
-use Rattle.std.proofs.Common.{◌≡◌, ◌-◌, ◌++◌, ◌<◌, ◌≤◌, length, map, arith, rules}
+use Rattle.std.proofs.Common.{◌≡◌, ◌-◌, ◌++◌, ◌<◌, ◌≤◌, length, map, arith}
 use Rattle.txc_rows.specs.declared.store_error.TheConstants.{MAX_MATCHING}
 use Rattle.txc_rows.specs.Placed.{version_of}
 use Rattle.txc_rows.specs.Stored.{placed_from}

@@ -2,7 +2,8 @@ use Rattle.std.proofs.Common.{◌≡◌, ◌≤◌, length, filter, ap, ◌∙�
 use Rattle.std.proofs.lemmas.Fn.{filter_same}
 use borrow.Author.Tests.{ltb-false}
 use Rattle.txc_rows.specs.Placed.{in_group}
-use Rattle.txc_rows.proofs.ChangeSteps.{few_left, popped}
+use Rattle.txc_rows.proofs.Members.{few_left}
+use Rattle.txc_rows.proofs.ChangeSteps.{popped}
 use Rattle.txc_rows.proofs.writes.of_group.Goals as goal
 
 pub returns-clause-same : goal.returns-clause-same
