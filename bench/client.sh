@@ -4,9 +4,10 @@
 # bench/client_bench; it is proved and built in a temporary folder, over what is committed.
 #
 # usage: bench/client.sh [--stored] [--capacities ENTRIES..] [--records RECORDS..] [--times]
+#        bench/client.sh --figures | bench/figures.py
 #
 # It prints tables in markdown, of instructions (where valgrind is there) and blocks, and of processor time where `--times` asks
-# for it. bench/client_bench/times.py says what the rows mean.
+# for it; with --figures the one of docs/FIGURES.md. bench/client_bench/times.py says what the rows mean.
 #
 # This script was never run from end to end: `rt ci` proved and built the program, and times.py was run over that one. Of the
 # program as Rattle's own compiler builds it nothing was measured.

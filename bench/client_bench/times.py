@@ -3,6 +3,7 @@
 client_bench. bench/client.sh runs it.
 
 usage: times.py PROGRAM [--stored] [--capacities N..] [--records N..] [--times]
+       times.py PROGRAM --figures
 
 CAPACITIES are the most entries of the node (1024 65536), RECORDS the lengths to which its history and the database's are
 brought (1000 1000000); the entries alone take some of them, so that a short history may be longer. Of each pair there is a
@@ -18,6 +19,9 @@ Two rows say little. By itself the making of a key is left out by the compiler, 
 one that shows no more. So a look-up at a plain node, a record and an answer hold a key each, and the sum holds four. Where the
 node is large, times of both look-ups at the plain node wait for memory, which in a hit only the first does. A difference of
 times may be below 0.
+
+With --figures it prints the one table of docs/FIGURES.md, below a line with the day, the machine and the command: pipe it to
+bench/figures.py.
 """
 
 import argparse
@@ -64,7 +68,7 @@ ON_ENTRIES = {
 PARTS = {
     "key": Operation("a key made", 1_600),
     "find": Operation("a hit at a plain node, by `find`", 1_600, off="key"),
-    "touch": Operation("the same by `lookup`", 1_600, off="key"),
+    "touch": Operation("a hit at a plain node, by `lookup`", 1_600, off="key"),
     "value": Operation("a copy of the value", 1_600),
     "tags": Operation("a copy of its tags", 1_600),
     "record": Operation("a record with its box, appended", 1_600, off="key"),
@@ -83,6 +87,9 @@ ALL = {**ON_ENTRIES, **DROPPING, **PARTS}
 # how often each part comes in a hit, and in one of a node that stores its record
 HIT = {"key": 1, "touch": 1, "value": 2, "tags": 1, "again": 1, "longer": 3, "lock": 1, "answer": 1}
 STORED_HIT = {**HIT, "value": 3, "tags": 2, "record": 1}
+# what docs/FIGURES.md shows: the operations, and the nodes and histories of its columns
+SHOWN = ["begin", "hit", "lookup", "insert", "miss", "nested", "advance", "close", "touch"]
+COLUMNS = {"1,024 entries": (1_024, 1_000), "65,536": (65_536, 1_000), "1,024, long history": (1_024, 1_000_000)}
 
 
 class Run:
@@ -237,6 +244,31 @@ def table(title, columns, parts):
     print(f"| a hit beside them | {' | '.join(f'{it:.2f}' for it in ratios)} |", flush=True)
 
 
+def column(program, kind, capacity, records, is_stored=False):
+    """How many records there are, and what one call of each operation takes, in a run of its own."""
+    with tempfile.TemporaryDirectory() as room:
+        words = [os.path.abspath(program), str(capacity), str(ROOM), *["stored"] * is_stored]
+        return costs(kind(words, room), capacity, records)
+
+
+def machine():
+    """What the machine says of itself, and how busy it is."""
+    with open("/proc/cpuinfo", encoding="utf-8") as it:
+        name = re.search(r"^model name\s*: (.*)", it.read(), re.M)
+    return f"{os.cpu_count()} cores of {name[1].strip() if name else 'an unknown kind'}, load {os.getloadavg()[0]:.1f}"
+
+
+def figures(program):
+    """The table of docs/FIGURES.md, below the line that says when, where and how it was made."""
+    print(f"Measured on {time.strftime('%Y-%m-%d')} by `bench/client.sh --figures`, on {machine()}; instructions of one call.\n")
+    made = [column(program, Instructions, *it)[1] for it in COLUMNS.values()]
+    blocks = column(program, Blocks, *COLUMNS["1,024 entries"])[1]
+    print(f"| One of | {' | '.join(COLUMNS)} | Blocks |")
+    print("|---" * (2 + len(COLUMNS)) + "|")
+    for name in SHOWN:
+        print(f"| {ALL[name].text} | {' | '.join(f'{it[name]:,.0f}' for it in made)} | {blocks[name]:.1f} |")
+
+
 def main():
     words = argparse.ArgumentParser(usage=__doc__.partition("usage: ")[2].partition("\n")[0])
     words.add_argument("program")
@@ -244,21 +276,22 @@ def main():
     words.add_argument("--capacities", nargs="+", type=int, default=[1_024, 65_536])
     words.add_argument("--records", nargs="+", type=int, default=[1_000, 1_000_000])
     words.add_argument("--times", action="store_true")
+    words.add_argument("--figures", action="store_true")
     options = words.parse_args()
+    if options.figures:
+        return figures(options.program)
     parts = STORED_HIT if options.stored else HIT
     kinds = {"Blocks of one call": Blocks}
     if shutil.which("valgrind"):
         kinds = {"Instructions of one call": Instructions, **kinds}
     if options.times:
         kinds["Nanoseconds of one call"] = Timed
-    with tempfile.TemporaryDirectory() as room:
-        for title, kind in kinds.items():
-            columns = []
-            for capacity in options.capacities:
-                for records in options.records:
-                    run = kind([os.path.abspath(options.program), str(capacity), str(ROOM), *["stored"] * options.stored], room)
-                    columns.append((capacity, *costs(run, capacity, records)))
-            table(title, columns, parts)
+    for title, kind in kinds.items():
+        columns = []
+        for capacity in options.capacities:
+            for records in options.records:
+                columns.append((capacity, *column(options.program, kind, capacity, records, options.stored)))
+        table(title, columns, parts)
     of_parts = ", ".join(f"{times} of {ALL[part].text}" for part, times in parts.items())
     print(f"\nThe parts of a hit: {of_parts}.")
 

@@ -13,6 +13,7 @@ use txc_app::App;
 use txc_node::{Counts, Reply};
 
 /// Counts a step of that function by a reply that counts as the step's own does. It takes no memory.
+#[inline(always)]
 pub(crate) fn count_step<H>(counts: &mut Counts, function: Option<u8>, reply: &Reply<H>)
     requires function { IfSome function (λ f. f ≤ LAST_FUNCTION) }
     requires room { counts.old.replies + 1 < 2 ^ 64 }

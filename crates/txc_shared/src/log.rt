@@ -295,6 +295,7 @@ impl Log {
 
     /// Appends a record of one of its passes. `false` where another one stands in its cell; then nothing
     /// has changed.
+    #[inline(always)]
     pub(crate) fn append(&mut self, pass: usize, next: Prepared) -> bool
         requires suits { Suits self.old.name next }
         requires room { CanGrow self.old.name self.old.records }

@@ -37,6 +37,7 @@ impl Prepared {
     }
 
     /// The record of a lookup that will find this. Only a stored one takes memory.
+    #[inline(always)]
     pub(crate) fn with_found<A: App>(
         self,
         alloc: Global,
