@@ -8,9 +8,9 @@ ghost use Rattle.txc_site.specs.Plans.{IsPlan};
 
 use crate::application::Application;
 use crate::change::Change;
+use crate::clock::{Clock, CountedClock};
 use crate::error::{GenerationError, OpenError, SiteError};
 use crate::histories::{Visits, over_new_histories};
-use crate::keeping::{Clock, CountedClock};
 use crate::opening::opened;
 use crate::plan::Plan;
 use crate::returning::{Generation, Returning};
@@ -87,6 +87,7 @@ where
     )?;
     let Visits {
         outputs,
+        tended,
         numbers,
         core,
     } = visits;
@@ -96,6 +97,7 @@ where
         begun,
         ended,
         outputs,
+        tended,
         numbers,
     };
     Ok((generation, core))

@@ -5,15 +5,17 @@ ghost use Rattle.txc_site.specs.Opened.{IsVisitRefused};
 ghost use Rattle.txc_site.specs.Plans.{IsPlan};
 ghost use Rattle.txc_site.specs.Histories.{AreHistoriesOf, HaveHistoriesBy};
 ghost use Rattle.txc_site.specs.Sites.{HaveCome};
+ghost use Rattle.txc_site.specs.Tending.{IsTendedAsPlanned};
 
 use crate::application::Application;
-use crate::error::OpenError;
+use crate::clock::Clock;
+use crate::error::{OpenError, SiteError};
 use crate::foundation::Foundation;
-use crate::keeping::Clock;
+use crate::keeping::Tended;
 use crate::node_history::{NodeHistory, new_histories};
 use crate::numbers::Numbers;
 use crate::plan::Plan;
-use crate::visiting::visit;
+use crate::visiting::{Came, visit};
 use crate::visitor::Visitor;
 use std::alloc::Global;
 use std::marker::Brand;
@@ -23,10 +25,12 @@ use txc_db::{DbCore, Naming};
 use txc_definition::Definition;
 use txc_permits::PermitPool;
 
-/// What threads came to that visited a site, what they did in all, and the database as they left it.
+/// What threads came to that visited a site, and the site's own keeper; what they did in all, and the database as
+/// they left it.
 #[derive(Drop)]
 pub(crate) struct Visits<T> {
     pub(crate) outputs: Vec<T>,
+    pub(crate) tended: Option<Result<Tended, SiteError>>,
     pub(crate) numbers: Numbers,
     pub(crate) core: DbCore,
 }
@@ -51,6 +55,8 @@ where
     ensures each { IfOk result (λ visited. vec_len visited.outputs ≡ count) }
     ensures gives { IfOk result (λ visited.
         HaveCome (V.gives visitors.now plan core.events) visited.outputs.items) }
+    ensures tended { IfOk result (λ visited.
+        IsTendedAsPlanned plan (C.tells clock.now) core.events visited.tended) }
     ensures database { IfOk result (λ visited. IsDatabaseOf core.events visited.core) }
     ensures refused { IfErr result (IsVisitRefused A.numbers) }
 {
@@ -84,12 +90,14 @@ where
     ensures each { IfOk result (λ visited. vec_len visited.outputs ≡ count) }
     ensures gives { IfOk result (λ visited.
         HaveCome (V.gives visitors.now plan J.database_row) visited.outputs.items) }
+    ensures tended { IfOk result (λ visited.
+        IsTendedAsPlanned plan (C.tells clock.now) J.database_row visited.tended) }
     ensures database { IfOk result (λ visited. IsDatabaseOf J.database_row visited.core) }
     ensures refused { IfErr result (IsVisitRefused A.numbers) }
 {
-    let (foundation, committers) = Foundation::<A, J>::new(alloc, plan, core, histories)?;
+    let (foundation, committers) = Foundation::<A, J>::new(alloc, plan, core, histories, count)?;
     let mut pool = PermitPool::new(alloc, plan.permits)?;
-    let outputs = visit::<A, D, V, J, C, R>(
+    let Came { outputs, tended } = visit::<A, D, V, J, C, R>(
         rt,
         alloc,
         &foundation,
@@ -99,10 +107,10 @@ where
         visitors,
         clock,
     )?;
-    let numbers = foundation.tally.numbers();
-    let numbers = numbers.with_nodes(rt, &foundation.nodes);
+    let numbers = Numbers::of(&foundation.tallies).with_nodes(rt, &foundation.nodes);
     Ok(Visits {
         outputs,
+        tended,
         numbers,
         core: foundation.into_core(rt, alloc),
     })

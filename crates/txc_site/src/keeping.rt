@@ -1,72 +1,95 @@
 //! A site that keeps itself.
+ghost use Rattle.std.specs.Prelude.{◌≡◌, [], All, IfErr, IfOk, None, map};
+ghost use Rattle.txc_site.specs.Plans.{nodes_of};
+ghost use Rattle.txc_site.specs.Sites.{IsKeeperRefused};
+ghost use Rattle.txc_site.specs.Tending.{HasTended, IsNewOwnKeeper, IsTendedBy};
+
+use crate::clock::Clock;
+use crate::error::SiteError;
 use crate::foundation::Foundation;
 use crate::keeper::Keeper;
 use std::alloc::Global;
+use std::marker::Model;
 use std::sync::Wait;
-use std::sync::atomic::{AtomicBool, AtomicU64, Ordering};
-use std::time::Duration;
-use std::{thread, time};
+use std::sync::atomic::{AtomicBool, Ordering};
+use std::thread;
 use txc_app::App;
-use txc_db::Naming;
+use txc_db::{DbError, Naming};
 
 /// How a site keeps itself: each time `every` milliseconds have gone by, it does what
-/// [`Keeper::keep`](crate::Keeper::keep) does, with pins that stay for `age`.
+/// [`Keeper::keep`](crate::Keeper::keep) does, where pins stay for `age`.
 #[derive(Clone, Copy, Debug, PartialEq, Eq)]
 pub struct Keeping {
     pub every: u64,
     pub age: u64,
 }
 
-/// A clock, at which a site keeps itself.
-pub trait Clock {
-    /// How many milliseconds have gone by, since a moment of the clock's own.
-    fn now(&self) -> u64;
+/// What the keeper of a site that keeps itself came to.
+#[derive(Clone, Copy, Debug, PartialEq, Eq)]
+pub struct Tended {
+    /// How often it kept. The number begins anew after 2^64.
+    pub keeps: u64,
+    /// Why the last keep that did nothing was refused; none where each did something.
+    pub refused: Option<DbError>,
 }
 
-/// The system's clock. It sleeps for a millisecond before it is read, so that who looks again and again does
-/// little else. A clock that can't be read stands at 0.
+/// A keeper with what it came to, which only [`OwnKeeper::keep`] changes.
 #[derive(Drop)]
-pub struct SystemClock<'a, R: time::Clock> {
-    rt: &'a R,
+struct OwnKeeper<'a, A: App, J: Naming> {
+    keeper: Keeper<'a, A, J>,
+    tended: Tended,
 }
 
-impl<'a, R: time::Clock> SystemClock<'a, R> {
-    pub fn new(rt: &'a R) -> Self {
-        SystemClock { rt }
+impl<'a, A: App, J: Naming> Model for OwnKeeper<'a, A, J> {
+    ghost use Rattle.txc_site.specs.Tending.{OwnKeeperValue};
+
+    ghost Value = { OwnKeeperValue };
+
+    ghost view = { λ own. record { stations = own.keeper; tended = own.tended } };
+}
+
+impl<'a, A: App, J: Naming> OwnKeeper<'a, A, J> {
+    fn new(
+        rt: &impl Wait,
+        alloc: Global,
+        foundation: &'a Foundation<A, J>,
+    ) -> Result<Self, SiteError>
+        ensures new { IfOk result (IsNewOwnKeeper (nodes_of foundation.now.plan)) }
+        ensures refused { IfErr result IsKeeperRefused }
+    {
+        Ok(OwnKeeper {
+            keeper: Keeper::new(rt, alloc, foundation)?,
+            tended: Tended {
+                keeps: 0,
+                refused: None,
+            },
+        })
     }
-}
 
-impl<R: time::Clock> Clock for SystemClock<'_, R> {
-    fn now(&self) -> u64 {
-        thread::sleep(self.rt, Duration::from_millis(1));
-        match self.rt.monotonic() {
-            Ok(gone) => u64::try_from(gone.as_millis()).unwrap_or(u64::MAX),
-            Err(_) => 0,
+    /// Keeps the site, and counts that.
+    fn keep(self, rt: &impl Wait, alloc: Global, now: u64, age: u64) -> Self
+        ensures { HasTended J.database_row J.node_histories now age self.entry result }
+    {
+        let OwnKeeper { keeper, tended } = self;
+        let keeps = tended.keeps.wrapping_add(1);
+        let (kept, keeper) = keeper.keep(rt, alloc, now, age);
+        match kept {
+            Ok(_kept) => OwnKeeper {
+                keeper,
+                tended: Tended { keeps, ..tended },
+            },
+            Err(cause) => OwnKeeper {
+                keeper,
+                tended: Tended {
+                    keeps,
+                    refused: Some(cause),
+                },
+            },
         }
     }
 }
 
-/// A clock that counts how often it was looked at.
-#[derive(Drop)]
-pub struct CountedClock {
-    looks: AtomicU64,
-}
-
-impl CountedClock {
-    pub fn new() -> CountedClock {
-        CountedClock {
-            looks: AtomicU64::new(0),
-        }
-    }
-}
-
-impl Clock for CountedClock {
-    fn now(&self) -> u64 {
-        self.looks.fetch_add(1, Ordering::SeqCst)
-    }
-}
-
-/// Keeps the site at this clock, until the visitors have ended. Without memory for a keeper it does nothing.
+/// Keeps the site at this clock until the visitors have ended.
 pub(crate) fn keep_until_ended<A: App, J: Naming, C: Clock, R: Wait>(
     rt: &R,
     alloc: Global,
@@ -74,22 +97,25 @@ pub(crate) fn keep_until_ended<A: App, J: Naming, C: Clock, R: Wait>(
     keeping: Keeping,
     clock: &C,
     ended: &AtomicBool,
-) {
-    let Ok(mut keeper) = Keeper::new(rt, alloc, foundation) else {
-        return;
-    };
+) -> Result<Tended, SiteError>
+    ensures tended { IfOk result
+        (IsTendedBy J.database_row (nodes_of foundation.now.plan) (C.tells clock.now) keeping.age) }
+    ensures refused { IfErr result IsKeeperRefused }
+{
+    let mut own = OwnKeeper::new(rt, alloc, foundation)?;
     let mut next = 0;
     for _ in rt.forever() {
         let now = clock.now();
-        foundation.tally.set_now(now);
+        foundation.moment.set(now);
         if ended.load(Ordering::SeqCst) {
-            return;
+            return Ok(own.tended);
         }
         if now < next {
             thread::yield_now();
         } else {
             next = now.saturating_add(keeping.every);
-            keeper = keeper.keep(rt, alloc, now, keeping.age).1;
+            own = own.keep(rt, alloc, now, keeping.age);
         }
     }
+    unreachable!()
 }

@@ -14,9 +14,9 @@
 #![tactic(auto)]
 
 mod application;
-mod bounds;
 mod change;
 mod client;
+mod clock;
 mod error;
 mod foundation;
 mod generations;
@@ -42,13 +42,13 @@ mod visitor;
 mod writing;
 
 pub use application::Application;
-pub use bounds::{fresh, fresh_since};
 pub use change::{Change, ChangeTxn};
 pub use client::SiteClient;
+pub use clock::{Clock, CountedClock, SystemClock};
 pub use error::{GenerationError, LastError, OpenError, ReadError, SiteError, WriteError};
 pub use generations::{Served, with_generations, with_generations_at};
 pub use keeper::{Ended, Keeper, Kept, KeptNode, MAX_TAKEN};
-pub use keeping::{Clock, CountedClock, Keeping, SystemClock};
+pub use keeping::{Keeping, Tended};
 pub use last_state::LastState;
 pub use ledger::Horizon;
 pub use numbers::Numbers;

@@ -4,13 +4,15 @@ ghost use Rattle.txc_db.specs.Shared.{IsDatabaseOf};
 ghost use Rattle.txc_site.specs.Opened.{IsOpeningRefused, IsOpenRefused, IsVisited};
 ghost use Rattle.txc_site.specs.Plans.{IsPlan};
 ghost use Rattle.txc_site.specs.Sites.{IsDatabaseRefused};
+ghost use Rattle.txc_site.specs.Tending.{IsTendedAsPlanned};
 ghost use Rattle.txc_site.specs.Writes.{IsWritten};
 
 use crate::application::{Application, registry};
 use crate::change::Change;
+use crate::clock::{Clock, CountedClock};
 use crate::error::{OpenError, SiteError};
 use crate::histories::{Visits, over_new_histories};
-use crate::keeping::{Clock, CountedClock};
+use crate::keeping::Tended;
 use crate::last_state::LastState;
 use crate::ledger::Ledger;
 use crate::numbers::Numbers;
@@ -32,6 +34,8 @@ pub struct Visited<O, T> {
     pub opening: Written<O>,
     /// What each thread came to, in the order of their numbers.
     pub outputs: Vec<T>,
+    /// What the site's own keeper came to, or why there was none; nothing where the plan has none.
+    pub tended: Option<Result<Tended, SiteError>>,
     /// What the threads did in all.
     pub numbers: Numbers,
     /// The state that they left.
@@ -75,7 +79,8 @@ where
 /// Opens a site: makes it by the plan, writes the opening in one read-write transaction, and then starts
 /// `count` threads, each of which visits by a client of its own. Returns once all have ended.
 ///
-/// Where the plan says so, one more thread keeps the site at the clock, until the visitors have ended.
+/// Where the plan says so, one more thread keeps the site at the clock, until the visitors have ended. Where none
+/// can be made, nobody keeps it.
 ///
 /// The threads have the numbers from 0, and outputs come in that order. Where no thread can be made, some run
 /// one after the other, so that none may wait for another.
@@ -98,6 +103,8 @@ where
     R: Threads + Wait + Sync,
     ensures visited { IfOk result
         (IsVisited A.next plan count (O.makes opening.now) (V.gives visitors.now)) }
+    ensures tended { IfOk result (λ visited.
+        IsTendedAsPlanned plan (C.tells clock.now) visited.last.events visited.tended) }
     ensures unsound { ¬ (IsPlan plan) → result ≡ Err (OpenError.Site SiteError.Plan) }
     ensures refused { IfErr result
         (IsOpenRefused plan A.numbers (O.makes opening.now) (O.refuses opening.now)) }
@@ -111,12 +118,14 @@ where
     )?;
     let Visits {
         outputs,
+        tended,
         numbers,
         core,
     } = visits;
     Ok(Visited {
         opening,
         outputs,
+        tended,
         numbers,
         last: LastState::new(core, plan),
     })

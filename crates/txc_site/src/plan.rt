@@ -41,7 +41,7 @@ pub struct Plan {
     /// How many records of each node are stored, where anybody can read them: from 1 to
     /// [`txc_stream::MAX_CAPACITY`]. Without a number none is, and a node's history has no end.
     pub records: Option<usize>,
-    /// Whether the site keeps itself, in a thread of its own, until the visitors have ended.
+    /// How the site keeps itself, in a thread of its own, until the visitors have ended. None where it does not.
     pub keep: Option<Keeping>,
 }
 

@@ -1,17 +1,19 @@
 //! The threads of a site, and their clients.
-ghost use Rattle.std.specs.Prelude.{◌≡◌, All, IfErr, IfOk, map, vec_len};
+ghost use Rattle.std.specs.Prelude.{◌≡◌, ◌<◌, All, IfErr, IfOk, map, vec_len};
 ghost use Rattle.txc_registry.specs.Objects.{numbers_of};
 ghost use Rattle.txc_site.specs.Histories.{HaveHistoriesBy};
 ghost use Rattle.txc_site.specs.Opened.{IsVisitRefused};
-ghost use Rattle.txc_site.specs.Plans.{IsPlan};
+ghost use Rattle.txc_site.specs.Plans.{nodes_of, IsPlan};
 ghost use Rattle.txc_site.specs.Guests.{AreGuests};
-ghost use Rattle.txc_site.specs.Sites.{numbers_below, HaveCome, IsClientRefused, IsNewClient};
+ghost use Rattle.txc_site.specs.Sites.{numbers_below, HaveCome, IsClientRefused, IsKeeperRefused, IsNewClient};
+ghost use Rattle.txc_site.specs.Tending.{IsTendedAsPlanned, IsTendedBy};
 
 use crate::application::{Application, registry};
 use crate::client::SiteClient;
 use crate::error::{OpenError, SiteError};
 use crate::foundation::Foundation;
-use crate::keeping::{Clock, Keeping, keep_until_ended};
+use crate::clock::Clock;
+use crate::keeping::{Keeping, Tended, keep_until_ended};
 use crate::ledger::Committers;
 use crate::plan::Plan;
 use crate::visitor::Visitor;
@@ -23,17 +25,19 @@ use txc_db::Naming;
 use txc_definition::Definition;
 use txc_permits::PermitPool;
 
-/// A client with a pass of its own through each node.
+/// The client of this number, with a pass of its own through each node.
 #[tactic(auto, using(crate::proofs::Opened::no_pass))]
 pub(crate) fn client<'a, A: Application<D>, D: Definition, J: Naming>(
     rt: &impl Wait,
     alloc: Global,
     foundation: &'a Foundation<A, J>,
+    number: usize,
     committers: &Committers<J>,
     pool: &mut PermitPool,
 ) -> Result<SiteClient<'a, A, D, J>, SiteError>
     requires plan { IsPlan foundation.now.plan }
     requires stored_so { HaveHistoriesBy foundation.now.plan J.node_histories }
+    requires number { number < vec_len foundation.now.tallies }
     ensures plan { IfOk result (λ client. client.plan ≡ foundation.now.plan) }
     ensures new { IfOk result (IsNewClient J.node_histories) }
     ensures reader { IfOk result (λ client. numbers_of client.reader.objects ≡ A.numbers) }
@@ -49,7 +53,9 @@ pub(crate) fn client<'a, A: Application<D>, D: Definition, J: Naming>(
         foundation.plan.renew_after,
     )?;
     let writer = registry::<A, D>(alloc, pool)?;
-    Ok(SiteClient::new(foundation, reader, writer, committers.committer()))
+    let tally = &foundation.tallies[number];
+    let committer = committers.committer();
+    Ok(SiteClient::new(foundation, reader, writer, committer, tally))
 }
 
 /// The client of the thread of this number.
@@ -70,6 +76,7 @@ fn guests<'a, A: Application<D>, D: Definition, J: Naming>(
 ) -> Result<Vec<Guest<SiteClient<'a, A, D, J>>>, SiteError>
     requires plan { IsPlan foundation.now.plan }
     requires stored_so { HaveHistoriesBy foundation.now.plan J.node_histories }
+    requires tallies { vec_len foundation.now.tallies ≡ count }
     ensures each { IfOk result (λ guests. vec_len guests ≡ count) }
     ensures numbers { IfOk result (λ guests.
         map (λ guest. guest.number) guests.items ≡ numbers_below count) }
@@ -81,7 +88,7 @@ fn guests<'a, A: Application<D>, D: Definition, J: Naming>(
 {
     let mut guests = Vec::with_capacity(alloc, count)?;
     for number in 0..count {
-        let client = client(rt, alloc, foundation, committers, pool)?;
+        let client = client(rt, alloc, foundation, number, committers, pool)?;
         guests.push(Guest { number, client })?;
     }
     Ok(guests)
@@ -103,7 +110,7 @@ where
     J: Naming + Send + Sync,
     R: Threads + Wait + Sync,
     requires { AreGuests J.node_histories plan guests.items }
-    ensures each { IfOk result (λ outputs. vec_len outputs ≡ vec_len guests.entry) }
+    ensures each { IfOk result (λ outputs. vec_len outputs ≡ vec_len guests) }
     ensures gives { IfOk result (λ outputs.
         HaveCome (V.gives visitors.now plan J.database_row) outputs.items) }
     ensures refused { IfErr result (λ error. error ≡ OpenError.Threads) }
@@ -126,7 +133,14 @@ where
     }
 }
 
-/// The same, beside a thread that keeps the site until all guests have ended.
+/// What the guests came to, and what the site's own keeper did, where it has one.
+#[derive(Drop)]
+pub(crate) struct Came<T> {
+    pub(crate) outputs: Vec<T>,
+    pub(crate) tended: Option<Result<Tended, SiteError>>,
+}
+
+/// The same, beside a thread that keeps the site until all guests have ended. Where none can be made, nobody does.
 fn visit_kept<A, D, V, J, C, R>(
     rt: &R,
     alloc: Global,
@@ -135,7 +149,7 @@ fn visit_kept<A, D, V, J, C, R>(
     visitors: &V,
     keeping: Keeping,
     clock: &C,
-) -> Result<Vec<V::Output>, OpenError>
+) -> (Result<Tended, SiteError>, Result<Vec<V::Output>, OpenError>)
 where
     A: Application<D> + Send + Sync,
     D: Definition + Send,
@@ -144,15 +158,20 @@ where
     C: Clock + Sync,
     R: Threads + Wait + Sync,
     requires { AreGuests J.node_histories foundation.now.plan guests.items }
-    ensures each { IfOk result (λ outputs. vec_len outputs ≡ vec_len guests.entry) }
-    ensures gives { IfOk result (λ outputs.
+    ensures tended { IfOk result.0
+        (IsTendedBy J.database_row (nodes_of foundation.now.plan) (C.tells clock.now) keeping.age) }
+    ensures no_keeper { IfErr result.0 IsKeeperRefused }
+    ensures each { IfOk result.1 (λ outputs. vec_len outputs ≡ vec_len guests) }
+    ensures gives { IfOk result.1 (λ outputs.
         HaveCome (V.gives visitors.now foundation.now.plan J.database_row) outputs.items) }
-    ensures refused { IfErr result (λ error. error ≡ OpenError.Threads) }
+    ensures refused { IfErr result.1 (λ error. error ≡ OpenError.Threads) }
 {
     let ended = AtomicBool::new(false);
     let plan = foundation.plan;
-    let (visited, ()) = thread::join(
+    foundation.moment.set(clock.now());
+    thread::join(
         rt,
+        || keep_until_ended(rt, alloc, foundation, keeping, clock, &ended),
         || -> Result<Vec<V::Output>, OpenError>
             requires { AreGuests J.node_histories plan guests.items }
             ensures { IfOk result (λ outputs. (vec_len outputs ≡ vec_len guests.entry)
@@ -163,9 +182,7 @@ where
             ended.store(true, Ordering::SeqCst);
             visited
         },
-        || keep_until_ended(rt, alloc, foundation, keeping, clock, &ended),
-    );
-    visited
+    )
 }
 
 /// Starts so many threads, each with a client of its own, and returns what they came to, in the order of their
@@ -179,7 +196,7 @@ pub(crate) fn visit<A, D, V, J, C, R>(
     count: usize,
     visitors: &V,
     clock: &C,
-) -> Result<Vec<V::Output>, OpenError>
+) -> Result<Came<V::Output>, OpenError>
 where
     A: Application<D> + Send + Sync,
     D: Definition + Send,
@@ -189,14 +206,26 @@ where
     R: Threads + Wait + Sync,
     requires plan { IsPlan foundation.now.plan }
     requires stored_so { HaveHistoriesBy foundation.now.plan J.node_histories }
-    ensures each { IfOk result (λ outputs. vec_len outputs ≡ count) }
-    ensures gives { IfOk result (λ outputs.
-        HaveCome (V.gives visitors.now foundation.now.plan J.database_row) outputs.items) }
+    requires tallies { vec_len foundation.now.tallies ≡ count }
+    ensures each { IfOk result (λ came. vec_len came.outputs ≡ count) }
+    ensures gives { IfOk result (λ came.
+        HaveCome (V.gives visitors.now foundation.now.plan J.database_row) came.outputs.items) }
+    ensures tended { IfOk result (λ came.
+        IsTendedAsPlanned foundation.now.plan (C.tells clock.now) J.database_row came.tended) }
     ensures refused { IfErr result (IsVisitRefused A.numbers) }
 {
     let guests = guests::<A, D, J>(rt, alloc, foundation, committers, pool, count)?;
-    match foundation.plan.keep {
-        Some(keeping) => visit_kept(rt, alloc, foundation, guests, visitors, keeping, clock),
-        None => visit_each(rt, alloc, foundation.plan, guests, visitors),
-    }
+    let Some(keeping) = foundation.plan.keep else {
+        return Ok(Came {
+            outputs: visit_each(rt, alloc, foundation.plan, guests, visitors)?,
+            tended: None,
+        });
+    };
+    let (tended, outputs) = visit_kept(
+        rt, alloc, foundation, guests, visitors, keeping, clock,
+    );
+    Ok(Came {
+        outputs: outputs?,
+        tended: Some(tended),
+    })
 }
