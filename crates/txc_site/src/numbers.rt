@@ -51,11 +51,12 @@ impl Numbers {
 
     /// The same, with what one client has counted.
     fn with_tally(self, tally: &Tally) -> Numbers {
+        let more = |number: u64, by: &AtomicU64| number.wrapping_add(by.load(Ordering::SeqCst));
         Numbers {
-            pages: self.pages.wrapping_add(tally.pages.load(Ordering::SeqCst)),
-            changes: self.changes.wrapping_add(tally.changes.load(Ordering::SeqCst)),
-            conflicts: self.conflicts.wrapping_add(tally.conflicts.load(Ordering::SeqCst)),
-            refusals: self.refusals.wrapping_add(tally.refusals.load(Ordering::SeqCst)),
+            pages: more(self.pages, &tally.pages),
+            changes: more(self.changes, &tally.changes),
+            conflicts: more(self.conflicts, &tally.conflicts),
+            refusals: more(self.refusals, &tally.refusals),
             ..self
         }
     }

@@ -10,9 +10,9 @@ ghost use Rattle.txc_site.specs.Tending.{IsTendedAsPlanned, IsTendedBy};
 
 use crate::application::{Application, registry};
 use crate::client::SiteClient;
+use crate::clock::Clock;
 use crate::error::{OpenError, SiteError};
 use crate::foundation::Foundation;
-use crate::clock::Clock;
 use crate::keeping::{Keeping, Tended, keep_until_ended};
 use crate::ledger::Committers;
 use crate::plan::Plan;
@@ -221,9 +221,7 @@ where
             tended: None,
         });
     };
-    let (tended, outputs) = visit_kept(
-        rt, alloc, foundation, guests, visitors, keeping, clock,
-    );
+    let (tended, outputs) = visit_kept(rt, alloc, foundation, guests, visitors, keeping, clock);
     Ok(Came {
         outputs: outputs?,
         tended: Some(tended),
