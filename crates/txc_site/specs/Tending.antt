@@ -1,5 +1,5 @@
 -- What the keeper of a site that keeps itself did.
-use Rattle.std.specs.Prelude.{◌≡◌, ◌⊎◌, ℕ, List, [], ◌∷◌, All, IfErr, IfOk, MatchOption, None, Ok, Err, Option, Result, Some, Vec, map}
+use Rattle.std.specs.Prelude.{◌≡◌, ◌⊎◌, ℕ, List, [], ◌∷◌, All, IfErr, IfOk, MatchOption, None, Option, Result, Some, Vec, map}
 use Rattle.std.specs.declared.alloc.AllocError.{AllocError}
 use Rattle.std.specs.declared.alloc.Global.{Global}
 use Rattle.txc_cushion.specs.Cushion.{retired}
@@ -16,7 +16,6 @@ use Rattle.txc_stream.specs.Names.{Name}
 use Rattle.txc_site.specs.Counted.{counted_again}
 use Rattle.txc_site.specs.declared.error.SiteError.{SiteError}
 use Rattle.txc_site.specs.declared.keeper.KeptNode.{KeptNode}
-use Rattle.txc_site.specs.declared.keeping.Keeping.{Keeping}
 use Rattle.txc_site.specs.declared.keeping.Tended.{Tended}
 use Rattle.txc_site.specs.declared.plan.Plan.{Plan}
 use Rattle.txc_site.specs.Keeping.{HaveKept, ok_of}

@@ -1,5 +1,5 @@
 //! A site that keeps itself.
-ghost use Rattle.std.specs.Prelude.{◌≡◌, [], All, IfErr, IfOk, None, map};
+ghost use Rattle.std.specs.Prelude.{IfErr, IfOk};
 ghost use Rattle.txc_site.specs.Plans.{nodes_of};
 ghost use Rattle.txc_site.specs.Sites.{IsKeeperRefused};
 ghost use Rattle.txc_site.specs.Tending.{HasTended, IsNewOwnKeeper, IsTendedBy};

@@ -110,7 +110,7 @@ where
     J: Naming + Send + Sync,
     R: Threads + Wait + Sync,
     requires { AreGuests J.node_histories plan guests.items }
-    ensures each { IfOk result (λ outputs. vec_len outputs ≡ vec_len guests) }
+    ensures each { IfOk result (λ outputs. vec_len outputs ≡ vec_len guests.entry) }
     ensures gives { IfOk result (λ outputs.
         HaveCome (V.gives visitors.now plan J.database_row) outputs.items) }
     ensures refused { IfErr result (λ error. error ≡ OpenError.Threads) }
@@ -161,7 +161,7 @@ where
     ensures tended { IfOk result.0
         (IsTendedBy J.database_row (nodes_of foundation.now.plan) (C.tells clock.now) keeping.age) }
     ensures no_keeper { IfErr result.0 IsKeeperRefused }
-    ensures each { IfOk result.1 (λ outputs. vec_len outputs ≡ vec_len guests) }
+    ensures each { IfOk result.1 (λ outputs. vec_len outputs ≡ vec_len guests.entry) }
     ensures gives { IfOk result.1 (λ outputs.
         HaveCome (V.gives visitors.now foundation.now.plan J.database_row) outputs.items) }
     ensures refused { IfErr result.1 (λ error. error ≡ OpenError.Threads) }
@@ -171,7 +171,11 @@ where
     foundation.moment.set(clock.now());
     thread::join(
         rt,
-        || keep_until_ended(rt, alloc, foundation, keeping, clock, &ended),
+        || -> Result<Tended, SiteError>
+            ensures { IfOk result
+                (IsTendedBy J.database_row (nodes_of foundation.entry.now.plan) (C.tells clock.entry.now) keeping.age)
+                × IfErr result IsKeeperRefused }
+        { keep_until_ended(rt, alloc, foundation, keeping, clock, &ended) },
         || -> Result<Vec<V::Output>, OpenError>
             requires { AreGuests J.node_histories plan guests.items }
             ensures { IfOk result (λ outputs. (vec_len outputs ≡ vec_len guests.entry)
