@@ -1,6 +1,6 @@
 pub mod Crosses
 mod Guests
-pub mod Keeping
+pub mod NodesKept
 mod Listing
 mod NodeHistories
 pub mod Opened

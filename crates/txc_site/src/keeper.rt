@@ -76,7 +76,7 @@ pub struct Keeper<'a, A: App, J: Naming> {
 }
 
 /// Lets the node take events, [`MAX_TAKEN`] at most.
-#[tactic(auto, using(crate::proofs::Keeping::same_then))]
+#[tactic(auto, using(crate::proofs::NodesKept::same_then))]
 fn advance<A: App, J: Naming>(
     rt: &impl Wait,
     alloc: Global,
@@ -131,7 +131,7 @@ fn stations<'a, A: App, J: Naming>(
 }
 
 /// Keeps the node of a station.
-#[tactic(auto, using(crate::proofs::Keeping::same_then))]
+#[tactic(auto, using(crate::proofs::NodesKept::same_then))]
 fn keep_node<'a, A: App, J: Naming>(
     rt: &impl Wait,
     alloc: Global,
