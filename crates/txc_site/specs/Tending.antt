@@ -29,8 +29,8 @@ pub record OwnKeeperValue : Type 0 where
   pub tended : Tended
 
 -- it has a new pass through each of these nodes, and has not kept yet
-pub record IsNewOwnKeeper (nodes : List NodeSettings) (own : OwnKeeperValue) : Type 0 where
-  pub nodes : map (λ s. s.pass.settings) own.stations ≡ nodes
+pub record IsNewOwnKeeper (all : List NodeSettings) (own : OwnKeeperValue) : Type 0 where
+  pub nodes : map (λ s. s.pass.settings) own.stations ≡ all
   pub records : All (λ s. s.pass.records ≡ []) own.stations
   pub tended : own.tended ≡ record { keeps = 0; refused = None }
 
