@@ -12,7 +12,7 @@ use crate::tally::Tally;
 use std::alloc::Global;
 use std::sync::Wait;
 use txc_site::{
-    Bounds, Generation, Keeper, Naming, OneCall, Returning, SiteClient, Stamp, Visitor, fresh_since,
+    Bounds, Generation, Keeper, Naming, OneCall, Returning, SiteClient, Stamp, Visitor,
 };
 
 /// A visitor's client.
@@ -44,7 +44,7 @@ impl Crowd {
         ensures { result ≡ record { now = round.now; staleness = self.now.arguments.staleness; at_least = at_least } }
     {
         let staleness = u64::from(self.arguments.staleness);
-        fresh_since(u64::from(round.now), staleness, at_least)
+        Bounds::fresh_since(u64::from(round.now), staleness, at_least)
     }
 
     /// Bids on the item. Returns the stamp of the bid, where it was made.
@@ -222,18 +222,13 @@ fn keep<'a, J: Naming, R: Wait>(
     Some(keeper)
 }
 
-/// Counts how often the first node was asked by then, and how often that had an answer.
+/// Counts how often the nodes were asked by then, and how often that had an answer.
 fn count_lookups<J: Naming, R: Wait>(rt: &R, client: &mut Guest<'_, J>, tally: &mut Tally)
     ensures { tally.new ≡ record tally.old { lookups = tally.new.lookups; hits = tally.new.hits } }
 {
-    let Some(counts) = client.node_counts(rt, 0) else {
-        return;
-    };
-    for function in 0..3u8 {
-        let of = counts.of(function);
-        tally.lookups = tally.lookups.saturating_add(of.lookups);
-        tally.hits = tally.hits.saturating_add(of.hits);
-    }
+    let numbers = client.numbers(rt);
+    tally.lookups = tally.lookups.saturating_add(numbers.lookups);
+    tally.hits = tally.hits.saturating_add(numbers.hits);
 }
 
 impl Visitor<Auction, AuctionFunction> for Crowd {
@@ -243,7 +238,7 @@ impl Visitor<Auction, AuctionFunction> for Crowd {
 
     ghost gives = { λ crowd plan row number tally. HasTallied crowd.arguments.pages crowd.arguments tally };
 
-    /// The first visitor keeps the site, and counts what its first node did.
+    /// The first visitor keeps the site, and counts what its nodes did.
     fn visit<J: Naming + Send + Sync, R: Wait>(
         &self,
         rt: &R,

@@ -8,8 +8,8 @@ ghost use Rattle.shop.specs.Trade.{HasVisited, WritesTrade};
 use std::alloc::{AllocError, Global};
 use std::sync::Wait;
 use txc_site::{
-    Answer, App, Application, Ask, Bytes, Change, ChangeTxn, InTurn, Key, Naming, OneCall, Plan,
-    Query, Row, RunError, SiteClient, Stamp, Straight, Table, Visitor, fresh_since, with_site,
+    Answer, App, Application, Ask, Bounds, Bytes, Change, ChangeTxn, InTurn, Key, Naming, OneCall,
+    Plan, Query, Row, RunError, SiteClient, Stamp, Straight, Table, Visitor, with_site,
 };
 
 /// How many products there are, and how many pieces of each in the beginning.
@@ -170,7 +170,7 @@ impl Visitor<Shop, Turn> for Visitors {
                 at_least = written.committed.stamp;
             }
             let page = OneCall::new(Shop::ProductPage as u8, &[product]).unwrap();
-            let bounds = fresh_since(u64::from(round), 2, at_least);
+            let bounds = Bounds::fresh_since(u64::from(round), 2, at_least);
             let (shown, next) = next.read(rt, alloc, bounds, &page);
             client = next;
             torn += u32::from(!shown.is_ok_and(|it| it.output.bytes().len() == PIECES + 1));

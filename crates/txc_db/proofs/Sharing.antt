@@ -1,7 +1,7 @@
 -- What is done under the lock, as the caller of a shared database gets it.
 use Rattle.std.proofs.Common.{◌≡◌, ◌≤◌, ℕ, List, length, refl, sym, subst}
 use Rattle.std.specs.Prelude.{Result, Ok, Err, IfOk, IfErr, IsOk}
-use Rattle.std.proofs.lemmas.Result.{IfErr-weaker}
+use Rattle.std.proofs.lemmas.Result.{IfErr-weaker, IfOk-weaker}
 use Rattle.txc_rows.specs.declared.query.Query.{Query}
 use Rattle.txc_validity.specs.declared.answer.Found.{Found}
 use Rattle.txc_validity.specs.Answers.{IsAnswer}
@@ -19,6 +19,10 @@ pub may_refuse : {T E : Type 0} (d : DatabaseValue) (events : List ℕ) (refused
 may_refuse d events refused r one h = IfErr-weaker r (refused d) (MayRefuse events refused) (λ e w. (d, one, w)) h
 
 -- and the one that answers
+pub may_answer : {T E : Type 0} (d : DatabaseValue) (events : List ℕ) (answers : DatabaseValue → T → Type 0) (r : Result T E) → IsDatabaseOf events d → IfOk r (answers d) → IfOk r (MayAnswer events answers)
+may_answer d events answers r one h = IfOk-weaker r (answers d) (MayAnswer events answers) (λ a w. (d, one, w)) h
+
+-- so does a query
 pub query_result : (d : DatabaseValue) (events : List ℕ) (q : Query) (stamp : ℕ) (r : Result (Answered Found) DbError) → IsDatabaseOf events d
     → IfOk r (λ answered. IsAnswer (state_at d.history) q stamp d.horizon (newest d) answered.answer)
     → IfOk r (λ answered. answered.front ≡ front_of d)

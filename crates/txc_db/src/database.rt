@@ -3,6 +3,7 @@ ghost use Rattle.std.specs.Prelude.{◌≡◌, ◌+◌, ◌≤◌, ◌⊎◌, �
 ghost use Rattle.std.specs.Arc.{arc_value};
 ghost use Rattle.txc_rows.specs.RowTags.{query_tag};
 ghost use Rattle.txc_db.specs.History.{event_at, pin_event};
+ghost use Rattle.txc_db.specs.DatabaseValue.{next_horizon};
 ghost use Rattle.txc_db.specs.Calls.{IsHoldRefused, IsUnpinRefused, IsVacuumRefused, IsQueryRefused, IsPinRefused};
 ghost use Rattle.txc_db.specs.Shared.{IsDatabaseOf, MayAnswer, IsQueryAnswer, IsQuietIn, IsEventIn, MayRefuse, IsSharedCommitRefused};
 
@@ -143,6 +144,7 @@ impl<J: Naming> Database<J> {
 
     /// Makes the horizon the least held stamp, or the newest where none is held, and answers it.
     pub fn vacuum(&self, rt: &impl Wait) -> Result<Stamp, DbError>
+        ensures answer { IfOk result (MayAnswer J.database_row (λ d horizon. horizon ≡ next_horizon d)) }
         ensures refused { IfErr result (MayRefuse J.database_row IsVacuumRefused) }
     {
         lock_soon(rt, &self.lock).vacuum()

@@ -22,7 +22,9 @@ use Rattle.txc_site.specs.contracts.client.SiteClient.TheInside as inside
 use Rattle.txc_site.specs.contracts.foundation.Foundation as Foundation
 use Rattle.txc_site.specs.contracts.ledger.Ledger as Ledger
 use Rattle.txc_site.proofs.ledger.Committer.TheSendSync as committer
+use Rattle.txc_site.proofs.clock.Moment.TheSendSync as moment
 use Rattle.txc_site.proofs.numbers.Tally.TheSendSync as tally
+use Rattle.txc_site.specs.contracts.numbers.Tally as Tally
 use Rattle.txc_site.proofs.plan.Plan.TheSendSync as plan
 
 module _ (J : RattleType) (g : naming.Ghosts J.Denot) where
@@ -33,7 +35,7 @@ module _ (A J : RattleType) (a : app.Ghosts A.Denot) (g : naming.Ghosts J.Denot)
   pub foundation_sync : IsSync (Foundation.the_row A J a g)
   foundation_sync = declared_sync (Foundation.the_type A J a g) (
     ledger_sync J g,
-    (Vec-sync (SharedNode.the_row A J a g) (node_sync A a J g), (plan.the_sync, (tally.the_sync, tt))),
+    (Vec-sync (SharedNode.the_row A J a g) (node_sync A a J g), (plan.the_sync, (Vec-sync Tally.the_row tally.the_sync, (moment.the_sync, tt)))),
   )
 
 module _ (l : NamedLft) (A D J : RattleType) (a : app.Ghosts A.Denot) (d : definition.Ghosts D.Denot) (g : naming.Ghosts J.Denot) where
@@ -45,6 +47,6 @@ module _ (l : NamedLft) (A D J : RattleType) (a : app.Ghosts A.Denot) (d : defin
         as_row_send (shr_ref_field l (Foundation.the_row A J a g) tt) (shr_send _ _ _ (foundation_sync A J a g)),
         (
           client_send l A (Function.the_row D d) J a ghosts g object,
-          (registry.the_send A (Function.the_row D d) a ghosts object, (committer.the_send J g, tt)),
+          (registry.the_send A (Function.the_row D d) a ghosts object, (committer.the_send J g, (as_row_send (shr_ref_field l Tally.the_row tt) (shr_send _ _ _ tally.the_sync), tt))),
         ),
       ))

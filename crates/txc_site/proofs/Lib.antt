@@ -1,8 +1,8 @@
 pub mod Crosses
 mod Guests
-pub mod Keeping
 mod Listing
 mod NodeHistories
+pub mod NodesKept
 pub mod Opened
 mod Pages
 mod Tried

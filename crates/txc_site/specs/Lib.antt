@@ -1,6 +1,7 @@
 pub mod Attempts
 pub mod Counted
 pub mod Generations
+pub mod Guests
 pub mod Keeping
 pub mod Opened
 pub mod Histories
@@ -9,6 +10,7 @@ pub mod Plans
 pub mod Retired
 pub mod Sites
 pub mod Stations
+pub mod Tending
 pub mod Writes
 pub use Rattle.txc_app.specs.Eval
 pub use Rattle.txc_app.specs.declared.ask.Answer

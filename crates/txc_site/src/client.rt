@@ -17,7 +17,7 @@ use crate::error::{ReadError, SiteError, WriteError};
 use crate::foundation::Foundation;
 use crate::keeper::Keeper;
 use crate::ledger::Committer;
-use crate::numbers::Numbers;
+use crate::numbers::{Numbers, Tally};
 use crate::page::Page;
 use crate::reading::{Shown, read_page};
 use crate::writing::{Written, write_change};
@@ -39,6 +39,7 @@ pub struct SiteClient<'a, A: App, D: Definition, J: Naming> {
     reader: Client<'a, A, Function<D>, J>,
     writer: Registry<A, Function<D>>,
     committer: Committer<J>,
+    tally: &'a Tally,
 }
 
 impl<'a, A: App, D: Definition, J: Naming> Model for SiteClient<'a, A, D, J> {
@@ -63,6 +64,7 @@ impl<'a, A: App, D: Definition, J: Naming> SiteClient<'a, A, D, J> {
         reader: Client<'a, A, Function<D>, J>,
         writer: Registry<A, Function<D>>,
         committer: Committer<J>,
+        tally: &'a Tally,
     ) -> Self
         requires { AllIdle writer }
         ensures { result ≡ record {
@@ -77,6 +79,7 @@ impl<'a, A: App, D: Definition, J: Naming> SiteClient<'a, A, D, J> {
             reader,
             writer,
             committer,
+            tally,
         }
     }
 
@@ -114,14 +117,16 @@ impl<'a, A: App, D: Definition, J: Naming> SiteClient<'a, A, D, J> {
             reader,
             writer,
             committer,
+            tally,
         } = self;
         let (shown, reader) = read_page(rt, alloc, reader, bounds, page);
-        foundation.tally.count_read(&shown);
+        tally.count_read(&shown);
         let client = SiteClient {
             foundation,
             reader,
             writer,
             committer,
+            tally,
         };
         (shown, client)
     }
@@ -152,6 +157,7 @@ impl<'a, A: App, D: Definition, J: Naming> SiteClient<'a, A, D, J> {
             reader,
             writer,
             mut committer,
+            tally,
         } = self;
         let (written, writer) = write_change(
             rt,
@@ -162,12 +168,13 @@ impl<'a, A: App, D: Definition, J: Naming> SiteClient<'a, A, D, J> {
             tries,
             change,
         );
-        foundation.tally.count_write(&written);
+        tally.count_write(&written);
         let client = SiteClient {
             foundation,
             reader,
             writer,
             committer,
+            tally,
         };
         (written, client)
     }
@@ -189,6 +196,11 @@ impl<'a, A: App, D: Definition, J: Naming> SiteClient<'a, A, D, J> {
         self.committer.commits()
     }
 
+    /// What the clock of a site that keeps itself told last, in milliseconds. 0 where no clock was looked at.
+    pub fn now(&self) -> u64 {
+        self.foundation.moment.get()
+    }
+
     /// What all clients of the site have done by then, and what its nodes were asked, of which the client is then
     /// shown all records. A node that refuses is left out.
     pub fn numbers(&mut self, rt: &impl Wait) -> Numbers
@@ -196,7 +208,7 @@ impl<'a, A: App, D: Definition, J: Naming> SiteClient<'a, A, D, J> {
         ensures reader { self.new.reader ≡ record self.old.reader { passes = self.new.reader.passes } }
         ensures passes { HaveGrown self.old.reader.passes self.new.reader.passes }
     {
-        let numbers = self.foundation.tally.numbers();
+        let numbers = Numbers::of(&self.foundation.tallies);
         numbers.with_nodes_of(rt, &mut self.reader)
     }
 

@@ -4,6 +4,7 @@ ghost use Rattle.txc_db.specs.Shared.{IsDatabaseOf};
 ghost use Rattle.txc_site.specs.Plans.{nodes_of, IsPlan};
 ghost use Rattle.txc_site.specs.Histories.{AreHistoriesOf};
 
+use crate::clock::Moment;
 use crate::keeper::retire;
 use crate::ledger::{Committers, Ledger};
 use crate::node_history::NodeHistory;
@@ -21,7 +22,8 @@ pub(crate) struct Foundation<A: App, J: Naming> {
     pub(crate) ledger: Ledger<J>,
     pub(crate) nodes: Vec<SharedNode<A, J>>,
     pub(crate) plan: Plan,
-    pub(crate) tally: Tally,
+    pub(crate) tallies: Vec<Tally>,
+    pub(crate) moment: Moment,
     ghost some: { 1 ≤ vec_len nodes },
     ghost planned: { nodes.items ≡ nodes_of plan },
 }
@@ -52,19 +54,21 @@ fn nodes<A: App, J: Naming>(
 }
 
 impl<A: App, J: Naming> Foundation<A, J> {
-    /// Puts the database and the nodes of these histories under their locks. Whoever is to commit gets a
-    /// committer.
+    /// Puts the database and the nodes of these histories under their locks, for so many clients. Whoever is to
+    /// commit gets a committer.
     pub(crate) fn new(
         alloc: Global,
         plan: Plan,
         core: DbCore,
         histories: Vec<NodeHistory>,
+        count: usize,
     ) -> Result<(Foundation<A, J>, Committers<J>), AllocError>
         requires plan { IsPlan plan }
         requires database { core.events ≡ J.database_row }
         requires each { vec_len histories ≡ plan.nodes }
         requires histories { AreHistoriesOf J.node_histories 0 histories.items }
-        ensures { IfOk result (λ made. made.0.plan ≡ plan) }
+        ensures plan { IfOk result (λ made. made.0.plan ≡ plan) }
+        ensures tallies { IfOk result (λ made. vec_len made.0.tallies ≡ count) }
     {
         let (ledger, committers) = Ledger::<J>::new(alloc, core)?;
         let nodes = nodes(alloc, plan, histories, &ledger)?;
@@ -72,7 +76,8 @@ impl<A: App, J: Naming> Foundation<A, J> {
             ledger,
             nodes,
             plan,
-            tally: Tally::new(),
+            tallies: Tally::each(alloc, count)?,
+            moment: Moment::new(),
         };
         Ok((foundation, committers))
     }
@@ -85,7 +90,8 @@ impl<A: App, J: Naming> Foundation<A, J> {
             ledger,
             nodes: _,
             plan: _,
-            tally: _,
+            tallies: _,
+            moment: _,
         } = self;
         let _ = retire(rt, alloc, &ledger, u64::MAX, 0);
         ledger.into_core()

@@ -4,7 +4,8 @@ ghost use Rattle.txc_cushion.specs.Cushion.{retired};
 ghost use Rattle.txc_cushion.specs.Shared.{CushionMayAnswer};
 ghost use Rattle.txc_db.specs.Calls.{IsHoldRefused, IsPinRefused, IsVacuumRefused};
 ghost use Rattle.txc_db.specs.History.{event_at, pin_event};
-ghost use Rattle.txc_db.specs.Shared.{MayRefuse};
+ghost use Rattle.txc_db.specs.DatabaseValue.{next_horizon};
+ghost use Rattle.txc_db.specs.Shared.{MayAnswer, MayRefuse};
 ghost use Rattle.txc_site.specs.Keeping.{HasKeptNode, HasSwept, HasTakenEvents, HaveKept, ok_of};
 ghost use Rattle.txc_site.specs.Plans.{nodes_of};
 ghost use Rattle.txc_site.specs.Sites.{IsKeeperRefused};
@@ -75,7 +76,7 @@ pub struct Keeper<'a, A: App, J: Naming> {
 }
 
 /// Lets the node take events, [`MAX_TAKEN`] at most.
-#[tactic(auto, using(crate::proofs::Keeping::same_then))]
+#[tactic(auto, using(crate::proofs::NodesKept::same_then))]
 fn advance<A: App, J: Naming>(
     rt: &impl Wait,
     alloc: Global,
@@ -130,7 +131,7 @@ fn stations<'a, A: App, J: Naming>(
 }
 
 /// Keeps the node of a station.
-#[tactic(auto, using(crate::proofs::Keeping::same_then))]
+#[tactic(auto, using(crate::proofs::NodesKept::same_then))]
 fn keep_node<'a, A: App, J: Naming>(
     rt: &impl Wait,
     alloc: Global,
@@ -275,6 +276,8 @@ impl<'a, A: App, J: Naming> Keeper<'a, A, J> {
             (MayRefuse J.database_row (λ d. IsPinRefused d 0))) }
         ensures retired { IfOk result.0 (λ kept. IfOk kept.retired
             (CushionMayAnswer J.database_row (λ c stamps. stamps.items ≡ retired c now age))) }
+        ensures horizon { IfOk result.0 (λ kept. IfOk kept.horizon
+            (MayAnswer J.database_row (λ d horizon. horizon ≡ next_horizon d))) }
         ensures no_horizon { IfOk result.0 (λ kept. IfErr kept.horizon
             (MayRefuse J.database_row IsVacuumRefused)) }
         ensures nodes { IfOk result.0 (λ kept.

@@ -9,7 +9,6 @@ ghost use Rattle.txc_txn.specs.Core.{Explains};
 ghost use Rattle.txc_txn.specs.Sessions.{IsAtLeast};
 
 use crate::application::Application;
-use crate::bounds::fresh_since;
 use crate::error::LastError;
 use crate::foundation::Foundation;
 use crate::node_history::{NodeHistory, new_histories};
@@ -23,6 +22,7 @@ use std::sync::Wait;
 use txc_db::{DbCore, Naming};
 use txc_definition::Definition;
 use txc_permits::PermitPool;
+use txc_ports::Bounds;
 use txc_stamp::Stamp;
 
 /// What a site leaves once all its threads have ended: its database. Contracts see the history of that.
@@ -109,10 +109,10 @@ where
     ensures row { IfOk result (λ shown. shown.receipt.seen.events ≡ J.database_row) }
     ensures refused { IfErr result (IsLastRefused A.numbers (P.refuses page.now)) }
 {
-    let (foundation, committers) = Foundation::<A, J>::new(alloc, plan, core, histories)?;
+    let (foundation, committers) = Foundation::<A, J>::new(alloc, plan, core, histories, 1)?;
     let mut pool = PermitPool::new(alloc, plan.permits)?;
-    let client = client::<A, D, J>(rt, alloc, &foundation, &committers, &mut pool)?;
-    let bounds = fresh_since(u64::MAX, u64::MAX, newest);
+    let client = client::<A, D, J>(rt, alloc, &foundation, 0, &committers, &mut pool)?;
+    let bounds = Bounds::fresh_since(u64::MAX, u64::MAX, newest);
     let (shown, _client) = client.read(rt, alloc, bounds, page);
     match shown {
         Ok(shown) => Ok(shown),

@@ -14,14 +14,15 @@
 #![tactic(auto)]
 
 mod application;
-mod bounds;
 mod change;
 mod client;
+mod clock;
 mod error;
 mod foundation;
 mod generations;
 mod histories;
 mod keeper;
+mod keeping;
 mod last_state;
 pub mod laws;
 mod ledger;
@@ -41,16 +42,17 @@ mod visitor;
 mod writing;
 
 pub use application::Application;
-pub use bounds::{fresh, fresh_since};
 pub use change::{Change, ChangeTxn};
 pub use client::SiteClient;
+pub use clock::{Clock, CountedClock, SystemClock};
 pub use error::{GenerationError, LastError, OpenError, ReadError, SiteError, WriteError};
-pub use generations::{Served, with_generations};
+pub use generations::{Served, with_generations, with_generations_at};
 pub use keeper::{Ended, Keeper, Kept, KeptNode, MAX_TAKEN};
+pub use keeping::{Keeping, Tended};
 pub use last_state::LastState;
 pub use ledger::Horizon;
 pub use numbers::Numbers;
-pub use opening::{Visited, with_site};
+pub use opening::{Visited, with_clock, with_site};
 pub use page::{OneCall, Page};
 pub use page_txn::{Begun, PageTxn};
 pub use plan::{MAX_NODES, Plan};

@@ -1,10 +1,11 @@
 //! The numbers of a site.
-ghost use Rattle.std.specs.Prelude.{◌≡◌};
+ghost use Rattle.std.specs.Prelude.{◌≡◌, IfOk, vec_len};
 ghost use Rattle.txc_client.specs.Ports.{HaveGrown};
 
 use crate::error::{ReadError, WriteError};
 use crate::reading::Shown;
 use crate::writing::Written;
+use std::alloc::{AllocError, Global};
 use std::sync::Wait;
 use std::sync::atomic::{AtomicU64, Ordering};
 use txc_app::App;
@@ -32,6 +33,34 @@ pub struct Numbers {
 }
 
 impl Numbers {
+    /// What these clients have counted by then. The nodes were not asked.
+    pub(crate) fn of(tallies: &[Tally]) -> Numbers {
+        let mut numbers = Numbers {
+            pages: 0,
+            changes: 0,
+            conflicts: 0,
+            refusals: 0,
+            lookups: 0,
+            hits: 0,
+        };
+        for tally in tallies {
+            numbers = numbers.with_tally(tally);
+        }
+        numbers
+    }
+
+    /// The same, with what one client has counted.
+    fn with_tally(self, tally: &Tally) -> Numbers {
+        let more = |number: u64, by: &AtomicU64| number.wrapping_add(by.load(Ordering::SeqCst));
+        Numbers {
+            pages: more(self.pages, &tally.pages),
+            changes: more(self.changes, &tally.changes),
+            conflicts: more(self.conflicts, &tally.conflicts),
+            refusals: more(self.refusals, &tally.refusals),
+            ..self
+        }
+    }
+
     /// The same, with what one node was asked.
     fn with_node(self, counts: &Counts) -> Numbers {
         let mut numbers = self;
@@ -81,13 +110,15 @@ impl Numbers {
     }
 }
 
-/// What the threads of a site count together. Each number begins anew after 2^64.
+/// What one client of a site counts, which the others read. Each number begins anew after 2^64.
 #[derive(Drop)]
 pub(crate) struct Tally {
     pages: AtomicU64,
     changes: AtomicU64,
     conflicts: AtomicU64,
     refusals: AtomicU64,
+    // No two tallies lie in one line of a cache.
+    _apart: [u64; 12],
 }
 
 impl Tally {
@@ -97,7 +128,19 @@ impl Tally {
             changes: AtomicU64::new(0),
             conflicts: AtomicU64::new(0),
             refusals: AtomicU64::new(0),
+            _apart: [0; 12],
         }
+    }
+
+    /// A tally for each of so many clients.
+    pub(crate) fn each(alloc: Global, count: usize) -> Result<Vec<Tally>, AllocError>
+        ensures { IfOk result (λ tallies. vec_len tallies ≡ count) }
+    {
+        let mut tallies = Vec::with_capacity(alloc, count)?;
+        for _ in 0..count {
+            tallies.push(Tally::new())?;
+        }
+        Ok(tallies)
     }
 
     /// Counts a page that was shown or refused.
@@ -124,17 +167,5 @@ impl Tally {
             }
         };
         self.conflicts.fetch_add(conflicts as u64, Ordering::SeqCst);
-    }
-
-    /// What was counted by then. The nodes were not asked.
-    pub(crate) fn numbers(&self) -> Numbers {
-        Numbers {
-            pages: self.pages.load(Ordering::SeqCst),
-            changes: self.changes.load(Ordering::SeqCst),
-            conflicts: self.conflicts.load(Ordering::SeqCst),
-            refusals: self.refusals.load(Ordering::SeqCst),
-            lookups: 0,
-            hits: 0,
-        }
     }
 }

@@ -1,3 +1,5 @@
+use crate::error::SiteError;
+use crate::keeping::Tended;
 use crate::numbers::Numbers;
 use crate::visitor::Visitor;
 use txc_app::App;
@@ -15,6 +17,8 @@ pub struct Generation<T> {
     pub ended: HistoryFront,
     /// What each thread came to, in the order of their numbers.
     pub outputs: Vec<T>,
+    /// What the site's own keeper came to, or why there was none; nothing where the plan has none.
+    pub tended: Option<Result<Tended, SiteError>>,
     /// What the threads did in all.
     pub numbers: Numbers,
 }

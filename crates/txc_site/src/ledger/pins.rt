@@ -4,7 +4,8 @@ ghost use Rattle.txc_cushion.specs.Cushion.{retired};
 ghost use Rattle.txc_cushion.specs.Shared.{CushionMayAnswer};
 ghost use Rattle.txc_db.specs.Calls.{IsPinRefused, IsVacuumRefused};
 ghost use Rattle.txc_db.specs.History.{event_at, pin_event};
-ghost use Rattle.txc_db.specs.Shared.{MayRefuse};
+ghost use Rattle.txc_db.specs.DatabaseValue.{next_horizon};
+ghost use Rattle.txc_db.specs.Shared.{MayAnswer, MayRefuse};
 
 use crate::ledger::Ledger;
 use std::alloc::{AllocError, Global};
@@ -217,7 +218,8 @@ impl<J: Naming> Ledger<J> {
 
     /// Makes the horizon the least held stamp, or the newest where none is held.
     pub(crate) fn vacuum(&self, rt: &impl Wait) -> Result<Horizon<J>, DbError>
-        ensures { IfErr result (MayRefuse J.database_row IsVacuumRefused) }
+        ensures answer { IfOk result (MayAnswer J.database_row (λ d horizon. horizon ≡ next_horizon d)) }
+        ensures refused { IfErr result (MayRefuse J.database_row IsVacuumRefused) }
     {
         let stamp = self.database.vacuum(rt)?;
         Ok(Horizon {

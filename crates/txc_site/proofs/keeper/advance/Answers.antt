@@ -1,6 +1,6 @@
 use Rattle.std.proofs.Common.{◌∷◌, subst, arith}
 use Rattle.txc_shared.specs.Passes.{HasTaken}
-use Rattle.txc_site.proofs.Keeping.{one_taken_more, same_then}
+use Rattle.txc_site.proofs.NodesKept.{one_taken_more, same_then}
 use Rattle.txc_site.proofs.keeper.advance.Goals as goal
 
 pub loop-preserved : goal.loop-preserved

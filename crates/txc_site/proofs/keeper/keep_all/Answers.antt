@@ -1,7 +1,7 @@
 use Rattle.std.proofs.Common.{rules, [], ◌∷◌, ◌++◌, ap, length, arith}
 use Rattle.std.proofs.lemmas.Grind.{common_steps}
 use Rattle.txc_site.specs.Keeping.{ok_of}
-use Rattle.txc_site.proofs.Keeping.{none_kept, one_left_more, one_station_less}
+use Rattle.txc_site.proofs.NodesKept.{none_kept, one_left_more, one_station_less}
 use Rattle.txc_site.proofs.keeper.keep_all.Goals as goal
 
 pub loop-station-init : goal.loop-station-init

@@ -1,5 +1,5 @@
 use Rattle.std.proofs.Common.{◌<◌, length, arith}
-use Rattle.txc_site.proofs.Keeping.{none_has_seen, one_station_more}
+use Rattle.txc_site.proofs.NodesKept.{none_has_seen, one_station_more}
 use Rattle.txc_site.proofs.keeper.stations.Goals as goal
 
 pub loop-node-preserved : goal.loop-node-preserved

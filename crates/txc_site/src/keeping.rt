@@ -1,0 +1,121 @@
+//! A site that keeps itself.
+ghost use Rattle.std.specs.Prelude.{IfErr, IfOk};
+ghost use Rattle.txc_site.specs.Plans.{nodes_of};
+ghost use Rattle.txc_site.specs.Sites.{IsKeeperRefused};
+ghost use Rattle.txc_site.specs.Tending.{HasTended, IsNewOwnKeeper, IsTendedBy};
+
+use crate::clock::Clock;
+use crate::error::SiteError;
+use crate::foundation::Foundation;
+use crate::keeper::Keeper;
+use std::alloc::Global;
+use std::marker::Model;
+use std::sync::Wait;
+use std::sync::atomic::{AtomicBool, Ordering};
+use std::thread;
+use txc_app::App;
+use txc_db::{DbError, Naming};
+
+/// How a site keeps itself: each time `every` milliseconds have gone by, it does what
+/// [`Keeper::keep`](crate::Keeper::keep) does, where pins stay for `age`.
+#[derive(Clone, Copy, Debug, PartialEq, Eq)]
+pub struct Keeping {
+    pub every: u64,
+    pub age: u64,
+}
+
+/// What the keeper of a site that keeps itself came to.
+#[derive(Clone, Copy, Debug, PartialEq, Eq)]
+pub struct Tended {
+    /// How often it kept. The number begins anew after 2^64.
+    pub keeps: u64,
+    /// Why the last keep that did nothing was refused; none where each did something.
+    pub refused: Option<DbError>,
+}
+
+/// A keeper with what it came to, which only [`OwnKeeper::keep`] changes.
+#[derive(Drop)]
+struct OwnKeeper<'a, A: App, J: Naming> {
+    keeper: Keeper<'a, A, J>,
+    tended: Tended,
+}
+
+impl<'a, A: App, J: Naming> Model for OwnKeeper<'a, A, J> {
+    ghost use Rattle.txc_site.specs.Tending.{OwnKeeperValue};
+
+    ghost Value = { OwnKeeperValue };
+
+    ghost view = { λ own. record { stations = own.keeper; tended = own.tended } };
+}
+
+impl<'a, A: App, J: Naming> OwnKeeper<'a, A, J> {
+    fn new(
+        rt: &impl Wait,
+        alloc: Global,
+        foundation: &'a Foundation<A, J>,
+    ) -> Result<Self, SiteError>
+        ensures new { IfOk result (IsNewOwnKeeper (nodes_of foundation.now.plan)) }
+        ensures refused { IfErr result IsKeeperRefused }
+    {
+        Ok(OwnKeeper {
+            keeper: Keeper::new(rt, alloc, foundation)?,
+            tended: Tended {
+                keeps: 0,
+                refused: None,
+            },
+        })
+    }
+
+    /// Keeps the site, and counts that.
+    fn keep(self, rt: &impl Wait, alloc: Global, now: u64, age: u64) -> Self
+        ensures { HasTended J.database_row J.node_histories now age self.entry result }
+    {
+        let OwnKeeper { keeper, tended } = self;
+        let keeps = tended.keeps.wrapping_add(1);
+        let (kept, keeper) = keeper.keep(rt, alloc, now, age);
+        match kept {
+            Ok(_kept) => OwnKeeper {
+                keeper,
+                tended: Tended { keeps, ..tended },
+            },
+            Err(cause) => OwnKeeper {
+                keeper,
+                tended: Tended {
+                    keeps,
+                    refused: Some(cause),
+                },
+            },
+        }
+    }
+}
+
+/// Keeps the site at this clock until the visitors have ended.
+pub(crate) fn keep_until_ended<A: App, J: Naming, C: Clock, R: Wait>(
+    rt: &R,
+    alloc: Global,
+    foundation: &Foundation<A, J>,
+    keeping: Keeping,
+    clock: &C,
+    ended: &AtomicBool,
+) -> Result<Tended, SiteError>
+    ensures tended { IfOk result
+        (IsTendedBy J.database_row (nodes_of foundation.now.plan) (C.tells clock.now) keeping.age) }
+    ensures refused { IfErr result IsKeeperRefused }
+{
+    let mut own = OwnKeeper::new(rt, alloc, foundation)?;
+    let mut next = 0;
+    for _ in rt.forever() {
+        let now = clock.now();
+        foundation.moment.set(now);
+        if ended.load(Ordering::SeqCst) {
+            return Ok(own.tended);
+        }
+        if now < next {
+            thread::yield_now();
+        } else {
+            next = now.saturating_add(keeping.every);
+            own = own.keep(rt, alloc, now, keeping.age);
+        }
+    }
+    unreachable!()
+}
