@@ -1,19 +1,22 @@
 //! Replies as text, written after what is not written out yet.
-ghost use Rattle.std.specs.Prelude.{◌≡◌, ℕ, ◌+◌, ◌*◌, ◌<◌, ◌≤◌, [], ◌∷◌, ◌++◌, length, OnOk, OnErr, codes, vec_len, vec_capacity};
+ghost use Rattle.std.specs.Prelude.{◌≡◌, ℕ, ◌+◌, ◌*◌, ◌<◌, ◌≤◌, [], ◌∷◌, ◌++◌, length, map, OnOk, OnErr, codes, vec_len, vec_capacity};
 ghost use Rattle.std.specs.Fmt.{decimal};
-ghost use Rattle.std.specs.List.{flat_map};
+ghost use Rattle.std.specs.List.{flat_map, join_with_byte};
 ghost use Rattle.txc_stamp.specs.Texts.{reach_text};
+ghost use Rattle.txc_tags.specs.TextKey.{key_text};
 ghost use Rattle.txc_node.specs.Hit.{seen};
 ghost use Rattle.txc_node.specs.Steps.{seen_reply};
-ghost use Rattle.txc_node.specs.Texts.{digit_of, digits_of, hex_text, reply_text};
+ghost use Rattle.txc_node.specs.Texts.{digit_of, digits_of, evicted_text, hex_text, inserted_text, reply_text};
+ghost use Rattle.txc_node.specs.declared.node.Inserted.TheVariants.{Stored};
 ghost use Rattle.txc_node.specs.declared.reply.Reply.TheVariants as replies;
 
 use std::alloc::{AllocError, Global};
-use txc_node::{Hit, Inserted, Reply, Value};
+use txc_node::{Entry, Hit, Inserted, Reply, Value};
 use txc_stamp::Reach;
+use txc_tags::Key;
 
 /// More bytes than a reply takes beside the digits of a value.
-const MAX_REPLY: usize = 128;
+const MAX_REPLY: usize = 256;
 
 /// Puts bytes at the end, where there is room for them.
 #[inline(always)]
@@ -37,10 +40,10 @@ fn put_number(text: &mut Vec<u8>, number: u64)
     ensures capacity { vec_capacity text.old ≤ vec_capacity text.new }
 {
     if number < 10 {
-        return put(text, &[b'0' + number as u8]);
+        return text.push_reserved(b'0' + number as u8);
     }
     put_number(text, number / 10);
-    put(text, &[b'0' + (number % 10) as u8])
+    text.push_reserved(b'0' + (number % 10) as u8)
 }
 
 /// Puts a number of at most 20 digits at the end.
@@ -64,6 +67,18 @@ fn digit(n: u8) -> u8
     if n < 10 { b'0' + n } else { b'a' + (n - 10) }
 }
 
+/// Puts the two digits of a byte at the end.
+#[inline(always)]
+fn put_byte(text: &mut Vec<u8>, byte: u8)
+    requires { vec_len text.old + 2 ≤ vec_capacity text.old }
+    ensures after { text.new.items ≡ text.old.items ++ digits_of byte }
+    ensures len { vec_len text.new ≡ vec_len text.old + 2 }
+    ensures capacity { vec_capacity text.old ≤ vec_capacity text.new }
+{
+    text.push_reserved(digit(byte / 16));
+    text.push_reserved(digit(byte % 16));
+}
+
 /// Puts the two digits of each byte at the end.
 fn put_digits(text: &mut Vec<u8>, bytes: &[u8])
     requires { vec_len text.old + 2 * length bytes.now ≤ vec_capacity text.old }
@@ -72,7 +87,7 @@ fn put_digits(text: &mut Vec<u8>, bytes: &[u8])
     ensures capacity { vec_capacity text.old ≤ vec_capacity text.new }
 {
     for byte in bytes {
-        put(text, &[digit(*byte / 16), digit(*byte % 16)]);
+        put_byte(text, *byte);
     }
 }
 
@@ -85,7 +100,7 @@ fn put_value(text: &mut Vec<u8>, value: &Value)
 {
     let bytes = value.bytes();
     if bytes.is_empty() {
-        return put(text, b"-");
+        return text.push_reserved(b'-');
     }
     put_digits(text, bytes)
 }
@@ -97,9 +112,9 @@ fn put_reach(text: &mut Vec<u8>, reach: Reach)
     ensures len { vec_len text.new ≤ vec_len text.old + 50 }
     ensures capacity { vec_capacity text.old ≤ vec_capacity text.new }
 {
-    put(text, b"[");
+    text.push_reserved(b'[');
     put_u64(text, u64::from(reach.lo().number()));
-    put(text, b",");
+    text.push_reserved(b',');
     put_u64(text, u64::from(reach.known().number()) + 1);
     if reach.is_still() {
         put(text, b") still")
@@ -115,7 +130,105 @@ fn put_count(text: &mut Vec<u8>, word: &[u8], count: u64)
 {
     put(text, word);
     put_u64(text, count);
-    put(text, b"\n");
+    text.push_reserved(b'\n');
+}
+
+/// Puts a number of at most 10 digits at the end.
+#[inline(always)]
+fn put_u32(text: &mut Vec<u8>, number: u32)
+    requires { vec_len text.old + 20 ≤ vec_capacity text.old }
+    ensures after { text.new.items ≡ text.old.items ++ decimal number }
+    ensures len { vec_len text.new ≤ vec_len text.old + 20 }
+    ensures capacity { vec_capacity text.old ≤ vec_capacity text.new }
+{
+    put_u64(text, u64::from(number))
+}
+
+/// Puts a comma and a number at the end.
+#[inline(always)]
+fn put_other(text: &mut Vec<u8>, number: u32)
+    requires { vec_len text.old + 21 ≤ vec_capacity text.old }
+    ensures after { text.new.items ≡ text.old.items ++ 44 ∷ decimal number }
+    ensures len { vec_len text.new ≤ vec_len text.old + 21 }
+    ensures capacity { vec_capacity text.old ≤ vec_capacity text.new }
+{
+    text.push_reserved(b',');
+    put_u32(text, number);
+}
+
+/// Puts numbers at the end, each with a comma before it.
+fn put_others(text: &mut Vec<u8>, numbers: &[u32])
+    requires { vec_len text.old + 21 * length numbers.now ≤ vec_capacity text.old }
+    ensures after { text.new.items ≡ text.old.items ++ flat_map (λ n. 44 ∷ decimal n) numbers.now }
+    ensures len { vec_len text.new ≤ vec_len text.old + 21 * length numbers.now }
+    ensures capacity { vec_capacity text.old ≤ vec_capacity text.new }
+{
+    for number in numbers {
+        put_other(text, *number);
+    }
+}
+
+/// Puts numbers at the end, with commas between them.
+fn put_args(text: &mut Vec<u8>, args: &[u32])
+    requires { vec_len text.old + 21 * length args.now ≤ vec_capacity text.old }
+    ensures after { text.new.items ≡ text.old.items ++ join_with_byte 44 (map decimal args.now) }
+    ensures len { vec_len text.new ≤ vec_len text.old + 21 * length args.now }
+    ensures capacity { vec_capacity text.old ≤ vec_capacity text.new }
+{
+    match args.split_first() {
+        None => {}
+        Some((first, others)) => {
+            put_u32(text, *first);
+            put_others(text, others);
+        }
+    }
+}
+
+/// Puts a key at the end: `f3(1,2)`.
+fn put_key(text: &mut Vec<u8>, key: &Key)
+    requires { vec_len text.old + 107 ≤ vec_capacity text.old }
+    ensures after { text.new.items ≡ text.old.items ++ key_text key.now }
+    ensures len { vec_len text.new ≤ vec_len text.old + 107 }
+    ensures capacity { vec_capacity text.old ≤ vec_capacity text.new }
+{
+    text.push_reserved(b'f');
+    put_u64(text, u64::from(key.function()));
+    text.push_reserved(b'(');
+    put_args(text, key.args());
+    text.push_reserved(b')');
+}
+
+/// Puts the entry at the end that was dropped, if one was.
+fn put_evicted(text: &mut Vec<u8>, evicted: &Option<Entry>)
+    requires { vec_len text.old + 137 ≤ vec_capacity text.old }
+    ensures after { text.new.items ≡ text.old.items ++ evicted_text evicted.now }
+    ensures len { vec_len text.new ≤ vec_len text.old + 137 }
+    ensures capacity { vec_capacity text.old ≤ vec_capacity text.new }
+{
+    if let Some(entry) = evicted {
+        put(text, b" evicted ");
+        put_key(text, &entry.key);
+        text.push_reserved(b'@');
+        put_u32(text, entry.reach.lo().number());
+    }
+}
+
+/// Adds the line of an insertion whose entry was stored.
+fn push_stored(
+    text: &mut Vec<u8>,
+    reach: Reach,
+    evicted: &Option<Entry>,
+) -> Result<(), AllocError>
+    ensures after { OnOk result (text.new.items
+        ≡ text.old.items ++ (inserted_text (Stored reach evicted.now) ++ 10 ∷ [])) }
+    ensures unchanged { OnErr result (text.new.items ≡ text.old.items) }
+{
+    text.reserve(MAX_REPLY)?;
+    put(text, b"stored ");
+    put_reach(text, reach);
+    put_evicted(text, evicted);
+    text.push_reserved(b'\n');
+    Ok(())
 }
 
 /// Adds the line of a hit.
@@ -127,9 +240,9 @@ fn push_hit(text: &mut Vec<u8>, hit: &Hit<'_>) -> Result<(), AllocError>
     text.reserve(MAX_REPLY + 2 * hit.value.bytes().len())?;
     put(text, b"hit ");
     put_reach(text, hit.reach());
-    put(text, b" ");
+    text.push_reserved(b' ');
     put_value(text, hit.value);
-    put(text, b"\n");
+    text.push_reserved(b'\n');
     Ok(())
 }
 
@@ -162,18 +275,7 @@ pub fn push_reply(
             put_count(text, b"closed ", *count as u64);
             Ok(())
         }
-        Reply::Inserted(
-            Inserted::Stored {
-                reach,
-                evicted: None,
-            },
-        ) => {
-            text.reserve(MAX_REPLY)?;
-            put(text, b"stored ");
-            put_reach(text, *reach);
-            put(text, b"\n");
-            Ok(())
-        }
+        Reply::Inserted(Inserted::Stored { reach, evicted }) => push_stored(text, *reach, evicted),
         _ => push_other(alloc, text, reply),
     }
 }
