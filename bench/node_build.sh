@@ -1,5 +1,5 @@
 #!/usr/bin/env bash
-# Proves and builds the program of a commit of this repository.
+# Proves and builds mode node of a commit of this repository, by itself: a program of bench/node_lines, over the six crates that mode has.
 #
 # usage: bench/node_build.sh COMMIT PROGRAM
 set -euo pipefail
@@ -10,10 +10,13 @@ trap 'exit 130' INT TERM
 
 git clone --quiet . "$room/repository"
 git -C "$room/repository" checkout --quiet "$1"
-crate=$room/repository/crates/txcache
-(cd "$crate" && rt run -- node </dev/null) >"$room/said" 2>&1 || {
+crate=$room/repository/crates/node_lines
+mkdir -p "$crate/src"
+cp bench/node_lines/src/main.rt.in "$crate/src/main.rt"
+echo 'node_lines: txc_run txc_settings anyhow' >>"$room/repository/crates.txt"
+(cd "$crate" && rt run -- node --settings 'capacity = 10' </dev/null) >"$room/said" 2>&1 || {
     cat "$room/said" >&2
     echo 'node_build.sh: the program was not proved or not run' >&2
     exit 1
 }
-cp "$crate/out/txcache" "$2"
+cp "$crate/out/node_lines" "$2"

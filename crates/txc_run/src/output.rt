@@ -214,11 +214,7 @@ fn put_evicted(text: &mut Vec<u8>, evicted: &Option<Entry>)
 }
 
 /// Adds the line of an insertion whose entry was stored.
-fn push_stored(
-    text: &mut Vec<u8>,
-    reach: Reach,
-    evicted: &Option<Entry>,
-) -> Result<(), AllocError>
+fn push_stored(text: &mut Vec<u8>, reach: Reach, evicted: &Option<Entry>) -> Result<(), AllocError>
     ensures after { OnOk result (text.new.items
         ≡ text.old.items ++ (inserted_text (Stored reach evicted.now) ++ 10 ∷ [])) }
     ensures unchanged { OnErr result (text.new.items ≡ text.old.items) }
