@@ -5,5 +5,6 @@ mod NodeHistories
 pub mod NodesKept
 pub mod Opened
 mod Pages
+mod Tending
 mod Tried
 pub mod Turns

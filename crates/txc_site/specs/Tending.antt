@@ -74,15 +74,19 @@ HaveTended row histories tells age first [] last = last ≡ first
 HaveTended row histories tells age first (now ∷ earlier) last = (before : OwnKeeperValue)
     × HaveTended row histories tells age first earlier before × tells now × HasTended row histories now age before last
 
--- a new keeper of these nodes, whatever their histories, came to this
+-- it began as a new keeper of these nodes, and did nothing but keep
+pub record HasTendedSince (row : List ℕ) (histories : ℕ → Name) (nodes : List NodeSettings) (tells : ℕ → Type 0) (age : ℕ) (own : OwnKeeperValue) : Type 0 where
+  pub first : OwnKeeperValue
+  pub moments : List ℕ
+  pub new : IsNewOwnKeeper nodes first
+  pub kept : HaveTended row histories tells age first moments own
+
+-- such a keeper of these nodes, whatever their histories, came to this
 pub record IsTendedBy (row : List ℕ) (nodes : List NodeSettings) (tells : ℕ → Type 0) (age : ℕ) (tended : Tended) : Type 0 where
   pub histories : ℕ → Name
-  pub moments : List ℕ
-  pub first : OwnKeeperValue
-  pub last : OwnKeeperValue
-  pub new : IsNewOwnKeeper nodes first
-  pub kept : HaveTended row histories tells age first moments last
-  pub told : tended ≡ last.tended
+  pub own : OwnKeeperValue
+  pub since : HasTendedSince row histories nodes tells age own
+  pub told : tended ≡ own.tended
 
 -- The site's own keeper: none where the plan has none. Else it came to this, or there was none, since a node gave it no
 -- pass, or for want of memory.

@@ -97,7 +97,7 @@ where
 {
     let (foundation, committers) = Foundation::<A, J>::new(alloc, plan, core, histories, count)?;
     let mut pool = PermitPool::new(alloc, plan.permits)?;
-    let Came { outputs, tended } = visit::<A, D, V, J, C, R>(
+    let came = visit::<A, D, V, J, C, R>(
         rt,
         alloc,
         &foundation,
@@ -107,6 +107,7 @@ where
         visitors,
         clock,
     )?;
+    let Came { outputs, tended } = came;
     let numbers = Numbers::of(&foundation.tallies).with_nodes(rt, &foundation.nodes);
     Ok(Visits {
         outputs,

@@ -90,6 +90,7 @@ impl<'a, A: App, J: Naming> OwnKeeper<'a, A, J> {
 }
 
 /// Keeps the site at this clock until the visitors have ended.
+#[tactic(auto, using(crate::proofs::Tending::since_begun, crate::proofs::Tending::once_more, crate::proofs::Tending::told_so))]
 pub(crate) fn keep_until_ended<A: App, J: Naming, C: Clock, R: Wait>(
     rt: &R,
     alloc: Global,

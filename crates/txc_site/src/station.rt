@@ -56,7 +56,7 @@ impl<'a, A: App, J: Naming> Station<'a, A, J> {
     }
 
     /// Lets the node take the next event.
-    #[tactic(auto, using(crate::proofs::NodesKept::same_settings, crate::proofs::Keeping::same_pass))]
+    #[tactic(auto, using(crate::proofs::NodesKept::same_settings, crate::proofs::NodesKept::same_pass))]
     pub(crate) fn advance(&mut self, rt: &impl Wait, alloc: Global) -> Result<Advanced, NodeError>
         ensures same { IsSamePass self.old self.new }
         ensures taken { IfOk result (λ advanced. HasTaken self.old.pass self.new.pass advanced) }
@@ -73,7 +73,7 @@ impl<'a, A: App, J: Naming> Station<'a, A, J> {
     }
 
     /// Drops what the node can't show any more from the horizon on.
-    #[tactic(auto, using(crate::proofs::NodesKept::same_settings, crate::proofs::Keeping::same_pass))]
+    #[tactic(auto, using(crate::proofs::NodesKept::same_settings, crate::proofs::NodesKept::same_pass))]
     pub(crate) fn sweep(
         &mut self,
         rt: &impl Wait,

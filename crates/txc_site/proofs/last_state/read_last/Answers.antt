@@ -7,4 +7,4 @@ use Rattle.txc_site.proofs.last_state.read_last.Goals as goal
 pub client-requires-clause-stored_so : goal.client-requires-clause-stored_so
 client-requires-clause-stored_so g c =
     let asked : HaveHistoriesBy c.args.plan g.J.Naming.node_histories = search rules in
-    subst (λ (plan : Plan). HaveHistoriesBy plan g.J.Naming.node_histories) (sym c.in_ok-foundation.ensures) asked
+    subst (λ (plan : Plan). HaveHistoriesBy plan g.J.Naming.node_histories) (sym c.in_ok-foundation.ensures.plan) asked
