@@ -1,5 +1,5 @@
 -- What the keeper of a site that keeps itself did.
-use Rattle.std.specs.Prelude.{◌≡◌, ◌⊎◌, ℕ, List, [], ◌∷◌, All, IfErr, IfOk, MatchOption, None, Option, Result, Some, Vec, map}
+use Rattle.std.specs.Prelude.{◌≡◌, ◌⊎◌, ℕ, List, [], ◌∷◌, All, IfErr, IfOk, None, Option, Result, Some, Vec, map}
 use Rattle.std.specs.declared.alloc.AllocError.{AllocError}
 use Rattle.std.specs.declared.alloc.Global.{Global}
 use Rattle.txc_cushion.specs.Cushion.{retired}
@@ -16,6 +16,7 @@ use Rattle.txc_stream.specs.Names.{Name}
 use Rattle.txc_site.specs.Counted.{counted_again}
 use Rattle.txc_site.specs.declared.error.SiteError.{SiteError}
 use Rattle.txc_site.specs.declared.keeper.KeptNode.{KeptNode}
+use Rattle.txc_site.specs.declared.keeping.Keeping.{Keeping}
 use Rattle.txc_site.specs.declared.keeping.Tended.{Tended}
 use Rattle.txc_site.specs.declared.plan.Plan.{Plan}
 use Rattle.txc_site.specs.Keeping.{HaveKept, ok_of}
@@ -90,8 +91,11 @@ pub record IsTendedBy (row : List ℕ) (nodes : List NodeSettings) (tells : ℕ 
 
 -- The site's own keeper: none where the plan has none. Else it came to this, or there was none, since a node gave it no
 -- pass, or for want of memory.
-abbrev pub IsTendedAsPlanned : Plan → (ℕ → Type 0) → List ℕ → Option (Result Tended SiteError) → Type 0
-IsTendedAsPlanned plan tells row tended = MatchOption plan.keep
-    (tended ≡ None)
-    (λ keeping. (result : Result Tended SiteError) × (tended ≡ Some result)
-    × IfOk result (IsTendedBy row (nodes_of plan) tells keeping.age) × IfErr result IsKeeperRefused)
+abbrev pub IsTendedAs : Option Keeping → List NodeSettings → (ℕ → Type 0) → List ℕ → Option (Result Tended SiteError) → Type 0
+IsTendedAs None nodes tells row came = came ≡ None
+IsTendedAs (Some keeping) nodes tells row came = (result : Result Tended SiteError) × (came ≡ Some result)
+    × IfOk result (IsTendedBy row nodes tells keeping.age) × IfErr result IsKeeperRefused
+
+-- the same of a site of this plan
+pub record IsTendedAsPlanned (plan : Plan) (tells : ℕ → Type 0) (row : List ℕ) (came : Option (Result Tended SiteError)) : Type 0 where
+  pub tended : IsTendedAs plan.keep (nodes_of plan) tells row came

@@ -1,5 +1,5 @@
 //! The clocks at which a site keeps itself.
-use std::sync::atomic::{AtomicU64, Ordering};
+use std::sync::atomic::{AtomicBool, AtomicU64, Ordering};
 use std::time::Duration;
 use std::{thread, time};
 
@@ -83,5 +83,27 @@ impl Moment {
 
     pub(crate) fn get(&self) -> u64 {
         self.now.load(Ordering::SeqCst)
+    }
+}
+
+/// Whether the visitors of a site have ended, for its own keeper.
+#[derive(Drop)]
+pub(crate) struct Signal {
+    given: AtomicBool,
+}
+
+impl Signal {
+    pub(crate) fn new() -> Signal {
+        Signal {
+            given: AtomicBool::new(false),
+        }
+    }
+
+    pub(crate) fn give(&self) {
+        self.given.store(true, Ordering::SeqCst);
+    }
+
+    pub(crate) fn is_given(&self) -> bool {
+        self.given.load(Ordering::SeqCst)
     }
 }

@@ -4,14 +4,13 @@ ghost use Rattle.txc_site.specs.Plans.{nodes_of};
 ghost use Rattle.txc_site.specs.Sites.{IsKeeperRefused};
 ghost use Rattle.txc_site.specs.Tending.{HasTended, IsNewOwnKeeper, IsTendedBy};
 
-use crate::clock::Clock;
+use crate::clock::{Clock, Signal};
 use crate::error::SiteError;
 use crate::foundation::Foundation;
 use crate::keeper::Keeper;
 use std::alloc::Global;
 use std::marker::Model;
 use std::sync::Wait;
-use std::sync::atomic::{AtomicBool, Ordering};
 use std::thread;
 use txc_app::App;
 use txc_db::{DbError, Naming};
@@ -97,7 +96,7 @@ pub(crate) fn keep_until_ended<A: App, J: Naming, C: Clock, R: Wait>(
     foundation: &Foundation<A, J>,
     keeping: Keeping,
     clock: &C,
-    ended: &AtomicBool,
+    ended: &Signal,
 ) -> Result<Tended, SiteError>
     ensures tended { IfOk result
         (IsTendedBy J.database_row (nodes_of foundation.now.plan) (C.tells clock.now) keeping.age) }
@@ -108,7 +107,7 @@ pub(crate) fn keep_until_ended<A: App, J: Naming, C: Clock, R: Wait>(
     for _ in rt.forever() {
         let now = clock.now();
         foundation.moment.set(now);
-        if ended.load(Ordering::SeqCst) {
+        if ended.is_given() {
             return Ok(own.tended);
         }
         if now < next {

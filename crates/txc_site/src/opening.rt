@@ -84,7 +84,7 @@ where
 ///
 /// The threads have the numbers from 0, and outputs come in that order. Where no thread can be made, some run
 /// one after the other, so that none may wait for another.
-#[tactic(auto, using(crate::proofs::Opened::visit_so))]
+#[tactic(auto, using(crate::proofs::Opened::visit_so, crate::proofs::Tending::tended_at))]
 pub fn with_clock<A, D, O, V, C, R>(
     rt: &R,
     alloc: Global,

@@ -10,7 +10,7 @@ ghost use Rattle.txc_site.specs.Tending.{IsTendedAsPlanned, IsTendedBy};
 
 use crate::application::{Application, registry};
 use crate::client::SiteClient;
-use crate::clock::Clock;
+use crate::clock::{Clock, Signal};
 use crate::error::{OpenError, SiteError};
 use crate::foundation::Foundation;
 use crate::keeping::{Keeping, Tended, keep_until_ended};
@@ -19,7 +19,6 @@ use crate::plan::Plan;
 use crate::visitor::Visitor;
 use std::alloc::Global;
 use std::sync::Wait;
-use std::sync::atomic::{AtomicBool, Ordering};
 use std::thread::{self, Threads};
 use txc_db::Naming;
 use txc_definition::Definition;
@@ -166,7 +165,7 @@ where
         HaveCome (V.gives visitors.now foundation.now.plan J.database_row) outputs.items) }
     ensures refused { IfErr result.1 (λ error. error ≡ OpenError.Threads) }
 {
-    let ended = AtomicBool::new(false);
+    let ended = Signal::new();
     let plan = foundation.plan;
     foundation.moment.set(clock.now());
     thread::join(
@@ -183,7 +182,7 @@ where
                 × IfErr result (λ error. error ≡ OpenError.Threads) }
         {
             let visited = visit_each(rt, alloc, plan, guests, visitors);
-            ended.store(true, Ordering::SeqCst);
+            ended.give();
             visited
         },
     )
@@ -191,6 +190,7 @@ where
 
 /// Starts so many threads, each with a client of its own, and returns what they came to, in the order of their
 /// numbers, once all have ended. Where the plan says so, one more keeps the site meanwhile.
+#[tactic(auto, using(crate::proofs::Tending::planned_none, crate::proofs::Tending::planned_some))]
 pub(crate) fn visit<A, D, V, J, C, R>(
     rt: &R,
     alloc: Global,
