@@ -1,8 +1,6 @@
-use Rattle.std.proofs.Common.{◌≡◌, ◌∙◌, List, Some, None, inl, inr, ap, subst}
-use Rattle.txc_site.specs.declared.keeping.Tended.{Tended}
+use Rattle.std.proofs.Common.{◌≡◌, inl, inr, rules, subst}
 use Rattle.txc_site.specs.Keeping.{HaveKept, ok_of}
-use Rattle.txc_site.specs.Stations.{StationValue}
-use Rattle.txc_site.specs.Tending.{OwnKeeperValue, tended_after}
+use Rattle.txc_site.specs.Tending.{OwnKeeperValue}
 use Rattle.txc_site.proofs.Tending.{ok_at, err_at, on_err_at}
 use Rattle.txc_site.proofs.keeping.OwnKeeper.keep.Goals as goal
 
@@ -11,8 +9,6 @@ returns-in-Ok g c =
     let kept = c.in-Ok._kept in
     let is = c.in-Ok.is in
     let did = c.keep-kept.ensures in
-    let stations : c.self.inside.keeper ≡ c.args.self.stations = ap (λ (own : OwnKeeperValue). own.stations) c.self.view_is in
-    let tended : c.self.inside.tended ≡ c.args.self.tended = ap (λ (own : OwnKeeperValue). own.tended) c.self.view_is in
     inl (
       record { seen = kept.seen; pinned = kept.pinned; retired = kept.retired; horizon = kept.horizon; nodes = kept.nodes.items },
       record {
@@ -22,21 +18,20 @@ returns-in-Ok g c =
         retired = ok_at _ _ _ is did.retired;
         horizon = ok_at _ _ _ is did.horizon;
         no_horizon = ok_at _ _ _ is did.no_horizon;
-        nodes =
-            subst (λ (olds : List StationValue). HaveKept g.J.Naming.node_histories (ok_of kept.horizon) olds kept.nodes.items c.keep-kept.result.1) stations
-            (ok_at _ _ _ is did.nodes);
+        nodes = subst (λ (own : OwnKeeperValue). HaveKept g.J.Naming.node_histories (ok_of kept.horizon) own.stations kept.nodes.items c.keep-kept.result.1) c.self.view_is (ok_at _ _ _ is did.nodes);
       },
-      ap (λ (t : Tended). tended_after t None) tended,
+      search rules,
     )
 
 pub returns-in-Err : goal.returns-in-Err
 returns-in-Err g c =
     let is = c.in-Err.is in
     let did = c.keep-kept.ensures in
-    let stations : c.self.inside.keeper ≡ c.args.self.stations = ap (λ (own : OwnKeeperValue). own.stations) c.self.view_is in
-    let tended : c.self.inside.tended ≡ c.args.self.tended = ap (λ (own : OwnKeeperValue). own.tended) c.self.view_is in
     inr (
       c.in-Err.cause,
-      record { refused = err_at _ _ _ is did.refused; same = on_err_at _ _ _ is did.unchanged ∙ stations },
-      ap (λ (t : Tended). tended_after t (Some c.in-Err.cause)) tended,
+      record {
+        refused = err_at _ _ _ is did.refused;
+        same = subst (λ (own : OwnKeeperValue). c.keep-kept.result.1 ≡ own.stations) c.self.view_is (on_err_at _ _ _ is did.unchanged);
+      },
+      search rules,
     )
