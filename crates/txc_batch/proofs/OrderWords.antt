@@ -2,20 +2,19 @@
 use Rattle.std.proofs.Common.{◌≡◌, ℕ, Bool, true, false, eqb, List, [], ◌∷◌, Option, Some, None, length, refl, sym, ap, subst, ◌∙◌, arith}
 use Rattle.std.proofs.lemmas.Bool.Decides.{nat_tests}
 use Rattle.std.specs.Prelude.{codes, option_map}
-use Rattle.txc_script.specs.LineFaults.{AreOfKinds}
 use Rattle.txc_script.specs.SaidWords.{SayAll}
 use Rattle.txc_script.specs.Words.{words_of}
 use Rattle.txc_script.specs.declared.line_fault.WordKind.{WordKind}
 use Rattle.txc_script.specs.declared.said.ChangeName.{ChangeName}
 use Rattle.txc_script.specs.declared.said.ChangeName.TheVariants as changes
 use Rattle.txc_script.specs.declared.said.Said.{Said}
-use Rattle.txc_script.proofs.Offered.{say_by, say_some}
+use Rattle.txc_script.proofs.Offered.{said_of}
 use Rattle.txc_words.specs.Faults.{kinds_of_change, kinds_after_name, moment, second_of}
 use Rattle.txc_words.specs.Names.{name_text}
 use Rattle.txc_words.specs.Said.{AreBodies, SaysAfter, change_said}
 use Rattle.txc_words.specs.declared.name.LineName.{LineName}
 use Rattle.txc_words.specs.declared.name.LineName.TheVariants as names
-use Rattle.txc_words.proofs.Offered.{HasKinds, HaveBodies, apart, bodies, change_bodies, change_there, first_is, has_kinds, none_some, others_are, own_change, same_name, same_some}
+use Rattle.txc_words.proofs.Offered.{apart, bodies, change_bodies, change_there, first_is, none_some, others_are, own_change, same_name, same_some}
 use Rattle.txc_work.specs.declared.job.Job.{Job}
 use Rattle.txc_batch.specs.Orders.{AreJobWords, AsksFor, IsPreparing, Prepares, SpellsJob, SpellsPreparing, order_said}
 use Rattle.txc_batch.specs.Queueing.{QueuedValue}
@@ -76,12 +75,6 @@ job_asked jobs line word words (Write change) e is h = absurd (named_no_job (wor
 job_asked jobs line word words (Pin now) e is h = absurd (named_no_job (words_of line) words word e is (preparing_named line (Pin now) h.1))
 job_asked jobs line word words (Run q) e is h = (q, job_said line word words q e h)
 
--- a change or a pin after a job
-pub too_late : (jobs : List Job) (line word : List ℕ) (words : List (List ℕ)) (order : Order) → words_of line ≡ word ∷ words → (word ≡ codes "job" → ⊥) → (jobs ≡ [] → ⊥) → AsksFor jobs line order → ⊥
-too_late jobs line word words (Write change) e other some h = some h.0
-too_late jobs line word words (Pin now) e other some h = some h.0
-too_late jobs line word words (Run q) e other some h = other (job_word line word words q e h)
-
 -- one whose first word is no name
 pub no_name : (jobs : List Job) (line word : List ℕ) (words : List (List ℕ)) (order : Order) → words_of line ≡ word ∷ words → (word ≡ codes "job" → ⊥)
     → ((name : LineName) → IsPreparing name → word ≡ name_text name → ⊥) → AsksFor jobs line order → ⊥
@@ -100,9 +93,6 @@ pub order_prepares : (jobs : List Job) (line : List ℕ) (name : LineName) (word
 order_prepares jobs line name words (Write change) is e h = prepares_of line name words (Write change) e h.1
 order_prepares jobs line name words (Pin now) is e h = prepares_of line name words (Pin now) e h.1
 order_prepares jobs line name words (Run q) is e h = absurd (no_job_name name is (job_word line (name_text name) words q e h))
-
-pub order_kinds : (jobs : List Job) (line : List ℕ) (name : LineName) (words : List (List ℕ)) (order : Order) → IsPreparing name → words_of line ≡ name_text name ∷ words → AsksFor jobs line order → HasKinds name words
-order_kinds jobs line name words order is e h = let says = order_prepares jobs line name words order is e h in has_kinds name words says.values says.say
 
 -- words that say what they are to say ask for something
 pub record AsksSome (name : LineName) (values : List Said) : Type 0 where
@@ -127,8 +117,8 @@ asks_some names.Put words values is h = own names.Put changes.Put words values r
 asks_some names.Remove words values is h = own names.Remove changes.Remove words values refl refl h
 asks_some names.Pin words values is h =
     let say = subst (λ (ks : List WordKind). SayAll ks words values) (same_some h.kinds (moment ∷ []) (sym h.known)) h.say in
-    let by = say_by (moment ∷ []) words values say in
-    record { bodies = bodies (moment ∷ []) words values tt say; order = Pin by.0.0; is = ap (order_said names.Pin) by.1; early = λ line spells. (refl, spells) }
+    let by = said_of (moment ∷ []) words values say in
+    record { bodies = bodies (moment ∷ []) words values tt say; order = Pin by.all.0; is = ap (order_said names.Pin) by.given; early = λ line spells. (refl, spells) }
 asks_some name words values is h = absurd is
 
 -- and a line of such words asks for what they say
@@ -138,15 +128,6 @@ asks_this line name words values order is e says asks =
     let some = asks_some name words values is says in
     let same = same_some some.order order (sym some.is ∙ asks) in
     subst (AsksFor [] line) same (some.early line (name, words, e, record { values = values; say = says; asks = some.is }))
-
--- so do words that are all of their kinds
-pub good_order : (line : List ℕ) (name : LineName) (words : List (List ℕ)) (kinds : List WordKind) → IsPreparing name → words_of line ≡ name_text name ∷ words → kinds_after_name name (second_of words) ≡ Some kinds
-    → AreOfKinds kinds words → (order : Order) × AsksFor [] line order
-good_order line name words kinds is e known good =
-    let said = say_some kinds words good in
-    let says : SaysAfter name words said.0 = record { kinds = kinds; known = known; say = said.1 } in
-    let asked = asks_some name words said.0 is says in
-    (asked.order, asked.early line (name, words, e, record { values = said.0; say = says; asks = asked.is }))
 
 -- a change or a pin stands before the first job
 pub order_early : (jobs : List Job) (line : List ℕ) (name : LineName) (words : List (List ℕ)) (order : Order) → IsPreparing name → words_of line ≡ name_text name ∷ words → AsksFor jobs line order → jobs ≡ []

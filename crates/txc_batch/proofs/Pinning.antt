@@ -1,7 +1,6 @@
 -- Pins of the present that are added to a pincushion, or whose hold is taken away.
 use Rattle.std.proofs.Common.{◌≡◌, ℕ, Bool, true, false, List, [], ◌∷◌, ◌++◌, Result, Ok, Err, OnOk, IfErr, eq-eqb, refl, sym, ap, ◌∙◌, ◌+◌, arith, length-append}
 use Rattle.std.specs.Prelude.{◌||◌, ◌==◌}
-use Rattle.std.specs.List.{list_any}
 use Rattle.std.proofs.lemmas.Bool.{false≢true}
 use Rattle.txc_db.specs.declared.error.DbError.{DbError}
 use Rattle.txc_db.specs.declared.error.DbError.TheVariants as refusals

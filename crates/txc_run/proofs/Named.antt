@@ -3,7 +3,6 @@ use Rattle.std.proofs.Common.{◌≡◌, ◌<◌, ◌≤◌, lit<, ℕ, Bool, fa
 use Rattle.std.specs.Prelude.{codes, IsErr, IsErrAnd}
 use Rattle.std.specs.List.{AllByRecursion}
 use Rattle.std.specs.Str.{bytes_eq}
-use Rattle.txc_tags.specs.declared.tag.Tag.{Tag}
 use Rattle.txc_node.specs.declared.entry.Entry.{Entry}
 use Rattle.txc_node.specs.declared.entry.EntryError.{EntryError}
 use Rattle.txc_node.specs.declared.entry.EntryError.TheVariants as errors
@@ -15,14 +14,17 @@ use Rattle.txc_node.specs.Steps.{entry_refusal, refusal_by}
 use Rattle.txc_node.proofs.Offered.{entry_has_no_reach, entry_is_too_long}
 use Rattle.txc_script.specs.Forms.{IsOfForm, LineForm, form_named}
 use Rattle.txc_script.specs.Hex.{IsHexWord}
+use Rattle.txc_script.specs.LineFaults.{IsCommandFault, IsWrong}
 use Rattle.txc_script.specs.Lines.{IsKeyWord, IsStampWord, IsTagsWord, still_text}
 use Rattle.txc_script.specs.Unread.{IsNone}
 use Rattle.txc_script.specs.Words.{HasNoBlank, words_of}
+use Rattle.txc_script.specs.declared.unread.Unanswered.{Unanswered}
+use Rattle.txc_script.specs.declared.unread.Unanswered.TheVariants.{Wrong, Memory}
 use Rattle.txc_script.specs.declared.unread.Unread.{Unread}
 use Rattle.txc_script.specs.declared.unread.Unread.TheVariants as unread
 use Rattle.txc_run.specs.Lines.{Spells, insert_form, node_forms}
 use Rattle.txc_run.specs.Reading.{NamesNone, unread_reason}
-use Rattle.txc_run.specs.Steps.{MakesNone, MakesStep, Taking}
+use Rattle.txc_run.specs.Steps.{IsNoStep, MakesNone, MakesStep, Taking}
 use Rattle.txc_run.specs.declared.unread.NoStep.{NoStep}
 use Rattle.txc_run.specs.declared.unread.NoStep.TheVariants as reasons
 use Rattle.txc_script.proofs.Offered.{of_words, says_in, words_cut}
@@ -50,9 +52,9 @@ pub insertion_named : (words : List (List ℕ)) (e : Entry) (key lo known still 
     → IsStampWord known e.reach.known → still ≡ still_text e.reach.still → IsTagsWord tags e.tags → IsHexWord value e.value → IsOfForm insert_form words (Insert e)
 insertion_named words e key lo known still tags value are is_key is_lo is_known is_still are_tags is_value =
     of_words insert_form (key ∷ lo ∷ known ∷ still ∷ tags ∷ value ∷ []) words (Insert e) (sym are) (record {
-      values = (e.key, (e.reach.lo, (e.reach.known, (e.reach.still, (are_tags.0, (e.value, tt))))));
-      say = (is_key, (is_lo, (is_known, ((tt, is_still), (are_tags.1, (is_value, tt))))));
-      asks = ap (λ (ts : List Tag). Insert (record { key = e.key; value = e.value; reach = e.reach; tags = ts })) are_tags.2;
+      values = (e.key, (e.reach.lo, (e.reach.known, (e.reach.still, (e.tags, (e.value, tt))))));
+      say = (is_key, (is_lo, (is_known, (is_still, (are_tags, (is_value, tt))))));
+      asks = refl;
     })
 
 pub entry_refused : (e : Entry) (error : EntryError) → ((error ≡ errors.BadReach) → e.reach.known < e.reach.lo) → ((error ≡ errors.ValueTooLong) → (e.reach.lo ≤ e.reach.known) × (MAX_VALUE_LEN < length e.value))
@@ -81,6 +83,12 @@ makes_none_as form line name text (Ok x) c next old new known e bare named h = t
 makes_none_as form line name text (Err unread.Malformed) c next old new known e bare named h =
     (λ op s. h.0 op (says_in node_forms form line (words_of text) op known (line_words form line name text e bare named) s), h.1, h.2)
 makes_none_as form line name text (Err unread.Memory) c next old new known e bare named h = tt
+
+-- a line that names no step, and what is wrong with its words
+pub no_step : {T : Type 0} (line : List ℕ) (c next : Cache) (old new : T) (reason : Unanswered) → MakesNone (Spells line) c next old new unread.Malformed → IsWrong (IsCommandFault node_forms (words_of line)) reason
+    → IsNoStep line c next old new reason
+no_step line c next old new (Wrong fault) none wrong = (none, wrong)
+no_step line c next old new Memory none wrong = tt
 
 -- each form has words after its name
 pub some_words : AllByRecursion (λ (form : LineForm Op). 0 < length form.kinds) node_forms

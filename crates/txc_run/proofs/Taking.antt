@@ -11,13 +11,12 @@ use Rattle.txc_node.specs.Steps.{is_refusal, MayReply}
 use Rattle.txc_settings.specs.declared.mode.Mode.TheVariants.{Node}
 use Rattle.txc_script.specs.Answers.{IsUnanswered}
 use Rattle.txc_script.specs.Kinds.{Replied}
-use Rattle.txc_script.specs.declared.unread.Unread.{Unread}
-use Rattle.txc_script.specs.declared.unread.Unread.TheVariants.{Malformed, Memory}
+use Rattle.txc_script.specs.declared.unread.Unanswered.{Unanswered}
+use Rattle.txc_script.specs.declared.unread.Unanswered.TheVariants.{Wrong, Memory}
 use Rattle.txc_run.specs.Counting.{Counts, counted_script}
-use Rattle.txc_run.specs.Lines.{Spells}
 use Rattle.txc_run.specs.NodeScripts.{node_script}
 use Rattle.txc_run.specs.Reports.{IsReportOf, step_by, steps_in, steps_of}
-use Rattle.txc_run.specs.Steps.{IsFor, MakesNone, Taking, TakesStep}
+use Rattle.txc_run.specs.Steps.{IsFor, IsNoStep, Taking, TakesStep}
 use Rattle.txc_run.specs.declared.node.Counted.{Counted}
 use Rattle.txc_run.specs.declared.report.Report.{Report}
 use Rattle.txc_run.proofs.Reporting.{steps_more}
@@ -51,10 +50,10 @@ pub on_made : {X E : Type 0} (r : Result X E) (P Q : X → Type 0) → ((x : X) 
 on_made (Ok x) P Q f h = f x h
 on_made (Err e) P Q f h = tt
 
-pub node_unanswered : {T : Type 0} (r : Result Bool Unread) (c : Cache) (line : List ℕ) (next : Cache) (old new : T) → IfErr r (MakesNone (Spells line) c next old new)
+pub node_unanswered : {T : Type 0} (r : Result Bool Unanswered) (c : Cache) (line : List ℕ) (next : Cache) (old new : T) → IfErr r (IsNoStep line c next old new)
     → IfErr r (IsUnanswered (node_script Node) c line next)
 node_unanswered (Ok x) c line next old new h = tt
-node_unanswered (Err Malformed) c line next old new h = (h.0, h.1)
+node_unanswered (Err (Wrong fault)) c line next old new h = (h.0.0, h.0.1, h.1)
 node_unanswered (Err Memory) c line next old new h = inr tt
 
 same_counted : (s : Counted) (node : Cache) (report : Report) → node ≡ s.node → report ≡ s.report → ◌≡◌ {A = Counted} (record { node = node; report = report }) s
@@ -63,8 +62,8 @@ same_counted s node report n r =
     let b : ◌≡◌ {A = Counted} (record { node = s.node; report = report }) s = ap (λ (x : Report). record s { report = x }) r in
     a ∙ b
 
-pub counted_unanswered : (r : Result Bool Unread) (s : Counted) (line : List ℕ) (node : Cache) (report : Report) → IfErr r (MakesNone (Spells line) s.node node s.report report)
+pub counted_unanswered : (r : Result Bool Unanswered) (s : Counted) (line : List ℕ) (node : Cache) (report : Report) → IfErr r (IsNoStep line s.node node s.report report)
     → IfErr r (IsUnanswered counted_script s line (record { node = node; report = report }))
 counted_unanswered (Ok x) s line node report h = tt
-counted_unanswered (Err Malformed) s line node report h = (h.0, same_counted s node report h.1 h.2)
+counted_unanswered (Err (Wrong fault)) s line node report h = (h.0.0, same_counted s node report h.0.1 h.0.2, h.1)
 counted_unanswered (Err Memory) s line node report h = inr tt

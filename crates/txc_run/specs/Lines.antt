@@ -1,7 +1,5 @@
 -- What the lines of a node's script are: the table of their forms.
 use Rattle.std.specs.Prelude.{ℕ, List, [], ◌∷◌, codes}
-use Rattle.txc_tags.specs.Tags.{set_of}
-use Rattle.txc_tags.specs.TextSet.{tags_spelt}
 use Rattle.txc_node.specs.declared.op.Op.{Op}
 use Rattle.txc_node.specs.declared.op.Op.TheVariants.{Insert, Lookup, Event, Sweep}
 use Rattle.txc_script.specs.Forms.{AsksBy, LineForm}
@@ -17,7 +15,7 @@ insert_form = record {
     key = said.0;
     value = said.1.1.1.1.1.0;
     reach = record { lo = said.1.0; known = said.1.1.0; still = said.1.1.1.0 };
-    tags = set_of (tags_spelt said.1.1.1.1.0);
+    tags = said.1.1.1.1.0;
   });
 }
 
@@ -34,7 +32,7 @@ abbrev pub event_form : LineForm Op
 event_form = record {
   name = codes "event";
   kinds = Stamp ∷ Tags ∷ [];
-  asks = λ said. Event said.0 (set_of (tags_spelt said.1.0));
+  asks = λ said. Event said.0 said.1.0;
 }
 
 -- a stamp

@@ -7,14 +7,15 @@ ghost use Rattle.txc_node.specs.Steps.{refusal_by};
 ghost use Rattle.txc_script.specs.Forms.{IsOfForm};
 ghost use Rattle.txc_script.specs.Words.{words_of};
 ghost use Rattle.txc_run.specs.Lines.{Spells, event_form, insert_form, lookup_form, sweep_form};
-ghost use Rattle.txc_run.specs.Steps.{TakesStep, MakesStep, MakesNone};
+ghost use Rattle.txc_run.specs.Steps.{TakesStep, MakesStep, MakesNone, IsNoStep};
 
+use crate::finding::find_command_fault;
 use crate::reading::{read_event, read_insert, read_lookup, read_sweep};
 use crate::taker::Taker;
 use crate::unread::NoStep;
 use std::alloc::{AllocError, Global};
 use txc_node::{Entry, EntryError, NodeCore, Refusal, Reply};
-use txc_script::{Unread, first_word};
+use txc_script::{Unanswered, Unread, first_word};
 use txc_stamp::Stamp;
 use txc_tags::{Key, TagSet};
 
@@ -202,7 +203,7 @@ fn make_sweep<T: Taker>(
 
 /// Makes the step that a line names, and takes its reply. Each kind of step is a function of its own, so that
 /// a line pays for the room of its own words alone.
-pub fn make_step<T: Taker>(
+fn name_step<T: Taker>(
     alloc: Global,
     node: &mut NodeCore,
     line: &[u8],
@@ -230,4 +231,24 @@ pub fn make_step<T: Taker>(
         return make_sweep(alloc, node, text, taker);
     }
     Err(Unread::Malformed)
+}
+
+/// Makes the step that a line names, and takes its reply. Of a line that names none it answers what is wrong with its
+/// words.
+pub fn make_step<T: Taker>(
+    alloc: Global,
+    node: &mut NodeCore,
+    line: &[u8],
+    taker: &mut T,
+) -> Result<bool, Unanswered>
+    ensures after { IfOk result (MakesStep T.takes (Spells line.now)
+        node.old node.new taker.old taker.new) }
+    ensures refused { IfErr result (IsNoStep line.now node.old node.new taker.old taker.new) }
+    ensures unchanged { OnErr result (T.text taker.new ≡ T.text taker.old) }
+{
+    match name_step(alloc, node, line, taker) {
+        Ok(refused) => Ok(refused),
+        Err(Unread::Malformed) => Err(find_command_fault(alloc, line)),
+        Err(Unread::Memory) => Err(Unanswered::Memory),
+    }
 }

@@ -4,16 +4,18 @@ use Rattle.std.specs.Prelude.{IsErr, IsErrAnd, if◌then◌else◌}
 use Rattle.std.specs.List.{AllByRecursion, join_with_byte}
 use Rattle.std.specs.Str.{bytes_eq}
 use Rattle.std.proofs.lemmas.Slice.Eq.{bytes_eq-Decides}
-use Rattle.txc_script.specs.Forms.{AsksBy, IsOfForm, LineForm, MaySay, Say, ValuesOf, form_named, kinds_after, word_text}
-use Rattle.txc_script.specs.LineFaults.{AreOfKinds}
+use Rattle.txc_script.specs.Forms.{AsksBy, IsOfForm, LineForm, form_named, kinds_after}
 use Rattle.txc_script.specs.Lines.{IsBlankOrComment, IsQuiet}
+use Rattle.txc_script.specs.SaidWords.{AllSaidOf, Mean, SayAll}
 use Rattle.txc_script.specs.Unread.{IsNone}
 use Rattle.txc_script.specs.Words.{words_of}
 use Rattle.txc_script.specs.declared.line_fault.WordKind.{WordKind}
+use Rattle.txc_script.specs.declared.said.Said.{Said}
 use Rattle.txc_script.specs.declared.unread.Unread.{Unread}
 use Rattle.txc_script.specs.declared.unread.Unread.TheVariants as reasons
 use Rattle.txc_script.proofs.Blanks.{has_words}
 use Rattle.txc_script.proofs.Meanings.{AreSmall, values_known}
+use Rattle.txc_script.proofs.SaidKinds.{said_of}
 
 -- ---- forms by their names
 
@@ -57,67 +59,31 @@ has_form (f ∷ forms) name kinds e =
     ] in
     go (bytes_eq name f.name) refl e
 
--- ---- words that are all of their kinds
-
-record HasValues (kinds : List WordKind) (words : List (List ℕ)) : Type 0 where
-  values : ValuesOf kinds
-  say : Say kinds words values
-
-has_values : (kinds : List WordKind) (words : List (List ℕ)) → AreOfKinds kinds words → HasValues kinds words
-has_values [] [] h = record { values = tt; say = tt }
-has_values [] (word ∷ words) h = absurd h
-has_values (kind ∷ kinds) [] h = absurd h
-has_values (kind ∷ kinds) (word ∷ words) h = let rest = has_values kinds words h.1 in record { values = (h.0.0, rest.values); say = (h.0.1, rest.say) }
-
--- how words are written that say these values, and that they may say them
-abbrev pub words_text : (kinds : List WordKind) → ValuesOf kinds → List (List ℕ)
-words_text [] values = []
-words_text (kind ∷ kinds) values = word_text kind values.0 ∷ words_text kinds values.1
-
-abbrev pub MaySayAll : (kinds : List WordKind) → ValuesOf kinds → Type 0
-MaySayAll [] values = Unit {0}
-MaySayAll (kind ∷ kinds) values = MaySay kind values.0 × MaySayAll kinds values.1
-
-pub record HasTexts (kinds : List WordKind) (words : List (List ℕ)) : Type 0 where
-  pub values : ValuesOf kinds
-  pub are : words ≡ words_text kinds values
-  pub may : MaySayAll kinds values
-
-pub has_texts : (kinds : List WordKind) (words : List (List ℕ)) → AreOfKinds kinds words → HasTexts kinds words
-has_texts [] [] h = record { values = tt; are = refl; may = tt }
-has_texts [] (word ∷ words) h = absurd h
-has_texts (kind ∷ kinds) [] h = absurd h
-has_texts (kind ∷ kinds) (word ∷ words) h =
-    let rest = has_texts kinds words h.1 in
-    record {
-      values = (h.0.0, rest.values);
-      are = ap (λ (w : List ℕ). w ∷ words) h.0.1.1 ∙ ap (λ (ws : List (List ℕ)). word_text kind h.0.0 ∷ ws) rest.are;
-      may = (h.0.1.0, rest.may);
-    }
+-- ---- what a line asks for
 
 pub record AsksSome {A : Type 0} (forms : List (LineForm A)) (line : List ℕ) : Type 0 where
   pub asked : A
   pub asks : AsksBy forms line asked
 
--- they ask for something
-pub good_words_ask : {A : Type 0} (forms : List (LineForm A)) (line name : List ℕ) (words : List (List ℕ)) (kinds : List WordKind) → words_of line ≡ name ∷ words → kinds_after forms name ≡ Some kinds → AreOfKinds kinds words
-    → AsksSome forms line
-good_words_ask forms line name words kinds e known h =
+-- words that say something ask for something
+pub good_words_ask : {A : Type 0} (forms : List (LineForm A)) (line name : List ℕ) (words : List (List ℕ)) (kinds : List WordKind) (given : List Said) → words_of line ≡ name ∷ words → kinds_after forms name ≡ Some kinds
+    → SayAll kinds words given → AsksSome forms line
+good_words_ask forms line name words kinds given e known h =
     let has = has_form forms name kinds known in
     let named = is_named forms name has.form has.named in
-    let said = has_values has.form.kinds words (subst (λ (ks : List WordKind). AreOfKinds ks words) (sym has.kinds_are) h) in
+    let said = said_of has.form.kinds words given (subst (λ (ks : List WordKind). SayAll ks words given) (sym has.kinds_are) h) in
     record {
-      asked = has.form.asks said.values;
+      asked = has.form.asks said.all;
       asks = record {
         form = has.form;
         words = words;
         named = subst (λ (n : List ℕ). form_named forms n ≡ Some has.form) named has.named;
         are = e ∙ ap (λ (n : List ℕ). n ∷ words) named;
-        is = record { values = said.values; say = said.say; asks = refl };
+        is = record { values = said.all; say = said.mean; asks = refl };
       };
     }
 
-pub says_count : (kinds : List WordKind) (words : List (List ℕ)) (values : ValuesOf kinds) → Say kinds words values → length words ≡ length kinds
+pub says_count : (kinds : List WordKind) (words : List (List ℕ)) (values : AllSaidOf kinds) → Mean kinds words values → length words ≡ length kinds
 says_count [] [] values h = refl
 says_count [] (word ∷ words) values h = absurd h
 says_count (kind ∷ kinds) [] values h = absurd h
@@ -125,8 +91,6 @@ says_count (kind ∷ kinds) (word ∷ words) values h = ap suc (says_count kinds
 
 pub of_words : {A : Type 0} (form : LineForm A) (words others : List (List ℕ)) (asked : A) → words ≡ others → IsOfForm form words asked → IsOfForm form others asked
 of_words form words others asked e h = subst (λ (ws : List (List ℕ)). IsOfForm form ws asked) e h
-
--- ---- what a line asks for
 
 -- one that begins with the name of a form
 pub says_in : {A : Type 0} (forms : List (LineForm A)) (form : LineForm A) (line : List ℕ) (words : List (List ℕ)) (asked : A) → form_named forms form.name ≡ Some form → words_of line ≡ form.name ∷ words

@@ -67,61 +67,6 @@ run_hex word (b ∷ value) some all e = (b ∷ value, (all, sym e))
 pub hex_is_run : (word : List ℕ) → (word ≡ codes "-" → ⊥) → 0 < length word → AreDigitsOfBytes word ↔ IsHex word
 hex_is_run word bare some = ((λ h. run_hex word h.0 some h.1 h.2), (λ h. hex_run word h.0 bare h.1))
 
--- ---- words that are tested one after the other
-
--- the words before these are of their kinds
-pub record HasTested (kinds : List WordKind) (words : List (List ℕ)) (rest : List WordKind) (left : List (List ℕ)) (number : ℕ) : Type 0 where
-  pub good_kinds : List WordKind
-  pub good : List (List ℕ)
-  pub kinds_are : kinds ≡ good_kinds ++ rest
-  pub words_are : words ≡ good ++ left
-  pub are_good : AreOfKinds good_kinds good
-  pub counted : number ≡ length good
-
-pub none_tested : (kinds : List WordKind) (words : List (List ℕ)) → HasTested kinds words kinds words 0
-none_tested kinds words = record { good_kinds = []; good = []; kinds_are = refl; words_are = refl; are_good = tt; counted = refl }
-
-kinds_more : (ks : List WordKind) (ws : List (List ℕ)) (k : WordKind) (w : List ℕ) → AreOfKinds ks ws → IsOfKind k w → AreOfKinds (ks ++ k ∷ []) (ws ++ w ∷ [])
-kinds_more [] [] k w h is = (is, tt)
-kinds_more [] (v ∷ ws) k w h is = absurd h
-kinds_more (j ∷ ks) [] k w h is = absurd h
-kinds_more (j ∷ ks) (v ∷ ws) k w h is = (h.0, kinds_more ks ws k w h.1 is)
-
-pub more_tested : (kinds : List WordKind) (words : List (List ℕ)) (kind : WordKind) (rest others : List WordKind) (word : List ℕ) (left after : List (List ℕ)) (number : ℕ)
-    → HasTested kinds words rest left number → rest ≡ kind ∷ others → left ≡ word ∷ after → IsOfKind kind word → HasTested kinds words others after (number + 1)
-more_tested kinds words kind rest others word left after number h k e is = record {
-  good_kinds = h.good_kinds ++ kind ∷ [];
-  good = h.good ++ word ∷ [];
-  kinds_are = h.kinds_are ∙ ap (λ (ks : List WordKind). h.good_kinds ++ ks) k ∙ sym (append_assoc h.good_kinds (kind ∷ []) others);
-  words_are = h.words_are ∙ ap (λ (ws : List (List ℕ)). h.good ++ ws) e ∙ sym (append_assoc h.good (word ∷ []) after);
-  are_good = kinds_more h.good_kinds h.good kind word h.are_good is;
-  counted = omega (arith, h.counted, length-append h.good (word ∷ []));
-}
-
-pub bad_tested : (kinds : List WordKind) (words : List (List ℕ)) (rest others : List WordKind) (word : List ℕ) (left after : List (List ℕ)) (number : ℕ) (fault : WordFault)
-    → HasTested kinds words rest left number → rest ≡ fault.kind ∷ others → left ≡ word ∷ after → fault.number ≡ number + 1 → (IsOfKind fault.kind word → ⊥)
-    → fault.text ≡ excerpt_of word → StopsAt fault.kind word fault.at → IsBadWord kinds words fault
-bad_tested kinds words rest others word left after number fault h k e next bad text stops = record {
-  good_kinds = h.good_kinds;
-  good = h.good;
-  word = word;
-  other_kinds = others;
-  others = after;
-  kinds_are = h.kinds_are ∙ ap (λ (ks : List WordKind). h.good_kinds ++ ks) k;
-  words_are = h.words_are ∙ ap (λ (ws : List (List ℕ)). h.good ++ ws) e;
-  are_good = h.are_good;
-  is_bad = bad;
-  number = next ∙ ap (λ n. n + 1) h.counted;
-  text = text;
-  stops = stops;
-}
-
-pub all_tested : (kinds : List WordKind) (words : List (List ℕ)) (rest : List WordKind) (left : List (List ℕ)) (number : ℕ) → HasTested kinds words rest left number → rest ≡ [] → left ≡ [] → AreOfKinds kinds words
-all_tested kinds words rest left number h none empty =
-    let ks : h.good_kinds ≡ kinds = sym (h.kinds_are ∙ ap (λ (ks : List WordKind). h.good_kinds ++ ks) none ∙ append-nil h.good_kinds) in
-    let ws : h.good ≡ words = sym (h.words_are ∙ ap (λ (vs : List (List ℕ)). h.good ++ vs) empty ∙ append-nil h.good) in
-    subst (λ (v : List (List ℕ)). AreOfKinds kinds v) ws (subst (λ (v : List WordKind). AreOfKinds v h.good) ks h.are_good)
-
 -- ---- the kinds of so many words
 
 pub none_left : {X : Type 0} (xs : List X) → length xs ≡ 0 → xs ≡ []
@@ -130,6 +75,11 @@ none_left (x ∷ xs) e = absurd (omega (arith, e))
 
 pub no_kinds : (kinds : List WordKind) (other : WordKind) (words : List (List ℕ)) → words ≡ [] → kinds_for kinds other words ≡ []
 no_kinds kinds other words e = ap (kinds_for kinds other) e
+
+pub kinds_count : (kinds : List WordKind) (other : WordKind) (words : List (List ℕ)) → length (kinds_for kinds other words) ≡ length words
+kinds_count kinds other [] = refl
+kinds_count [] other (word ∷ words) = ap suc (kinds_count [] other words)
+kinds_count (kind ∷ kinds) other (word ∷ words) = ap suc (kinds_count kinds other words)
 
 -- as many as there are
 pub same_kinds : (kinds : List WordKind) (other : WordKind) (words : List (List ℕ)) → length words ≡ length kinds → kinds_for kinds other words ≡ kinds

@@ -1,20 +1,18 @@
 //! Finding what is wrong with a malformed line.
-ghost use Rattle.std.specs.Prelude.{◌≡◌, ◌∷◌, ◌↔◌, ℕ, List, IfSome, IfNone, position, length, IsTrue};
+ghost use Rattle.std.specs.Prelude.{◌≡◌, ◌∷◌, ◌↔◌, ℕ, List, position, IsTrue};
 ghost use Rattle.std.specs.List.{list_any};
-ghost use Rattle.txc_script.specs.Kinds.{IsFaultOf, IsMalformed};
-ghost use Rattle.txc_script.specs.Lines.{IsTextWord, change_named, query_named};
-ghost use Rattle.txc_script.specs.Words.{words_of, words_left};
-ghost use Rattle.txc_script.specs.SaidWords.{IsWordRead};
-ghost use Rattle.txc_script.specs.LineFaults.{AreOfKinds, is_foreign, is_empty, kinds_for, IsHex, AreDigitsOfBytes, IsBadWord};
+ghost use Rattle.txc_script.specs.Kinds.{IsFaultOf};
+ghost use Rattle.txc_script.specs.Lines.{IsPlain, IsTextWord, change_named, query_named};
+ghost use Rattle.txc_script.specs.Words.{words_of};
+ghost use Rattle.txc_script.specs.LineFaults.{is_foreign, is_empty, kinds_for, IsHex, AreDigitsOfBytes, IsWordRead};
 
-use crate::excerpt::Excerpt;
 use crate::hex::read_byte;
 use crate::kind::Script;
 use crate::line::MAX_LINE_LEN;
-use crate::line_fault::{LineFault, WordFault, WordKind};
+use crate::line_fault::{CommandFault, LineFault, WordKind};
 use crate::said::{ChangeName, QueryName, Said, TextWord};
 use crate::word::{read_function, read_id, read_stamp, read_still, read_table};
-use crate::words::{WordsLeft, all_words, count_words};
+use crate::words::{all_words, count_words};
 use std::alloc::Global;
 use txc_tags::{Key, SetError, TagSet, read_number};
 
@@ -171,48 +169,6 @@ pub fn next_kind(kinds: &[WordKind], other: WordKind) -> (WordKind, &[WordKind])
     }
 }
 
-/// The first of the words, of which there are so many, that is not of its kind. The kinds are these, and then the
-/// other one.
-pub fn bad_word_of(
-    alloc: Global,
-    kinds: &[WordKind],
-    other: WordKind,
-    words: WordsLeft<'_>,
-    count: usize,
-) -> Option<WordFault>
-    requires { length (words_left words) ≡ count }
-    ensures answer { IfSome result (IsBadWord (kinds_for kinds.now other (words_left words.entry))
-        (words_left words.entry)) }
-    ensures refused { IfNone result (AreOfKinds (kinds_for kinds.now other (words_left words.entry))
-        (words_left words.entry)) }
-{
-    let mut left = words;
-    let mut rest = kinds;
-    for before in 0..count {
-        let (kind, after) = next_kind(rest, other);
-        let word = left.next();
-        if let Err(at) = read_word(alloc, kind, word) {
-            return Some(WordFault {
-                number: before + 1,
-                kind,
-                at,
-                text: Excerpt::new(word),
-            });
-        }
-        rest = after;
-    }
-    None
-}
-
-/// The first of the words that is not of its kind.
-pub fn bad_word(alloc: Global, kinds: &[WordKind], words: WordsLeft<'_>) -> Option<WordFault>
-    requires { length (words_left words) ≡ length kinds.now }
-    ensures answer { IfSome result (IsBadWord kinds.now (words_left words.entry)) }
-    ensures refused { IfNone result (AreOfKinds kinds.now (words_left words.entry)) }
-{
-    bad_word_of(alloc, kinds, WordKind::Key, words, kinds.len())
-}
-
 /// The place of the first byte that no line may have.
 fn foreign_at(line: &[u8]) -> Option<usize>
     ensures { result ≡ position is_foreign line.now }
@@ -233,19 +189,33 @@ fn has_empty_word(line: &[u8]) -> bool
     false
 }
 
-/// What is wrong with a line that is malformed in a state. Where memory is refused the answer is the same.
-pub fn find_fault<K: Script>(alloc: Global, kind: &K, state: &K::State, line: &[u8]) -> LineFault
-    requires { IsMalformed (K.kind kind.now) state.now line.now }
+/// What is wrong with a line whose bytes are not as they may be.
+pub fn bad_bytes<K: Script>(kind: &K, state: &K::State, line: &[u8]) -> LineFault
+    requires { IsPlain line.now → ⊥ }
     ensures { IsFaultOf (K.kind kind.now) state.now line.now result }
 {
     if line.len() > MAX_LINE_LEN {
         return LineFault::TooLong;
     }
-    if let Some(at) = foreign_at(line) {
-        return LineFault::Byte { at, byte: line[at] };
+    match foreign_at(line) {
+        Some(at) => LineFault::Byte { at, byte: line[at] },
+        None => unreachable!(),
     }
+}
+
+/// What is wrong with a line of whose words this is: that a word is empty is told first.
+pub fn bad_words<K: Script>(
+    kind: &K,
+    state: &K::State,
+    line: &[u8],
+    fault: CommandFault,
+) -> LineFault
+    requires plain { IsPlain line.now }
+    requires wrong { (K.kind kind.now).is_wrong state.now (words_of line.now) fault }
+    ensures { IsFaultOf (K.kind kind.now) state.now line.now result }
+{
     if has_empty_word(line) {
         return LineFault::Blanks;
     }
-    LineFault::Command(kind.find_fault(alloc, state, line))
+    LineFault::Command(fault)
 }

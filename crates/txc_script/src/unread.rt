@@ -1,4 +1,5 @@
 //! Why nothing was read.
+use crate::line_fault::CommandFault;
 use std::alloc::AllocError;
 use txc_tags::BadKey;
 
@@ -40,5 +41,25 @@ impl From<AllocError> for Unread {
 
     fn from(_error: AllocError) -> Unread {
         Unread::Memory
+    }
+}
+
+/// Why a line was not answered.
+#[derive(Debug, Drop)]
+pub enum Unanswered {
+    /// It asks for nothing: this is wrong with its words.
+    Wrong(CommandFault),
+    /// A growth was refused.
+    Memory,
+}
+
+impl From<AllocError> for Unanswered {
+    ghost use Rattle.std.specs.Prelude.{◌≡◌};
+    ghost use Rattle.txc_script.specs.declared.unread.Unanswered.TheVariants as reasons;
+
+    ghost from_gives = { λ _ reason. reason ≡ reasons.Memory };
+
+    fn from(_error: AllocError) -> Unanswered {
+        Unanswered::Memory
     }
 }

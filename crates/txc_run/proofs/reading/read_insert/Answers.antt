@@ -1,6 +1,4 @@
 use Rattle.std.proofs.Common.{Err, refl, arith, sym, ap, subst}
-use Rattle.txc_tags.specs.Tags.{set_of}
-use Rattle.txc_tags.specs.TextSet.{tags_spelt}
 use Rattle.txc_node.specs.declared.entry.Entry.{Entry}
 use Rattle.txc_node.specs.declared.op.Op.TheVariants.{Insert}
 use Rattle.txc_node.proofs.Offered.{entry_is_made}
@@ -37,13 +35,13 @@ returns-in_err-known-clause-refused c = malformed _ (IsOfForm insert_form (words
 pub returns-in_err-still-clause-refused : goal.returns-in_err-still-clause-refused
 returns-in_err-still-clause-refused c = malformed _ (IsOfForm insert_form (words_of c.args.text.now)) c.from_residual-in_err-still.ensures (λ op is.
     let said = of_words insert_form _ _ op c.in_ok-key_text.ensures.answer is in
-    c.in_err-still.ensures.refused said.values.1.1.1.0 said.say.1.1.1.0.1)
+    c.in_err-still.ensures.refused said.values.1.1.1.0 said.say.1.1.1.0)
 
 pub returns-in_err-tags-clause-refused : goal.returns-in_err-tags-clause-refused
 returns-in_err-tags-clause-refused c =
     word_unread _ (IsOfForm insert_form (words_of c.args.text.now)) (IsTagsWord c.in_ok-key_text.tags_text.now) c.in_err-tags.field-0.0 c.from_residual-in_err-tags.ensures c.in_err-tags.ensures.refused (λ op is.
     let said = of_words insert_form _ _ op c.in_ok-key_text.ensures.answer is in
-    (set_of (tags_spelt said.values.1.1.1.1.0), (said.values.1.1.1.1.0, said.say.1.1.1.1.0, refl)))
+    (said.values.1.1.1.1.0, said.say.1.1.1.1.0))
 
 pub returns-in_err-value-clause-refused : goal.returns-in_err-value-clause-refused
 returns-in_err-value-clause-refused c =
