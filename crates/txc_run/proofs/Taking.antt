@@ -13,10 +13,12 @@ use Rattle.txc_script.specs.Answers.{IsUnanswered}
 use Rattle.txc_script.specs.Kinds.{Replied}
 use Rattle.txc_script.specs.declared.unread.Unanswered.{Unanswered}
 use Rattle.txc_script.specs.declared.unread.Unanswered.TheVariants.{Wrong, Memory}
+use Rattle.txc_script.specs.declared.unread.Unread.{Unread}
+use Rattle.txc_script.specs.declared.unread.Unread.TheVariants as unread
 use Rattle.txc_run.specs.Counting.{Counts, counted_script}
 use Rattle.txc_run.specs.NodeScripts.{node_script}
 use Rattle.txc_run.specs.Reports.{IsReportOf, step_by, steps_in, steps_of}
-use Rattle.txc_run.specs.Steps.{IsFor, IsNoStep, Taking, TakesStep}
+use Rattle.txc_run.specs.Steps.{IsFor, IsNoStep, MakesNone, MakesStep, Taking}
 use Rattle.txc_run.specs.declared.node.Counted.{Counted}
 use Rattle.txc_run.specs.declared.report.Report.{Report}
 use Rattle.txc_run.proofs.Reporting.{steps_more}
@@ -38,11 +40,16 @@ one_counted old new op reply kept counts given h =
     subst (λ (steps : List Record). IsReportOf steps new.functions.keys new.counts) (sym (steps_more given (Replied op reply) ∙ ap (λ (xs : List Record). steps_of given ++ xs) one))
     (counts (steps_of given) h)
 
--- the reply to a step was taken
-pub taken : {T E : Type 0} (takes : Taking T) (r : Result Bool E) (c next : Cache) (op : Op) (reply : Reply Shown) (function : Option ℕ) (old new : T) → MayReply c op reply next → IsFor function op reply
-    → IfOk r (λ refused. (o : Op) → IsFor function o reply → takes old o reply new) → IfOk r (λ refused. refused ≡ is_refusal reply) → IfOk r (TakesStep takes c op next old new)
-taken takes (Ok refused) c next op reply function old new may is after same = (reply, may, after op is, same)
-taken takes (Err e) c next op reply function old new may is after same = tt
+-- such a step was made, and its reply taken
+pub taken : {T E : Type 0} (takes : Taking T) (Is : Op → Type 0) (r : Result Bool E) (c next : Cache) (op : Op) (reply : Reply Shown) (function : Option ℕ) (old new : T) → Is op → MayReply c op reply next → IsFor function op reply
+    → IfOk r (λ refused. (o : Op) → IsFor function o reply → takes old o reply new) → IfOk r (λ refused. refused ≡ is_refusal reply) → IfOk r (MakesStep takes Is c next old new)
+taken takes Is (Ok refused) c next op reply function old new is may of after same = (op, is, reply, may, after op of, same)
+taken takes Is (Err e) c next op reply function old new is may of after same = tt
+
+-- memory alone is refused for its reply
+pub memory_refused : {T : Type 0} (Is : Op → Type 0) (r : Result Bool Unread) (c next : Cache) (old new : T) → IfErr r (λ reason. reason ≡ unread.Memory) → IfErr r (MakesNone Is c next old new)
+memory_refused Is (Ok refused) c next old new h = tt
+memory_refused Is (Err reason) c next old new h = subst (MakesNone Is c next old new) (sym h) tt
 
 -- ---- lines that name a step
 

@@ -21,14 +21,10 @@ IsFor function op reply = is_refusal reply ≡ false → function ≡ function_o
 abbrev pub Taking : Type 0 → Type 1
 Taking T = T → Op → Reply Shown → T → Type 0
 
--- the step has a reply, which was taken and is a refusal or none, and leaves that cache
-abbrev pub TakesStep : {T : Type 0} → Taking T → Cache → Op → Cache → T → T → Bool → Type 0
-TakesStep takes c op next old new refused = (reply : Reply Shown) × MayReply c op reply next
-    × takes old op reply new × (refused ≡ is_refusal reply)
-
--- such a step was made: it has a reply, which was taken, and leaves that cache
+-- such a step was made: it has a reply, which was taken and is a refusal or none, and leaves that cache
 abbrev pub MakesStep : {T : Type 0} → Taking T → (Op → Type 0) → Cache → Cache → T → T → Bool → Type 0
-MakesStep takes Is c next old new refused = (op : Op) × Is op × TakesStep takes c op next old new refused
+MakesStep takes Is c next old new refused = (op : Op) × Is op × (reply : Reply Shown) × MayReply c op reply next
+    × takes old op reply new × (refused ≡ is_refusal reply)
 
 -- there is no such step, and nothing changed; or a growth was refused
 abbrev pub MakesNone : {T : Type 0} → (Op → Type 0) → Cache → Cache → T → T → Unread → Type 0

@@ -1,13 +1,11 @@
 -- What is wrong with words, and with the words of a line.
 use Rattle.std.specs.Prelude.{◌≡◌, ◌≢◌, ◌⊎◌, ◌==◌, ◌+◌, ℕ, Bool, false, List, [], ◌∷◌, ◌++◌, Option, Some, None, Result, Ok, Err, ⊤, length, nat_lt, ◌||◌}
-use Rattle.std.specs.List.{list_any, flat_map}
+use Rattle.std.specs.List.{list_any}
 use Rattle.txc_tags.specs.TextGrammar.{IsLongestPrefix}
 use Rattle.txc_tags.specs.TextKey.{key_text, IsKeyInRange}
 use Rattle.txc_tags.specs.TextSet.{AreSpeltInRange, spelt_tags_text}
-use Rattle.txc_node.specs.Texts.{digits_of}
 use Rattle.txc_script.specs.Excerpts.{excerpt_of}
 use Rattle.txc_script.specs.Forms.{LineForm, kinds_after}
-use Rattle.txc_script.specs.Hex.{IsBytes, IsHexWord}
 use Rattle.txc_script.specs.Lines.{IsPlain}
 use Rattle.txc_script.specs.SaidWords.{IsOfKind, SaysWord}
 use Rattle.txc_script.specs.Words.{words_of}
@@ -16,15 +14,13 @@ use Rattle.txc_script.specs.declared.line_fault.WordKind.TheVariants.{Key, Tags}
 use Rattle.txc_script.specs.declared.line_fault.WordFault.{WordFault}
 use Rattle.txc_script.specs.declared.line_fault.CommandFault.{CommandFault}
 use Rattle.txc_script.specs.declared.line_fault.CommandFault.TheVariants.{Unknown, Count, Word}
+use Rattle.txc_script.specs.declared.finding.Unsaid.{Unsaid}
+use Rattle.txc_script.specs.declared.finding.Unsaid.TheVariants as unsaid
 use Rattle.txc_script.specs.declared.said.Said.{Said}
 use Rattle.txc_script.specs.declared.unread.Unanswered.{Unanswered}
 use Rattle.txc_script.specs.declared.unread.Unanswered.TheVariants.{Wrong, Memory}
 
 -- ---- words
-
--- the word is the spelling of some bytes
-abbrev pub IsHex : List ℕ → Type 0
-IsHex word = (value : List ℕ) × IsHexWord word value
 
 -- each of the words is of its kind
 abbrev pub AreOfKinds : List WordKind → List (List ℕ) → Type 0
@@ -98,13 +94,10 @@ abbrev pub IsWrong : (CommandFault → Type 0) → Unanswered → Type 0
 IsWrong Is (Wrong fault) = Is fault
 IsWrong Is Memory = ⊤
 
--- ---- only private functions need these
+-- ---- only private functions need this
 
--- the text is the digits of some bytes
-abbrev pub AreDigitsOfBytes : List ℕ → Type 0
-AreDigitsOfBytes text = (value : List ℕ) × IsBytes value × (flat_map digits_of value ≡ text)
-
--- the word is of this kind, and a reader gives this; or it is of another, and goes wrong there
-abbrev pub IsWordRead : WordKind → List ℕ → Result Said (Option ℕ) → Type 0
+-- the word is of this kind, and a reader gives this; or it is of another, and goes wrong there; or a growth was refused
+abbrev pub IsWordRead : WordKind → List ℕ → Result Said Unsaid → Type 0
 IsWordRead kind word (Ok given) = SaysWord kind word given
-IsWordRead kind word (Err at) = (IsOfKind kind word → ⊥) × StopsAt kind word at
+IsWordRead kind word (Err (unsaid.Bad at)) = (IsOfKind kind word → ⊥) × StopsAt kind word at
+IsWordRead kind word (Err unsaid.Memory) = ⊤

@@ -4,70 +4,59 @@ ghost use Rattle.std.specs.List.{list_any};
 ghost use Rattle.txc_script.specs.Kinds.{IsFaultOf};
 ghost use Rattle.txc_script.specs.Lines.{IsPlain, IsTextWord, change_named, query_named};
 ghost use Rattle.txc_script.specs.Words.{words_of};
-ghost use Rattle.txc_script.specs.LineFaults.{is_foreign, is_empty, kinds_for, IsHex, AreDigitsOfBytes, IsWordRead};
+ghost use Rattle.txc_script.specs.LineFaults.{is_foreign, is_empty, kinds_for, IsWordRead};
 
-use crate::hex::read_byte;
+use crate::hex::read_hex;
 use crate::kind::Script;
 use crate::line::MAX_LINE_LEN;
 use crate::line_fault::{CommandFault, LineFault, WordKind};
 use crate::said::{ChangeName, QueryName, Said, TextWord};
+use crate::unread::Unread;
 use crate::word::{read_function, read_id, read_stamp, read_still, read_table};
 use crate::words::{all_words, count_words};
 use std::alloc::Global;
 use txc_tags::{Key, SetError, TagSet, read_number};
 
-/// Whether the text is digits in pairs.
-fn are_digits(text: &[u8]) -> bool
-    ensures { IsTrue result ↔ AreDigitsOfBytes text.now }
-{
-    let mut rest = text;
-    'digits: loop {
-        match rest {
-            [] => return true,
-            [_] => return false,
-            [high, low, after @ ..] => {
-                match read_byte(*high, *low) {
-                    None => return false,
-                    Some(_) => rest = after,
-                }
-            }
-        }
-    }
+/// Why a word says nothing of its kind.
+#[derive(Debug, Drop)]
+pub enum Unsaid {
+    /// It is of another; where a key or tags go wrong.
+    Bad(Option<usize>),
+    /// A growth was refused.
+    Memory,
 }
 
-/// Whether the word is the spelling of bytes. It takes no memory.
-fn is_hex(word: &[u8]) -> bool
-    ensures { IsTrue result ↔ IsHex word.now }
-{
-    if word == b"-".as_slice() {
-        return true;
-    }
-    if word.is_empty() {
-        return false;
-    }
-    are_digits(word)
-}
-
-/// The key that the word is; if it is none, where it goes wrong.
-fn read_key(word: &[u8]) -> Result<Said<'_>, Option<usize>>
+/// The key that the word is.
+fn read_key(word: &[u8]) -> Result<Said<'_>, Unsaid>
     ensures { IsWordRead WordKind.Key word.now result }
 {
     match Key::read(word) {
         Ok(key) => Ok(Said::Key(key)),
-        Err(bad) => Err(Some(bad.at)),
+        Err(bad) => Err(Unsaid::Bad(Some(bad.at))),
     }
 }
 
-/// Whether the word is tags; if not, where it goes wrong.
-fn test_tags(alloc: Global, word: &[u8]) -> Result<Said<'_>, Option<usize>>
+/// Whether the word is tags.
+fn test_tags(alloc: Global, word: &[u8]) -> Result<Said<'_>, Unsaid>
     ensures { IsWordRead WordKind.Tags word.now result }
 {
     match TagSet::read(alloc, word) {
         Ok(_) => Ok(Said::Other),
-        Err(SetError::BadTag(bad)) => Err(Some(bad.at)),
-        // Memory is refused only for a word that is tags.
-        Err(SetError::Memory(_)) => Ok(Said::Other),
+        Err(SetError::BadTag(bad)) => Err(Unsaid::Bad(Some(bad.at))),
+        Err(SetError::Memory(_)) => Err(Unsaid::Memory),
     }
+}
+
+/// Whether the word is the spelling of bytes.
+fn test_bytes(alloc: Global, word: &[u8]) -> Result<Said<'_>, Unsaid>
+    ensures { IsWordRead WordKind.Bytes word.now result }
+{
+    let _bytes = match read_hex(alloc, word) {
+        Ok(bytes) => bytes,
+        Err(Unread::Malformed) => return Err(Unsaid::Bad(None)),
+        Err(Unread::Memory) => return Err(Unsaid::Memory),
+    };
+    Ok(Said::Other)
 }
 
 /// Whether the word has at most so many bytes, each of which prints.
@@ -112,48 +101,47 @@ pub fn change_name(word: &[u8]) -> Option<ChangeName>
     None
 }
 
-/// What the word says, if it is of its kind; if not, where a key or tags go wrong.
-pub fn read_word(alloc: Global, kind: WordKind, word: &[u8]) -> Result<Said<'_>, Option<usize>>
+/// What the word says, if it is of its kind.
+pub fn read_word(alloc: Global, kind: WordKind, word: &[u8]) -> Result<Said<'_>, Unsaid>
     ensures { IsWordRead kind word.now result }
 {
     match kind {
         WordKind::Key => read_key(word),
         WordKind::Tags => test_tags(alloc, word),
+        WordKind::Bytes => test_bytes(alloc, word),
         WordKind::Stamp => match read_stamp(word) {
             Ok(stamp) => Ok(Said::Stamp(stamp)),
-            Err(_) => Err(None),
+            Err(_) => Err(Unsaid::Bad(None)),
         },
         WordKind::Reach => match read_still(word) {
             Ok(_) => Ok(Said::Other),
-            Err(_) => Err(None),
+            Err(_) => Err(Unsaid::Bad(None)),
         },
         WordKind::Table => match read_table(word) {
             Ok(table) => Ok(Said::Table(table)),
-            Err(_) => Err(None),
+            Err(_) => Err(Unsaid::Bad(None)),
         },
         WordKind::Id => match read_id(word) {
             Ok(id) => Ok(Said::Id(id)),
-            Err(_) => Err(None),
+            Err(_) => Err(Unsaid::Bad(None)),
         },
         WordKind::Function => match read_function(word) {
             Ok(function) => Ok(Said::Function(function)),
-            Err(_) => Err(None),
+            Err(_) => Err(Unsaid::Bad(None)),
         },
         WordKind::Number(most) => match read_number(word, most) {
             Some(number) => Ok(Said::Number(number)),
-            None => Err(None),
+            None => Err(Unsaid::Bad(None)),
         },
-        WordKind::Bytes if is_hex(word) => Ok(Said::Other),
-        WordKind::Bytes => Err(None),
         WordKind::Text(most) if is_text(most, word) => Ok(Said::Text(TextWord::new(word))),
-        WordKind::Text(_) => Err(None),
+        WordKind::Text(_) => Err(Unsaid::Bad(None)),
         WordKind::QueryName => match query_name(word) {
             Some(name) => Ok(Said::Query(name)),
-            None => Err(None),
+            None => Err(Unsaid::Bad(None)),
         },
         WordKind::ChangeName => match change_name(word) {
             Some(name) => Ok(Said::Change(name)),
-            None => Err(None),
+            None => Err(Unsaid::Bad(None)),
         },
     }
 }

@@ -5,7 +5,7 @@ ghost use Rattle.txc_script.specs.SaidWords.{SayAll};
 ghost use Rattle.txc_script.specs.Words.{words_left};
 
 use crate::excerpt::Excerpt;
-use crate::finding::{next_kind, read_word};
+use crate::finding::{Unsaid, next_kind, read_word};
 use crate::line_fault::{CommandFault, WordFault, WordKind};
 use crate::said::Said;
 use crate::unread::Unanswered;
@@ -35,7 +35,8 @@ pub fn read_each<'a>(
         let word = left.next();
         match read_word(alloc, kind, word) {
             Ok(value) => said.push_reserved(value),
-            Err(at) => {
+            Err(Unsaid::Memory) => return Err(Unanswered::Memory),
+            Err(Unsaid::Bad(at)) => {
                 return Err(Unanswered::Wrong(CommandFault::Word(WordFault {
                     number: before + 1,
                     kind,

@@ -33,6 +33,17 @@ impl From<Malformed> for Unread {
     }
 }
 
+impl From<BadKey> for Unread {
+    ghost use Rattle.std.specs.Prelude.{◌≡◌};
+    ghost use Rattle.txc_script.specs.declared.unread.Unread.TheVariants as reasons;
+
+    ghost from_gives = { λ _ reason. reason ≡ reasons.Malformed };
+
+    fn from(_error: BadKey) -> Unread {
+        Unread::Malformed
+    }
+}
+
 impl From<AllocError> for Unread {
     ghost use Rattle.std.specs.Prelude.{◌≡◌};
     ghost use Rattle.txc_script.specs.declared.unread.Unread.TheVariants as reasons;

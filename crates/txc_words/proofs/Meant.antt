@@ -1,11 +1,11 @@
 -- Words that are of the kinds that a line's name wants say what they are to say.
-use Rattle.std.proofs.Common.{◌≡◌, ℕ, List, [], ◌∷◌, Option, Some, None, get_or, length, ◌≤◌, arith, refl, sym, ap, subst, ◌∙◌}
+use Rattle.std.proofs.Common.{◌≡◌, ℕ, List, [], ◌∷◌, Option, Some, None, get_or, length, take, ◌≤◌, arith, refl, sym, ap, subst, ◌∙◌}
 use Rattle.std.specs.Prelude.{option_map, MatchOption}
 use Rattle.txc_rows.specs.Values.{IsBody}
 use Rattle.txc_rows.specs.declared.row.TheConstants.{MAX_BODY_LEN}
 use Rattle.txc_script.specs.Lines.{change_named, query_named}
 use Rattle.txc_script.specs.LineFaults.{IsKindsFault}
-use Rattle.txc_script.specs.SaidWords.{AllSaidOf, SaidOf, SayAll, SaysWord}
+use Rattle.txc_script.specs.SaidWords.{AllSaidOf, Mean, SaidOf, SayAll, SaysWord}
 use Rattle.txc_script.specs.declared.line_fault.CommandFault.{CommandFault}
 use Rattle.txc_script.specs.declared.line_fault.WordKind.{WordKind}
 use Rattle.txc_script.specs.declared.line_fault.WordKind.TheVariants as word_kinds
@@ -16,9 +16,10 @@ use Rattle.txc_script.specs.declared.said.QueryName.TheVariants.{ById, ByGroup, 
 use Rattle.txc_script.specs.declared.said.Said.{Said}
 use Rattle.txc_script.specs.declared.said.Said.TheVariants as said
 use Rattle.txc_script.proofs.Offered.{all_said_by, meant, none_wrong, said_by, said_of}
-use Rattle.txc_words.specs.Faults.{IsFaultAfter, IsUnkindFault, kinds_of_change, kinds_of_query, change_line, kinds_after_name, place, query_line, second_of}
+use Rattle.txc_words.specs.Faults.{IsFaultAfter, IsUnkindFault, first_kinds, kinds_of_change, kinds_of_query, change_line, kinds_after_name, place, query_line, second_of}
 use Rattle.txc_words.specs.Said.{AreBodies, SaysAfter, change_said, query_said}
 use Rattle.txc_words.specs.declared.name.LineName.{LineName}
+use Rattle.txc_words.specs.declared.name.LineName.TheVariants as names
 
 pub same_some : {X : Type 0} (x y : X) → Some x ≡ Some y → x ≡ y
 same_some x y e = cc
@@ -30,6 +31,27 @@ none_some x e = cc
 pub none_after : (name : LineName) (words : List (List ℕ)) (fault : CommandFault) (values : List Said) → IsFaultAfter name words fault → SaysAfter name words values → ⊥
 none_after name words fault values h k =
     none_wrong k.kinds words fault values (subst (λ (o : Option (List WordKind)). MatchOption o (IsUnkindFault name words fault) (λ kinds. IsKindsFault kinds words fault)) k.known h) k.say
+
+-- ---- a second word that names no query and no change
+
+named_none : {N : Type 0} (f : N → List WordKind) (o : Option N) (name : N) → o ≡ Some name → option_map f o ≡ None → ⊥
+named_none f o name e none = none_some (f name) (sym (ap (option_map f) e) ∙ none)
+
+no_query : (first : WordKind) (words : List (List ℕ)) (all : AllSaidOf (first ∷ word_kinds.QueryName ∷ [])) → query_line first (second_of words) ≡ None → Mean (first ∷ word_kinds.QueryName ∷ []) (take 2 words) all → ⊥
+no_query first [] all none h = h
+no_query first (a ∷ []) all none h = h.1
+no_query first (a ∷ b ∷ words) all none h = named_none (λ name. first ∷ word_kinds.QueryName ∷ kinds_of_query name) (query_named b) all.1.0 h.1.0 none
+
+no_change : (words : List (List ℕ)) (all : AllSaidOf (place ∷ word_kinds.ChangeName ∷ [])) → change_line (second_of words) ≡ None → Mean (place ∷ word_kinds.ChangeName ∷ []) (take 2 words) all → ⊥
+no_change [] all none h = h
+no_change (a ∷ []) all none h = h.1
+no_change (a ∷ b ∷ words) all none h = named_none (λ name. place ∷ word_kinds.ChangeName ∷ kinds_of_change name) (change_named b) all.1.0 h.1.0 none
+
+pub none_unkind : (name : LineName) (words : List (List ℕ)) (all : AllSaidOf (first_kinds name)) → kinds_after_name name (second_of words) ≡ None → Mean (first_kinds name) (take 2 words) all → ⊥
+none_unkind names.Query words all none h = no_query word_kinds.Stamp words all none h
+none_unkind names.Ask words all none h = no_query place words all none h
+none_unkind names.Write words all none h = no_change words all none h
+none_unkind name words all none h = none_some _ none
 
 -- ---- texts
 

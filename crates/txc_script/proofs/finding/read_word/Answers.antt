@@ -3,7 +3,7 @@ use Rattle.txc_script.specs.LineFaults.{StopsAt}
 use Rattle.txc_script.specs.Lines.{IsTextWord}
 use Rattle.txc_script.specs.SaidWords.{IsOfKind}
 use Rattle.txc_script.specs.declared.line_fault.WordKind.{WordKind}
-use Rattle.txc_script.specs.declared.line_fault.WordKind.TheVariants.{Stamp, Bytes, Table, Id, Function, Number, Text, QueryName, ChangeName}
+use Rattle.txc_script.specs.declared.line_fault.WordKind.TheVariants.{Stamp, Table, Id, Function, Number, Text, QueryName, ChangeName}
 use Rattle.txc_script.proofs.finding.read_word.Goals as goal
 
 bad : (kind k : WordKind) (word : List ℕ) → kind ≡ k → (IsOfKind k word → ⊥) × StopsAt k word None → (IsOfKind kind word → ⊥) × StopsAt kind word None
@@ -23,9 +23,6 @@ returns-in-Err-read_function c = bad c.args.kind Function c.args.word.now c.in-F
 
 pub returns-in-None : goal.returns-in-None
 returns-in-None c = bad c.args.kind (Number c.in-Number.most) c.args.word.now c.in-Number.is (c.in-None.ensures.refused, refl)
-
-pub returns-in-Bytes-2 : goal.returns-in-Bytes-2
-returns-in-Bytes-2 c = bad c.args.kind Bytes c.args.word.now c.in-Bytes-2.is ((λ h. let yes = c.is_hex.ensures.1 h in let no = c.if-is_hex.false in cc), refl)
 
 pub returns-in-Text-2 : goal.returns-in-Text-2
 returns-in-Text-2 c = bad c.args.kind (Text c.in-Text.most) c.args.word.now c.in-Text.is ((λ h. let yes = c.is_text.ensures.1 (subst (IsTextWord c.in-Text.most) (sym h.1.1) h.1.0) in let no = c.if-is_text.false in cc), refl)

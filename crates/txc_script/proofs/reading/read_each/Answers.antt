@@ -16,13 +16,13 @@ loop-before-init c = record {
 pub next-word-requires : goal.next-word-requires
 next-word-requires c = omega (arith, c.loop-before.invariant.all)
 
-pub returns-in-Err-clause-refused : goal.returns-in-Err-clause-refused
-returns-in-Err-clause-refused c =
+pub returns-in-Err-Bad-clause-refused : goal.returns-in-Err-Bad-clause-refused
+returns-in-Err-Bad-clause-refused c =
     let after = words_left c.next-word.new.self in
     let word = c.next-word.result.now in (
       sym (kinds_count c.args.kinds.now c.args.other (words_left c.args.words)),
       bad_read _ (words_left c.args.words) _ _ word (words_left c.loop-before.left) after c.loop-before.said.items c.loop-before.before _ c.loop-before.invariant.read
-          (ap (kinds_for c.loop-before.rest.now c.args.other) c.next-word.ensures ∙ c.next_kind-kind.ensures word after) c.next-word.ensures refl c.in-Err.ensures.0 c.new.ensures c.in-Err.ensures.1,
+          (ap (kinds_for c.loop-before.rest.now c.args.other) c.next-word.ensures ∙ c.next_kind-kind.ensures word after) c.next-word.ensures refl c.in-Err-Bad.ensures.0 c.new.ensures c.in-Err-Bad.ensures.1,
     )
 
 pub loop-before-preserved : goal.loop-before-preserved
