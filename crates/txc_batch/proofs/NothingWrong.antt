@@ -1,6 +1,5 @@
 -- Nothing is wrong with the words of a line of a batch's script that asks for something.
-use Rattle.std.proofs.Common.{◌≡◌, ℕ, List, refl, subst, inl, inr, arith}
-use Rattle.std.specs.Prelude.{codes}
+use Rattle.std.proofs.Common.{◌≡◌, ℕ, List, subst, inl, inr, arith}
 use Rattle.txc_script.specs.Words.{words_of}
 use Rattle.txc_script.specs.declared.line_fault.CommandFault.{CommandFault}
 use Rattle.txc_script.proofs.Offered.{none_wrong}
@@ -10,7 +9,7 @@ use Rattle.txc_batch.specs.BatchFaults.{IsBatchFault, IsJobFault, IsPreparingFau
 use Rattle.txc_batch.specs.Orders.{AreJobWords, AsksFor, job_kinds}
 use Rattle.txc_batch.specs.Queueing.{QueuedValue}
 use Rattle.txc_batch.specs.declared.order.Order.{Order}
-use Rattle.txc_batch.proofs.OrderWords.{job_asked, no_name, order_early, order_prepares}
+use Rattle.txc_batch.proofs.OrderWords.{job_asked, no_name, order_asked}
 
 no_job_fault : (words : List (List ℕ)) (q : QueuedValue) (fault : CommandFault) → AreJobWords words q → IsJobFault words fault → ⊥
 no_job_fault words q fault h (inl few) = omega (arith, h.some, few.0)
@@ -18,7 +17,7 @@ no_job_fault words q fault h (inr (some, wrong)) = none_wrong (job_kinds words) 
 
 pub nothing_wrong : (jobs : List Job) (line : List ℕ) (order : Order) (fault : CommandFault) → AsksFor jobs line order → IsBatchFault jobs (words_of line) fault → ⊥
 nothing_wrong jobs line order fault h (inl (word, words, e, other, none, unknown)) = no_name jobs line word words order e other none h
-nothing_wrong jobs line order fault h (inr (inl (words, e, wrong))) = let job = job_asked jobs line (codes "job") words order e refl h in no_job_fault words job.0 fault job.1 wrong
+nothing_wrong jobs line order fault h (inr (inl (words, e, wrong))) = let job = job_asked jobs line words order e h in no_job_fault words job.0 fault job.1 wrong
 nothing_wrong jobs line order fault h (inr (inr (name, words, is, e, wrong))) =
-    let says = order_prepares jobs line name words order is e h in
-    none_after name words fault says.values (subst (λ (js : List Job). IsPreparingFault js name words fault) (order_early jobs line name words order is e h) wrong) says.say
+    let asked = order_asked jobs line name words order is e h in
+    none_after name words fault asked.1.values (subst (λ (js : List Job). IsPreparingFault js name words fault) asked.0 wrong) asked.1.say

@@ -12,7 +12,7 @@ use Rattle.txc_words.specs.Faults.{kinds_of_change, kinds_after_name, moment, pl
 use Rattle.txc_words.specs.Said.{AreBodies, SaysAfter, change_said, query_said}
 use Rattle.txc_words.specs.declared.name.LineName.{LineName}
 use Rattle.txc_words.specs.declared.name.LineName.TheVariants as names
-use Rattle.txc_words.proofs.Offered.{HasChange, HasQuery, HaveBodies, bodies, change_bodies, change_there, has_change, has_query, none_some, own_change, same_some}
+use Rattle.txc_words.proofs.Offered.{HasChange, HasQuery, HaveBodies, bodies, change_bodies, change_there, has_change, has_query, none_mapped, none_some, own_change, same_some}
 use Rattle.txc_play.specs.Tasks.{keeper_change, task_said}
 use Rattle.txc_play.specs.declared.task.Task.TheVariants as tasks
 use Rattle.txc_rows.specs.declared.query.Change.{Change}
@@ -33,10 +33,6 @@ asks_by name words values kinds h known texts some =
     let say = subst (λ (ks : List WordKind). SayAll ks words values) (same_some h.kinds kinds (sym h.known ∙ known)) h.say in
     let by = said_of kinds words values say in
     record { bodies = bodies kinds words values texts say; some = λ none. some by.all (ap (task_said name) (sym by.given) ∙ none) }
-
-none_mapped : {X Y : Type 0} (f : X → Y) (o : Option X) → option_map f o ≡ None → o ≡ None
-none_mapped f None e = refl
-none_mapped f (Some x) e = absurd (none_some (f x) e)
 
 keeps_some : (name : ChangeName) (values : List Said) → (change_said name values ≡ None → ⊥) → keeper_change name values ≡ None → ⊥
 keeps_some name values some none = some (none_mapped (λ (change : Change). tasks.One (Keeper (keeps.Write change))) (change_said name values) none)

@@ -11,8 +11,8 @@ use Rattle.txc_script.specs.Lines.{IsPlain}
 use Rattle.txc_script.specs.declared.line_fault.WordKind.TheVariants.{Key, Stamp, Reach, Tags, Bytes}
 
 -- the insertion of an entry of these parts
-abbrev pub insertion_of : Call → List ℕ → ℕ → ℕ → Bool → List Tag → Op
-insertion_of key value lo known still tags =
+abbrev pub insertion_said : Call → List ℕ → ℕ → ℕ → Bool → List Tag → Op
+insertion_said key value lo known still tags =
     Insert (record { key = key; value = value; reach = record { lo = lo; known = known; still = still }; tags = tags })
 
 -- a key, the first and the last stamp at which its value is known to hold, whether it still does, tags, and the value
@@ -20,7 +20,7 @@ abbrev pub insert_form : LineForm Op
 insert_form = record {
   name = codes "insert";
   kinds = Key ∷ Stamp ∷ Stamp ∷ Reach ∷ Tags ∷ Bytes ∷ [];
-  asks = λ said. insertion_of said.0 said.1.1.1.1.1.0 said.1.0 said.1.1.0 said.1.1.1.0 (set_of (tags_spelt said.1.1.1.1.0));
+  asks = λ said. insertion_said said.0 said.1.1.1.1.1.0 said.1.0 said.1.1.0 said.1.1.1.0 (set_of (tags_spelt said.1.1.1.1.0));
 }
 
 -- a key, and the first and the last stamp that will do

@@ -1,24 +1,23 @@
 //! What steps are asked for, by the words of lines.
 ghost use Rattle.std.specs.Prelude.{IfOk, IfErr};
-ghost use Rattle.txc_node.specs.declared.op.Op.{Op};
 ghost use Rattle.txc_node.specs.declared.op.Op.TheVariants.{Lookup, Event, Sweep};
 ghost use Rattle.txc_script.specs.Forms.{IsOfForm};
 ghost use Rattle.txc_script.specs.Unread.{IsNone};
 ghost use Rattle.txc_script.specs.Words.{words_of};
-ghost use Rattle.txc_run.specs.Lines.{event_form, insert_form, insertion_of, lookup_form, sweep_form};
+ghost use Rattle.txc_run.specs.Lines.{event_form, insert_form, insertion_said, lookup_form, sweep_form};
 
 use std::alloc::Global;
 use txc_script::{
-    Malformed, Unread, one_word, read_hex, read_stamp, read_still, read_tags, six_words,
-    three_words, two_words,
+    Unread, one_word, read_hex, read_stamp, read_still, read_tags, six_words, three_words,
+    two_words,
 };
 use txc_stamp::Stamp;
 use txc_tags::{Key, TagSet};
 
 /// What a lookup asks for, by what comes after its name: a key, and the first and the last stamp.
-pub fn read_lookup(text: &[u8]) -> Result<(Key, Stamp, Stamp), Malformed>
+pub fn read_lookup(text: &[u8]) -> Result<(Key, Stamp, Stamp), Unread>
     ensures answer { IfOk result (λ r. IsOfForm lookup_form (words_of text.now) (Lookup r.0 r.1 r.2)) }
-    ensures refused { IfErr result (λ _. (op : Op) → IsOfForm lookup_form (words_of text.now) op → ⊥) }
+    ensures refused { IfErr result (IsNone (IsOfForm lookup_form (words_of text.now))) }
 {
     let (key_text, lo_text, hi_text) = three_words(text)?;
     let key = Key::read(key_text)?;
@@ -28,9 +27,9 @@ pub fn read_lookup(text: &[u8]) -> Result<(Key, Stamp, Stamp), Malformed>
 }
 
 /// The horizon of a sweep, by what comes after its name.
-pub fn read_sweep(text: &[u8]) -> Result<Stamp, Malformed>
+pub fn read_sweep(text: &[u8]) -> Result<Stamp, Unread>
     ensures answer { IfOk result (λ horizon. IsOfForm sweep_form (words_of text.now) (Sweep horizon)) }
-    ensures refused { IfErr result (λ _. (op : Op) → IsOfForm sweep_form (words_of text.now) op → ⊥) }
+    ensures refused { IfErr result (IsNone (IsOfForm sweep_form (words_of text.now))) }
 {
     let horizon_text = one_word(text)?;
     let horizon = read_stamp(horizon_text)?;
@@ -55,7 +54,7 @@ pub fn read_insert(
     text: &[u8],
 ) -> Result<(Key, Vec<u8>, Stamp, Stamp, bool, TagSet), Unread>
     ensures answer { IfOk result (λ r. IsOfForm insert_form (words_of text.now)
-        (insertion_of r.0 r.1.items r.2 r.3 r.4 r.5)) }
+        (insertion_said r.0 r.1.items r.2 r.3 r.4 r.5)) }
     ensures refused { IfErr result (IsNone (IsOfForm insert_form (words_of text.now))) }
 {
     let (key_text, lo_text, known_text, reach_text, tags_text, value_text) = six_words(text)?;

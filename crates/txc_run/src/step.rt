@@ -57,7 +57,8 @@ fn make_lookup<T: Taker>(
 {
     let (key, lo, hi) = match read_lookup(text) {
         Ok(read) => read,
-        Err(_) => return Err(Unread::Malformed),
+        Err(Unread::Malformed) => return Err(Unread::Malformed),
+        Err(Unread::Memory) => return Err(Unread::Memory),
     };
     let function = Some(key.function());
     match node.lookup(&key, lo, hi) {
@@ -112,7 +113,8 @@ fn make_sweep<T: Taker>(
 {
     let horizon = match read_sweep(text) {
         Ok(horizon) => horizon,
-        Err(_) => return Err(Unread::Malformed),
+        Err(Unread::Malformed) => return Err(Unread::Malformed),
+        Err(Unread::Memory) => return Err(Unread::Memory),
     };
     taker.take(alloc, None, &Reply::Swept(node.sweep(horizon)))
 }

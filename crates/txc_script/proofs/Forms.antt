@@ -146,14 +146,6 @@ not_quiet {A} forms line asked letters quiet h =
 
 -- ---- what is refused
 
--- a clause of a refusal that holds anyhow
-pub refused_anyhow : {T E : Type 0} (r : Result T E) (P : Type 0) → P → IfErr r (λ _. P)
-refused_anyhow (Ok x) P h = tt
-refused_anyhow (Err e) P h = h
-
-pub no_form_of : {A T E : Type 0} (r : Result T E) (form : LineForm A) (words : List (List ℕ)) → ((asked : A) → IsOfForm form words asked → ⊥) → IfErr r (λ _. (asked : A) → IsOfForm form words asked → ⊥)
-no_form_of {A} r form words none = refused_anyhow r ((asked : A) → IsOfForm form words asked → ⊥) none
-
 -- what was refused as malformed is no such value
 pub none_of : {T V : Type 0} (r : Result T Unread) (Is : V → Type 0) → IsErr r × IsErrAnd r (λ reason. reason ≡ reasons.Malformed) → ((v : V) → Is v → ⊥) → IfErr r (IsNone Is)
 none_of (Ok x) Is h none = tt

@@ -1,14 +1,13 @@
 -- The kinds of words, and lines that are tested.
-use Rattle.std.proofs.Common.{◌≡◌, ◌≤◌, ◌+◌, ℕ, Bool, true, false, not, suc, cond, Option, None, List, [], ◌∷◌, length, refl, sym, ap, ◌∙◌, arith}
-use Rattle.std.specs.List.{All, list_any, position, prefix_len}
-use Rattle.std.proofs.lemmas.Bool.Decides.{nat_tests}
-use Rattle.std.proofs.lemmas.List.Elements.{All-cons}
+use Rattle.std.proofs.Common.{◌≡◌, ◌≤◌, ℕ, Bool, false, suc, Option, None, List, [], ◌∷◌, length, refl, sym, ap, ◌∙◌, arith}
+use Rattle.std.specs.List.{list_any, position}
 use Rattle.txc_script.specs.LineFaults.{kinds_for, HasWholeWords, is_empty, is_foreign}
 use Rattle.txc_script.specs.Lines.{IsPlain}
 use Rattle.txc_script.specs.Words.{words_of}
 use Rattle.txc_script.specs.declared.line.TheConstants.{MAX_LINE_LEN}
 use Rattle.txc_script.specs.declared.line_fault.WordKind.{WordKind}
-use Rattle.txc_script.proofs.Cuts.{at_end}
+use Rattle.txc_script.proofs.Cuts.{none_found}
+use Rattle.txc_script.proofs.Scans.{none_foreign}
 
 -- ---- the kinds of so many words
 
@@ -33,18 +32,8 @@ same_kinds (kind ∷ kinds) other (word ∷ words) e = ap (λ (ks : List WordKin
 
 -- ---- lines
 
-not_foreign : (b : ℕ) → is_foreign b ≡ false → (32 ≤ b) × (b ≤ 126)
-not_foreign b h = (grind (arith, nat_tests), grind (arith, nat_tests))
-
-nowhere : (es : List ℕ) → length es ≤ prefix_len (λ b. not (is_foreign b)) es → All (λ b. (32 ≤ b) × (b ≤ 126)) es
-nowhere [] h = λ k d l. absurd (omega arith)
-nowhere (e ∷ es) h =
-    let rest = prefix_len (λ b. not (is_foreign b)) es in
-    let go : (b : Bool) → is_foreign e ≡ b → suc (length es) ≤ cond (not b) (1 + rest) 0 → All (λ b. (32 ≤ b) × (b ≤ 126)) (e ∷ es) = λ b. elim b as (λ v. is_foreign e ≡ v → suc (length es) ≤ cond (not v) (1 + rest) 0 → All (λ b. (32 ≤ b) × (b ≤ 126)) (e ∷ es)) [ true ↦ (λ _ l. absurd (omega arith)) | false ↦ (λ k l. All-cons (λ b. (32 ≤ b) × (b ≤ 126)) e es (not_foreign e k) (nowhere es (omega arith))) ] in
-    go (is_foreign e) refl h
-
 pub plain_line : (line : List ℕ) (at : Option ℕ) → length line ≤ MAX_LINE_LEN → at ≡ position is_foreign line → at ≡ None → IsPlain line
-plain_line line at few e none = record { few = few; bytes = nowhere line (at_end (prefix_len (λ b. not (is_foreign b)) line) (length line) (sym e ∙ none)) }
+plain_line line at few e none = record { few = few; bytes = none_foreign line (none_found is_foreign line (sym e ∙ none)) }
 
 pub whole_words : (line : List ℕ) (empty : Bool) → IsPlain line → empty ≡ list_any is_empty (words_of line) → empty ≡ false → HasWholeWords line
 whole_words line empty plain e none = record { plain = plain; none_empty = sym e ∙ none }

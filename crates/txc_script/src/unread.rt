@@ -7,12 +7,6 @@ use txc_tags::BadKey;
 #[derive(Clone, Copy, Debug, PartialEq, Eq)]
 pub struct Malformed;
 
-impl From<BadKey> for Malformed {
-    fn from(_error: BadKey) -> Malformed {
-        Malformed
-    }
-}
-
 /// Why nothing was read of a text.
 #[derive(Clone, Copy, Debug, PartialEq, Eq)]
 pub enum Unread {

@@ -27,6 +27,10 @@ same_some x y e = cc
 pub none_some : {X : Type 0} (x : X) → Some x ≡ None → ⊥
 none_some x e = cc
 
+pub none_mapped : {X Y : Type 0} (f : X → Y) (o : Option X) → option_map f o ≡ None → o ≡ None
+none_mapped f None e = refl
+none_mapped f (Some x) e = absurd (none_some (f x) e)
+
 -- nothing is wrong with words that say what they are to say
 pub none_after : (name : LineName) (words : List (List ℕ)) (fault : CommandFault) (values : List Said) → IsFaultAfter name words fault → SaysAfter name words values → ⊥
 none_after name words fault values h k =
@@ -34,18 +38,15 @@ none_after name words fault values h k =
 
 -- ---- a second word that names no query and no change
 
-named_none : {N : Type 0} (f : N → List WordKind) (o : Option N) (name : N) → o ≡ Some name → option_map f o ≡ None → ⊥
-named_none f o name e none = none_some (f name) (sym (ap (option_map f) e) ∙ none)
-
 no_query : (first : WordKind) (words : List (List ℕ)) (all : AllSaidOf (first ∷ word_kinds.QueryName ∷ [])) → query_line first (second_of words) ≡ None → Mean (first ∷ word_kinds.QueryName ∷ []) (take 2 words) all → ⊥
 no_query first [] all none h = h
 no_query first (a ∷ []) all none h = h.1
-no_query first (a ∷ b ∷ words) all none h = named_none (λ name. first ∷ word_kinds.QueryName ∷ kinds_of_query name) (query_named b) all.1.0 h.1.0 none
+no_query first (a ∷ b ∷ words) all none h = none_some all.1.0 (sym h.1.0 ∙ none_mapped (λ name. first ∷ word_kinds.QueryName ∷ kinds_of_query name) (query_named b) none)
 
 no_change : (words : List (List ℕ)) (all : AllSaidOf (place ∷ word_kinds.ChangeName ∷ [])) → change_line (second_of words) ≡ None → Mean (place ∷ word_kinds.ChangeName ∷ []) (take 2 words) all → ⊥
 no_change [] all none h = h
 no_change (a ∷ []) all none h = h.1
-no_change (a ∷ b ∷ words) all none h = named_none (λ name. place ∷ word_kinds.ChangeName ∷ kinds_of_change name) (change_named b) all.1.0 h.1.0 none
+no_change (a ∷ b ∷ words) all none h = none_some all.1.0 (sym h.1.0 ∙ none_mapped (λ name. place ∷ word_kinds.ChangeName ∷ kinds_of_change name) (change_named b) none)
 
 pub none_unkind : (name : LineName) (words : List (List ℕ)) (all : AllSaidOf (first_kinds name)) → kinds_after_name name (second_of words) ≡ None → Mean (first_kinds name) (take 2 words) all → ⊥
 none_unkind names.Query words all none h = no_query word_kinds.Stamp words all none h

@@ -6,13 +6,12 @@ use Rattle.txc_script.specs.declared.line_fault.CommandFault.TheVariants.{Unknow
 use Rattle.txc_script.proofs.Offered.{other_text, same_text, wrong_as}
 use Rattle.txc_words.specs.Faults.{IsFaultAfter}
 use Rattle.txc_words.specs.Names.{name_text}
-use Rattle.txc_words.proofs.Offered.{none_some}
 use Rattle.txc_words.specs.Said.{AreBodies}
 use Rattle.txc_work.specs.declared.job.Job.{Job}
 use Rattle.txc_batch.specs.BatchFaults.{IsBatchFault, IsJobFault, IsPreparingFault}
-use Rattle.txc_batch.specs.Orders.{AsksFor, order_said}
+use Rattle.txc_batch.specs.Orders.{order_said}
 use Rattle.txc_batch.proofs.JobFaults.{after_some}
-use Rattle.txc_batch.proofs.OrderWords.{asks_this, asks_some, no_jobs, some_jobs}
+use Rattle.txc_batch.proofs.OrderWords.{asks_some, no_jobs, some_jobs}
 use Rattle.txc_batch.proofs.reading.read_order.Goals as goal
 
 pub next-word-requires : goal.next-word-requires
@@ -31,7 +30,7 @@ returns-then-eq-clause-answer c =
     let words = words_left c.next-word.new.self in
     let cut : words_of c.args.line.now ≡ c.next-word.result.now ∷ words = sym c.all_words-words.ensures ∙ c.next-word.ensures in
     let is_job = same_text c.next-word.result.now c.as_slice.result.now (codes "job") c.eq.result c.as_slice.ensures c.eq.ensures c.if-eq.true in
-    record { words = words; line_is = cut ∙ ap (λ (w : List ℕ). w ∷ words) is_job; says = c.in_ok-read_queued.ensures.answer }
+    inl (_, refl, record { words = words; line_is = cut ∙ ap (λ (w : List ℕ). w ∷ words) is_job; says = c.in_ok-read_queued.ensures.answer })
 
 pub returns-in_default-clause-refused : goal.returns-in_default-clause-refused
 returns-in_default-clause-refused c =
@@ -58,14 +57,13 @@ order_of-requires c =
 
 pub unreachable-requires : goal.unreachable-requires
 unreachable-requires c =
-    let some = asks_some c.in-Some.name (words_left c.next-word.new.self) c.in_ok-said.said.items c.in-Some.ensures.preparing c.in_ok-said.ensures.answer in
-    none_some some.order (sym some.is ∙ ap (order_said c.in-Some.name) (sym c.as_slice-2.ensures.value) ∙ sym c.in_ok-order.ensures ∙ c.in-None.is)
+    (asks_some c.in-Some.name (words_left c.next-word.new.self) c.in_ok-said.said.items c.in-Some.ensures.preparing c.in_ok-said.ensures.answer).some
+    (ap (order_said c.in-Some.name) (sym c.as_slice-2.ensures.value) ∙ sym c.in_ok-order.ensures ∙ c.in-None.is)
 
 pub returns-clause-answer : goal.returns-clause-answer
 returns-clause-answer c =
     let words = words_left c.next-word.new.self in
     let cut : words_of c.args.line.now ≡ name_text c.in-Some.name ∷ words = sym c.all_words-words.ensures ∙ c.next-word.ensures ∙ ap (λ (w : List ℕ). w ∷ words) c.in-Some.ensures.answer in
     let none = no_jobs c.args.jobs.now c.is_empty.result c.is_empty.ensures c.if-not-is_empty.false in
-    subst (λ (js : List Job). AsksFor js c.args.line.now c.in-Some-2.order) (sym none)
-    (asks_this c.args.line.now c.in-Some.name words c.in_ok-said.said.items c.in-Some-2.order c.in-Some.ensures.preparing cut c.in_ok-said.ensures.answer
-    (ap (order_said c.in-Some.name) (sym c.as_slice-2.ensures.value) ∙ sym c.in_ok-order.ensures ∙ c.in-Some-2.is))
+    let asks = ap (order_said c.in-Some.name) (sym c.as_slice-2.ensures.value) ∙ sym c.in_ok-order.ensures ∙ c.in-Some-2.is in
+    inr (none, (c.in-Some.name, words, cut, record { values = c.in_ok-said.said.items; say = c.in_ok-said.ensures.answer; asks = asks }))

@@ -6,7 +6,7 @@ use Rattle.txc_script.specs.Hex.{IsHexWord}
 use Rattle.txc_script.specs.Lines.{IsTagsWord}
 use Rattle.txc_script.specs.Words.{words_of}
 use Rattle.txc_script.proofs.Offered.{none_like, none_of, of_words, says_count}
-use Rattle.txc_run.specs.Lines.{insert_form, insertion_of}
+use Rattle.txc_run.specs.Lines.{insert_form, insertion_said}
 use Rattle.txc_run.proofs.reading.read_insert.Goals as goal
 
 pub returns-in_err-key_text-clause-refused : goal.returns-in_err-key_text-clause-refused
@@ -49,7 +49,7 @@ returns-in_err-value-clause-refused c =
 pub returns-clause-answer : goal.returns-clause-answer
 returns-clause-answer c =
     let tags = c.in_ok-tags.ensures.answer in
-    let insertion = insertion_of c.in_ok-key.key c.in_ok-value.value.items c.in_ok-lo.lo c.in_ok-known.known c.in_ok-still.still in
+    let insertion = insertion_said c.in_ok-key.key c.in_ok-value.value.items c.in_ok-lo.lo c.in_ok-known.known c.in_ok-still.still in
     of_words insert_form _ _ (insertion c.in_ok-tags.tags) (sym c.in_ok-key_text.ensures.answer) (record {
       values = (c.in_ok-key.key, (c.in_ok-lo.lo, (c.in_ok-known.known, (c.in_ok-still.still, (tags.0, (c.in_ok-value.value.items, tt))))));
       say = (c.in_ok-key.ensures.answer, (c.in_ok-lo.ensures.answer, (c.in_ok-known.ensures.answer, (c.in_ok-still.ensures.answer, (tags.1, (c.in_ok-value.ensures.answer, tt))))));
