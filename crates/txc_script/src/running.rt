@@ -47,22 +47,6 @@ pub struct Running {
     replies: Replies,
 }
 
-impl Replies {
-    /// Takes a malformed line.
-    #[cold]
-    #[inline(never)]
-    fn take_malformed(&mut self, alloc: Global, number: u64) -> Result<(), AllocError>
-        ensures text { OnOk result (self.new.text.items ≡ self.old.text.items ++ malformed_text number) }
-        ensures refused { OnOk result (self.new.is_refused ≡ true) }
-        ensures unchanged { OnErr result (self.new.text.items ≡ self.old.text.items) }
-    {
-        let line = format!(in alloc; "line {number}: malformed\n")?;
-        self.text.extend_from_slice(line.as_bytes())?;
-        self.is_refused = true;
-        Ok(())
-    }
-}
-
 /// Answers a line with which this is wrong in this state, and which has this number.
 #[cold]
 #[inline(never)]
@@ -81,7 +65,9 @@ fn answer_malformed<K: Script>(
     ensures refused { OnOk result (replies.new.is_refused ≡ true) }
     ensures unchanged { OnErr result (replies.new.text.items ≡ replies.old.text.items) }
 {
-    replies.take_malformed(alloc, number)?;
+    let text = format!(in alloc; "line {number}: malformed\n")?;
+    replies.text.extend_from_slice(text.as_bytes())?;
+    replies.is_refused = true;
     Ok(Flow::Stopped(MalformedLine { number, fault }))
 }
 
