@@ -19,7 +19,7 @@ job_there [] values some h none = absurd (omega arith)
 job_there (a ∷ []) values some h none = absurd (omega arith)
 job_there (a ∷ b ∷ words) values some h none =
     let by = said_of (moment ∷ moment ∷ kinds_for [] Key words) (a ∷ b ∷ words) values h in
-    none_some _ (ap job_said (sym by.given) ∙ none)
+    none_some _ (ap job_said (sym by.2) ∙ none)
 
 -- a change or a pin after a job stands in the wrong place
 pub after_some : (jobs : List Job) (name : LineName) (words : List (List ℕ)) (fault : CommandFault) → (jobs ≡ [] → ⊥) → IsMisplaced fault → IsPreparingFault jobs name words fault

@@ -1,6 +1,5 @@
 -- What the lines of a batch's script ask for, by their first word.
-use Rattle.std.proofs.Common.{◌≡◌, ℕ, Bool, true, false, eqb, List, [], ◌∷◌, Option, Some, None, length, refl, sym, ap, subst, inl, inr, ◌∙◌, arith}
-use Rattle.std.proofs.lemmas.Bool.Decides.{nat_tests}
+use Rattle.std.proofs.Common.{◌≡◌, ℕ, List, [], ◌∷◌, Some, None, refl, sym, ap, subst, inl, inr, ◌∙◌}
 use Rattle.std.specs.Prelude.{codes, option_map}
 use Rattle.txc_script.specs.SaidWords.{SayAll}
 use Rattle.txc_script.specs.Words.{words_of}
@@ -62,35 +61,17 @@ no_name jobs line word words order e other none (inl (q, run, h)) = other (first
 no_name jobs line word words order e other none (inr (early, (name, others, is, says))) = none name (is_preparing name others order says) (first_is word (name_text name) words others (sym e ∙ is))
 
 -- words that say what they are to say ask for something
-pub record AsksSome (name : LineName) (values : List Said) : Type 0 where
-  pub bodies : AreBodies values
-  pub some : order_said name values ≡ None → ⊥
-
 own : (line : LineName) (name : ChangeName) (words : List (List ℕ)) (values : List Said) → kinds_after_name line (second_of words) ≡ Some (kinds_of_change name) → order_said line values ≡ option_map Write (change_said name values)
-    → SaysAfter line words values → AsksSome line values
+    → SaysAfter line words values → AreBodies values × (order_said line values ≡ None → ⊥)
 own line name words values known orders h =
     let say = own_change line name words values known h in
-    record { bodies = bodies (kinds_of_change name) words values (change_bodies name) say; some = λ none. change_there name words values say (none_mapped Write (change_said name values) (sym orders ∙ none)) }
+    (bodies (kinds_of_change name) words values (change_bodies name) say, (λ none. change_there name words values say (none_mapped Write (change_said name values) (sym orders ∙ none))))
 
-pub asks_some : (name : LineName) (words : List (List ℕ)) (values : List Said) → IsPreparing name → SaysAfter name words values → AsksSome name values
+pub asks_some : (name : LineName) (words : List (List ℕ)) (values : List Said) → IsPreparing name → SaysAfter name words values → AreBodies values × (order_said name values ≡ None → ⊥)
 asks_some names.Put words values is h = own names.Put changes.Put words values refl refl h
 asks_some names.Remove words values is h = own names.Remove changes.Remove words values refl refl h
 asks_some names.Pin words values is h =
     let say = subst (λ (ks : List WordKind). SayAll ks words values) (same_some h.kinds (moment ∷ []) (sym h.known)) h.say in
     let by = said_of (moment ∷ []) words values say in
-    record { bodies = bodies (moment ∷ []) words values tt say; some = λ none. none_some _ (ap (order_said names.Pin) (sym by.given) ∙ none) }
+    (bodies (moment ∷ []) words values tt say, (λ none. none_some _ (ap (order_said names.Pin) (sym by.2) ∙ none)))
 asks_some name words values is h = absurd is
-
--- ---- whether there is a job
-
-pub no_jobs : (jobs : List Job) (r : Bool) → r ≡ eqb (length jobs) 0 → r ≡ true → jobs ≡ []
-no_jobs [] r e empty = refl
-no_jobs (job ∷ jobs) r e empty =
-    let same : eqb (length (job ∷ jobs)) 0 ≡ true = sym e ∙ empty in
-    let none : length (job ∷ jobs) ≡ 0 = grind (arith, nat_tests, same) in
-    absurd (omega (arith, none))
-
-pub some_jobs : (jobs : List Job) (r : Bool) → r ≡ eqb (length jobs) 0 → r ≡ false → jobs ≡ [] → ⊥
-some_jobs jobs r e full none =
-    let same : true ≡ false = sym (e ∙ ap (λ (js : List Job). eqb (length js) 0) none) ∙ full in
-    cc

@@ -9,7 +9,7 @@ use Rattle.txc_db.specs.History.{pin_event}
 use Rattle.txc_db.specs.Calls.{IsPinnable, IsUnpinRefused}
 use Rattle.txc_db.specs.DatabaseValue.{after_pin, after_unpin, front_of, is_held, newest, DatabaseValue}
 use Rattle.txc_cushion.specs.declared.error.AddError.{AddError}
-use Rattle.txc_cushion.specs.Cushion.{after_add, after_give_back, CushionValue}
+use Rattle.txc_cushion.specs.Cushion.{after_add, after_give_back}
 use Rattle.txc_cushion.specs.Refusals.{IsAddable, IsAddRefused}
 use Rattle.txc_batch.specs.Sources.{HasPinnedPresent, HasUnpinnedPresent, IsPinOfPresent, SourceValue}
 

@@ -1,6 +1,5 @@
 -- What the words of the lines of a world's script ask for.
-use Rattle.std.proofs.Common.{◌≡◌, ℕ, List, [], ◌∷◌, Option, Some, None, refl, sym, ap, subst, ◌∙◌}
-use Rattle.std.specs.Prelude.{option_map}
+use Rattle.std.proofs.Common.{◌≡◌, ℕ, List, [], ◌∷◌, Some, None, refl, sym, ap, subst, ◌∙◌}
 use Rattle.txc_script.specs.SaidWords.{AllSaidOf, SayAll}
 use Rattle.txc_script.specs.declared.line_fault.WordKind.{WordKind}
 use Rattle.txc_script.specs.declared.line_fault.WordKind.TheVariants.{Function, Key, Stamp}
@@ -32,7 +31,7 @@ asks_by : (name : LineName) (words : List (List ℕ)) (values : List Said) (kind
 asks_by name words values kinds h known texts some =
     let say = subst (λ (ks : List WordKind). SayAll ks words values) (same_some h.kinds kinds (sym h.known ∙ known)) h.say in
     let by = said_of kinds words values say in
-    record { bodies = bodies kinds words values texts say; some = λ none. some by.all (ap (task_said name) (sym by.given) ∙ none) }
+    record { bodies = bodies kinds words values texts say; some = λ none. some by.0 (ap (task_said name) (sym by.2) ∙ none) }
 
 keeps_some : (name : ChangeName) (values : List Said) → (change_said name values ≡ None → ⊥) → keeper_change name values ≡ None → ⊥
 keeps_some name values some none = some (none_mapped (λ (change : Change). tasks.One (Keeper (keeps.Write change))) (change_said name values) none)

@@ -331,10 +331,10 @@ nothing_answered kind start r lines line output refused = record {
 
 -- ---- whether a line is kept
 
-pub is_nothing : (xs : List ℕ) → eqb (length xs) 0 ≡ true → xs ≡ []
+pub is_nothing : {X : Type 0} (xs : List X) → eqb (length xs) 0 ≡ true → xs ≡ []
 is_nothing [] h = refl
 is_nothing (x ∷ xs) h = let none : length (x ∷ xs) ≡ 0 = grind (arith, nat_tests, h) in absurd (omega (arith, none))
 
-pub not_nothing : (xs : List ℕ) → eqb (length xs) 0 ≡ false → xs ≡ [] → ⊥
+pub not_nothing : {X : Type 0} (xs : List X) → eqb (length xs) 0 ≡ false → xs ≡ [] → ⊥
 not_nothing [] h e = cc
 not_nothing (x ∷ xs) h e = cc

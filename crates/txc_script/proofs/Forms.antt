@@ -1,5 +1,5 @@
 -- Lines of a table of forms.
-use Rattle.std.proofs.Common.{◌≡◌, ◌<◌, ℕ, suc, Bool, true, false, Option, Some, None, Result, Ok, Err, IfErr, List, [], ◌∷◌, get_or, length, refl, sym, ap, subst, ◌∙◌, arith}
+use Rattle.std.proofs.Common.{◌≡◌, ◌<◌, ℕ, suc, Bool, true, false, Some, None, Result, Ok, Err, IfErr, List, [], ◌∷◌, get_or, length, refl, sym, ap, subst, ◌∙◌, arith}
 use Rattle.std.specs.Prelude.{IsErr, IsErrAnd, if◌then◌else◌}
 use Rattle.std.specs.List.{AllByRecursion, join_with_byte}
 use Rattle.std.specs.Str.{bytes_eq}
@@ -45,43 +45,34 @@ is_named {A} (f ∷ forms) name form e =
     go (bytes_eq name f.name) refl e
 
 -- a form that wants words of these kinds after a name
-record HasForm {A : Type 0} (forms : List (LineForm A)) (name : List ℕ) (kinds : List WordKind) : Type 0 where
-  form : LineForm A
-  named : form_named forms name ≡ Some form
-  kinds_are : form.kinds ≡ kinds
-
-has_form : {A : Type 0} (forms : List (LineForm A)) (name : List ℕ) (kinds : List WordKind) → kinds_after forms name ≡ Some kinds → HasForm forms name kinds
+has_form : {A : Type 0} (forms : List (LineForm A)) (name : List ℕ) (kinds : List WordKind) → kinds_after forms name ≡ Some kinds → (form : LineForm A) × (form_named forms name ≡ Some form) × (form.kinds ≡ kinds)
 has_form [] name kinds e = absurd (none_some kinds e)
-has_form (f ∷ forms) name kinds e =
-    let go : (b : Bool) → bytes_eq name f.name ≡ b → (if b then Some f.kinds else kinds_after forms name) ≡ Some kinds → HasForm (f ∷ forms) name kinds = λ b. elim b as (λ v. bytes_eq name f.name ≡ v → (if v then Some f.kinds else kinds_after forms name) ≡ Some kinds → HasForm (f ∷ forms) name kinds) [
-      | true ↦ (λ is same. record { form = f; named = ap (λ (v : Bool). if v then Some f else form_named forms name) is; kinds_are = same_some f.kinds kinds same })
-      | false ↦ (λ is same. let rest = has_form forms name kinds same in record { form = rest.form; named = ap (λ (v : Bool). if v then Some f else form_named forms name) is ∙ rest.named; kinds_are = rest.kinds_are })
+has_form {A} (f ∷ forms) name kinds e =
+    let Has : Bool → Type 0 = λ b. (form : LineForm A) × ((if b then Some f else form_named forms name) ≡ Some form) × (form.kinds ≡ kinds) in
+    let go : (b : Bool) → (if b then Some f.kinds else kinds_after forms name) ≡ Some kinds → Has b = λ b. elim b as (λ v. (if v then Some f.kinds else kinds_after forms name) ≡ Some kinds → Has v) [
+      | true ↦ (λ same. (f, refl, same_some f.kinds kinds same))
+      | false ↦ (λ same. has_form forms name kinds same)
     ] in
-    go (bytes_eq name f.name) refl e
+    go (bytes_eq name f.name) e
 
 -- ---- what a line asks for
 
-pub record AsksSome {A : Type 0} (forms : List (LineForm A)) (line : List ℕ) : Type 0 where
-  pub asked : A
-  pub asks : AsksBy forms line asked
-
 -- words that say something ask for something
 pub good_words_ask : {A : Type 0} (forms : List (LineForm A)) (line name : List ℕ) (words : List (List ℕ)) (kinds : List WordKind) (given : List Said) → words_of line ≡ name ∷ words → kinds_after forms name ≡ Some kinds
-    → SayAll kinds words given → AsksSome forms line
+    → SayAll kinds words given → (asked : A) × AsksBy forms line asked
 good_words_ask forms line name words kinds given e known h =
     let has = has_form forms name kinds known in
-    let named = is_named forms name has.form has.named in
-    let said = said_of has.form.kinds words given (subst (λ (ks : List WordKind). SayAll ks words given) (sym has.kinds_are) h) in
-    record {
-      asked = has.form.asks said.all;
-      asks = record {
-        form = has.form;
+    let named = is_named forms name has.0 has.1 in
+    let said = said_of has.0.kinds words given (subst (λ (ks : List WordKind). SayAll ks words given) (sym has.2) h) in (
+      has.0.asks said.0,
+      record {
+        form = has.0;
         words = words;
-        named = subst (λ (n : List ℕ). form_named forms n ≡ Some has.form) named has.named;
+        named = subst (λ (n : List ℕ). form_named forms n ≡ Some has.0) named has.1;
         are = e ∙ ap (λ (n : List ℕ). n ∷ words) named;
-        is = record { values = said.all; say = said.mean; asks = refl };
-      };
-    }
+        is = record { values = said.0; say = said.1; asks = refl };
+      },
+    )
 
 pub says_count : (kinds : List WordKind) (words : List (List ℕ)) (values : AllSaidOf kinds) → Mean kinds words values → length words ≡ length kinds
 says_count [] [] values h = refl

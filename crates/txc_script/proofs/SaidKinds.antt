@@ -32,45 +32,31 @@ said_by (kinds.Text most) = said.Text
 said_by kinds.QueryName = said.Query
 said_by kinds.ChangeName = said.Change
 
-pub record HasMeant (kind : WordKind) (word : List ℕ) (given : Said) : Type 0 where
-  pub value : SaidOf kind
-  pub means : Means kind word value
-  pub is : given ≡ said_by kind value
-
-pub meant : (kind : WordKind) (word : List ℕ) (given : Said) → SaysWord kind word given → HasMeant kind word given
-meant kinds.Key word (said.Key key) h = record { value = key; means = h; is = refl }
-meant kinds.Stamp word (said.Stamp stamp) h = record { value = stamp; means = h; is = refl }
-meant kinds.Table word (said.Table table) h = record { value = table; means = h; is = refl }
-meant kinds.Id word (said.Id id) h = record { value = id; means = h; is = refl }
-meant kinds.Function word (said.Function function) h = record { value = function; means = h; is = refl }
-meant (kinds.Number most) word (said.Number number) h = record { value = number; means = h; is = refl }
-meant (kinds.Text most) word (said.Text text) h = record { value = text; means = h; is = refl }
-meant kinds.QueryName word (said.Query name) h = record { value = name; means = h; is = refl }
-meant kinds.ChangeName word (said.Change name) h = record { value = name; means = h; is = refl }
-meant kinds.Reach word said.Other h = record { value = h.0; means = h.1; is = refl }
-meant kinds.Tags word said.Other h = record { value = h.0; means = h.1; is = refl }
-meant kinds.Bytes word said.Other h = record { value = h.0; means = h.1; is = refl }
+pub meant : (kind : WordKind) (word : List ℕ) (given : Said) → SaysWord kind word given → (value : SaidOf kind) × Means kind word value × (given ≡ said_by kind value)
+meant kinds.Key word (said.Key key) h = (key, h, refl)
+meant kinds.Stamp word (said.Stamp stamp) h = (stamp, h, refl)
+meant kinds.Table word (said.Table table) h = (table, h, refl)
+meant kinds.Id word (said.Id id) h = (id, h, refl)
+meant kinds.Function word (said.Function function) h = (function, h, refl)
+meant (kinds.Number most) word (said.Number number) h = (number, h, refl)
+meant (kinds.Text most) word (said.Text text) h = (text, h, refl)
+meant kinds.QueryName word (said.Query name) h = (name, h, refl)
+meant kinds.ChangeName word (said.Change name) h = (name, h, refl)
+meant kinds.Reach word said.Other h = (h.0, h.1, refl)
+meant kinds.Tags word said.Other h = (h.0, h.1, refl)
+meant kinds.Bytes word said.Other h = (h.0, h.1, refl)
 meant kind word given h = absurd h
 
 abbrev pub all_said_by : (kinds : List WordKind) → AllSaidOf kinds → List Said
 all_said_by [] values = []
 all_said_by (kind ∷ kinds) values = said_by kind values.0 ∷ all_said_by kinds values.1
 
-pub record HasSaid (kinds : List WordKind) (words : List (List ℕ)) (values : List Said) : Type 0 where
-  pub all : AllSaidOf kinds
-  pub mean : Mean kinds words all
-  pub given : values ≡ all_said_by kinds all
-
-pub said_of : (kinds : List WordKind) (words : List (List ℕ)) (values : List Said) → SayAll kinds words values → HasSaid kinds words values
-said_of [] [] [] h = record { all = tt; mean = tt; given = refl }
+pub said_of : (kinds : List WordKind) (words : List (List ℕ)) (values : List Said) → SayAll kinds words values → (all : AllSaidOf kinds) × Mean kinds words all × (values ≡ all_said_by kinds all)
+said_of [] [] [] h = (tt, tt, refl)
 said_of (kind ∷ kinds) (word ∷ words) (value ∷ values) h =
     let first = meant kind word value h.0 in
     let rest = said_of kinds words values h.1 in
-    record {
-      all = (first.value, rest.all);
-      mean = (first.means, rest.mean);
-      given = ap (λ (v : Said). v ∷ values) first.is ∙ ap (λ (vs : List Said). said_by kind first.value ∷ vs) rest.given;
-    }
+    ((first.0, rest.0), (first.1, rest.1), ap (λ (v : Said). v ∷ values) first.2 ∙ ap (λ (vs : List Said). said_by kind first.0 ∷ vs) rest.2)
 said_of kinds words values h = absurd h
 
 pub say_count : (kinds : List WordKind) (words : List (List ℕ)) (values : List Said) → SayAll kinds words values → length words ≡ length kinds
@@ -82,7 +68,7 @@ say_count kinds words values h = absurd h
 
 are_of_kinds : (kinds : List WordKind) (words : List (List ℕ)) (values : List Said) → SayAll kinds words values → AreOfKinds kinds words
 are_of_kinds [] [] [] h = tt
-are_of_kinds (kind ∷ kinds) (word ∷ words) (value ∷ values) h = let first = meant kind word value h.0 in ((first.value, first.means), are_of_kinds kinds words values h.1)
+are_of_kinds (kind ∷ kinds) (word ∷ words) (value ∷ values) h = let first = meant kind word value h.0 in ((first.0, first.1), are_of_kinds kinds words values h.1)
 are_of_kinds kinds words values h = absurd h
 
 word_at : (before : List WordKind) (good : List (List ℕ)) (kind : WordKind) (word : List ℕ) (kinds : List WordKind) (words : List (List ℕ)) → AreOfKinds before good

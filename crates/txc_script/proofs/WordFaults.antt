@@ -15,9 +15,6 @@ pub none_left : {X : Type 0} (xs : List X) → length xs ≡ 0 → xs ≡ []
 none_left [] e = refl
 none_left (x ∷ xs) e = absurd (omega (arith, e))
 
-pub no_kinds : (kinds : List WordKind) (other : WordKind) (words : List (List ℕ)) → words ≡ [] → kinds_for kinds other words ≡ []
-no_kinds kinds other words e = ap (kinds_for kinds other) e
-
 pub kinds_count : (kinds : List WordKind) (other : WordKind) (words : List (List ℕ)) → length (kinds_for kinds other words) ≡ length words
 kinds_count kinds other [] = refl
 kinds_count [] other (word ∷ words) = ap suc (kinds_count [] other words)

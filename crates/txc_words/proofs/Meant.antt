@@ -109,7 +109,7 @@ change_by Remove all e = none_some _ e
 pub change_there : (name : ChangeName) (words : List (List ℕ)) (values : List Said) → SayAll (kinds_of_change name) words values → change_said name values ≡ None → ⊥
 change_there name words values h none =
     let by = said_of (kinds_of_change name) words values h in
-    change_by name by.all (ap (change_said name) (sym by.given) ∙ none)
+    change_by name by.0 (ap (change_said name) (sym by.2) ∙ none)
 
 -- the change of a line of one's own
 pub own_change : (line : LineName) (name : ChangeName) (words : List (List ℕ)) (values : List Said) → kinds_after_name line (second_of words) ≡ Some (kinds_of_change name) → SaysAfter line words values → SayAll (kinds_of_change name) words values
@@ -143,7 +143,7 @@ change_in name (a ∷ b ∷ words) [] e h = absurd h
 change_in name (a ∷ b ∷ words) (x ∷ []) e h = absurd h.1
 change_in name (a ∷ b ∷ words) (x ∷ y ∷ rest) e h =
     let first = meant place a x h.0 in
-    record { actor = first.value; name = name; words = words; rest = rest; are = pair_are x y (said.Number first.value) (said.Change name) rest first.is (change_is b y name h.1.0 e); say = h.1.1 }
+    record { actor = first.0; name = name; words = words; rest = rest; are = pair_are x y (said.Number first.0) (said.Change name) rest first.2 (change_is b y name h.1.0 e); say = h.1.1 }
 
 pub has_change : (words : List (List ℕ)) (values : List Said) (kinds : List WordKind) → change_line (second_of words) ≡ Some kinds → SayAll kinds words values → HasChange values
 has_change words values kinds e h =
@@ -178,13 +178,13 @@ pub record HasQuery (first : WordKind) (values : List Said) : Type 0 where
 query_rest : (first : WordKind) (head : SaidOf first) (name : QueryName) (words : List (List ℕ)) (x y : Said) (rest : List Said) → x ≡ said_by first head → y ≡ said.Query name → SayAll (kinds_of_query name) words rest → HasQuery first (x ∷ y ∷ rest)
 query_rest first head name words x y rest e f h =
     let by = said_of (kinds_of_query name) words rest h in
-    let tail : y ∷ rest ≡ said.Query name ∷ all_said_by (kinds_of_query name) by.all = ap (λ (v : Said). v ∷ rest) f ∙ ap (λ (vs : List Said). said.Query name ∷ vs) by.given in
+    let tail : y ∷ rest ≡ said.Query name ∷ all_said_by (kinds_of_query name) by.0 = ap (λ (v : Said). v ∷ rest) f ∙ ap (λ (vs : List Said). said.Query name ∷ vs) by.2 in
     record {
       head = head;
-      rest = said.Query name ∷ all_said_by (kinds_of_query name) by.all;
+      rest = said.Query name ∷ all_said_by (kinds_of_query name) by.0;
       are = ap (λ (v : Said). v ∷ y ∷ rest) e ∙ ap (λ (vs : List Said). said_by first head ∷ vs) tail;
-      bodies = query_bodies name by.all;
-      some = query_by name by.all;
+      bodies = query_bodies name by.0;
+      some = query_by name by.0;
     }
 
 query_in : (first : WordKind) (name : QueryName) (words : List (List ℕ)) (values : List Said) → query_named (second_of words) ≡ Some name → SayAll (first ∷ word_kinds.QueryName ∷ kinds_of_query name) words values → HasQuery first values
@@ -194,7 +194,7 @@ query_in first name (a ∷ b ∷ words) [] e h = absurd h
 query_in first name (a ∷ b ∷ words) (x ∷ []) e h = absurd h.1
 query_in first name (a ∷ b ∷ words) (x ∷ y ∷ rest) e h =
     let head = meant first a x h.0 in
-    query_rest first head.value name words x y rest head.is (query_is b y name h.1.0 e) h.1.1
+    query_rest first head.0 name words x y rest head.2 (query_is b y name h.1.0 e) h.1.1
 
 pub has_query : (first : WordKind) (words : List (List ℕ)) (values : List Said) (kinds : List WordKind) → query_line first (second_of words) ≡ Some kinds → SayAll kinds words values → HasQuery first values
 has_query first words values kinds e h =

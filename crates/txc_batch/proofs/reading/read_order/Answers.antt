@@ -3,7 +3,7 @@ use Rattle.std.specs.Prelude.{codes}
 use Rattle.std.proofs.lemmas.List.Splits.{length-slice_split}
 use Rattle.txc_script.specs.Words.{is_blank, words_left, words_of}
 use Rattle.txc_script.specs.declared.line_fault.CommandFault.TheVariants.{Unknown}
-use Rattle.txc_script.proofs.Offered.{other_text, same_text, wrong_as}
+use Rattle.txc_script.proofs.Offered.{is_nothing, not_nothing, other_text, same_text, wrong_as}
 use Rattle.txc_words.specs.Faults.{IsFaultAfter}
 use Rattle.txc_words.specs.Names.{name_text}
 use Rattle.txc_words.specs.Said.{AreBodies}
@@ -11,7 +11,7 @@ use Rattle.txc_work.specs.declared.job.Job.{Job}
 use Rattle.txc_batch.specs.BatchFaults.{IsBatchFault, IsJobFault, IsPreparingFault}
 use Rattle.txc_batch.specs.Orders.{order_said}
 use Rattle.txc_batch.proofs.JobFaults.{after_some}
-use Rattle.txc_batch.proofs.OrderWords.{asks_some, no_jobs, some_jobs}
+use Rattle.txc_batch.proofs.OrderWords.{asks_some}
 use Rattle.txc_batch.proofs.reading.read_order.Goals as goal
 
 pub next-word-requires : goal.next-word-requires
@@ -41,29 +41,29 @@ pub returns-then-not-is_empty-clause-refused : goal.returns-then-not-is_empty-cl
 returns-then-not-is_empty-clause-refused c =
     let words = words_left c.next-word.new.self in
     let cut : words_of c.args.line.now ≡ name_text c.in-Some.name ∷ words = sym c.all_words-words.ensures ∙ c.next-word.ensures ∙ ap (λ (w : List ℕ). w ∷ words) c.in-Some.ensures.answer in
-    inr (inr (c.in-Some.name, words, c.in-Some.ensures.preparing, cut, after_some c.args.jobs.now c.in-Some.name words _ (some_jobs c.args.jobs.now c.is_empty.result c.is_empty.ensures c.if-not-is_empty.true) refl))
+    inr (inr (c.in-Some.name, words, c.in-Some.ensures.preparing, cut, after_some c.args.jobs.now c.in-Some.name words _ (not_nothing c.args.jobs.now (sym c.is_empty.ensures ∙ c.if-not-is_empty.true)) refl))
 
 pub returns-in_err-said-clause-refused : goal.returns-in_err-said-clause-refused
 returns-in_err-said-clause-refused c =
     let words = words_left c.next-word.new.self in
     let cut : words_of c.args.line.now ≡ name_text c.in-Some.name ∷ words = sym c.all_words-words.ensures ∙ c.next-word.ensures ∙ ap (λ (w : List ℕ). w ∷ words) c.in-Some.ensures.answer in
-    let none = no_jobs c.args.jobs.now c.is_empty.result c.is_empty.ensures c.if-not-is_empty.false in
+    let none = is_nothing c.args.jobs.now (sym c.is_empty.ensures ∙ c.if-not-is_empty.false) in
     wrong_as _ c.in_err-said.field-0.0 (IsFaultAfter c.in-Some.name words) (IsBatchFault c.args.jobs.now (words_of c.args.line.now)) c.from_residual-in_err-said.ensures c.in_err-said.ensures.refused
     (λ fault h. inr (inr (c.in-Some.name, words, c.in-Some.ensures.preparing, cut, subst (λ (js : List Job). IsPreparingFault js c.in-Some.name words fault) (sym none) h)))
 
 pub order_of-requires : goal.order_of-requires
 order_of-requires c =
-    subst AreBodies (sym c.as_slice-2.ensures.value) (asks_some c.in-Some.name (words_left c.next-word.new.self) c.in_ok-said.said.items c.in-Some.ensures.preparing c.in_ok-said.ensures.answer).bodies
+    subst AreBodies (sym c.as_slice-2.ensures.value) (asks_some c.in-Some.name (words_left c.next-word.new.self) c.in_ok-said.said.items c.in-Some.ensures.preparing c.in_ok-said.ensures.answer).0
 
 pub unreachable-requires : goal.unreachable-requires
 unreachable-requires c =
-    (asks_some c.in-Some.name (words_left c.next-word.new.self) c.in_ok-said.said.items c.in-Some.ensures.preparing c.in_ok-said.ensures.answer).some
+    (asks_some c.in-Some.name (words_left c.next-word.new.self) c.in_ok-said.said.items c.in-Some.ensures.preparing c.in_ok-said.ensures.answer).1
     (ap (order_said c.in-Some.name) (sym c.as_slice-2.ensures.value) ∙ sym c.in_ok-order.ensures ∙ c.in-None.is)
 
 pub returns-clause-answer : goal.returns-clause-answer
 returns-clause-answer c =
     let words = words_left c.next-word.new.self in
     let cut : words_of c.args.line.now ≡ name_text c.in-Some.name ∷ words = sym c.all_words-words.ensures ∙ c.next-word.ensures ∙ ap (λ (w : List ℕ). w ∷ words) c.in-Some.ensures.answer in
-    let none = no_jobs c.args.jobs.now c.is_empty.result c.is_empty.ensures c.if-not-is_empty.false in
+    let none = is_nothing c.args.jobs.now (sym c.is_empty.ensures ∙ c.if-not-is_empty.false) in
     let asks = ap (order_said c.in-Some.name) (sym c.as_slice-2.ensures.value) ∙ sym c.in_ok-order.ensures ∙ c.in-Some-2.is in
     inr (none, (c.in-Some.name, words, cut, record { values = c.in_ok-said.said.items; say = c.in_ok-said.ensures.answer; asks = asks }))

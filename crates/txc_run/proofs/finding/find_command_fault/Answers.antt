@@ -16,7 +16,7 @@ returns-in_default c =
 pub unreachable-requires : goal.unreachable-requires
 unreachable-requires c =
     let step = good_words_ask node_forms c.args.line.now c.next-name.result.now (words_left c.next-name.new.self) c.in-Some.kinds.now _ (sym c.all_words-words.ensures ∙ c.next-name.ensures) c.in-Some.ensures.answer c.in-Ok.ensures.answer in
-    c.requires step.asked step.asks
+    c.requires step.0 step.1
 
 pub returns-in-Err : goal.returns-in-Err
 returns-in-Err c =

@@ -1,4 +1,4 @@
-use Rattle.std.proofs.Common.{rules, refl}
+use Rattle.std.proofs.Common.{rules}
 use Rattle.std.specs.Prelude.{Some}
 use Rattle.txc_node.specs.declared.op.Op.TheVariants.{Lookup}
 use Rattle.txc_node.specs.declared.refusal.Refusal.TheVariants.{EmptyRange}

@@ -1,5 +1,4 @@
 use Rattle.std.proofs.Common.{subst}
-use Rattle.txc_script.specs.declared.unread.Unread.TheVariants.{Malformed}
 use Rattle.txc_run.specs.Lines.{Spells}
 use Rattle.txc_run.specs.Steps.{MakesNone}
 use Rattle.txc_run.proofs.Named.{no_step}

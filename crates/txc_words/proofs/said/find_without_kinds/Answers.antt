@@ -12,4 +12,4 @@ unreachable-requires c =
     let words = words_left c.args.words in
     let first = subst (λ (ws : List (List ℕ)). SayAll c.first_kinds.result.now ws c.in-Ok.field-0.items) c.first.ensures c.in-Ok.ensures.answer in
     let said = said_of (first_kinds c.args.name) (take 2 words) c.in-Ok.field-0.items (subst (λ (ks : List WordKind). SayAll ks (take 2 words) c.in-Ok.field-0.items) c.first_kinds.ensures first) in
-    none_unkind c.args.name words said.all c.requires.unknown said.mean
+    none_unkind c.args.name words said.0 c.requires.unknown said.1
