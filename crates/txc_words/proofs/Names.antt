@@ -14,9 +14,9 @@ find_name (name ∷ others) text = if bytes_eq text (name_text name) then Some n
 
 abbrev read_name : List ℕ → Option LineName
 read_name text = find_name (
-  names.Put ∷ names.Remove ∷ names.Pin ∷ names.Query ∷ names.Ro ∷ names.Rw ∷ names.Session ∷ names.Call ∷ names.Step ∷ names.Finish
-  ∷ names.Ask ∷ names.Write ∷ names.Pins ∷ names.Commit ∷ names.Abort ∷ names.Advance ∷ names.Sweep ∷ names.Tidy ∷ names.Counts ∷ []
-) text
+    names.Put ∷ names.Remove ∷ names.Pin ∷ names.Query ∷ names.Ro ∷ names.Rw ∷ names.Session ∷ names.Call ∷ names.Step ∷ names.Finish
+    ∷ names.Ask ∷ names.Write ∷ names.Pins ∷ names.Commit ∷ names.Abort ∷ names.Advance ∷ names.Sweep ∷ names.Tidy ∷ names.Counts ∷ []
+    ) text
 
 read_back : (name : LineName) → read_name (name_text name) ≡ Some name
 read_back names.Put = refl
