@@ -41,7 +41,7 @@ spelled form line name text op known e bare named h = record { form = form; word
 -- what was made, or not, as the words after the name say, was made as the line says, or not
 pub makes_as : {T E : Type 0} (takes : Taking T) (form : LineForm Op) (line name text : List ℕ) (r : Result Bool E) (c next : Cache) (old new : T) → form_named node_forms form.name ≡ Some form
     → line ≡ name ++ 32 ∷ text → HasNoBlank name → name ≡ form.name → IfOk r (MakesStep takes (IsOfForm form (words_of text)) c next old new) → IfOk r (MakesStep takes (Spells line) c next old new)
-makes_as takes form line name text (Ok refused) c next old new known e bare named h = (h.0, spelled form line name text h.0 known e bare named h.1, h.2)
+makes_as takes form line name text (Ok refused) c next old new known e bare named h = (h.0, spelled form line name text h.0 known e bare named h.1, h.2, h.3, h.4, h.5)
 makes_as takes form line name text (Err error) c next old new known e bare named h = tt
 
 pub makes_none_as : {T V : Type 0} (form : LineForm Op) (line name text : List ℕ) (r : Result V Unread) (c next : Cache) (old new : T) → form_named node_forms form.name ≡ Some form → line ≡ name ++ 32 ∷ text → HasNoBlank name

@@ -18,7 +18,7 @@ unreachable-requires c =
     let step = good_words_ask node_forms c.args.line.now c.next-name.result.now (words_left c.next-name.new.self) c.in-Some.kinds.now _ (sym c.all_words-words.ensures ∙ c.next-name.ensures) c.in-Some.ensures.answer c.in-Ok.ensures.answer in
     c.requires step.0 step.1
 
-pub returns-in-Err : goal.returns-in-Err
-returns-in-Err c =
+pub returns : goal.returns
+returns c =
     let are = sym c.all_words-words.ensures ∙ c.next-name.ensures in
     wrong_in c.in-Err.reason _ (IsCommandFault node_forms (words_of c.args.line.now)) c.in-Err.ensures.refused (λ fault h. inr (c.next-name.result.now, words_left c.next-name.new.self, c.in-Some.kinds.now, are, c.in-Some.ensures.answer, h))

@@ -10,4 +10,4 @@ use Rattle.txc_run.proofs.step.make_sweep.Goals as goal
 
 pub returns-clause-after : goal.returns-clause-after
 returns-clause-after g c =
-    taken g.T.Taker.takes (IsOfForm sweep_form (words_of c.args.text.now)) c.take.result c.args.node.now c.sweep.new.self (Sweep c.in-Ok.horizon) (replies.Swept c.sweep.result) None c.args.taker.now c.take.new.taker c.in-Ok.ensures.answer (search rules) (λ _. refl) c.take.ensures.after c.take.ensures.refusal
+    taken g.T.Taker.takes (IsOfForm sweep_form (words_of c.args.text.now)) c.take.result c.args.node.now c.sweep.new.self (Sweep c.in-Ok.horizon) (replies.Swept c.sweep.result) None c.args.taker.now c.take.new.self c.in-Ok.ensures.answer (search rules) (λ _. refl) c.take.ensures.after c.take.ensures.refusal
