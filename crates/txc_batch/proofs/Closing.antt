@@ -1,13 +1,15 @@
 -- Lines of a batch's script are answered, and the jobs run after them.
-use Rattle.std.proofs.Common.{◌≢◌, List, Result, Ok, Err, IfErr, IfOk, ℕ, refl, subst, inl, inr}
+use Rattle.std.proofs.Common.{◌≢◌, List, Result, Ok, Err, IfErr, IfOk, ℕ, refl, inl, inr}
 use Rattle.txc_app.specs.Eval.{Next}
 use Rattle.txc_script.specs.Answers.{IsUnanswered}
-use Rattle.txc_script.specs.Unread.{IsNone}
-use Rattle.txc_script.specs.declared.unread.Unread.{Unread}
-use Rattle.txc_script.specs.declared.unread.Unread.TheVariants as reasons
+use Rattle.txc_script.specs.LineFaults.{IsWrong}
+use Rattle.txc_script.specs.Words.{words_of}
+use Rattle.txc_script.specs.declared.unread.Unanswered.{Unanswered}
+use Rattle.txc_script.specs.declared.unread.Unanswered.TheVariants as reasons
 use Rattle.txc_work.specs.Batches.{job_numbers, NamesOneOf}
 use Rattle.txc_work.specs.declared.error.BatchError.{BatchError}
 use Rattle.txc_work.specs.declared.error.BatchError.TheVariants.{Missing, Twice, Memory}
+use Rattle.txc_batch.specs.BatchFaults.{IsBatchFault}
 use Rattle.txc_batch.specs.BatchScripts.{batch_script}
 use Rattle.txc_batch.specs.BatchStates.{BatchState}
 use Rattle.txc_batch.specs.Orders.{AsksFor}
@@ -15,11 +17,12 @@ use Rattle.txc_batch.specs.Preparing.{IsBrokenOff}
 use Rattle.txc_batch.specs.RunJobs.{EndsSo, HaveRun}
 use Rattle.txc_batch.specs.Staffing.{RanValue}
 use Rattle.txc_batch.specs.declared.order.Order.{Order}
+use Rattle.txc_batch.proofs.NothingWrong.{nothing_wrong}
 
 -- a line that was not read left the state as it was
-pub unread : (s : BatchState) (line : List ℕ) (reason : Unread) → IsNone (AsksFor s.jobs line) reason → IsUnanswered batch_script s line s reason
-unread s line reasons.Malformed none = (none, refl)
-unread s line reasons.Memory none = inl refl
+pub unread : (s : BatchState) (line : List ℕ) (reason : Unanswered) → IsWrong (IsBatchFault s.jobs (words_of line)) reason → IsUnanswered batch_script s line s reason
+unread s line (reasons.Wrong fault) h = ((λ order asks. nothing_wrong s.jobs line order fault asks h), refl, h)
+unread s line reasons.Memory h = inl refl
 
 -- what a line asks for broke off
 pub broke : (s end : BatchState) (line : List ℕ) (order : Order) → AsksFor s.jobs line order → IsBrokenOff s order end → IsUnanswered batch_script s line end reasons.Memory

@@ -5,8 +5,8 @@ pub mod NodeRows
 pub mod NodesBy
 pub mod Pinning
 pub mod Preparing
+pub mod NothingWrong
 pub mod Closing
 pub mod Ending
 pub mod JobsRun
-pub mod NothingWrong
 pub mod Offered

@@ -1,7 +1,6 @@
 -- Pins of the present that are added to a pincushion, or whose hold is taken away.
 use Rattle.std.proofs.Common.{◌≡◌, ℕ, Bool, true, false, List, [], ◌∷◌, ◌++◌, Result, Ok, Err, OnOk, IfErr, eq-eqb, refl, sym, ap, ◌∙◌, ◌+◌, arith, length-append}
 use Rattle.std.specs.Prelude.{◌||◌, ◌==◌}
-use Rattle.std.specs.List.{list_any}
 use Rattle.std.proofs.lemmas.Bool.{false≢true}
 use Rattle.txc_db.specs.declared.error.DbError.{DbError}
 use Rattle.txc_db.specs.declared.error.DbError.TheVariants as refusals
@@ -10,7 +9,7 @@ use Rattle.txc_db.specs.History.{pin_event}
 use Rattle.txc_db.specs.Calls.{IsPinnable, IsUnpinRefused}
 use Rattle.txc_db.specs.DatabaseValue.{after_pin, after_unpin, front_of, is_held, newest, DatabaseValue}
 use Rattle.txc_cushion.specs.declared.error.AddError.{AddError}
-use Rattle.txc_cushion.specs.Cushion.{after_add, after_give_back, CushionValue}
+use Rattle.txc_cushion.specs.Cushion.{after_add, after_give_back}
 use Rattle.txc_cushion.specs.Refusals.{IsAddable, IsAddRefused}
 use Rattle.txc_batch.specs.Sources.{HasPinnedPresent, HasUnpinnedPresent, IsPinOfPresent, SourceValue}
 

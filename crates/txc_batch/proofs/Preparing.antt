@@ -1,5 +1,5 @@
 -- Changes and pins of a batch's script, and jobs that are put behind the others.
-use Rattle.std.proofs.Common.{◌≡◌, ℕ, Bool, List, ◌∷◌, [], ◌++◌, Some, Result, Ok, Err, IfOk, OnOk, OnErr, None, false, refl, sym, ◌∙◌, inl, inr, append-nil}
+use Rattle.std.proofs.Common.{◌≡◌, ℕ, Bool, List, ◌∷◌, [], ◌++◌, Some, Result, Ok, Err, IfOk, OnOk, OnErr, None, false, refl, sym, ◌∙◌, inr, append-nil}
 use Rattle.std.specs.declared.alloc.AllocError.{AllocError}
 use Rattle.txc_batch.specs.BatchScripts.{DoesOrder, Queues}
 use Rattle.txc_batch.specs.BatchStates.{BatchState}

@@ -1,7 +1,7 @@
 -- What is wrong with the words of a malformed line of a batch's script.
 use Rattle.std.specs.Prelude.{◌≡◌, ◌≢◌, ◌⊎◌, ◌<◌, ◌≤◌, ℕ, List, [], ◌∷◌, codes, length}
 use Rattle.txc_script.specs.Excerpts.{excerpt_of}
-use Rattle.txc_script.specs.LineFaults.{IsBadWord}
+use Rattle.txc_script.specs.LineFaults.{IsKindsFault}
 use Rattle.txc_script.specs.declared.line_fault.CommandFault.{CommandFault}
 use Rattle.txc_script.specs.declared.line_fault.CommandFault.TheVariants as faults
 use Rattle.txc_words.specs.declared.name.LineName.{LineName}
@@ -13,9 +13,9 @@ use Rattle.txc_batch.specs.declared.reading.TheConstants.{LEAST_WORDS}
 
 -- what is wrong with the words after `job`: there are too few; else one is not of its kind
 abbrev pub IsJobFault : List (List ℕ) → CommandFault → Type 0
-IsJobFault words (faults.Few least given) = (least ≡ LEAST_WORDS) × (given ≡ length words) × (given < least)
-IsJobFault words (faults.Word fault) = (LEAST_WORDS ≤ length words) × IsBadWord (job_kinds words) words fault
-IsJobFault words fault = ⊥
+IsJobFault words fault =
+    ((length words < LEAST_WORDS) × (fault ≡ faults.Few LEAST_WORDS (length words)))
+    ⊎ ((LEAST_WORDS ≤ length words) × IsKindsFault (job_kinds words) words fault)
 
 -- it says where changes and pins stand
 abbrev pub IsMisplaced : CommandFault → Type 0
@@ -31,10 +31,9 @@ IsPreparingFault (job ∷ jobs) name words fault = IsMisplaced fault
 -- What is wrong with a line's words after lines that asked for these jobs: the first is no line's name; else it
 -- is in the words after that name, or in the place of the line.
 abbrev pub IsBatchFault : List Job → List (List ℕ) → CommandFault → Type 0
-IsBatchFault jobs all (faults.Unknown text) =
-    (word : List ℕ) × (words : List (List ℕ)) × (all ≡ word ∷ words) × (word ≢ codes "job")
-    × ((name : LineName) → IsPreparing name → word ≡ name_text name → ⊥) × (text ≡ excerpt_of word)
 IsBatchFault jobs all fault =
-    ((words : List (List ℕ)) × (all ≡ codes "job" ∷ words) × IsJobFault words fault)
+    ((word : List ℕ) × (words : List (List ℕ)) × (all ≡ word ∷ words) × (word ≢ codes "job")
+    × ((name : LineName) → IsPreparing name → word ≡ name_text name → ⊥) × (fault ≡ faults.Unknown (excerpt_of word)))
+    ⊎ (((words : List (List ℕ)) × (all ≡ codes "job" ∷ words) × IsJobFault words fault)
     ⊎ ((name : LineName) × (words : List (List ℕ)) × IsPreparing name × (all ≡ name_text name ∷ words)
-    × IsPreparingFault jobs name words fault)
+    × IsPreparingFault jobs name words fault))

@@ -1,5 +1,5 @@
 -- What the lines of a batch's script ask for.
-use Rattle.std.specs.Prelude.{◌≡◌, ℕ, ◌≤◌, List, [], ◌∷◌, Option, Some, None, option_map, codes, length}
+use Rattle.std.specs.Prelude.{◌≡◌, ◌⊎◌, ℕ, ◌≤◌, List, [], ◌∷◌, Option, Some, None, option_map, codes, length}
 use Rattle.std.specs.List.{filter_map}
 use Rattle.txc_tags.specs.Keys.{Call}
 use Rattle.txc_script.specs.LineFaults.{kinds_for}
@@ -74,8 +74,7 @@ abbrev pub SpellsPreparing : List ℕ → Order → Type 0
 SpellsPreparing line order =
     (name : LineName) × (words : List (List ℕ)) × (words_of line ≡ name_text name ∷ words) × Prepares name words order
 
--- what a line asks for after lines that asked for these jobs: a change or a pin, before the first job; or a job
+-- what a line asks for after lines that asked for these jobs: a job; or a change or a pin, before the first job
 abbrev pub AsksFor : List Job → List ℕ → Order → Type 0
-AsksFor jobs line (Write change) = (jobs ≡ []) × SpellsPreparing line (Write change)
-AsksFor jobs line (Pin now) = (jobs ≡ []) × SpellsPreparing line (Pin now)
-AsksFor jobs line (Run q) = SpellsJob line q
+AsksFor jobs line order =
+    ((q : QueuedValue) × (order ≡ Run q) × SpellsJob line q) ⊎ ((jobs ≡ []) × SpellsPreparing line order)

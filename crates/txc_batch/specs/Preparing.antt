@@ -1,19 +1,9 @@
 -- Only private functions need this file: what a line of a batch's script asks for is done.
 use Rattle.std.specs.Prelude.{◌≡◌, ◌⊎◌, ℕ, Bool, List, ◌++◌, Option, Some, Result}
-use Rattle.txc_rows.specs.declared.query.Change.{Change}
 use Rattle.txc_batch.specs.BatchScripts.{order_text, is_refused_order, DoesOrder}
 use Rattle.txc_batch.specs.BatchStates.{BatchState}
 use Rattle.txc_batch.specs.declared.order.Order.{Order}
-use Rattle.txc_batch.specs.declared.order.Order.TheVariants.{Write, Pin}
 use Rattle.txc_batch.specs.declared.prepared.PrepareError.{PrepareError}
-
--- the change was made, or refused so
-abbrev pub LeadsByWrite : Change → BatchState → Result ℕ PrepareError → BatchState → Type 0
-LeadsByWrite change s told end = DoesOrder s (Write change) (Some told) end
-
--- the pin was made, or refused so
-abbrev pub LeadsByPin : ℕ → BatchState → Result ℕ PrepareError → BatchState → Type 0
-LeadsByPin now s told end = DoesOrder s (Pin now) (Some told) end
 
 -- what a line asks for was done, and what is written of it was put after the text
 pub record IsObeyed (s : BatchState) (order : Order) (end : BatchState) (old new : List ℕ) (refused : Bool)

@@ -8,7 +8,6 @@ use Rattle.txc_app.specs.Eval.{Next}
 use Rattle.txc_work.specs.Batches.{job_numbers, result_numbers, IsResultOf, Meets}
 use Rattle.txc_work.specs.declared.error.BatchError.{BatchError}
 use Rattle.txc_work.specs.declared.error.BatchError.TheVariants.{Missing, Twice, Memory}
-use Rattle.txc_work.specs.declared.job.Job.{Job}
 use Rattle.txc_work.specs.declared.job.Outcome.{Outcome}
 use Rattle.txc_work.specs.declared.job.Outcome.TheVariants as outcomes
 use Rattle.txc_batch.specs.BatchStates.{BatchState}

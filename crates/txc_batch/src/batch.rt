@@ -1,10 +1,10 @@
 //! What the lines of a batch's script find and leave: a database and its pincushion, and the jobs that are to be run
 //! over them.
-ghost use Rattle.std.specs.Prelude.{◌≡◌, IfOk, OnOk, OnErr};
-ghost use Rattle.txc_batch.specs.BatchScripts.{Queues};
+ghost use Rattle.std.specs.Prelude.{◌≡◌, Some, IfOk, OnOk, OnErr};
+ghost use Rattle.txc_batch.specs.BatchScripts.{DoesOrder, Queues};
 ghost use Rattle.txc_batch.specs.BatchStates.{new_batch};
 ghost use Rattle.txc_batch.specs.Crews.{numbers_in, IsCrew};
-ghost use Rattle.txc_batch.specs.Preparing.{IsBrokenOff, IsObeyed, LeadsByPin, LeadsByWrite};
+ghost use Rattle.txc_batch.specs.Preparing.{IsBrokenOff, IsObeyed};
 
 use crate::order::{Order, Queued};
 use crate::prepared::{PrepareError, push_prepared};
@@ -76,14 +76,14 @@ impl<A: App, C: Cacheable> Batch<A, C> {
 
     /// Makes a change.
     fn write(&mut self, alloc: Global, change: &Change) -> Result<Stamp, PrepareError>
-        ensures { LeadsByWrite change.now self.old result self.new }
+        ensures { DoesOrder self.old (Order.Write change.now) (Some result) self.new }
     {
         self.source.write(alloc, change)
     }
 
     /// Makes a pin.
     fn pin(&mut self, alloc: Global, now: u64) -> Result<Stamp, PrepareError>
-        ensures { LeadsByPin now self.old result self.new }
+        ensures { DoesOrder self.old (Order.Pin now) (Some result) self.new }
     {
         self.source.pin(alloc, now)
     }

@@ -2,7 +2,6 @@
 #![tactic(auto)]
 
 mod batch;
-mod finding;
 mod laws;
 mod order;
 mod outcomes;

@@ -2,7 +2,6 @@
 ghost use Rattle.txc_batch.specs.BatchScripts.{batch_script};
 
 use crate::batch::Batch;
-use crate::finding::find_batch_fault;
 use crate::order::Order;
 use crate::prepared::PrepareError;
 use crate::reading::read_order;
@@ -10,7 +9,7 @@ use std::alloc::{AllocError, Global};
 use std::marker::PhantomData;
 use txc_app::App;
 use txc_registry::Cacheable;
-use txc_script::{CommandFault, Script, Unread};
+use txc_script::{Script, Unanswered};
 use txc_stamp::Stamp;
 
 /// A batch's script, of which the jobs are run when all lines were answered.
@@ -31,18 +30,14 @@ impl<A: App, C: Cacheable> Script for BatchScript<A, C> {
         state: &mut Batch<A, C>,
         line: &[u8],
         text: &mut Vec<u8>,
-    ) -> Result<bool, Unread> {
+    ) -> Result<bool, Unanswered> {
         match read_order(alloc, state.jobs(), line) {
             Ok(order) => match state.obey(alloc, order, text) {
                 Ok(is_refused) => Ok(is_refused),
-                Err(_) => Err(Unread::Memory),
+                Err(_) => Err(Unanswered::Memory),
             },
             Err(reason) => Err(reason),
         }
-    }
-
-    fn find_fault(&self, alloc: Global, state: &Batch<A, C>, line: &[u8]) -> CommandFault {
-        find_batch_fault(alloc, state.jobs(), line)
     }
 
     // The jobs run after it: a method of a trait may start no thread.

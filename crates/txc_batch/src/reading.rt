@@ -1,17 +1,19 @@
 //! Reading what a line of a batch's script asks for.
 ghost use Rattle.std.specs.Prelude.{◌≡◌, IfOk, IfErr, IfSome, IfNone, length};
 ghost use Rattle.std.specs.List.{filter_map};
-ghost use Rattle.txc_script.specs.Unread.{IsNone};
-ghost use Rattle.txc_script.specs.Words.{words_left};
+ghost use Rattle.txc_script.specs.LineFaults.{IsWrong};
+ghost use Rattle.txc_script.specs.Words.{words_left, words_of};
 ghost use Rattle.txc_words.specs.declared.name.LineName.{LineName};
 ghost use Rattle.txc_words.specs.Names.{name_text};
 ghost use Rattle.txc_words.specs.Said.{AreBodies};
+ghost use Rattle.txc_batch.specs.BatchFaults.{IsBatchFault, IsJobFault};
 ghost use Rattle.txc_batch.specs.Orders.{AreJobWords, AsksFor, IsPreparing, job_said, key_said, order_said};
 
 use crate::order::{Order, Queued};
 use std::alloc::{AllocError, Global};
 use txc_script::{
-    ChangeName, Said, Unread, WordKind, WordsLeft, all_words, count_words, read_words,
+    ChangeName, CommandFault, Excerpt, Said, Unanswered, WordKind, WordsLeft, all_words,
+    count_words, read_each,
 };
 use txc_tags::Key;
 use txc_words::{LAST_MOMENT, LineName, change_of, read_after_name};
@@ -21,7 +23,10 @@ use txc_work::Job;
 pub const LEAST_WORDS: usize = 3;
 
 /// The moment of a job and how stale its snapshot may be. Its other words are keys.
-pub static MOMENTS: [WordKind; 2] = [WordKind::Number(LAST_MOMENT), WordKind::Number(LAST_MOMENT)];
+static MOMENTS: [WordKind; 2] = [WordKind::Number(LAST_MOMENT), WordKind::Number(LAST_MOMENT)];
+
+/// Where changes and pins stand.
+const EARLY: &str = "changes and pins stand before the first job";
 
 /// The keys that words say.
 fn keys_of(alloc: Global, said: &[Said<'_>]) -> Result<Vec<Key>, AllocError>
@@ -52,16 +57,19 @@ fn job_of(alloc: Global, said: &[Said<'_>]) -> Result<Option<Queued>, AllocError
     }
 }
 
-/// A job, by the words after its name, of which there are so many.
-fn read_queued(alloc: Global, words: WordsLeft<'_>, count: usize) -> Result<Queued, Unread>
+/// A job, by the words after its name, of which there are so many; or what is wrong with them.
+fn read_queued(alloc: Global, words: WordsLeft<'_>, count: usize) -> Result<Queued, Unanswered>
     requires { length (words_left words) ≡ count }
     ensures answer { IfOk result (AreJobWords (words_left words.entry)) }
-    ensures refused { IfErr result (IsNone (AreJobWords (words_left words.entry))) }
+    ensures refused { IfErr result (IsWrong (IsJobFault (words_left words.entry))) }
 {
     if count < LEAST_WORDS {
-        return Err(Unread::Malformed);
+        return Err(Unanswered::Wrong(CommandFault::Few {
+            least: LEAST_WORDS,
+            given: count,
+        }));
     }
-    let said = read_words(alloc, MOMENTS.as_slice(), WordKind::Key, words, count)?;
+    let said = read_each(alloc, MOMENTS.as_slice(), WordKind::Key, words, count)?;
     match job_of(alloc, said.as_slice())? {
         Some(job) => Ok(job),
         None => unreachable!(),
@@ -69,7 +77,7 @@ fn read_queued(alloc: Global, words: WordsLeft<'_>, count: usize) -> Result<Queu
 }
 
 /// The name of a change or of a pin that the word is.
-pub fn preparing_name(word: &[u8]) -> Option<LineName>
+fn preparing_name(word: &[u8]) -> Option<LineName>
     ensures answer { IfSome result (λ name. word.now ≡ name_text name) }
     ensures preparing { IfSome result IsPreparing }
     ensures refused { IfNone result ((name : LineName) → IsPreparing name → word.now ≡ name_text name → ⊥) }
@@ -107,10 +115,10 @@ fn order_of(alloc: Global, name: LineName, said: &[Said<'_>]) -> Result<Option<O
     }
 }
 
-/// What a line asks for after lines that asked for these jobs.
-pub fn read_order(alloc: Global, jobs: &[Job], line: &[u8]) -> Result<Order, Unread>
+/// What a line asks for after lines that asked for these jobs, or what is wrong with its words.
+pub fn read_order(alloc: Global, jobs: &[Job], line: &[u8]) -> Result<Order, Unanswered>
     ensures answer { IfOk result (AsksFor jobs.now line.now) }
-    ensures refused { IfErr result (IsNone (AsksFor jobs.now line.now)) }
+    ensures refused { IfErr result (IsWrong (IsBatchFault jobs.now (words_of line.now))) }
 {
     let count = count_words(line) - 1;
     let mut words = all_words(line);
@@ -118,12 +126,12 @@ pub fn read_order(alloc: Global, jobs: &[Job], line: &[u8]) -> Result<Order, Unr
     if word == b"job".as_slice() {
         return Ok(Order::Run(read_queued(alloc, words, count)?));
     }
-    if !jobs.is_empty() {
-        return Err(Unread::Malformed);
-    }
     let Some(name) = preparing_name(word) else {
-        return Err(Unread::Malformed);
+        return Err(Unanswered::Wrong(CommandFault::Unknown(Excerpt::new(word))));
     };
+    if !jobs.is_empty() {
+        return Err(Unanswered::Wrong(CommandFault::Misplaced(EARLY)));
+    }
     let said = read_after_name(alloc, name, words, count)?;
     match order_of(alloc, name, said.as_slice())? {
         Some(order) => Ok(order),

@@ -4,5 +4,5 @@ pub mod TasksDone
 pub mod WrittenOneWay
 pub mod GivingUp
 pub mod WorldTexts
-pub mod Answering
 pub mod NothingWrong
+pub mod Answering

@@ -1,43 +1,24 @@
 -- What the words of the lines of a world's script ask for.
-use Rattle.std.proofs.Common.{◌≡◌, ℕ, List, [], ◌∷◌, Option, Some, None, refl, sym, ap, subst, ◌∙◌}
-use Rattle.std.specs.Prelude.{option_map}
-use Rattle.txc_script.specs.LineFaults.{AreOfKinds}
-use Rattle.txc_script.specs.SaidWords.{SayAll}
-use Rattle.txc_script.specs.Words.{words_of}
+use Rattle.std.proofs.Common.{◌≡◌, ℕ, List, [], ◌∷◌, Some, None, refl, sym, ap, subst, ◌∙◌}
+use Rattle.txc_script.specs.SaidWords.{AllSaidOf, SayAll}
 use Rattle.txc_script.specs.declared.line_fault.WordKind.{WordKind}
 use Rattle.txc_script.specs.declared.line_fault.WordKind.TheVariants.{Function, Key, Stamp}
 use Rattle.txc_script.specs.declared.said.ChangeName.{ChangeName}
 use Rattle.txc_script.specs.declared.said.ChangeName.TheVariants as changes
 use Rattle.txc_script.specs.declared.said.Said.{Said}
-use Rattle.txc_script.proofs.Offered.{AllSaidOf, all_said_by, say_by, say_some}
+use Rattle.txc_script.proofs.Offered.{all_said_by, said_of}
 use Rattle.txc_words.specs.Faults.{kinds_of_change, kinds_after_name, moment, place, second_of}
-use Rattle.txc_words.specs.Names.{name_text}
 use Rattle.txc_words.specs.Said.{AreBodies, SaysAfter, change_said, query_said}
 use Rattle.txc_words.specs.declared.name.LineName.{LineName}
 use Rattle.txc_words.specs.declared.name.LineName.TheVariants as names
-use Rattle.txc_words.proofs.Offered.{HasChange, HasQuery, HaveBodies, bodies, change_bodies, change_there, has_change, has_query, none_some, own_change, same_name, same_some}
-use Rattle.txc_play.specs.Tasks.{LineAsksFor, SpellsTask, keeper_change, task_said}
-use Rattle.txc_play.specs.declared.task.Task.{Task}
+use Rattle.txc_words.proofs.Offered.{HasChange, HasQuery, HaveBodies, bodies, change_bodies, change_there, has_change, has_query, none_mapped, none_some, own_change, same_some}
+use Rattle.txc_play.specs.Tasks.{keeper_change, task_said}
 use Rattle.txc_play.specs.declared.task.Task.TheVariants as tasks
 use Rattle.txc_rows.specs.declared.query.Change.{Change}
 use Rattle.txc_rows.specs.declared.query.Query.{Query}
 use Rattle.txc_world.specs.declared.step.Act.TheVariants as acts
 use Rattle.txc_world.specs.declared.step.Keep.TheVariants as keeps
 use Rattle.txc_world.specs.declared.step.Step.TheVariants.{Actor, Keeper}
-
--- what a line of this name asks for
-pub says_of : (line : List ℕ) (name : LineName) (words : List (List ℕ)) (task : Task) → words_of line ≡ name_text name ∷ words → SpellsTask line task → LineAsksFor name words task
-says_of line name words task e s =
-    let both : name_text name ∷ words ≡ name_text s.0 ∷ s.1 = sym e ∙ s.2 in
-    let same : name ≡ s.0 = same_name name s.0 cc in
-    let others : words ≡ s.1 = cc in
-    subst (λ (n : LineName). LineAsksFor n words task) (sym same) (subst (λ (ws : List (List ℕ)). LineAsksFor s.0 ws task) (sym others) s.3)
-
--- a line whose first word is no name asks for nothing
-pub no_name : (line word : List ℕ) (words : List (List ℕ)) (task : Task) → words_of line ≡ word ∷ words → ((name : LineName) → word ≡ name_text name → ⊥) → SpellsTask line task → ⊥
-no_name line word words task e none s =
-    let both : word ∷ words ≡ name_text s.0 ∷ s.1 = sym e ∙ s.2 in
-    none s.0 cc
 
 -- ---- words that say what they are to say ask for something
 
@@ -49,12 +30,8 @@ asks_by : (name : LineName) (words : List (List ℕ)) (values : List Said) (kind
     → ((all : AllSaidOf kinds) → task_said name (all_said_by kinds all) ≡ None → ⊥) → AsksSome name values
 asks_by name words values kinds h known texts some =
     let say = subst (λ (ks : List WordKind). SayAll ks words values) (same_some h.kinds kinds (sym h.known ∙ known)) h.say in
-    let by = say_by kinds words values say in
-    record { bodies = bodies kinds words values texts say; some = λ none. some by.0 (ap (task_said name) (sym by.1) ∙ none) }
-
-none_mapped : {X Y : Type 0} (f : X → Y) (o : Option X) → option_map f o ≡ None → o ≡ None
-none_mapped f None e = refl
-none_mapped f (Some x) e = absurd (none_some (f x) e)
+    let by = said_of kinds words values say in
+    record { bodies = bodies kinds words values texts say; some = λ none. some by.0 (ap (task_said name) (sym by.2) ∙ none) }
 
 keeps_some : (name : ChangeName) (values : List Said) → (change_said name values ≡ None → ⊥) → keeper_change name values ≡ None → ⊥
 keeps_some name values some none = some (none_mapped (λ (change : Change). tasks.One (Keeper (keeps.Write change))) (change_said name values) none)
@@ -97,16 +74,3 @@ asks_some names.Pins words values h = asks_by names.Pins words values (place ∷
 asks_some names.Commit words values h = asks_by names.Commit words values (place ∷ []) h refl tt (λ all e. none_some _ e)
 asks_some names.Abort words values h = asks_by names.Abort words values (place ∷ []) h refl tt (λ all e. none_some _ e)
 asks_some names.Advance words values h = asks_by names.Advance words values (place ∷ []) h refl tt (λ all e. none_some _ e)
-
--- so do words that are all of their kinds
-
-there_is : (o : Option Task) → (o ≡ None → ⊥) → (task : Task) × (o ≡ Some task)
-there_is None some = absurd (some refl)
-there_is (Some task) some = (task, refl)
-
-pub good_words : (name : LineName) (words : List (List ℕ)) (kinds : List WordKind) → kinds_after_name name (second_of words) ≡ Some kinds → AreOfKinds kinds words → (task : Task) × LineAsksFor name words task
-good_words name words kinds known good =
-    let said = say_some kinds words good in
-    let says : SaysAfter name words said.0 = record { kinds = kinds; known = known; say = said.1 } in
-    let task = there_is (task_said name said.0) (asks_some name words said.0 says).some in
-    (task.0, record { values = said.0; say = says; asks = task.1 })

@@ -15,7 +15,6 @@ use Rattle.txc_app.specs.Eval.{Next}
 use Rattle.txc_world.specs.declared.step.Act.{Act}
 use Rattle.txc_world.specs.declared.step.Act.TheVariants as acts
 use Rattle.txc_world.specs.declared.step.Keep.TheVariants as keeps
-use Rattle.txc_world.specs.declared.step.Keep.{Keep}
 use Rattle.txc_world.specs.declared.step.Step.{Step}
 use Rattle.txc_world.specs.declared.step.Step.TheVariants.{Actor, Keeper}
 use Rattle.txc_world.specs.declared.reply.Refusal.{Refusal}
@@ -47,15 +46,12 @@ pin_alone next world end now pinned one none = record {
   does = (none, refl, refl);
 }
 
--- the third step of a pin
-third : ℕ → Bool → Keep
-third stamp b = if b then keeps.GiveBack stamp else keeps.Unpin stamp
-
-pub pin_added : (next : Next) (world a b end : WorldValue) (now stamp : ℕ) (pinned added last : Reply) → IsTaken next world (Keeper (keeps.Pin now)) pinned a → stamp_in pinned ≡ Some stamp
-    → IsTaken next a (Keeper (keeps.Add stamp)) added b → is_added added ≡ true → IsTaken next b (Keeper (keeps.GiveBack stamp)) last end
-    → TaskIsDone next world (tasks.Pin now) (Replied pinned) end
-pin_added next world a b end now stamp pinned added last one some two is three = record {
-  steps = Keeper (keeps.Pin now) ∷ Keeper (keeps.Add stamp) ∷ Keeper (keeps.GiveBack stamp) ∷ [];
+-- the pin is added, or is not
+pub pin_done : (next : Next) (world a b end : WorldValue) (now stamp : ℕ) (pinned added last : Reply) (kept : Bool) → IsTaken next world (Keeper (keeps.Pin now)) pinned a → stamp_in pinned ≡ Some stamp
+    → IsTaken next a (Keeper (keeps.Add stamp)) added b → is_added added ≡ kept → IsTaken next b (Keeper (if kept then keeps.GiveBack stamp else keeps.Unpin stamp)) last end
+    → TaskIsDone next world (tasks.Pin now) (Replied (if kept then pinned else added)) end
+pin_done next world a b end now stamp pinned added last kept one some two is three = record {
+  steps = Keeper (keeps.Pin now) ∷ Keeper (keeps.Add stamp) ∷ Keeper (if kept then keeps.GiveBack stamp else keeps.Unpin stamp) ∷ [];
   replied = pinned ∷ added ∷ last ∷ [];
   taken = (a, one, (b, two, taken_alone next b end _ last three));
   does = (
@@ -63,21 +59,6 @@ pin_added next world a b end now stamp pinned added last one some two is three =
     some,
     ap (λ (x : Bool). Keeper (keeps.Pin now) ∷ Keeper (keeps.Add stamp) ∷ Keeper (if x then keeps.GiveBack stamp else keeps.Unpin stamp) ∷ []) (sym is),
     ap (λ (x : Bool). Replied (if x then pinned else added)) (sym is),
-  );
-}
-
-pub pin_refused : (next : Next) (world a b end : WorldValue) (now stamp : ℕ) (pinned added last : Reply) → IsTaken next world (Keeper (keeps.Pin now)) pinned a → stamp_in pinned ≡ Some stamp
-    → IsTaken next a (Keeper (keeps.Add stamp)) added b → is_added added ≡ false → IsTaken next b (Keeper (keeps.Unpin stamp)) last end
-    → TaskIsDone next world (tasks.Pin now) (Replied added) end
-pin_refused next world a b end now stamp pinned added last one some two not three = record {
-  steps = Keeper (keeps.Pin now) ∷ Keeper (keeps.Add stamp) ∷ Keeper (keeps.Unpin stamp) ∷ [];
-  replied = pinned ∷ added ∷ last ∷ [];
-  taken = (a, one, (b, two, taken_alone next b end _ last three));
-  does = (
-    stamp,
-    some,
-    ap (λ (x : Bool). Keeper (keeps.Pin now) ∷ Keeper (keeps.Add stamp) ∷ Keeper (if x then keeps.GiveBack stamp else keeps.Unpin stamp) ∷ []) (sym not),
-    ap (λ (x : Bool). Replied (if x then pinned else added)) (sym not),
   );
 }
 

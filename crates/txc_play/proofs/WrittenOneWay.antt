@@ -17,7 +17,7 @@ use Rattle.txc_world.specs.Worlds.{WorldValue}
 use Rattle.txc_play.specs.TaskSteps.{AreShown, Does, DoesCounts, DoesEnd, DoesFinish, DoesPin, DoesTidy, DoesUnpin, ShowsMembers, ending_of, is_unpinned, taken_out}
 use Rattle.txc_play.specs.TaskTexts.{printed_text, stamps_text}
 use Rattle.txc_play.specs.declared.printed.Printed.{Printed}
-use Rattle.txc_play.specs.declared.printed.Printed.TheVariants.{Replied, Ended, Members, Tidied, Counted}
+use Rattle.txc_play.specs.declared.printed.Printed.TheVariants.{Replied, Members, Counted}
 use Rattle.txc_play.specs.declared.task.Task.{Task}
 use Rattle.txc_play.specs.declared.task.Task.TheVariants as tasks
 
@@ -118,14 +118,8 @@ members_way next other world elsewhere actor r p q s t is js h k =
 pub written_by_pin_set : (next other : Next) (world elsewhere : WorldValue) (actor : ℕ) (r : ReadingValue) (a b : Printed) → slice_get world.actors actor ≡ Some (reads r)
     → slice_get elsewhere.actors actor ≡ Some (reads r) → ShowsMembers next world actor a → ShowsMembers other elsewhere actor b → printed_text a ≡ printed_text b
 written_by_pin_set next other world elsewhere actor r (Members p s) (Members q t) is js h k = members_way next other world elsewhere actor r p q s.items t.items is js h k
-written_by_pin_set next other world elsewhere actor r (Members p s) (Replied reply) is js h k = absurd k
-written_by_pin_set next other world elsewhere actor r (Members p s) (Ended end) is js h k = absurd k
-written_by_pin_set next other world elsewhere actor r (Members p s) (Tidied count horizon) is js h k = absurd k
-written_by_pin_set next other world elsewhere actor r (Members p s) (Counted line) is js h k = absurd k
-written_by_pin_set next other world elsewhere actor r (Replied reply) b is js h k = absurd h
-written_by_pin_set next other world elsewhere actor r (Ended end) b is js h k = absurd h
-written_by_pin_set next other world elsewhere actor r (Tidied count horizon) b is js h k = absurd h
-written_by_pin_set next other world elsewhere actor r (Counted line) b is js h k = absurd h
+written_by_pin_set next other world elsewhere actor r (Members p s) b is js h k = absurd k
+written_by_pin_set next other world elsewhere actor r a b is js h k = absurd h
 
 -- ---- counts
 

@@ -2,7 +2,6 @@
 //! of the replies.
 #![tactic(auto)]
 
-mod finding;
 mod laws;
 mod outcome;
 mod player;

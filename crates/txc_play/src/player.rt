@@ -4,7 +4,6 @@ ghost use Rattle.txc_play.specs.Playing.{IsCutShort, IsTaskDone};
 ghost use Rattle.txc_play.specs.TaskTexts.{printed_text, is_refused_line};
 ghost use Rattle.txc_play.specs.WorldScripts.{world_script};
 
-use crate::finding::find_command_fault;
 use crate::playing::play;
 use crate::printed::Printed;
 use crate::reading::read_task;
@@ -14,7 +13,7 @@ use std::alloc::{AllocError, Global};
 use std::marker::PhantomData;
 use txc_app::App;
 use txc_registry::Cacheable;
-use txc_script::{CommandFault, Script, Unread};
+use txc_script::{Script, Unanswered};
 use txc_world::World;
 
 /// Most lines take no more bytes, so that their text is not moved while it is written.
@@ -66,18 +65,14 @@ impl<A: App, C: Cacheable> Script for WorldScript<A, C> {
         state: &mut World<A, C>,
         line: &[u8],
         text: &mut Vec<u8>,
-    ) -> Result<bool, Unread> {
+    ) -> Result<bool, Unanswered> {
         match read_task(alloc, line) {
             Ok(task) => match do_task(alloc, state, task, text) {
                 Ok(is_refused) => Ok(is_refused),
-                Err(_) => Err(Unread::Memory),
+                Err(_) => Err(Unanswered::Memory),
             },
             Err(reason) => Err(reason),
         }
-    }
-
-    fn find_fault(&self, alloc: Global, state: &World<A, C>, line: &[u8]) -> CommandFault {
-        find_command_fault(alloc, line)
     }
 
     fn close(

@@ -1,13 +1,15 @@
 //! What a line of a world's script asks for.
 ghost use Rattle.std.specs.Prelude.{◌≡◌, IfOk, IfErr, option_and_then};
-ghost use Rattle.txc_script.specs.Unread.{IsNone};
+ghost use Rattle.txc_script.specs.LineFaults.{IsWrong};
+ghost use Rattle.txc_script.specs.Words.{words_of};
 ghost use Rattle.txc_words.specs.Said.{AreBodies};
+ghost use Rattle.txc_play.specs.WorldFaults.{IsWorldFault};
 ghost use Rattle.txc_play.specs.Tasks.{SpellsTask, task_at, keeper_change, place_said, task_said};
 
 use crate::task::Task;
 use std::alloc::{AllocError, Global};
 use txc_ports::Bounds;
-use txc_script::{ChangeName, Said, Unread, all_words, count_words};
+use txc_script::{ChangeName, CommandFault, Excerpt, Said, Unanswered, all_words, count_words};
 use txc_words::{LineName, change_of, name_of, query_of, read_after_name};
 use txc_world::{Act, Keep, Step};
 
@@ -266,16 +268,16 @@ fn task_of(alloc: Global, name: LineName, said: &[Said<'_>]) -> Result<Option<Ta
 
 // ---- lines
 
-/// What the line asks for.
-pub fn read_task(alloc: Global, line: &[u8]) -> Result<Task, Unread>
+/// What the line asks for, or what is wrong with its words.
+pub fn read_task(alloc: Global, line: &[u8]) -> Result<Task, Unanswered>
     ensures answer { IfOk result (SpellsTask line.now) }
-    ensures refused { IfErr result (IsNone (SpellsTask line.now)) }
+    ensures refused { IfErr result (IsWrong (IsWorldFault (words_of line.now))) }
 {
     let count = count_words(line) - 1;
     let mut words = all_words(line);
     let word = words.next();
     let Some(name) = name_of(word) else {
-        return Err(Unread::Malformed);
+        return Err(Unanswered::Wrong(CommandFault::Unknown(Excerpt::new(word))));
     };
     let said = read_after_name(alloc, name, words, count)?;
     match task_of(alloc, name, said.as_slice())? {

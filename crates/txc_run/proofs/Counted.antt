@@ -1,7 +1,7 @@
 -- A run whose replies are counted is one whose report is written after all lines.
 use Rattle.std.proofs.Common.{◌≡◌, ℕ, ◌+◌, Bool, true, false, ◌||◌, List, [], ◌∷◌, ◌++◌, Option, Result, Ok, Err, refl, sym, ap, subst, take, ◌∙◌, append_assoc, inl, inr}
 use Rattle.std.specs.Prelude.{MatchBool}
-use Rattle.std.specs.List.{list_any}
+use Rattle.std.specs.List.{flat_map, list_any}
 use Rattle.std.proofs.lemmas.List.{append-nil}
 use Rattle.txc_settings.specs.declared.mode.Mode.TheVariants.{Node, Report}
 use Rattle.txc_node.specs.Cache.{Cache}
@@ -73,9 +73,7 @@ same_line (Replied op reply) = refl
 same_line (Malformed k) = refl
 
 same_text : (given : List (Given Op (Reply Shown))) → lines_text counted_script given ≡ lines_text (node_script Report) given
-same_text [] = refl
-same_text (g ∷ given) =
-    ap (λ (xs : List ℕ). xs ++ lines_text counted_script given) (same_line g) ∙ ap (λ (xs : List ℕ). line_text (node_script Report) g ++ xs) (same_text given)
+same_text given = λ i. flat_map (λ (g : Given Op (Reply Shown)). same_line g i) given
 
 same_refused : (g : Given Op (Reply Shown)) → is_refused counted_script g ≡ is_refused (node_script Report) g
 same_refused Nothing = refl
@@ -83,9 +81,7 @@ same_refused (Replied op reply) = refl
 same_refused (Malformed k) = refl
 
 any_refused : (given : List (Given Op (Reply Shown))) → list_any (is_refused counted_script) given ≡ list_any (is_refused (node_script Report)) given
-any_refused [] = refl
-any_refused (g ∷ given) =
-    ap (λ (b : Bool). b || list_any (is_refused counted_script) given) (same_refused g) ∙ ap (λ (b : Bool). is_refused (node_script Report) g || b) (any_refused given)
+any_refused given = λ i. list_any (λ (g : Given Op (Reply Shown)). same_refused g i) given
 
 same_fault : (s : Counted) (line : List ℕ) (fault : LineFault) → IsFaultOf counted_script s line fault → IsFaultOf (node_script Report) s.node line fault
 same_fault s line TooLong h = h

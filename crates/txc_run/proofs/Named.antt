@@ -1,59 +1,28 @@
 -- The steps that the words of a line name.
-use Rattle.std.proofs.Common.{◌≡◌, ◌<◌, ◌≤◌, lit<, ℕ, Bool, false, List, [], ◌∷◌, ◌++◌, Some, None, Result, Ok, Err, IfErr, IfOk, length, refl, sym, ap, subst, ◌∙◌}
-use Rattle.std.specs.Prelude.{codes, IsErr, IsErrAnd}
+use Rattle.std.proofs.Common.{◌≡◌, ◌<◌, ◌≤◌, lit<, ℕ, Bool, false, List, [], ◌∷◌, ◌++◌, Some, None, Result, Ok, Err, IfErr, IfOk, length, refl, ap, ◌∙◌}
+use Rattle.std.specs.Prelude.{codes}
 use Rattle.std.specs.List.{AllByRecursion}
 use Rattle.std.specs.Str.{bytes_eq}
-use Rattle.txc_tags.specs.declared.tag.Tag.{Tag}
 use Rattle.txc_node.specs.declared.entry.Entry.{Entry}
 use Rattle.txc_node.specs.declared.entry.EntryError.{EntryError}
 use Rattle.txc_node.specs.declared.entry.EntryError.TheVariants as errors
 use Rattle.txc_node.specs.declared.op.Op.{Op}
-use Rattle.txc_node.specs.declared.op.Op.TheVariants.{Insert}
 use Rattle.txc_node.specs.declared.value.TheConstants.{MAX_VALUE_LEN}
 use Rattle.txc_node.specs.Cache.{Cache}
 use Rattle.txc_node.specs.Steps.{entry_refusal, refusal_by}
 use Rattle.txc_node.proofs.Offered.{entry_has_no_reach, entry_is_too_long}
 use Rattle.txc_script.specs.Forms.{IsOfForm, LineForm, form_named}
-use Rattle.txc_script.specs.Hex.{IsHexWord}
-use Rattle.txc_script.specs.Lines.{IsKeyWord, IsStampWord, IsTagsWord, still_text}
-use Rattle.txc_script.specs.Unread.{IsNone}
+use Rattle.txc_script.specs.LineFaults.{IsCommandFault, IsWrong}
 use Rattle.txc_script.specs.Words.{HasNoBlank, words_of}
+use Rattle.txc_script.specs.declared.unread.Unanswered.{Unanswered}
+use Rattle.txc_script.specs.declared.unread.Unanswered.TheVariants.{Wrong, Memory}
 use Rattle.txc_script.specs.declared.unread.Unread.{Unread}
 use Rattle.txc_script.specs.declared.unread.Unread.TheVariants as unread
-use Rattle.txc_run.specs.Lines.{Spells, insert_form, node_forms}
-use Rattle.txc_run.specs.Reading.{NamesNone, unread_reason}
-use Rattle.txc_run.specs.Steps.{MakesNone, MakesStep, Taking}
-use Rattle.txc_run.specs.declared.unread.NoStep.{NoStep}
-use Rattle.txc_run.specs.declared.unread.NoStep.TheVariants as reasons
-use Rattle.txc_script.proofs.Offered.{of_words, says_in, words_cut}
-
--- ---- what is refused
-
-pub malformed : {T : Type 0} (r : Result T NoStep) (Is : Op → Type 0) → IsErr r × IsErrAnd r (λ reason. reason ≡ reasons.Malformed) → ((op : Op) → Is op → ⊥) → IfErr r (NamesNone Is)
-malformed (Ok x) Is h none = tt
-malformed (Err reason) Is h none = subst (NamesNone Is) (sym h.1) none
-
-pub word_unread : {T V : Type 0} (r : Result T NoStep) (Is : Op → Type 0) (IsWord : V → Type 0) (error : Unread) → IsErr r × IsErrAnd r (λ reason. reason ≡ unread_reason error) → IsNone IsWord error
-    → ((op : Op) → Is op → (v : V) × IsWord v) → IfErr r (NamesNone Is)
-word_unread (Ok x) Is IsWord error h refused some = tt
-word_unread (Err reason) Is IsWord unread.Malformed h refused some = subst (NamesNone Is) (sym h.1) (λ op is. let v = some op is in refused v.0 v.1)
-word_unread (Err reason) Is IsWord unread.Memory h refused some = subst (NamesNone Is) (sym h.1) tt
-
-pub unmade : {T : Type 0} (r : Result T NoStep) (Is : Op → Type 0) (e : Entry) (error : EntryError) → IsErr r × IsErrAnd r (λ reason. reason ≡ reasons.Unmade error) → Is (Insert e)
-    → entry_refusal e ≡ Some (refusal_by error) → IfErr r (NamesNone Is)
-unmade (Ok x) Is e error h is refused = tt
-unmade (Err reason) Is e error h is refused = subst (NamesNone Is) (sym h.1) (e, is, refused)
+use Rattle.txc_run.specs.Lines.{Spells, node_forms}
+use Rattle.txc_run.specs.Steps.{IsNoStep, MakesNone, MakesStep, Taking}
+use Rattle.txc_script.proofs.Offered.{says_in, words_cut}
 
 -- ---- insertions
-
-pub insertion_named : (words : List (List ℕ)) (e : Entry) (key lo known still tags value : List ℕ) → words ≡ key ∷ lo ∷ known ∷ still ∷ tags ∷ value ∷ [] → IsKeyWord key e.key → IsStampWord lo e.reach.lo
-    → IsStampWord known e.reach.known → still ≡ still_text e.reach.still → IsTagsWord tags e.tags → IsHexWord value e.value → IsOfForm insert_form words (Insert e)
-insertion_named words e key lo known still tags value are is_key is_lo is_known is_still are_tags is_value =
-    of_words insert_form (key ∷ lo ∷ known ∷ still ∷ tags ∷ value ∷ []) words (Insert e) (sym are) (record {
-      values = (e.key, (e.reach.lo, (e.reach.known, (e.reach.still, (are_tags.0, (e.value, tt))))));
-      say = (is_key, (is_lo, (is_known, ((tt, is_still), (are_tags.1, (is_value, tt))))));
-      asks = ap (λ (ts : List Tag). Insert (record { key = e.key; value = e.value; reach = e.reach; tags = ts })) are_tags.2;
-    })
 
 pub entry_refused : (e : Entry) (error : EntryError) → ((error ≡ errors.BadReach) → e.reach.known < e.reach.lo) → ((error ≡ errors.ValueTooLong) → (e.reach.lo ≤ e.reach.known) × (MAX_VALUE_LEN < length e.value))
     → entry_refusal e ≡ Some (refusal_by error)
@@ -72,7 +41,7 @@ spelled form line name text op known e bare named h = record { form = form; word
 -- what was made, or not, as the words after the name say, was made as the line says, or not
 pub makes_as : {T E : Type 0} (takes : Taking T) (form : LineForm Op) (line name text : List ℕ) (r : Result Bool E) (c next : Cache) (old new : T) → form_named node_forms form.name ≡ Some form
     → line ≡ name ++ 32 ∷ text → HasNoBlank name → name ≡ form.name → IfOk r (MakesStep takes (IsOfForm form (words_of text)) c next old new) → IfOk r (MakesStep takes (Spells line) c next old new)
-makes_as takes form line name text (Ok refused) c next old new known e bare named h = (h.0, spelled form line name text h.0 known e bare named h.1, h.2)
+makes_as takes form line name text (Ok refused) c next old new known e bare named h = (h.0, spelled form line name text h.0 known e bare named h.1, h.2, h.3, h.4, h.5)
 makes_as takes form line name text (Err error) c next old new known e bare named h = tt
 
 pub makes_none_as : {T V : Type 0} (form : LineForm Op) (line name text : List ℕ) (r : Result V Unread) (c next : Cache) (old new : T) → form_named node_forms form.name ≡ Some form → line ≡ name ++ 32 ∷ text → HasNoBlank name
@@ -81,6 +50,12 @@ makes_none_as form line name text (Ok x) c next old new known e bare named h = t
 makes_none_as form line name text (Err unread.Malformed) c next old new known e bare named h =
     (λ op s. h.0 op (says_in node_forms form line (words_of text) op known (line_words form line name text e bare named) s), h.1, h.2)
 makes_none_as form line name text (Err unread.Memory) c next old new known e bare named h = tt
+
+-- a line that names no step, and what is wrong with its words
+pub no_step : {T : Type 0} (line : List ℕ) (c next : Cache) (old new : T) (reason : Unanswered) → MakesNone (Spells line) c next old new unread.Malformed → IsWrong (IsCommandFault node_forms (words_of line)) reason
+    → IsNoStep line c next old new reason
+no_step line c next old new (Wrong fault) none wrong = (none, wrong)
+no_step line c next old new Memory none wrong = tt
 
 -- each form has words after its name
 pub some_words : AllByRecursion (λ (form : LineForm Op). 0 < length form.kinds) node_forms

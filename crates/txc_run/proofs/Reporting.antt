@@ -22,16 +22,6 @@ use Rattle.txc_script.proofs.Counting.{counted_in}
 use Rattle.txc_script.specs.FunctionLines.{counts_in, function_line}
 use Rattle.txc_run.specs.Reports.{IsReportOf, before_others, functions_named, functions_text, step_by, steps_in, steps_of, steps_report, total_line, with_name}
 
--- a lent hit counts as what it shows
-pub counts_seen : (f : ℕ) (function : Option ℕ) (reply : Reply Hit) → counts_for f function (seen_reply reply) ≡ counts_for f function reply
-counts_seen f function (replies.Inserted (Stored reach evicted)) = refl
-counts_seen f function (replies.Inserted (Kept entry)) = refl
-counts_seen f function (replies.Hit hit) = refl
-counts_seen f function replies.Miss = refl
-counts_seen f function (replies.Closed count) = refl
-counts_seen f function (replies.Swept count) = refl
-counts_seen f function (replies.Refused refusal) = refl
-
 pub refusal_seen : (reply : Reply Hit) → is_refusal (seen_reply reply) ≡ is_refusal reply
 refusal_seen (replies.Inserted inserted) = refl
 refusal_seen (replies.Hit hit) = refl
@@ -40,29 +30,21 @@ refusal_seen (replies.Closed count) = refl
 refusal_seen (replies.Swept count) = refl
 refusal_seen (replies.Refused refusal) = refl
 
-pub events_seen : (reply : Reply Hit) → events_by (seen_reply reply) ≡ events_by reply
-events_seen (replies.Inserted inserted) = refl
-events_seen (replies.Hit hit) = refl
-events_seen replies.Miss = refl
-events_seen (replies.Closed count) = refl
-events_seen (replies.Swept count) = refl
-events_seen (replies.Refused refusal) = refl
+-- a lent hit counts as what it shows
+record CountsAsSeen (reply : Reply Hit) : Type 0 where
+  counts : (f : ℕ) (function : Option ℕ) → counts_for f function (seen_reply reply) ≡ counts_for f function reply
+  events : events_by (seen_reply reply) ≡ events_by reply
+  closed : closed_by (seen_reply reply) ≡ closed_by reply
+  swept : swept_by (seen_reply reply) ≡ swept_by reply
 
-pub closed_seen : (reply : Reply Hit) → closed_by (seen_reply reply) ≡ closed_by reply
-closed_seen (replies.Inserted inserted) = refl
-closed_seen (replies.Hit hit) = refl
-closed_seen replies.Miss = refl
-closed_seen (replies.Closed count) = refl
-closed_seen (replies.Swept count) = refl
-closed_seen (replies.Refused refusal) = refl
-
-pub swept_seen : (reply : Reply Hit) → swept_by (seen_reply reply) ≡ swept_by reply
-swept_seen (replies.Inserted inserted) = refl
-swept_seen (replies.Hit hit) = refl
-swept_seen replies.Miss = refl
-swept_seen (replies.Closed count) = refl
-swept_seen (replies.Swept count) = refl
-swept_seen (replies.Refused refusal) = refl
+counts_seen : (reply : Reply Hit) → CountsAsSeen reply
+counts_seen (replies.Inserted (Stored reach evicted)) = record { counts = λ f function. refl; events = refl; closed = refl; swept = refl }
+counts_seen (replies.Inserted (Kept entry)) = record { counts = λ f function. refl; events = refl; closed = refl; swept = refl }
+counts_seen (replies.Hit hit) = record { counts = λ f function. refl; events = refl; closed = refl; swept = refl }
+counts_seen replies.Miss = record { counts = λ f function. refl; events = refl; closed = refl; swept = refl }
+counts_seen (replies.Closed count) = record { counts = λ f function. refl; events = refl; closed = refl; swept = refl }
+counts_seen (replies.Swept count) = record { counts = λ f function. refl; events = refl; closed = refl; swept = refl }
+counts_seen (replies.Refused refusal) = record { counts = λ f function. refl; events = refl; closed = refl; swept = refl }
 
 -- ---- names
 
@@ -123,12 +105,13 @@ pub reported_more : (steps : List Record) (op : Op) (function : Option ℕ) (rep
     → others ≡ with_name function names → IsReportOf steps names old → IsReportOf (steps ++ step_by op (seen_reply reply) ∷ []) others new
 reported_more steps op function reply names others old new of functions counted events closed swept named h =
     let step = step_by op (seen_reply reply) in
+    let seen = counts_seen reply in
     record {
       names_are = named ∙ ap (λ (o : Option ℕ). with_name o names) of ∙ ap (with_name (function_of op)) h.names_are ∙ sym (named_more steps step);
       counts_are = counted_more steps step old new
-          (λ f. functions f ∙ ap (sum_of (counts_of old.functions f)) (sym (counts_seen f function reply) ∙ ap (λ (o : Option ℕ). counts_for f o (seen_reply reply)) of))
-          counted (events ∙ ap (λ n. old.events + n) (sym (events_seen reply))) (closed ∙ ap (λ n. old.closed + n) (sym (closed_seen reply)))
-          (swept ∙ ap (λ n. old.swept + n) (sym (swept_seen reply))) h.counts_are;
+          (λ f. functions f ∙ ap (sum_of (counts_of old.functions f)) (sym (seen.counts f function) ∙ ap (λ (o : Option ℕ). counts_for f o (seen_reply reply)) of))
+          counted (events ∙ ap (λ n. old.events + n) (sym seen.events)) (closed ∙ ap (λ n. old.closed + n) (sym seen.closed))
+          (swept ∙ ap (λ n. old.swept + n) (sym seen.swept)) h.counts_are;
     }
 
 functions_same : (a b : ℕ → FunctionCounts) (names : List ℕ) → ((f : ℕ) → a f ≡ b f) → functions_text a names ≡ functions_text b names

@@ -11,13 +11,14 @@ use Rattle.txc_node.specs.Steps.{is_refusal, MayReply}
 use Rattle.txc_settings.specs.declared.mode.Mode.TheVariants.{Node}
 use Rattle.txc_script.specs.Answers.{IsUnanswered}
 use Rattle.txc_script.specs.Kinds.{Replied}
+use Rattle.txc_script.specs.declared.unread.Unanswered.{Unanswered}
+use Rattle.txc_script.specs.declared.unread.Unanswered.TheVariants.{Wrong, Memory}
 use Rattle.txc_script.specs.declared.unread.Unread.{Unread}
-use Rattle.txc_script.specs.declared.unread.Unread.TheVariants.{Malformed, Memory}
+use Rattle.txc_script.specs.declared.unread.Unread.TheVariants as unread
 use Rattle.txc_run.specs.Counting.{Counts, counted_script}
-use Rattle.txc_run.specs.Lines.{Spells}
 use Rattle.txc_run.specs.NodeScripts.{node_script}
 use Rattle.txc_run.specs.Reports.{IsReportOf, step_by, steps_in, steps_of}
-use Rattle.txc_run.specs.Steps.{IsFor, MakesNone, Taking, TakesStep}
+use Rattle.txc_run.specs.Steps.{IsFor, IsNoStep, MakesNone, MakesStep, Taking}
 use Rattle.txc_run.specs.declared.node.Counted.{Counted}
 use Rattle.txc_run.specs.declared.report.Report.{Report}
 use Rattle.txc_run.proofs.Reporting.{steps_more}
@@ -39,11 +40,16 @@ one_counted old new op reply kept counts given h =
     subst (λ (steps : List Record). IsReportOf steps new.functions.keys new.counts) (sym (steps_more given (Replied op reply) ∙ ap (λ (xs : List Record). steps_of given ++ xs) one))
     (counts (steps_of given) h)
 
--- the reply to a step was taken
-pub taken : {T E : Type 0} (takes : Taking T) (r : Result Bool E) (c next : Cache) (op : Op) (reply : Reply Shown) (function : Option ℕ) (old new : T) → MayReply c op reply next → IsFor function op reply
-    → IfOk r (λ refused. (o : Op) → IsFor function o reply → takes old o reply new) → IfOk r (λ refused. refused ≡ is_refusal reply) → IfOk r (TakesStep takes c op next old new)
-taken takes (Ok refused) c next op reply function old new may is after same = (reply, may, after op is, same)
-taken takes (Err e) c next op reply function old new may is after same = tt
+-- such a step was made, and its reply taken
+pub taken : {T E : Type 0} (takes : Taking T) (Is : Op → Type 0) (r : Result Bool E) (c next : Cache) (op : Op) (reply : Reply Shown) (function : Option ℕ) (old new : T) → Is op → MayReply c op reply next → IsFor function op reply
+    → IfOk r (λ refused. (o : Op) → IsFor function o reply → takes old o reply new) → IfOk r (λ refused. refused ≡ is_refusal reply) → IfOk r (MakesStep takes Is c next old new)
+taken takes Is (Ok refused) c next op reply function old new is may of after same = (op, is, reply, may, after op of, same)
+taken takes Is (Err e) c next op reply function old new is may of after same = tt
+
+-- memory alone is refused for its reply
+pub memory_refused : {T : Type 0} (Is : Op → Type 0) (r : Result Bool Unread) (c next : Cache) (old new : T) → IfErr r (λ reason. reason ≡ unread.Memory) → IfErr r (MakesNone Is c next old new)
+memory_refused Is (Ok refused) c next old new h = tt
+memory_refused Is (Err reason) c next old new h = subst (MakesNone Is c next old new) (sym h) tt
 
 -- ---- lines that name a step
 
@@ -51,10 +57,10 @@ pub on_made : {X E : Type 0} (r : Result X E) (P Q : X → Type 0) → ((x : X) 
 on_made (Ok x) P Q f h = f x h
 on_made (Err e) P Q f h = tt
 
-pub node_unanswered : {T : Type 0} (r : Result Bool Unread) (c : Cache) (line : List ℕ) (next : Cache) (old new : T) → IfErr r (MakesNone (Spells line) c next old new)
+pub node_unanswered : {T : Type 0} (r : Result Bool Unanswered) (c : Cache) (line : List ℕ) (next : Cache) (old new : T) → IfErr r (IsNoStep line c next old new)
     → IfErr r (IsUnanswered (node_script Node) c line next)
 node_unanswered (Ok x) c line next old new h = tt
-node_unanswered (Err Malformed) c line next old new h = (h.0, h.1)
+node_unanswered (Err (Wrong fault)) c line next old new h = (h.0.0, h.0.1, h.1)
 node_unanswered (Err Memory) c line next old new h = inr tt
 
 same_counted : (s : Counted) (node : Cache) (report : Report) → node ≡ s.node → report ≡ s.report → ◌≡◌ {A = Counted} (record { node = node; report = report }) s
@@ -63,8 +69,8 @@ same_counted s node report n r =
     let b : ◌≡◌ {A = Counted} (record { node = s.node; report = report }) s = ap (λ (x : Report). record s { report = x }) r in
     a ∙ b
 
-pub counted_unanswered : (r : Result Bool Unread) (s : Counted) (line : List ℕ) (node : Cache) (report : Report) → IfErr r (MakesNone (Spells line) s.node node s.report report)
+pub counted_unanswered : (r : Result Bool Unanswered) (s : Counted) (line : List ℕ) (node : Cache) (report : Report) → IfErr r (IsNoStep line s.node node s.report report)
     → IfErr r (IsUnanswered counted_script s line (record { node = node; report = report }))
 counted_unanswered (Ok x) s line node report h = tt
-counted_unanswered (Err Malformed) s line node report h = (h.0, same_counted s node report h.1 h.2)
+counted_unanswered (Err (Wrong fault)) s line node report h = (h.0.0, same_counted s node report h.0.1 h.0.2, h.1)
 counted_unanswered (Err Memory) s line node report h = inr tt

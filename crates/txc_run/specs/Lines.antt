@@ -1,24 +1,26 @@
 -- What the lines of a node's script are: the table of their forms.
-use Rattle.std.specs.Prelude.{ℕ, List, [], ◌∷◌, codes}
+use Rattle.std.specs.Prelude.{ℕ, Bool, List, [], ◌∷◌, codes}
+use Rattle.txc_tags.specs.Keys.{Call}
 use Rattle.txc_tags.specs.Tags.{set_of}
 use Rattle.txc_tags.specs.TextSet.{tags_spelt}
+use Rattle.txc_tags.specs.declared.tag.Tag.{Tag}
 use Rattle.txc_node.specs.declared.op.Op.{Op}
 use Rattle.txc_node.specs.declared.op.Op.TheVariants.{Insert, Lookup, Event, Sweep}
 use Rattle.txc_script.specs.Forms.{AsksBy, LineForm}
 use Rattle.txc_script.specs.Lines.{IsPlain}
 use Rattle.txc_script.specs.declared.line_fault.WordKind.TheVariants.{Key, Stamp, Reach, Tags, Bytes}
 
+-- the insertion of an entry of these parts
+abbrev pub insertion_said : Call → List ℕ → ℕ → ℕ → Bool → List Tag → Op
+insertion_said key value lo known still tags =
+    Insert (record { key = key; value = value; reach = record { lo = lo; known = known; still = still }; tags = tags })
+
 -- a key, the first and the last stamp at which its value is known to hold, whether it still does, tags, and the value
 abbrev pub insert_form : LineForm Op
 insert_form = record {
   name = codes "insert";
   kinds = Key ∷ Stamp ∷ Stamp ∷ Reach ∷ Tags ∷ Bytes ∷ [];
-  asks = λ said. Insert (record {
-    key = said.0;
-    value = said.1.1.1.1.1.0;
-    reach = record { lo = said.1.0; known = said.1.1.0; still = said.1.1.1.0 };
-    tags = set_of (tags_spelt said.1.1.1.1.0);
-  });
+  asks = λ said. insertion_said said.0 said.1.1.1.1.1.0 said.1.0 said.1.1.0 said.1.1.1.0 (set_of (tags_spelt said.1.1.1.1.0));
 }
 
 -- a key, and the first and the last stamp that will do

@@ -1,4 +1,4 @@
--- Only private functions and a law need this file: what reading a line gives.
+-- What a line is, in the words of a law.
 use Rattle.std.specs.Prelude.{◌≡◌, ⊤, ℕ, List, Some, None}
 use Rattle.txc_node.specs.Cache.{Cache}
 use Rattle.txc_node.specs.declared.entry.Entry.{Entry}
@@ -9,17 +9,8 @@ use Rattle.txc_node.specs.Steps.{refusal_by, entry_refusal}
 use Rattle.txc_settings.specs.declared.mode.Mode.TheVariants.{Node}
 use Rattle.txc_script.specs.Kinds.{IsMalformed}
 use Rattle.txc_script.specs.Lines.{IsQuiet}
-use Rattle.txc_script.specs.declared.unread.Unread.{Unread}
-use Rattle.txc_script.specs.declared.unread.Unread.TheVariants as unread
 use Rattle.txc_run.specs.Lines.{IsStepLine}
 use Rattle.txc_run.specs.NodeScripts.{node_script}
-use Rattle.txc_run.specs.declared.unread.NoStep.{NoStep}
-use Rattle.txc_run.specs.declared.unread.NoStep.TheVariants as reasons
-
--- the reason that a word which was not read gives
-abbrev pub unread_reason : Unread → NoStep
-unread_reason unread.Malformed = reasons.Malformed
-unread_reason unread.Memory = reasons.Memory
 
 -- an insertion's entry can be made
 abbrev pub CanBeMade : Op → Type 0
@@ -35,12 +26,6 @@ NamesStep Is op = Is op × CanBeMade op
 -- there is such an insertion, and its entry cannot be made, for this reason
 abbrev pub IsUnmade : (Op → Type 0) → EntryError → Type 0
 IsUnmade Is error = (e : Entry) × Is (Insert e) × (entry_refusal e ≡ Some (refusal_by error))
-
--- there is no such step; or there is an insertion whose entry cannot be made; or a growth was refused
-abbrev pub NamesNone : (Op → Type 0) → NoStep → Type 0
-NamesNone Is reasons.Malformed = (op : Op) → Is op → ⊥
-NamesNone Is (reasons.Unmade error) = IsUnmade Is error
-NamesNone Is reasons.Memory = ⊤
 
 -- what a line is: one without a reply, a step, an insertion whose entry cannot be made, or none of these
 pub data Line : Type 0 where

@@ -2,12 +2,12 @@
 ghost use Rattle.std.specs.Prelude.{◌≡◌, Some, None, IfSome, IfNone};
 ghost use Rattle.txc_node.specs.declared.op.Op.{Op};
 ghost use Rattle.txc_script.specs.Forms.{kinds_after};
-ghost use Rattle.txc_script.specs.LineFaults.{HasWholeWords, IsCommandFault};
+ghost use Rattle.txc_script.specs.LineFaults.{IsCommandFault, IsWrong};
 ghost use Rattle.txc_script.specs.Words.{words_of};
 ghost use Rattle.txc_run.specs.Lines.{Spells, node_forms};
 
 use std::alloc::Global;
-use txc_script::{CommandFault, Excerpt, WordKind, all_words, bad_word, count_words};
+use txc_script::{CommandFault, Excerpt, Unanswered, WordKind, all_words, count_words, read_words};
 
 static INSERT_WORDS: [WordKind; 6] = [
     WordKind::Key,
@@ -44,26 +44,20 @@ fn words_after(name: &[u8]) -> Option<&'static [WordKind]>
     None
 }
 
-/// What is wrong with the words of a line that names no step. Where memory is refused the answer is the same.
-pub fn find_command_fault(alloc: Global, line: &[u8]) -> CommandFault
-    requires whole { HasWholeWords line.now }
-    requires no_step { (op : Op) → Spells line.now op → ⊥ }
-    ensures { IsCommandFault node_forms (words_of line.now) result }
+/// What is wrong with the words of a line that names no step; or a growth was refused.
+#[cold]
+pub fn find_command_fault(alloc: Global, line: &[u8]) -> Unanswered
+    requires { (op : Op) → Spells line.now op → ⊥ }
+    ensures { IsWrong (IsCommandFault node_forms (words_of line.now)) result }
 {
+    let count = count_words(line) - 1;
     let mut words = all_words(line);
     let name = words.next();
     let Some(kinds) = words_after(name) else {
-        return CommandFault::Unknown(Excerpt::new(name));
+        return Unanswered::Wrong(CommandFault::Unknown(Excerpt::new(name)));
     };
-    let given = count_words(line) - 1;
-    if given != kinds.len() {
-        return CommandFault::Count {
-            wanted: kinds.len(),
-            given,
-        };
-    }
-    match bad_word(alloc, kinds, words) {
-        Some(fault) => CommandFault::Word(fault),
-        None => unreachable!(),
+    match read_words(alloc, kinds, words, count) {
+        Ok(_) => unreachable!(),
+        Err(reason) => reason,
     }
 }

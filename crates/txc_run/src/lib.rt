@@ -10,7 +10,6 @@ mod report;
 mod running;
 mod step;
 mod taker;
-mod unread;
 
 pub use laws::{a_line_is_one_thing, lines_are_answered_one_way};
 pub use running::run;

@@ -2,12 +2,11 @@
 ghost use Rattle.txc_settings.specs.declared.mode.Mode.TheVariants as modes;
 ghost use Rattle.txc_run.specs.NodeScripts.{node_script};
 
-use crate::finding::find_command_fault;
 use crate::report::Report;
 use crate::step::make_step;
 use std::alloc::{AllocError, Global};
 use txc_node::{NodeCore, Op, Reply, Shown};
-use txc_script::{CommandFault, Script, Unread};
+use txc_script::{Script, Unanswered};
 
 /// A script of a node whose replies are written.
 pub struct Replying;
@@ -37,12 +36,8 @@ impl Script for Replying {
         state: &mut NodeCore,
         line: &[u8],
         text: &mut Vec<u8>,
-    ) -> Result<bool, Unread> {
+    ) -> Result<bool, Unanswered> {
         make_step(alloc, state, line, text)
-    }
-
-    fn find_fault(&self, alloc: Global, state: &NodeCore, line: &[u8]) -> CommandFault {
-        find_command_fault(alloc, line)
     }
 
     fn close(
@@ -72,12 +67,8 @@ impl Script for Counting {
         state: &mut Counted,
         line: &[u8],
         text: &mut Vec<u8>,
-    ) -> Result<bool, Unread> {
+    ) -> Result<bool, Unanswered> {
         make_step(alloc, &mut state.node, line, &mut state.report)
-    }
-
-    fn find_fault(&self, alloc: Global, state: &Counted, line: &[u8]) -> CommandFault {
-        find_command_fault(alloc, line)
     }
 
     fn close(

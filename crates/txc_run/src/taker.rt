@@ -1,5 +1,5 @@
 //! What takes the replies to steps.
-ghost use Rattle.std.specs.Prelude.{◌≡◌, ◌≤◌, ℕ, List, IfOk, IfSome, OnErr};
+ghost use Rattle.std.specs.Prelude.{◌≡◌, ◌≤◌, ℕ, List, IfOk, IfErr, IfSome, OnErr};
 ghost use Rattle.txc_node.specs.Steps.{is_refusal, seen_reply};
 ghost use Rattle.txc_node.specs.declared.hit.Shown.{Shown};
 ghost use Rattle.txc_node.specs.declared.op.Op.{Op};
@@ -8,8 +8,9 @@ ghost use Rattle.txc_run.specs.Steps.{IsFor};
 
 use crate::output::push_reply;
 use crate::report::Report;
-use std::alloc::{AllocError, Global};
+use std::alloc::Global;
 use txc_node::{Hit, Reply};
+use txc_script::Unread;
 use txc_tags::LAST_FUNCTION;
 
 /// Takes the replies to steps: a text, to which they are written, or a report, which counts them.
@@ -26,11 +27,12 @@ pub trait Taker {
         alloc: Global,
         function: Option<u8>,
         reply: &Reply<Hit<'_>>,
-    ) -> Result<bool, AllocError>
+    ) -> Result<bool, Unread>
         requires { IfSome function (λ f. f ≤ LAST_FUNCTION) }
         ensures after { IfOk result (λ refused. (op : Op) → IsFor function op (seen_reply reply.now)
             → takes self.old op (seen_reply reply.now) self.new) }
         ensures refusal { IfOk result (λ refused. refused ≡ is_refusal (seen_reply reply.now)) }
+        ensures memory { IfErr result (λ reason. reason ≡ Unread.Memory) }
         ensures unchanged { OnErr result (text self.new ≡ text self.old) };
 }
 
@@ -48,7 +50,7 @@ impl Taker for Vec<u8> {
         alloc: Global,
         function: Option<u8>,
         reply: &Reply<Hit<'_>>,
-    ) -> Result<bool, AllocError> {
+    ) -> Result<bool, Unread> {
         push_reply(alloc, self, reply)?;
         Ok(reply.is_refusal())
     }
@@ -67,7 +69,7 @@ impl Taker for Report {
         alloc: Global,
         function: Option<u8>,
         reply: &Reply<Hit<'_>>,
-    ) -> Result<bool, AllocError> {
+    ) -> Result<bool, Unread> {
         if reply.is_refusal() {
             return Ok(true);
         }

@@ -10,7 +10,7 @@ use Rattle.txc_script.specs.Answers.{IsClosed, LineIsAnswered}
 use Rattle.txc_script.specs.Flows.{IsStoppedAt}
 use Rattle.txc_script.specs.Kinds.{ScriptKind, Given, Replied, Malformed, AreFirstLines, Closing, ClosesScript, Gives, IsMalformed, IsWholeScript, no_closing, is_malformed, is_refused, lines_text, malformed_text}
 use Rattle.txc_script.specs.Lines.{IsBlankOrComment, IsPlain}
-use Rattle.txc_script.specs.Progress.{Progress, progress_of, kept_of, AnswersAs, AnswersLast, AnswersLine, HasAnsweredLines, HasClosed, HasLast, IsHalted, IsStopped, MayBreakOff}
+use Rattle.txc_script.specs.Progress.{Progress, progress_of, kept_of, AnswersAs, AnswersLast, AnswersLine, HasAnsweredLines, HasLast, IsAtLast, MayBreakOff}
 use Rattle.txc_script.specs.Runs.{Answers, Breaks, After, Within, AtEnd}
 use Rattle.txc_script.specs.Script.{AreLinesOf, BeginsWithLines, HasNoEnd}
 use Rattle.txc_script.specs.declared.line_fault.MalformedLine.{MalformedLine}
@@ -19,7 +19,7 @@ use Rattle.txc_script.specs.declared.running.Flow.{Flow}
 use Rattle.txc_script.specs.declared.running.Flow.TheVariants.{GoesOn, Stopped}
 use Rattle.txc_script.specs.declared.running.Replies.{Replies}
 use Rattle.txc_script.specs.declared.running.Running.{Running}
-use Rattle.txc_script.proofs.EachLine.{all_read, any_more, begins_longer, begins_more, given_more, kept_append, kept_reads, no_end, none_read, nothing_kept, text_more, whole_reads, ReadsAs}
+use Rattle.txc_script.proofs.EachLine.{all_read, any_more, begins_longer, begins_more, given_more, kept_append, kept_reads, no_end, none_read, nothing_kept, status_is, text_more, whole_reads, ReadsAs}
 
 -- ---- one line
 
@@ -89,6 +89,25 @@ added_line {S} {A} {R} kind start read written line x s next r q flow h reads a 
 malformed_more : {A R : Type 0} (given : List (Given A R)) (g : Given A R) (b : Bool) → list_any is_malformed given ≡ false → is_malformed g ≡ b → list_any is_malformed (given ++ g ∷ []) ≡ b
 malformed_more given g b none is = any_more is_malformed given g ∙ ap (λ (c : Bool). c || is_malformed g) none ∙ is
 
+-- and was malformed, so that no other is read
+stopped_line : {S A R : Type 0} (kind : ScriptKind S A R) (start : S) (read all : List ℕ) (at_end : Type 0) (written line x : List ℕ) (s next : S) (r q : Running) (bad : MalformedLine)
+    (h : HasAnsweredLines kind start read written (progress_of s r)) → ReadsAs kind x line → (a : Answered kind s next r q x (Stopped bad))
+    → (list_any is_malformed (h.given ++ a.answers.given ∷ []) ≡ true → IsWholeScript all at_end (h.lines ++ line ∷ []) (h.given ++ a.answers.given ∷ []))
+    → IsAtLast kind start all at_end written (progress_of next q) (Ok (Stopped bad))
+stopped_line {S} {A} {R} kind start read all at_end written line x s next r q bad h reads a whole =
+    let added = added_line kind start read written line x s next r q (Stopped bad) h reads a in
+    let given = h.given ++ a.answers.given ∷ [] in
+    let malformed = malformed_more h.given a.answers.given true h.well_formed a.answers.flow_is.0 in
+    let none : MatchBool (list_any is_malformed given) ((no_closing ≡ no_closing) × (next ≡ next)) (kind.closes next given no_closing next) =
+    subst (λ (b : Bool). MatchBool b ((no_closing ≡ no_closing) × (next ≡ next)) (kind.closes next given no_closing next)) (sym malformed) (refl, refl) in (
+      h.lines ++ line ∷ [],
+      given,
+      no_closing,
+      record { end = next; answers = added.answers; whole = whole malformed; closes = none },
+      added.text ∙ sym (append-nil (lines_text kind given)),
+      (malformed, (a.answers.flow_is.1.0 ∙ sym a.count ∙ added.count, (h.lines, line, refl, reads.fault next bad.fault a.answers.flow_is.1.1))),
+    )
+
 -- the line that ends after `before` was answered
 answered_line : {S A R : Type 0} (kind : ScriptKind S A R) (start : S) (read written before x : List ℕ) (s next : S) (r q : Running) (flow : Flow) (h : HasAnsweredLines kind start read written (progress_of s r))
     → HasNoEnd before → ReadsAs kind x (h.rest ++ before) → Answered kind s next r q x flow → AnswersAs kind start (read ++ (before ++ 10 ∷ [])) written (progress_of next q) (Ok flow)
@@ -109,18 +128,7 @@ answered_line kind start read written before x s next r q GoesOn h bare reads a 
       well_formed = malformed_more h.given a.answers.given false h.well_formed a.answers.flow_is;
     }
 answered_line kind start read written before x s next r q (Stopped bad) h bare reads a =
-    let line = h.rest ++ before in
-    let added = added_line kind start read written line x s next r q (Stopped bad) h reads a in
-    let malformed = malformed_more h.given a.answers.given true h.well_formed a.answers.flow_is.0 in
-    record {
-      lines = h.lines ++ line ∷ [];
-      given = h.given ++ a.answers.given ∷ [];
-      answers = added.answers;
-      whole = inr ([], begins_more read h.lines h.rest before h.begins h.not_ended bare, malformed);
-      text = added.text;
-      malformed = malformed;
-      wrong = (a.answers.flow_is.1.0 ∙ sym a.count ∙ added.count, (h.lines, line, refl, reads.fault next bad.fault a.answers.flow_is.1.1));
-    }
+    stopped_line kind start read (read ++ (before ++ 10 ∷ [])) ⊥ written (h.rest ++ before) x s next r q bad h reads a (λ malformed. inr ([], begins_more read h.lines h.rest before h.begins h.not_ended bare, malformed))
 
 -- ---- memory ran out
 
@@ -130,28 +138,23 @@ broke_line : {S A R : Type 0} (kind : ScriptKind S A R) (read : List ℕ) (at_en
 broke_line kind read at_end lines others line s next begins more (inl same) = After others begins same
 broke_line kind read at_end lines others line s next begins more (inr (plain, broke)) = Within others line begins more plain broke
 
-halted_at : {S A R : Type 0} (kind : ScriptKind S A R) (start : S) (read before : List ℕ) (at_end : Type 0) (written : List ℕ) (s next : S) (r q : Running) (h : HasAnsweredLines kind start before written (progress_of s r))
-    → q.replies.text.items ≡ r.replies.text.items → Breaks kind read at_end h.lines s next → IsHalted kind start read at_end written (progress_of next q)
-halted_at kind start read before at_end written s next r q h e breaks = record {
-  lines = h.lines;
-  given = h.given;
-  broke = record { end = s; answers = h.answers; breaks = breaks };
-  text = ap (λ (xs : List ℕ). written ++ xs) e ∙ h.text;
-  well_formed = h.well_formed;
-}
+halted_at : {S A R : Type 0} (kind : ScriptKind S A R) (start : S) (read before : List ℕ) (at_end : Type 0) (written : List ℕ) (s next : S) (r q : Running) (e : AllocError) (h : HasAnsweredLines kind start before written (progress_of s r))
+    → q.replies.text.items ≡ r.replies.text.items → Breaks kind read at_end h.lines s next → IsAtLast kind start read at_end written (progress_of next q) (Err e)
+halted_at kind start read before at_end written s next r q e h same breaks =
+    (h.lines, h.given, record { end = s; answers = h.answers; breaks = breaks }, ap (λ (xs : List ℕ). written ++ xs) same ∙ h.text, h.well_formed)
 
 -- nothing was done of the line that goes on or ends with these bytes
-pub halted_before : {S A R : Type 0} (kind : ScriptKind S A R) (start : S) (read written more : List ℕ) (s : S) (r q : Running) → HasAnsweredLines kind start read written (progress_of s r)
-    → q.replies.text.items ≡ r.replies.text.items → IsHalted kind start (read ++ more) ⊥ written (progress_of s q)
-halted_before kind start read written more s r q h e =
-    halted_at kind start (read ++ more) read ⊥ written s s r q h e (After (h.rest ++ more) (begins_longer read h.lines h.rest more h.begins) refl)
+pub halted_before : {S A R : Type 0} (kind : ScriptKind S A R) (start : S) (read written more : List ℕ) (s : S) (r q : Running) (e : AllocError) → HasAnsweredLines kind start read written (progress_of s r)
+    → q.replies.text.items ≡ r.replies.text.items → IsAtLast kind start (read ++ more) ⊥ written (progress_of s q) (Err e)
+halted_before kind start read written more s r q e h same =
+    halted_at kind start (read ++ more) read ⊥ written s s r q e h same (After (h.rest ++ more) (begins_longer read h.lines h.rest more h.begins) refl)
 
-halted_line : {S A R : Type 0} (kind : ScriptKind S A R) (start : S) (read written before x : List ℕ) (s next : S) (r q : Running) (h : HasAnsweredLines kind start read written (progress_of s r)) → HasNoEnd before
-    → ReadsAs kind x (h.rest ++ before) → MayBreakOff kind s x next → q.replies.text.items ≡ r.replies.text.items → IsHalted kind start (read ++ (before ++ 10 ∷ [])) ⊥ written (progress_of next q)
-halted_line kind start read written before x s next r q h bare reads broke e =
+halted_line : {S A R : Type 0} (kind : ScriptKind S A R) (start : S) (read written before x : List ℕ) (s next : S) (r q : Running) (e : AllocError) (h : HasAnsweredLines kind start read written (progress_of s r)) → HasNoEnd before
+    → ReadsAs kind x (h.rest ++ before) → MayBreakOff kind s x next → q.replies.text.items ≡ r.replies.text.items → IsAtLast kind start (read ++ (before ++ 10 ∷ [])) ⊥ written (progress_of next q) (Err e)
+halted_line kind start read written before x s next r q e h bare reads broke same =
     let line = h.rest ++ before in
     let more = before ++ 10 ∷ [] in
-    halted_at kind start (read ++ more) read ⊥ written s next r q h e
+    halted_at kind start (read ++ more) read ⊥ written s next r q e h same
     (broke_line kind (read ++ more) ⊥ h.lines (h.rest ++ more) line s next (begins_longer read h.lines h.rest more h.begins)
     (inl ([], begins_more read h.lines h.rest before h.begins h.not_ended bare)) (reads.breaks s next broke))
 
@@ -166,7 +169,7 @@ answered_end kind start read written before x s next r q (Ok flow) bare is a bro
     answered_line kind start read written before x s next r q flow h bare (kept_reads kind x (h.rest ++ before) kept) (record { answers = a; count = count; emptied = emptied })
 answered_end kind start read written before x s next r q (Err error) bare is a broke count emptied e h =
     let kept : x ≡ kept_of (h.rest ++ before) = is ∙ ap (λ (l : List ℕ). take MAX_KEPT (l ++ before)) h.kept ∙ kept_append MAX_KEPT h.rest before in
-    halted_line kind start read written before x s next r q h bare (kept_reads kind x (h.rest ++ before) kept) broke e
+    halted_line kind start read written before x s next r q error h bare (kept_reads kind x (h.rest ++ before) kept) broke e
 
 -- that lies whole in the bytes
 pub answered_whole : {S A R : Type 0} (kind : ScriptKind S A R) (start : S) (read written before : List ℕ) (s next : S) (r q : Running) (res : Result Flow AllocError) → HasNoEnd before → r.line ≡ []
@@ -178,7 +181,7 @@ answered_whole kind start read written before s next r q (Ok flow) bare none a b
     (record { answers = a; count = count; emptied = same ∙ none })
 answered_whole kind start read written before s next r q (Err error) bare none a broke count same e h =
     let begun : h.rest ≡ [] = nothing_kept h.rest (sym h.kept ∙ none) in
-    halted_line kind start read written before before s next r q h bare (whole_reads kind before (h.rest ++ before) (ap (λ (l : List ℕ). l ++ before) (sym begun))) broke e
+    halted_line kind start read written before before s next r q error h bare (whole_reads kind before (h.rest ++ before) (ap (λ (l : List ℕ). l ++ before) (sym begun))) broke e
 
 -- a line goes on
 pub extended_line : {S A R : Type 0} (kind : ScriptKind S A R) (start : S) (read written more : List ℕ) (s : S) (r q : Running) (res : Result Flow AllocError) → HasNoEnd more → IfOk res (λ flow. flow ≡ GoesOn)
@@ -198,7 +201,7 @@ extended_line kind start read written more s r q (Ok GoesOn) bare goes is count 
   refused = ap (λ (x : Replies). x.is_refused) same ∙ h.refused;
   well_formed = h.well_formed;
 }
-extended_line kind start read written more s r q (Err error) bare goes is count same h = halted_before kind start read written more s r q h (ap (λ (x : Replies). x.text.items) same)
+extended_line kind start read written more s r q (Err error) bare goes is count same h = halted_before kind start read written more s r q error h (ap (λ (x : Replies). x.text.items) same)
 
 -- ---- what is read after a malformed line, and once memory ran out, is not looked at
 
@@ -219,27 +222,12 @@ breaks_longer kind read more all lines end left e (Within others line begins fir
     Within (others ++ more) line (begins_all read lines others more all e begins) (first_longer read more all (lines ++ line ∷ []) e first) plain broke
 breaks_longer kind read more all lines end left e (AtEnd lines_of ended broke) = absurd ended
 
-pub stopped_longer : {S A R : Type 0} (kind : ScriptKind S A R) (start : S) (read written more all : List ℕ) (bad : MalformedLine) (p : Progress S) → read ++ more ≡ all
-    → IsStopped kind start read ⊥ written bad p → IsStopped kind start all ⊥ written bad p
-stopped_longer kind start read written more all bad p e h = record {
-  lines = h.lines;
-  given = h.given;
-  answers = h.answers;
-  whole = whole_longer read more all h.lines h.given e h.whole;
-  text = h.text;
-  malformed = h.malformed;
-  wrong = h.wrong;
-}
-
-pub halted_longer : {S A R : Type 0} (kind : ScriptKind S A R) (start : S) (read written more all : List ℕ) (p : Progress S) → read ++ more ≡ all
-    → IsHalted kind start read ⊥ written p → IsHalted kind start all ⊥ written p
-halted_longer kind start read written more all p e h = record {
-  lines = h.lines;
-  given = h.given;
-  broke = record { end = h.broke.end; answers = h.broke.answers; breaks = breaks_longer kind read more all h.lines h.broke.end p.state e h.broke.breaks };
-  text = h.text;
-  well_formed = h.well_formed;
-}
+pub at_last_longer : {S A R : Type 0} (kind : ScriptKind S A R) (start : S) (read written more all : List ℕ) (p : Progress S) (r : Result Flow AllocError) → read ++ more ≡ all
+    → IsAtLast kind start read ⊥ written p r → IsAtLast kind start all ⊥ written p r
+at_last_longer kind start read written more all p (Ok flow) e (lines, given, closing, ends, text, status) =
+    (lines, given, closing, record { end = ends.end; answers = ends.answers; whole = whole_longer read more all lines given e ends.whole; closes = ends.closes }, text, status)
+at_last_longer kind start read written more all p (Err error) e (lines, given, broke, text, well_formed) =
+    (lines, given, record { end = broke.end; answers = broke.answers; breaks = breaks_longer kind read more all lines broke.end p.state e broke.breaks }, text, well_formed)
 
 -- ---- the last line, and what comes after it
 
@@ -266,19 +254,7 @@ ended_line kind start read written s next r q GoesOn h some a =
       well_formed = malformed_more h.given a.answers.given false h.well_formed a.answers.flow_is;
     }
 ended_line kind start read written s next r q (Stopped bad) h some a =
-    let line = h.rest ++ [] in
-    let reads = reads_last kind start read written s r h in
-    let added = added_line kind start read written line r.line s next r q (Stopped bad) h reads a in
-    let malformed = malformed_more h.given a.answers.given true h.well_formed a.answers.flow_is.0 in
-    record {
-      lines = h.lines ++ line ∷ [];
-      given = h.given ++ a.answers.given ∷ [];
-      answers = added.answers;
-      whole = inl (whole_last kind start read written s r h some, tt);
-      text = added.text;
-      malformed = malformed;
-      wrong = (a.answers.flow_is.1.0 ∙ sym a.count ∙ added.count, (h.lines, line, refl, reads.fault next bad.fault a.answers.flow_is.1.1));
-    }
+    stopped_line kind start read read (Unit {0}) written (h.rest ++ []) r.line s next r q bad h (reads_last kind start read written s r h) a (λ malformed. inl (whole_last kind start read written s r h some, tt))
 
 pub answered_last : {S A R : Type 0} (kind : ScriptKind S A R) (start : S) (read written : List ℕ) (s next : S) (r q : Running) (res : Result Flow AllocError) → HasAnsweredLines kind start read written (progress_of s r)
     → (r.line ≡ [] → ⊥) → IfOk res (AnswersLine kind s next r.replies q.replies (r.lines + 1) r.line) → OnErr res (MayBreakOff kind s r.line next) → q.lines ≡ r.lines + 1 → q.line ≡ []
@@ -286,7 +262,7 @@ pub answered_last : {S A R : Type 0} (kind : ScriptKind S A R) (start : S) (read
 answered_last kind start read written s next r q (Ok flow) h some a broke count emptied e = ended_line kind start read written s next r q flow h some (record { answers = a; count = count; emptied = emptied })
 answered_last kind start read written s next r q (Err error) h some a broke count emptied e =
     let line = h.rest ++ [] in
-    halted_at kind start read read (Unit {0}) written s next r q h e
+    halted_at kind start read read (Unit {0}) written s next r q error h e
     (broke_line kind read (Unit {0}) h.lines h.rest line s next h.begins (inr (whole_last kind start read written s r h some, tt)) ((reads_last kind start read written s r h).breaks s next broke))
 
 -- no line was left
@@ -307,55 +283,33 @@ closes_well : {S A R : Type 0} (kind : ScriptKind S A R) (s : S) (given : List (
 closes_well {S} kind s given closing next none h = subst (λ (b : Bool). MatchBool b ((closing ≡ no_closing) × (next ≡ s)) (kind.closes s given closing next)) (sym none) h
 
 pub closed : {S A R : Type 0} (kind : ScriptKind S A R) (start : S) (read written : List ℕ) (s next : S) (r q : Running) (refused : Bool) → HasLast kind start read written (progress_of s r)
-    → IsClosed kind s next r.replies.text.items q.replies.text.items refused → q.replies.is_refused ≡ (r.replies.is_refused || refused) → HasClosed kind start read written (progress_of next q)
+    → IsClosed kind s next r.replies.text.items q.replies.text.items refused → q.replies.is_refused ≡ (r.replies.is_refused || refused)
+    → IsAtLast kind start read (Unit {0}) written (progress_of next q) (Ok GoesOn)
 closed {S} {A} {R} kind start read written s next r q refused h a same =
-    let closing : Closing = record { text = a.more; is_refused = refused } in
-    record {
-      lines = h.lines;
-      given = h.given;
-      closing = closing;
-      end = s;
-      answers = h.answers;
-      all = h.all;
-      closes = closes_well kind s h.given closing next h.well_formed (a.closes h.given h.well_formed);
-      text = ap (λ (xs : List ℕ). written ++ xs) a.text ∙ sym (append_assoc written r.replies.text.items a.more) ∙ ap (λ (xs : List ℕ). xs ++ a.more) h.text;
-      refused = same ∙ ap (λ (b : Bool). b || refused) h.refused;
-      well_formed = h.well_formed;
-    }
+    let closing : Closing = record { text = a.more; is_refused = refused } in (
+      h.lines,
+      h.given,
+      closing,
+      record { end = s; answers = h.answers; whole = inl (h.all, tt); closes = closes_well kind s h.given closing next h.well_formed (a.closes h.given h.well_formed) },
+      ap (λ (xs : List ℕ). written ++ xs) a.text ∙ sym (append_assoc written r.replies.text.items a.more) ∙ ap (λ (xs : List ℕ). xs ++ a.more) h.text,
+      status_is kind next h.lines h.given closing q.replies.is_refused (same ∙ ap (λ (b : Bool). b || refused) h.refused) h.well_formed,
+    )
 
-pub unclosed : {S A R : Type 0} (kind : ScriptKind S A R) (start : S) (read written : List ℕ) (s next : S) (r q : Running) → HasLast kind start read written (progress_of s r)
-    → q.replies.text.items ≡ r.replies.text.items → kind.breaks_at_end s next → IsHalted kind start read (Unit {0}) written (progress_of next q)
-unclosed kind start read written s next r q h e broke = record {
-  lines = h.lines;
-  given = h.given;
-  broke = record { end = s; answers = h.answers; breaks = AtEnd h.all tt broke };
-  text = ap (λ (xs : List ℕ). written ++ xs) e ∙ h.text;
-  well_formed = h.well_formed;
-}
+pub unclosed : {S A R : Type 0} (kind : ScriptKind S A R) (start : S) (read written : List ℕ) (s next : S) (r q : Running) (e : AllocError) → HasLast kind start read written (progress_of s r)
+    → q.replies.text.items ≡ r.replies.text.items → kind.breaks_at_end s next → IsAtLast kind start read (Unit {0}) written (progress_of next q) (Err e)
+unclosed kind start read written s next r q e h same broke =
+    (h.lines, h.given, record { end = s; answers = h.answers; breaks = AtEnd h.all tt broke }, ap (λ (xs : List ℕ). written ++ xs) same ∙ h.text, h.well_formed)
 
 -- ---- the same, in other words
 
-pub has_last : {S A R : Type 0} (kind : ScriptKind S A R) (start : S) (read written : List ℕ) (p : Progress S) (flow : Flow) → flow ≡ GoesOn → AnswersLast kind start read written p (Ok flow)
-    → HasLast kind start read written p
-has_last kind start read written p flow e h = subst (λ (f : Flow). AnswersLast kind start read written p (Ok f)) e h
+pub last_of : {S A R : Type 0} (kind : ScriptKind S A R) (start : S) (read written : List ℕ) (p : Progress S) (a b : Flow) → a ≡ b → AnswersLast kind start read written p (Ok a) → AnswersLast kind start read written p (Ok b)
+last_of kind start read written p a b e h = subst (λ (f : Flow). AnswersLast kind start read written p (Ok f)) e h
 
-pub has_stopped : {S A R : Type 0} (kind : ScriptKind S A R) (start : S) (read written : List ℕ) (p : Progress S) (flow : Flow) (bad : MalformedLine) → flow ≡ Stopped bad → AnswersLast kind start read written p (Ok flow)
-    → IsStopped kind start read (Unit {0}) written bad p
-has_stopped kind start read written p flow bad e h = subst (λ (f : Flow). AnswersLast kind start read written p (Ok f)) e h
+pub answers_of : {S A R : Type 0} (kind : ScriptKind S A R) (start : S) (read written : List ℕ) (p : Progress S) (a b : Flow) → a ≡ b → AnswersAs kind start read written p (Ok a) → AnswersAs kind start read written p (Ok b)
+answers_of kind start read written p a b e h = subst (λ (f : Flow). AnswersAs kind start read written p (Ok f)) e h
 
 pub answers_same : {S A R : Type 0} (kind : ScriptKind S A R) (start : S) (a b written : List ℕ) (p : Progress S) (r : Result Flow AllocError) → a ≡ b → AnswersAs kind start a written p r → AnswersAs kind start b written p r
 answers_same kind start a b written p r e h = subst (λ (xs : List ℕ). AnswersAs kind start xs written p r) e h
-
-pub stopped_of : {S A R : Type 0} (kind : ScriptKind S A R) (start : S) (read written : List ℕ) (p : Progress S) (flow : Flow) (bad : MalformedLine) → flow ≡ Stopped bad → AnswersAs kind start read written p (Ok flow)
-    → IsStopped kind start read ⊥ written bad p
-stopped_of kind start read written p flow bad e h = subst (λ (f : Flow). AnswersAs kind start read written p (Ok f)) e h
-
-pub answered_of : {S A R : Type 0} (kind : ScriptKind S A R) (start : S) (read written : List ℕ) (p : Progress S) (flow : Flow) → flow ≡ GoesOn → AnswersAs kind start read written p (Ok flow)
-    → HasAnsweredLines kind start read written p
-answered_of kind start read written p flow e h = subst (λ (f : Flow). AnswersAs kind start read written p (Ok f)) e h
-
-pub answered_same : {S A R : Type 0} (kind : ScriptKind S A R) (start : S) (a b written : List ℕ) (p : Progress S) → a ≡ b → HasAnsweredLines kind start a written p → HasAnsweredLines kind start b written p
-answered_same kind start a b written p e h = subst (λ (xs : List ℕ). HasAnsweredLines kind start xs written p) e h
 
 -- ---- a run that begins
 
@@ -377,10 +331,10 @@ nothing_answered kind start r lines line output refused = record {
 
 -- ---- whether a line is kept
 
-pub is_nothing : (xs : List ℕ) → eqb (length xs) 0 ≡ true → xs ≡ []
+pub is_nothing : {X : Type 0} (xs : List X) → eqb (length xs) 0 ≡ true → xs ≡ []
 is_nothing [] h = refl
 is_nothing (x ∷ xs) h = let none : length (x ∷ xs) ≡ 0 = grind (arith, nat_tests, h) in absurd (omega (arith, none))
 
-pub not_nothing : (xs : List ℕ) → eqb (length xs) 0 ≡ false → xs ≡ [] → ⊥
+pub not_nothing : {X : Type 0} (xs : List X) → eqb (length xs) 0 ≡ false → xs ≡ [] → ⊥
 not_nothing [] h e = cc
 not_nothing (x ∷ xs) h e = cc

@@ -1,9 +1,9 @@
 -- The words of a text, as its parts between blanks.
 use Rattle.std.proofs.Common.{◌≡◌, ◌≢◌, ℕ, ◌+◌, ◌-◌, ◌<◌, ◌≤◌, Bool, true, false, zero, suc, List, [], ◌∷◌, ◌++◌, length, take, drop, get_or, Result, Ok, Err, OnErr, refl, sym, ap, subst, ◌∙◌, arith}
-use Rattle.std.specs.List.{All, AllByRecursion, onto_first, join_with_byte}
+use Rattle.std.specs.List.{All, AllByRecursion, onto_first}
 use Rattle.std.proofs.lemmas.Bool.Decides.{nat_tests}
 use Rattle.std.proofs.lemmas.List.{drop_more, take_all, take-append-drop}
-use Rattle.std.proofs.lemmas.List.Elements.{All-cons, All-nil, recursion_from_All}
+use Rattle.std.proofs.lemmas.List.Elements.{All-cons, All-nil}
 use Rattle.std.proofs.lemmas.List.Splits.{slice_split_at, slice_split_none, join_with_byte-slice_split, length-slice_split}
 use Rattle.txc_script.specs.Words.{HasNoBlank, HasWords, is_blank, words_of}
 
@@ -42,13 +42,6 @@ all_parts (part ∷ parts) h = All-cons HasNoBlank part parts h.0 (all_parts par
 
 pub has_words : (text : List ℕ) → HasWords text (words_of text)
 has_words text = record { joined = sym (join_with_byte-slice_split 32 text); each_is_one = all_parts (words_of text) (bare_parts text) }
-
-joined_are : (w : List ℕ) (words : List (List ℕ)) → AllByRecursion HasNoBlank (w ∷ words) → words_of (join_with_byte 32 (w ∷ words)) ≡ w ∷ words
-joined_are w [] h = words_alone w h.0
-joined_are w (v ∷ words) h = words_cut _ w (join_with_byte 32 (v ∷ words)) refl h.0 ∙ ap (λ (vs : List (List ℕ)). w ∷ vs) (joined_are v words h.1)
-
-pub words_are : (text w : List ℕ) (words : List (List ℕ)) → HasWords text (w ∷ words) → words_of text ≡ w ∷ words
-words_are text w words h = ap words_of h.joined ∙ joined_are w words (recursion_from_All HasNoBlank (w ∷ words) h.each_is_one)
 
 -- ---- texts of so many words
 

@@ -27,18 +27,22 @@ cut_at c xs i h =
           is_not _ _ (ap (λ b. eqb b c) (get_or-take i xs j d m) ∙ (position-Some (λ b. eqb b c) xs i d h).2 j m);
     }
 
-pub at_end : (a b : ℕ) → cond (ltb a b) (Some a) None ≡ None → b ≤ a
+at_end : (a b : ℕ) → cond (ltb a b) (Some a) None ≡ None → b ≤ a
 at_end a b h = grind (arith, nat_tests)
 
-nowhere : (c : ℕ) (es : List ℕ) → length es ≤ prefix_len (λ b. not (eqb b c)) es → All (λ b. b ≢ c) es
-nowhere c [] h = λ k d l. absurd (omega arith)
-nowhere c (e ∷ es) h =
-    let rest = prefix_len (λ b. not (eqb b c)) es in
-    let go : (b : Bool) → eqb e c ≡ b → suc (length es) ≤ cond (not b) (1 + rest) 0 → All (λ b. b ≢ c) (e ∷ es) = λ b. elim b as (λ v. eqb e c ≡ v → suc (length es) ≤ cond (not v) (1 + rest) 0 → All (λ b. b ≢ c) (e ∷ es)) [ true ↦ (λ _ l. absurd (omega arith)) | false ↦ (λ k l. All-cons (λ b. b ≢ c) e es (is_not e c k) (nowhere c es (omega arith))) ] in
-    go (eqb e c) refl h
+nowhere : (p : ℕ → Bool) (es : List ℕ) → length es ≤ prefix_len (λ b. not (p b)) es → All (λ b. p b ≡ false) es
+nowhere p [] h = λ k d l. absurd (omega arith)
+nowhere p (e ∷ es) h =
+    let rest = prefix_len (λ b. not (p b)) es in
+    let go : (b : Bool) → p e ≡ b → suc (length es) ≤ cond (not b) (1 + rest) 0 → All (λ b. p b ≡ false) (e ∷ es) = λ b. elim b as (λ v. p e ≡ v → suc (length es) ≤ cond (not v) (1 + rest) 0 → All (λ b. p b ≡ false) (e ∷ es)) [ true ↦ (λ _ l. absurd (omega arith)) | false ↦ (λ k l. All-cons (λ b. p b ≡ false) e es k (nowhere p es (omega arith))) ] in
+    go (p e) refl h
+
+-- none is found
+pub none_found : (p : ℕ → Bool) (xs : List ℕ) → position p xs ≡ None → All (λ b. p b ≡ false) xs
+none_found p xs h = nowhere p xs (at_end (prefix_len (λ b. not (p b)) xs) (length xs) h)
 
 pub no_cut : (c : ℕ) (xs : List ℕ) → position (λ b. eqb b c) xs ≡ None → All (λ b. b ≢ c) xs
-no_cut c xs h = nowhere c xs (at_end (prefix_len (λ b. not (eqb b c)) xs) (length xs) h)
+no_cut c xs h = λ k d l. is_not _ c (none_found (λ b. eqb b c) xs h k d l)
 
 -- ---- a line of which a prefix is kept
 

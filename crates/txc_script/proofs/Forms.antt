@@ -1,19 +1,21 @@
 -- Lines of a table of forms.
-use Rattle.std.proofs.Common.{◌≡◌, ◌<◌, ℕ, suc, Bool, true, false, Option, Some, None, Result, Ok, Err, IfErr, List, [], ◌∷◌, get_or, length, refl, sym, ap, subst, ◌∙◌, arith}
+use Rattle.std.proofs.Common.{◌≡◌, ◌<◌, ℕ, suc, Bool, true, false, Some, None, Result, Ok, Err, IfErr, List, [], ◌∷◌, get_or, length, refl, sym, ap, subst, ◌∙◌, arith}
 use Rattle.std.specs.Prelude.{IsErr, IsErrAnd, if◌then◌else◌}
 use Rattle.std.specs.List.{AllByRecursion, join_with_byte}
 use Rattle.std.specs.Str.{bytes_eq}
 use Rattle.std.proofs.lemmas.Slice.Eq.{bytes_eq-Decides}
-use Rattle.txc_script.specs.Forms.{AsksBy, IsOfForm, LineForm, MaySay, Say, ValuesOf, form_named, kinds_after, word_text}
-use Rattle.txc_script.specs.LineFaults.{AreOfKinds}
+use Rattle.txc_script.specs.Forms.{AsksBy, IsOfForm, LineForm, form_named, kinds_after}
 use Rattle.txc_script.specs.Lines.{IsBlankOrComment, IsQuiet}
+use Rattle.txc_script.specs.SaidWords.{AllSaidOf, Mean, SayAll}
 use Rattle.txc_script.specs.Unread.{IsNone}
 use Rattle.txc_script.specs.Words.{words_of}
 use Rattle.txc_script.specs.declared.line_fault.WordKind.{WordKind}
+use Rattle.txc_script.specs.declared.said.Said.{Said}
 use Rattle.txc_script.specs.declared.unread.Unread.{Unread}
 use Rattle.txc_script.specs.declared.unread.Unread.TheVariants as reasons
 use Rattle.txc_script.proofs.Blanks.{has_words}
 use Rattle.txc_script.proofs.Meanings.{AreSmall, values_known}
+use Rattle.txc_script.proofs.SaidKinds.{said_of}
 
 -- ---- forms by their names
 
@@ -43,81 +45,36 @@ is_named {A} (f ∷ forms) name form e =
     go (bytes_eq name f.name) refl e
 
 -- a form that wants words of these kinds after a name
-record HasForm {A : Type 0} (forms : List (LineForm A)) (name : List ℕ) (kinds : List WordKind) : Type 0 where
-  form : LineForm A
-  named : form_named forms name ≡ Some form
-  kinds_are : form.kinds ≡ kinds
-
-has_form : {A : Type 0} (forms : List (LineForm A)) (name : List ℕ) (kinds : List WordKind) → kinds_after forms name ≡ Some kinds → HasForm forms name kinds
+has_form : {A : Type 0} (forms : List (LineForm A)) (name : List ℕ) (kinds : List WordKind) → kinds_after forms name ≡ Some kinds → (form : LineForm A) × (form_named forms name ≡ Some form) × (form.kinds ≡ kinds)
 has_form [] name kinds e = absurd (none_some kinds e)
-has_form (f ∷ forms) name kinds e =
-    let go : (b : Bool) → bytes_eq name f.name ≡ b → (if b then Some f.kinds else kinds_after forms name) ≡ Some kinds → HasForm (f ∷ forms) name kinds = λ b. elim b as (λ v. bytes_eq name f.name ≡ v → (if v then Some f.kinds else kinds_after forms name) ≡ Some kinds → HasForm (f ∷ forms) name kinds) [
-      | true ↦ (λ is same. record { form = f; named = ap (λ (v : Bool). if v then Some f else form_named forms name) is; kinds_are = same_some f.kinds kinds same })
-      | false ↦ (λ is same. let rest = has_form forms name kinds same in record { form = rest.form; named = ap (λ (v : Bool). if v then Some f else form_named forms name) is ∙ rest.named; kinds_are = rest.kinds_are })
+has_form {A} (f ∷ forms) name kinds e =
+    let Has : Bool → Type 0 = λ b. (form : LineForm A) × ((if b then Some f else form_named forms name) ≡ Some form) × (form.kinds ≡ kinds) in
+    let go : (b : Bool) → (if b then Some f.kinds else kinds_after forms name) ≡ Some kinds → Has b = λ b. elim b as (λ v. (if v then Some f.kinds else kinds_after forms name) ≡ Some kinds → Has v) [
+      | true ↦ (λ same. (f, refl, same_some f.kinds kinds same))
+      | false ↦ (λ same. has_form forms name kinds same)
     ] in
-    go (bytes_eq name f.name) refl e
+    go (bytes_eq name f.name) e
 
--- ---- words that are all of their kinds
+-- ---- what a line asks for
 
-record HasValues (kinds : List WordKind) (words : List (List ℕ)) : Type 0 where
-  values : ValuesOf kinds
-  say : Say kinds words values
-
-has_values : (kinds : List WordKind) (words : List (List ℕ)) → AreOfKinds kinds words → HasValues kinds words
-has_values [] [] h = record { values = tt; say = tt }
-has_values [] (word ∷ words) h = absurd h
-has_values (kind ∷ kinds) [] h = absurd h
-has_values (kind ∷ kinds) (word ∷ words) h = let rest = has_values kinds words h.1 in record { values = (h.0.0, rest.values); say = (h.0.1, rest.say) }
-
--- how words are written that say these values, and that they may say them
-abbrev pub words_text : (kinds : List WordKind) → ValuesOf kinds → List (List ℕ)
-words_text [] values = []
-words_text (kind ∷ kinds) values = word_text kind values.0 ∷ words_text kinds values.1
-
-abbrev pub MaySayAll : (kinds : List WordKind) → ValuesOf kinds → Type 0
-MaySayAll [] values = Unit {0}
-MaySayAll (kind ∷ kinds) values = MaySay kind values.0 × MaySayAll kinds values.1
-
-pub record HasTexts (kinds : List WordKind) (words : List (List ℕ)) : Type 0 where
-  pub values : ValuesOf kinds
-  pub are : words ≡ words_text kinds values
-  pub may : MaySayAll kinds values
-
-pub has_texts : (kinds : List WordKind) (words : List (List ℕ)) → AreOfKinds kinds words → HasTexts kinds words
-has_texts [] [] h = record { values = tt; are = refl; may = tt }
-has_texts [] (word ∷ words) h = absurd h
-has_texts (kind ∷ kinds) [] h = absurd h
-has_texts (kind ∷ kinds) (word ∷ words) h =
-    let rest = has_texts kinds words h.1 in
-    record {
-      values = (h.0.0, rest.values);
-      are = ap (λ (w : List ℕ). w ∷ words) h.0.1.1 ∙ ap (λ (ws : List (List ℕ)). word_text kind h.0.0 ∷ ws) rest.are;
-      may = (h.0.1.0, rest.may);
-    }
-
-pub record AsksSome {A : Type 0} (forms : List (LineForm A)) (line : List ℕ) : Type 0 where
-  pub asked : A
-  pub asks : AsksBy forms line asked
-
--- they ask for something
-pub good_words_ask : {A : Type 0} (forms : List (LineForm A)) (line name : List ℕ) (words : List (List ℕ)) (kinds : List WordKind) → words_of line ≡ name ∷ words → kinds_after forms name ≡ Some kinds → AreOfKinds kinds words
-    → AsksSome forms line
-good_words_ask forms line name words kinds e known h =
+-- words that say something ask for something
+pub good_words_ask : {A : Type 0} (forms : List (LineForm A)) (line name : List ℕ) (words : List (List ℕ)) (kinds : List WordKind) (given : List Said) → words_of line ≡ name ∷ words → kinds_after forms name ≡ Some kinds
+    → SayAll kinds words given → (asked : A) × AsksBy forms line asked
+good_words_ask forms line name words kinds given e known h =
     let has = has_form forms name kinds known in
-    let named = is_named forms name has.form has.named in
-    let said = has_values has.form.kinds words (subst (λ (ks : List WordKind). AreOfKinds ks words) (sym has.kinds_are) h) in
-    record {
-      asked = has.form.asks said.values;
-      asks = record {
-        form = has.form;
+    let named = is_named forms name has.0 has.1 in
+    let said = said_of has.0.kinds words given (subst (λ (ks : List WordKind). SayAll ks words given) (sym has.2) h) in (
+      has.0.asks said.0,
+      record {
+        form = has.0;
         words = words;
-        named = subst (λ (n : List ℕ). form_named forms n ≡ Some has.form) named has.named;
+        named = subst (λ (n : List ℕ). form_named forms n ≡ Some has.0) named has.1;
         are = e ∙ ap (λ (n : List ℕ). n ∷ words) named;
-        is = record { values = said.values; say = said.say; asks = refl };
-      };
-    }
+        is = record { values = said.0; say = said.1; asks = refl };
+      },
+    )
 
-pub says_count : (kinds : List WordKind) (words : List (List ℕ)) (values : ValuesOf kinds) → Say kinds words values → length words ≡ length kinds
+pub says_count : (kinds : List WordKind) (words : List (List ℕ)) (values : AllSaidOf kinds) → Mean kinds words values → length words ≡ length kinds
 says_count [] [] values h = refl
 says_count [] (word ∷ words) values h = absurd h
 says_count (kind ∷ kinds) [] values h = absurd h
@@ -125,8 +82,6 @@ says_count (kind ∷ kinds) (word ∷ words) values h = ap suc (says_count kinds
 
 pub of_words : {A : Type 0} (form : LineForm A) (words others : List (List ℕ)) (asked : A) → words ≡ others → IsOfForm form words asked → IsOfForm form others asked
 of_words form words others asked e h = subst (λ (ws : List (List ℕ)). IsOfForm form ws asked) e h
-
--- ---- what a line asks for
 
 -- one that begins with the name of a form
 pub says_in : {A : Type 0} (forms : List (LineForm A)) (form : LineForm A) (line : List ℕ) (words : List (List ℕ)) (asked : A) → form_named forms form.name ≡ Some form → words_of line ≡ form.name ∷ words
@@ -181,14 +136,6 @@ not_quiet {A} forms line asked letters quiet h =
     blank_or_comment line quiet.1 (subst (λ (n : ℕ). 35 < n) (sym first) letter)
 
 -- ---- what is refused
-
--- a clause of a refusal that holds anyhow
-pub refused_anyhow : {T E : Type 0} (r : Result T E) (P : Type 0) → P → IfErr r (λ _. P)
-refused_anyhow (Ok x) P h = tt
-refused_anyhow (Err e) P h = h
-
-pub no_form_of : {A T E : Type 0} (r : Result T E) (form : LineForm A) (words : List (List ℕ)) → ((asked : A) → IsOfForm form words asked → ⊥) → IfErr r (λ _. (asked : A) → IsOfForm form words asked → ⊥)
-no_form_of {A} r form words none = refused_anyhow r ((asked : A) → IsOfForm form words asked → ⊥) none
 
 -- what was refused as malformed is no such value
 pub none_of : {T V : Type 0} (r : Result T Unread) (Is : V → Type 0) → IsErr r × IsErrAnd r (λ reason. reason ≡ reasons.Malformed) → ((v : V) → Is v → ⊥) → IfErr r (IsNone Is)

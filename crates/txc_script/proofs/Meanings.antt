@@ -1,5 +1,5 @@
 -- Words have one meaning each.
-use Rattle.std.proofs.Common.{◌≡◌, ◌<◌, ◌≤◌, ◌/◌, ◌%◌, ◌^◌, ℕ, Bool, true, false, List, [], ◌∷◌, refl, sym, ap, ◌∙◌, arith}
+use Rattle.std.proofs.Common.{◌≡◌, ◌<◌, ◌≤◌, ◌/◌, ◌%◌, ◌^◌, ℕ, Bool, true, false, List, [], ◌∷◌, Some, refl, sym, ap, ◌∙◌, arith}
 use Rattle.std.specs.Fmt.{decimal}
 use Rattle.std.specs.List.{AllByRecursion, flat_map}
 use Rattle.std.proofs.lemmas.Bool.Decides.{nat_tests}
@@ -11,9 +11,9 @@ use Rattle.txc_tags.specs.declared.tag.TheConstants.{LAST_TABLE}
 use Rattle.txc_tags.specs.declared.text.number.TheConstants.{LAST_NUMBER}
 use Rattle.txc_tags.proofs.Offered.{same_key_text, same_spelt_text}
 use Rattle.txc_node.specs.Texts.{digit_of, digits_of, hex_text}
-use Rattle.txc_script.specs.Forms.{MaySay, Say, ValueOf, ValuesOf, word_text}
 use Rattle.txc_script.specs.Hex.{IsBytes}
 use Rattle.txc_script.specs.Lines.{still_text}
+use Rattle.txc_script.specs.SaidWords.{AllSaidOf, Mean, Means, SaidOf}
 use Rattle.txc_script.specs.declared.line_fault.WordKind.{WordKind}
 use Rattle.txc_script.specs.declared.line_fault.WordKind.TheVariants.{Key, Stamp, Reach, Tags, Bytes, Table, Id, Function, Number, Text, QueryName, ChangeName}
 
@@ -61,25 +61,26 @@ abbrev pub AreSmall : List WordKind → Type 0
 AreSmall [] = Unit {0}
 AreSmall (kind ∷ kinds) = IsSmall kind × AreSmall kinds
 
-value_known : (kind : WordKind) (a b : ValueOf kind) → IsSmall kind → MaySay kind a → MaySay kind b → word_text kind a ≡ word_text kind b → a ≡ b
-value_known Key a b small h k e = same_key_text a b h k e
-value_known Stamp a b small h k e = decimal_known LAST_STAMP a b (omega arith) h k e
-value_known Reach a b small h k e = still_known a b e
-value_known Tags a b small h k e = same_spelt_text a b h k e
-value_known Bytes a b small h k e = hex_known a b h k e
-value_known Table a b small h k e = decimal_known LAST_TABLE a b (omega arith) h k e
-value_known Id a b small h k e = decimal_known LAST_NUMBER a b (omega arith) h k e
-value_known Function a b small h k e = decimal_known LAST_FUNCTION a b (omega arith) h k e
-value_known (Number most) a b small h k e = decimal_known most a b small h k e
-value_known (Text most) a b small h k e = e
-value_known QueryName a b small h k e = e
-value_known ChangeName a b small h k e = e
+-- a word says one thing
+one_meaning : (kind : WordKind) (word : List ℕ) (a b : SaidOf kind) → IsSmall kind → Means kind word a → Means kind word b → a ≡ b
+one_meaning Key word a b small h k = same_key_text a b h.0 k.0 (sym h.1 ∙ k.1)
+one_meaning Stamp word a b small h k = decimal_known LAST_STAMP a b (omega arith) h.0 k.0 (sym h.1 ∙ k.1)
+one_meaning Reach word a b small h k = still_known a b (sym h ∙ k)
+one_meaning Tags word a b small h k = same_spelt_text a b h.0 k.0 (sym h.1 ∙ k.1)
+one_meaning Bytes word a b small h k = hex_known a b h.0 k.0 (sym h.1 ∙ k.1)
+one_meaning Table word a b small h k = decimal_known LAST_TABLE a b (omega arith) h.0 k.0 (sym h.1 ∙ k.1)
+one_meaning Id word a b small h k = decimal_known LAST_NUMBER a b (omega arith) h.0 k.0 (sym h.1 ∙ k.1)
+one_meaning Function word a b small h k = decimal_known LAST_FUNCTION a b (omega arith) h.0 k.0 (sym h.1 ∙ k.1)
+one_meaning (Number most) word a b small h k = decimal_known most a b small h.0 k.0 (sym h.1 ∙ k.1)
+one_meaning (Text most) word a b small h k = sym h.1 ∙ k.1
+one_meaning QueryName word a b small h k = let same : Some a ≡ Some b = sym h ∙ k in cc
+one_meaning ChangeName word a b small h k = let same : Some a ≡ Some b = sym h ∙ k in cc
 
-pub values_known : (kinds : List WordKind) (words : List (List ℕ)) (v w : ValuesOf kinds) → AreSmall kinds → Say kinds words v → Say kinds words w → v ≡ w
+pub values_known : (kinds : List WordKind) (words : List (List ℕ)) (v w : AllSaidOf kinds) → AreSmall kinds → Mean kinds words v → Mean kinds words w → v ≡ w
 values_known [] [] v w small h k = refl
 values_known [] (word ∷ words) v w small h k = absurd h
 values_known (kind ∷ kinds) [] v w small h k = absurd h
 values_known (kind ∷ kinds) (word ∷ words) v w small h k =
-    let first : v.0 ≡ w.0 = value_known kind v.0 w.0 small.0 h.0.0 k.0.0 (sym h.0.1 ∙ k.0.1) in
+    let first : v.0 ≡ w.0 = one_meaning kind word v.0 w.0 small.0 h.0 k.0 in
     let rest : v.1 ≡ w.1 = values_known kinds words v.1 w.1 small.1 h.1 k.1 in
     λ i. (first i, rest i)

@@ -1,162 +1,159 @@
--- Words that say something, by their kinds.
-use Rattle.std.proofs.Common.{◌≡◌, ℕ, suc, List, [], ◌∷◌, ◌++◌, Some, length, refl, sym, ap, subst, append_assoc, append-nil, ◌∙◌, arith}
-use Rattle.txc_tags.specs.Keys.{Call}
-use Rattle.txc_script.specs.LineFaults.{AreOfKinds, IsOfKind}
-use Rattle.txc_script.specs.Lines.{query_named, change_named}
-use Rattle.txc_script.specs.SaidWords.{SayAll, SaysWord}
+-- Words that are read one after the other, and what they say.
+use Rattle.std.proofs.Common.{◌≡◌, ℕ, ◌+◌, suc, List, [], ◌∷◌, ◌++◌, Result, Ok, Err, IfErr, length, refl, sym, ap, subst, append_assoc, append-nil, ◌∙◌, arith}
+use Rattle.std.specs.Prelude.{IsErr, IsErrAnd}
+use Rattle.std.proofs.lemmas.List.{length-append}
+use Rattle.txc_script.specs.Excerpts.{excerpt_of}
+use Rattle.txc_script.specs.LineFaults.{AreOfKinds, IsBadWord, IsKindsFault, IsWrong, StopsAt}
+use Rattle.txc_script.specs.SaidWords.{AllSaidOf, IsOfKind, Mean, Means, SaidOf, SayAll, SaysWord}
+use Rattle.txc_script.specs.declared.line_fault.CommandFault.{CommandFault}
+use Rattle.txc_script.specs.declared.line_fault.CommandFault.TheVariants as faults
+use Rattle.txc_script.specs.declared.line_fault.WordFault.{WordFault}
 use Rattle.txc_script.specs.declared.line_fault.WordKind.{WordKind}
-use Rattle.txc_script.specs.declared.line_fault.WordKind.TheVariants as word_kinds
-use Rattle.txc_script.specs.declared.said.ChangeName.{ChangeName}
-use Rattle.txc_script.specs.declared.said.QueryName.{QueryName}
+use Rattle.txc_script.specs.declared.line_fault.WordKind.TheVariants as kinds
 use Rattle.txc_script.specs.declared.said.Said.{Said}
 use Rattle.txc_script.specs.declared.said.Said.TheVariants as said
+use Rattle.txc_script.specs.declared.unread.Unanswered.{Unanswered}
+use Rattle.txc_script.specs.declared.unread.Unanswered.TheVariants.{Wrong, Memory}
 
--- ---- they are of their kinds
+-- ---- what is said, by the kinds alone
 
-pub of_kind : (kind : WordKind) (word : List ℕ) (value : Said) → SaysWord kind word value → IsOfKind kind word
-of_kind word_kinds.Key word (said.Key key) h = (key, h)
-of_kind word_kinds.Stamp word (said.Stamp stamp) h = (stamp, h)
-of_kind word_kinds.Table word (said.Table table) h = (table, h)
-of_kind word_kinds.Id word (said.Id id) h = (id, h)
-of_kind word_kinds.Function word (said.Function function) h = (function, h)
-of_kind (word_kinds.Number most) word (said.Number number) h = (number, h)
-of_kind (word_kinds.Text most) word (said.Text text) h = (text, h)
-of_kind word_kinds.QueryName word (said.Query name) h = (word, ((name, h), refl))
-of_kind word_kinds.ChangeName word (said.Change name) h = (word, ((name, h), refl))
-of_kind word_kinds.Reach word said.Other h = h
-of_kind word_kinds.Tags word said.Other h = h
-of_kind word_kinds.Bytes word said.Other h = h
-of_kind kind word value h = absurd h
+-- how a reader gives it
+abbrev pub said_by : (kind : WordKind) → SaidOf kind → Said
+said_by kinds.Key = said.Key
+said_by kinds.Stamp = said.Stamp
+said_by kinds.Reach = λ still. said.Other
+said_by kinds.Tags = λ tags. said.Other
+said_by kinds.Bytes = λ bytes. said.Other
+said_by kinds.Table = said.Table
+said_by kinds.Id = said.Id
+said_by kinds.Function = said.Function
+said_by (kinds.Number most) = said.Number
+said_by (kinds.Text most) = said.Text
+said_by kinds.QueryName = said.Query
+said_by kinds.ChangeName = said.Change
 
-pub are_of_kinds : (kinds : List WordKind) (words : List (List ℕ)) (values : List Said) → SayAll kinds words values → AreOfKinds kinds words
-are_of_kinds [] [] [] h = tt
-are_of_kinds (kind ∷ kinds) (word ∷ words) (value ∷ values) h = (of_kind kind word value h.0, are_of_kinds kinds words values h.1)
-are_of_kinds kinds words values h = absurd h
+pub meant : (kind : WordKind) (word : List ℕ) (given : Said) → SaysWord kind word given → (value : SaidOf kind) × Means kind word value × (given ≡ said_by kind value)
+meant kinds.Key word (said.Key key) h = (key, h, refl)
+meant kinds.Stamp word (said.Stamp stamp) h = (stamp, h, refl)
+meant kinds.Table word (said.Table table) h = (table, h, refl)
+meant kinds.Id word (said.Id id) h = (id, h, refl)
+meant kinds.Function word (said.Function function) h = (function, h, refl)
+meant (kinds.Number most) word (said.Number number) h = (number, h, refl)
+meant (kinds.Text most) word (said.Text text) h = (text, h, refl)
+meant kinds.QueryName word (said.Query name) h = (name, h, refl)
+meant kinds.ChangeName word (said.Change name) h = (name, h, refl)
+meant kinds.Reach word said.Other h = (h.0, h.1, refl)
+meant kinds.Tags word said.Other h = (h.0, h.1, refl)
+meant kinds.Bytes word said.Other h = (h.0, h.1, refl)
+meant kind word given h = absurd h
+
+abbrev pub all_said_by : (kinds : List WordKind) → AllSaidOf kinds → List Said
+all_said_by [] values = []
+all_said_by (kind ∷ kinds) values = said_by kind values.0 ∷ all_said_by kinds values.1
+
+pub said_of : (kinds : List WordKind) (words : List (List ℕ)) (values : List Said) → SayAll kinds words values → (all : AllSaidOf kinds) × Mean kinds words all × (values ≡ all_said_by kinds all)
+said_of [] [] [] h = (tt, tt, refl)
+said_of (kind ∷ kinds) (word ∷ words) (value ∷ values) h =
+    let first = meant kind word value h.0 in
+    let rest = said_of kinds words values h.1 in
+    ((first.0, rest.0), (first.1, rest.1), ap (λ (v : Said). v ∷ values) first.2 ∙ ap (λ (vs : List Said). said_by kind first.0 ∷ vs) rest.2)
+said_of kinds words values h = absurd h
 
 pub say_count : (kinds : List WordKind) (words : List (List ℕ)) (values : List Said) → SayAll kinds words values → length words ≡ length kinds
 say_count [] [] [] h = refl
 say_count (kind ∷ kinds) (word ∷ words) (value ∷ values) h = ap suc (say_count kinds words values h.1)
 say_count kinds words values h = absurd h
 
--- and words of their kinds say something
+-- ---- words that say something are of their kinds, and nothing is wrong with them
 
-says_some : (kind : WordKind) (word : List ℕ) → IsOfKind kind word → (value : Said) × SaysWord kind word value
-says_some word_kinds.Key word h = (said.Key h.0, h.1)
-says_some word_kinds.Stamp word h = (said.Stamp h.0, h.1)
-says_some word_kinds.Table word h = (said.Table h.0, h.1)
-says_some word_kinds.Id word h = (said.Id h.0, h.1)
-says_some word_kinds.Function word h = (said.Function h.0, h.1)
-says_some (word_kinds.Number most) word h = (said.Number h.0, h.1)
-says_some (word_kinds.Text most) word h = (said.Text h.0, h.1)
-says_some word_kinds.QueryName word h = (said.Query h.1.0.0, subst (λ (w : List ℕ). query_named w ≡ Some h.1.0.0) (sym h.1.1) h.1.0.1)
-says_some word_kinds.ChangeName word h = (said.Change h.1.0.0, subst (λ (w : List ℕ). change_named w ≡ Some h.1.0.0) (sym h.1.1) h.1.0.1)
-says_some word_kinds.Reach word h = (said.Other, h)
-says_some word_kinds.Tags word h = (said.Other, h)
-says_some word_kinds.Bytes word h = (said.Other, h)
+are_of_kinds : (kinds : List WordKind) (words : List (List ℕ)) (values : List Said) → SayAll kinds words values → AreOfKinds kinds words
+are_of_kinds [] [] [] h = tt
+are_of_kinds (kind ∷ kinds) (word ∷ words) (value ∷ values) h = let first = meant kind word value h.0 in ((first.0, first.1), are_of_kinds kinds words values h.1)
+are_of_kinds kinds words values h = absurd h
 
-pub say_some : (kinds : List WordKind) (words : List (List ℕ)) → AreOfKinds kinds words → (values : List Said) × SayAll kinds words values
-say_some [] [] h = ([], tt)
-say_some [] (word ∷ words) h = absurd h
-say_some (kind ∷ kinds) [] h = absurd h
-say_some (kind ∷ kinds) (word ∷ words) h =
-    let first = says_some kind word h.0 in
-    let rest = say_some kinds words h.1 in
-    (first.0 ∷ rest.0, (first.1, rest.1))
+word_at : (before : List WordKind) (good : List (List ℕ)) (kind : WordKind) (word : List ℕ) (kinds : List WordKind) (words : List (List ℕ)) → AreOfKinds before good
+    → AreOfKinds (before ++ kind ∷ kinds) (good ++ word ∷ words) → IsOfKind kind word
+word_at [] [] kind word kinds words h all = all.0
+word_at [] (g ∷ good) kind word kinds words h all = absurd h
+word_at (b ∷ before) [] kind word kinds words h all = absurd h
+word_at (b ∷ before) (g ∷ good) kind word kinds words h all = word_at before good kind word kinds words h.1 all.1
 
--- ---- what is said, by the kinds alone
+pub none_bad : (kinds : List WordKind) (words : List (List ℕ)) (fault : WordFault) (values : List Said) → IsBadWord kinds words fault → SayAll kinds words values → ⊥
+none_bad kinds words fault values b say =
+    let here = subst (λ (ks : List WordKind). AreOfKinds ks words) b.kinds_are (are_of_kinds kinds words values say) in
+    let there = subst (λ (ws : List (List ℕ)). AreOfKinds (b.good_kinds ++ fault.kind ∷ b.other_kinds) ws) b.words_are here in
+    b.is_bad (word_at b.good_kinds b.good fault.kind b.word b.other_kinds b.others b.are_good there)
 
--- what words of a kind say
-abbrev pub SaidOf : WordKind → Type 0
-SaidOf word_kinds.Key = Call
-SaidOf word_kinds.QueryName = QueryName
-SaidOf word_kinds.ChangeName = ChangeName
-SaidOf (word_kinds.Text most) = List ℕ
-SaidOf word_kinds.Reach = Unit {0}
-SaidOf word_kinds.Tags = Unit {0}
-SaidOf word_kinds.Bytes = Unit {0}
-SaidOf kind = ℕ
-
-abbrev pub said_by : (kind : WordKind) → SaidOf kind → Said
-said_by word_kinds.Key = said.Key
-said_by word_kinds.Stamp = said.Stamp
-said_by word_kinds.Table = said.Table
-said_by word_kinds.Id = said.Id
-said_by word_kinds.Function = said.Function
-said_by (word_kinds.Number most) = said.Number
-said_by (word_kinds.Text most) = said.Text
-said_by word_kinds.QueryName = said.Query
-said_by word_kinds.ChangeName = said.Change
-said_by word_kinds.Reach = λ none. said.Other
-said_by word_kinds.Tags = λ none. said.Other
-said_by word_kinds.Bytes = λ none. said.Other
-
-pub says_by : (kind : WordKind) (word : List ℕ) (value : Said) → SaysWord kind word value → (v : SaidOf kind) × (value ≡ said_by kind v)
-says_by word_kinds.Key word (said.Key key) h = (key, refl)
-says_by word_kinds.Stamp word (said.Stamp stamp) h = (stamp, refl)
-says_by word_kinds.Table word (said.Table table) h = (table, refl)
-says_by word_kinds.Id word (said.Id id) h = (id, refl)
-says_by word_kinds.Function word (said.Function function) h = (function, refl)
-says_by (word_kinds.Number most) word (said.Number number) h = (number, refl)
-says_by (word_kinds.Text most) word (said.Text text) h = (text, refl)
-says_by word_kinds.QueryName word (said.Query name) h = (name, refl)
-says_by word_kinds.ChangeName word (said.Change name) h = (name, refl)
-says_by word_kinds.Reach word said.Other h = (tt, refl)
-says_by word_kinds.Tags word said.Other h = (tt, refl)
-says_by word_kinds.Bytes word said.Other h = (tt, refl)
-says_by kind word value h = absurd h
-
--- what words of these kinds say, each in its place
-abbrev pub AllSaidOf : List WordKind → Type 0
-AllSaidOf [] = Unit {0}
-AllSaidOf (kind ∷ kinds) = SaidOf kind × AllSaidOf kinds
-
-abbrev pub all_said_by : (kinds : List WordKind) → AllSaidOf kinds → List Said
-all_said_by [] values = []
-all_said_by (kind ∷ kinds) values = said_by kind values.0 ∷ all_said_by kinds values.1
-
-pub say_by : (kinds : List WordKind) (words : List (List ℕ)) (values : List Said) → SayAll kinds words values → (all : AllSaidOf kinds) × (values ≡ all_said_by kinds all)
-say_by [] [] [] h = (tt, refl)
-say_by (kind ∷ kinds) (word ∷ words) (value ∷ values) h =
-    let first = says_by kind word value h.0 in
-    let rest = say_by kinds words values h.1 in
-    ((first.0, rest.0), ap (λ (v : Said). v ∷ values) first.1 ∙ ap (λ (vs : List Said). said_by kind first.0 ∷ vs) rest.1)
-say_by kinds words values h = absurd h
+pub none_wrong : (kinds : List WordKind) (words : List (List ℕ)) (fault : CommandFault) (values : List Said) → IsKindsFault kinds words fault → SayAll kinds words values → ⊥
+none_wrong kinds words (faults.Count wanted given) values h say = h.2 (h.1 ∙ say_count kinds words values say ∙ sym h.0)
+none_wrong kinds words (faults.Word fault) values h say = none_bad kinds words fault values h.1 say
+none_wrong kinds words fault values h say = absurd h
 
 -- ---- words that are read one after the other
 
--- what these words say begins what all say
-pub record HasRead (kinds : List WordKind) (words : List (List ℕ)) (rest : List WordKind) (left : List (List ℕ)) (values : List Said) : Type 0 where
-  pub there : (more : List Said) → SayAll rest left more → SayAll kinds words (values ++ more)
-  pub back : (all : List Said) → SayAll kinds words all → (more : List Said) × SayAll rest left more
+-- the words before these are so many, and say this
+pub record HasRead (kinds : List WordKind) (words : List (List ℕ)) (rest : List WordKind) (left : List (List ℕ)) (values : List Said) (number : ℕ) : Type 0 where
+  pub good_kinds : List WordKind
+  pub good : List (List ℕ)
+  pub kinds_are : kinds ≡ good_kinds ++ rest
+  pub words_are : words ≡ good ++ left
+  pub say : SayAll good_kinds good values
+  pub counted : number ≡ length good
 
-pub none_read : (kinds : List WordKind) (words : List (List ℕ)) (values : List Said) → values ≡ [] → HasRead kinds words kinds words values
-none_read kinds words values none = subst (λ (vs : List Said). HasRead kinds words kinds words vs) (sym none) (record { there = λ more h. h; back = λ all h. (all, h) })
+pub none_read : (kinds : List WordKind) (words : List (List ℕ)) (values : List Said) → values ≡ [] → HasRead kinds words kinds words values 0
+none_read kinds words values none = record { good_kinds = []; good = []; kinds_are = refl; words_are = refl; say = subst (SayAll [] []) (sym none) tt; counted = refl }
 
-pub first_of : (kind : WordKind) (kinds : List WordKind) (word : List ℕ) (words : List (List ℕ)) (values : List Said) → SayAll (kind ∷ kinds) (word ∷ words) values → IsOfKind kind word
-first_of kind kinds word words [] h = absurd h
-first_of kind kinds word words (value ∷ values) h = of_kind kind word value h.0
+say_more : (ks : List WordKind) (ws : List (List ℕ)) (vs : List Said) (k : WordKind) (w : List ℕ) (v : Said) → SayAll ks ws vs → SaysWord k w v → SayAll (ks ++ k ∷ []) (ws ++ w ∷ []) (vs ++ v ∷ [])
+say_more [] [] [] k w v h is = (is, tt)
+say_more (j ∷ ks) (x ∷ ws) (y ∷ vs) k w v h is = (h.0, say_more ks ws vs k w v h.1 is)
+say_more ks ws vs k w v h is = absurd h
 
-others_of : (kind : WordKind) (kinds : List WordKind) (word : List ℕ) (words : List (List ℕ)) (values : List Said) → SayAll (kind ∷ kinds) (word ∷ words) values → (more : List Said) × SayAll kinds words more
-others_of kind kinds word words [] h = absurd h
-others_of kind kinds word words (value ∷ values) h = (values, h.1)
-
-like : (kinds others : List WordKind) (words after : List (List ℕ)) (values : List Said) → kinds ≡ others → words ≡ after → SayAll kinds words values → SayAll others after values
-like kinds others words after values k e h = subst (λ (ws : List (List ℕ)). SayAll others ws values) e (subst (λ (ks : List WordKind). SayAll ks words values) k h)
-
-pub one_more_read : (kinds : List WordKind) (words : List (List ℕ)) (kind : WordKind) (rest others : List WordKind) (word : List ℕ) (left after : List (List ℕ)) (values more : List Said) (value : Said)
-    → HasRead kinds words rest left values → rest ≡ kind ∷ others → left ≡ word ∷ after → SaysWord kind word value → more ≡ values ++ value ∷ [] → HasRead kinds words others after more
-one_more_read kinds words kind rest others word left after values more value h k e is longer = record {
-  there = λ next says. subst (λ (all : List Said). SayAll kinds words all) (sym (ap (λ (vs : List Said). vs ++ next) longer ∙ append_assoc values (value ∷ []) next))
-      (h.there (value ∷ next) (like (kind ∷ others) rest (word ∷ after) left (value ∷ next) (sym k) (sym e) (is, says)));
-  back = λ all says. let next = h.back all says in others_of kind others word after next.0 (like rest (kind ∷ others) left (word ∷ after) next.0 k e next.1);
+pub one_more_read : (kinds : List WordKind) (words : List (List ℕ)) (kind : WordKind) (rest others : List WordKind) (word : List ℕ) (left after : List (List ℕ)) (values more : List Said) (value : Said) (number : ℕ)
+    → HasRead kinds words rest left values number → rest ≡ kind ∷ others → left ≡ word ∷ after → SaysWord kind word value → more ≡ values ++ value ∷ [] → HasRead kinds words others after more (number + 1)
+one_more_read kinds words kind rest others word left after values more value number h k e is longer = record {
+  good_kinds = h.good_kinds ++ kind ∷ [];
+  good = h.good ++ word ∷ [];
+  kinds_are = h.kinds_are ∙ ap (λ (ks : List WordKind). h.good_kinds ++ ks) k ∙ sym (append_assoc h.good_kinds (kind ∷ []) others);
+  words_are = h.words_are ∙ ap (λ (ws : List (List ℕ)). h.good ++ ws) e ∙ sym (append_assoc h.good (word ∷ []) after);
+  say = subst (SayAll (h.good_kinds ++ kind ∷ []) (h.good ++ word ∷ [])) (sym longer) (say_more h.good_kinds h.good values kind word value h.say is);
+  counted = omega (arith, h.counted, length-append h.good (word ∷ []));
 }
 
-pub none_said : (kinds : List WordKind) (words : List (List ℕ)) (kind : WordKind) (rest others : List WordKind) (word : List ℕ) (left after : List (List ℕ)) (values all : List Said)
-    → HasRead kinds words rest left values → rest ≡ kind ∷ others → left ≡ word ∷ after → (IsOfKind kind word → ⊥) → SayAll kinds words all → ⊥
-none_said kinds words kind rest others word left after values all h k e bad says =
-    let next = h.back all says in
-    bad (first_of kind others word after next.0 (like rest (kind ∷ others) left (word ∷ after) next.0 k e next.1))
+pub bad_read : (kinds : List WordKind) (words : List (List ℕ)) (rest others : List WordKind) (word : List ℕ) (left after : List (List ℕ)) (values : List Said) (number : ℕ) (fault : WordFault)
+    → HasRead kinds words rest left values number → rest ≡ fault.kind ∷ others → left ≡ word ∷ after → fault.number ≡ number + 1 → (IsOfKind fault.kind word → ⊥)
+    → fault.text ≡ excerpt_of word → StopsAt fault.kind word fault.at → IsBadWord kinds words fault
+bad_read kinds words rest others word left after values number fault h k e next bad text stops = record {
+  good_kinds = h.good_kinds;
+  good = h.good;
+  word = word;
+  other_kinds = others;
+  others = after;
+  kinds_are = h.kinds_are ∙ ap (λ (ks : List WordKind). h.good_kinds ++ ks) k;
+  words_are = h.words_are ∙ ap (λ (ws : List (List ℕ)). h.good ++ ws) e;
+  are_good = are_of_kinds h.good_kinds h.good values h.say;
+  is_bad = bad;
+  number = next ∙ ap (λ n. n + 1) h.counted;
+  text = text;
+  stops = stops;
+}
 
-pub all_read : (kinds : List WordKind) (words : List (List ℕ)) (rest : List WordKind) (left : List (List ℕ)) (values : List Said) → HasRead kinds words rest left values → rest ≡ [] → left ≡ [] → SayAll kinds words values
-all_read kinds words rest left values h none empty =
-    subst (λ (all : List Said). SayAll kinds words all) (append-nil values) (h.there [] (like [] rest [] left [] (sym none) (sym empty) tt))
+pub all_read : (kinds : List WordKind) (words : List (List ℕ)) (rest : List WordKind) (left : List (List ℕ)) (values : List Said) (number : ℕ) → HasRead kinds words rest left values number → rest ≡ [] → left ≡ []
+    → SayAll kinds words values
+all_read kinds words rest left values number h none empty =
+    let ks : h.good_kinds ≡ kinds = sym (h.kinds_are ∙ ap (λ (ks : List WordKind). h.good_kinds ++ ks) none ∙ append-nil h.good_kinds) in
+    let ws : h.good ≡ words = sym (h.words_are ∙ ap (λ (vs : List (List ℕ)). h.good ++ vs) empty ∙ append-nil h.good) in
+    subst (λ (v : List (List ℕ)). SayAll kinds v values) ws (subst (λ (v : List WordKind). SayAll v h.good values) ks h.say)
+
+-- ---- what is wrong is wrong in other words
+
+pub wrong_in : (e : Unanswered) (Is Js : CommandFault → Type 0) → IsWrong Is e → ((fault : CommandFault) → Is fault → Js fault) → IsWrong Js e
+wrong_in (Wrong fault) Is Js wrong there = there fault wrong
+wrong_in Memory Is Js wrong there = tt
+
+pub wrong_of : {T : Type 0} (r : Result T Unanswered) (Is Js : CommandFault → Type 0) → IfErr r (IsWrong Is) → ((fault : CommandFault) → Is fault → Js fault) → IfErr r (IsWrong Js)
+wrong_of (Ok x) Is Js wrong there = tt
+wrong_of (Err e) Is Js wrong there = wrong_in e Is Js wrong there
+
+pub wrong_as : {T : Type 0} (r : Result T Unanswered) (e : Unanswered) (Is Js : CommandFault → Type 0) → IsErr r × IsErrAnd r (λ x. x ≡ e) → IsWrong Is e → ((fault : CommandFault) → Is fault → Js fault) → IfErr r (IsWrong Js)
+wrong_as (Ok x) e Is Js h wrong there = tt
+wrong_as (Err x) e Is Js h wrong there = subst (IsWrong Js) (sym h.1) (wrong_in e Is Js wrong there)

@@ -39,10 +39,6 @@ high_marks xs long =
     ap (λ (ms : List Bool). mask_l ms % 2 ^ 64) (tops_compared w8 ltb (replicate 16 126) xs ∙ zip2_splat_left ltb 126 16 xs long)
     ∙ mask_l-mod (map is_high xs) 64 (omega (arith, length-map xs is_high, long))
 
--- bytes that no line may have
-foreign_is : (b : ℕ) → is_foreign b ≡ (is_low b || is_high b)
-foreign_is b = refl
-
 -- sixteen more bytes, of which this many stand before the first foreign one
 pub none_in_chunk : (xs : List ℕ) (at l h r : ℕ) → at + 16 ≤ length xs → l ≡ prefix_len (λ b. not (is_low b)) (chunk at 16 xs) → h ≡ prefix_len (λ b. not (is_high b)) (chunk at 16 xs) → r ≡ min l h
     → (k : ℕ) → at ≤ k → k < at + r → is_foreign (get_or xs k 0) ≡ false

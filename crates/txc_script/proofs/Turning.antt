@@ -1,14 +1,13 @@
 -- Reads of a run, one after another.
-use Rattle.std.proofs.Common.{◌≡◌, ℕ, ◌+◌, Bool, List, [], ◌∷◌, ◌++◌, Option, Result, Ok, Err, arith, length, take, refl, sym, ap, subst, ◌∙◌, inl, inr}
-use Rattle.std.specs.Prelude.{IsErr, IsErrAnd, MatchBool}
+use Rattle.std.proofs.Common.{◌≡◌, ℕ, ◌+◌, List, [], ◌∷◌, ◌++◌, Option, Result, Ok, Err, arith, length, take, refl, sym, ap, subst, ◌∙◌, inl, inr}
+use Rattle.std.specs.Prelude.{IsErr, IsErrAnd}
 use Rattle.std.specs.Io.KnownBytes.{Appends, Consumes, IsAtEnd}
 use Rattle.std.specs.declared.alloc.AllocError.{AllocError}
 use Rattle.std.proofs.KnownBytes.{Appends-nil, Appends-trans, Appends-kept, Consumes-nil, Consumes-trans}
 use Rattle.std.proofs.lemmas.List.{append-nil, take_all}
 use Rattle.std.proofs.lemmas.List.Elements.{All-nil}
-use Rattle.txc_script.specs.Flows.{status_after}
-use Rattle.txc_script.specs.Kinds.{ScriptKind, Given, AreFirstLines, Closing, lines_text, no_closing}
-use Rattle.txc_script.specs.Progress.{Progress, progress_of, AnswersAs, EndsAs, EndsFlushed, EndsWith, HasAnsweredLines, HasClosed, IsHalted, IsKeptBeside, IsStopped, TurnsTo}
+use Rattle.txc_script.specs.Kinds.{ScriptKind, Given, AreFirstLines, Closing, lines_text}
+use Rattle.txc_script.specs.Progress.{Progress, progress_of, AnswersAs, EndsFlushed, EndsWith, HasAnsweredLines, IsAtLast, IsKeptBeside, TurnsTo}
 use Rattle.txc_script.specs.Runs.{Breaks, After, Within, AtEnd, BreaksOff, Ends, ScriptHasRun, ScriptHasWritten}
 use Rattle.txc_script.specs.Script.{HasNoEnd}
 use Rattle.txc_script.specs.Written.{AppendsPrefix}
@@ -20,62 +19,27 @@ use Rattle.txc_script.specs.declared.line_fault.MalformedLine.{MalformedLine}
 use Rattle.txc_script.specs.declared.running.Flow.{Flow}
 use Rattle.txc_script.specs.declared.running.Flow.TheVariants.{GoesOn, Stopped}
 use Rattle.txc_script.specs.declared.running.Running.{Running}
-use Rattle.txc_script.proofs.EachLine.{prefix_of, status_is, whole_at}
+use Rattle.txc_script.proofs.EachLine.{prefix_of, whole_at}
 
--- ---- how a run ends
+-- ---- the writer failed
 
--- a malformed line ended it
-stopped_ends_lines : {S A R : Type 0} (kind : ScriptKind S A R) (start : S) (read : List ℕ) (at_end : Type 0) (written : List ℕ) (bad : MalformedLine) (p : Progress S) (h : IsStopped kind start read at_end written bad p)
-    → Ends kind start read at_end h.lines h.given no_closing p.state
-stopped_ends_lines {S} kind start read at_end written bad p h = record {
-  end = p.state;
-  answers = h.answers;
-  whole = h.whole;
-  closes = subst (λ (b : Bool). MatchBool b ((no_closing ≡ no_closing) × (p.state ≡ p.state)) (kind.closes p.state h.given no_closing p.state)) (sym h.malformed) (refl, refl);
-}
-
--- the writer failed after a malformed line
-stop_faults : {S A R : Type 0} (kind : ScriptKind S A R) (start : S) (read : List ℕ) (at_end : Type 0) (written : List ℕ) (bad : MalformedLine) (p : Progress S) (old new : Option (List ℕ)) → AppendsPrefix old new p.text
-    → IsStopped kind start read at_end written bad p → EndsWith kind start read at_end written old new (Err Write) p.state
-stop_faults kind start read at_end written bad p old new prefix k =
-    let all = lines_text kind k.given ++ [] in
-    let text : written ++ p.text ≡ all = k.text ∙ sym (append-nil (lines_text kind k.given)) in
-    (take prefix.0 p.text, prefix.2, (k.lines, k.given, length written + prefix.0, inr (no_closing, stopped_ends_lines kind start read at_end written bad p k, prefix_of written p.text all prefix.0 text)))
-
--- the writer failed, and there was no memory
-halt_faults : {S A R : Type 0} (kind : ScriptKind S A R) (start : S) (read : List ℕ) (at_end : Type 0) (written : List ℕ) (p : Progress S) (old new : Option (List ℕ)) → AppendsPrefix old new p.text
-    → IsHalted kind start read at_end written p → EndsWith kind start read at_end written old new (Err Write) p.state
-halt_faults kind start read at_end written p old new prefix k =
-    (take prefix.0 p.text, prefix.2, (k.lines, k.given, length written + prefix.0, inl (k.broke, prefix_of written p.text (lines_text kind k.given) prefix.0 k.text)))
-
--- a malformed line was read
-pub stops : {S A R : Type 0} (kind : ScriptKind S A R) (start : S) (read : List ℕ) (at_end : Type 0) (written : List ℕ) (bad : MalformedLine) (p : Progress S) (old new : Option (List ℕ)) → Appends old new p.text
-    → IsStopped kind start read at_end written bad p → EndsWith kind start read at_end written old new (Ok (Malformed bad)) p.state
-stops kind start read at_end written bad p old new all k =
-    (p.text, all, (k.lines, k.given, no_closing, stopped_ends_lines kind start read at_end written bad p k, k.text ∙ sym (append-nil (lines_text kind k.given)), (k.malformed, k.wrong)))
-
--- out of memory
-pub halts : {S A R : Type 0} (kind : ScriptKind S A R) (start : S) (read : List ℕ) (at_end : Type 0) (written : List ℕ) (p : Progress S) (old new : Option (List ℕ)) → Appends old new p.text
-    → IsHalted kind start read at_end written p → EndsWith kind start read at_end written old new (Err Memory) p.state
-halts kind start read at_end written p old new all k = (p.text, all, (k.lines, k.given, k.broke, k.text, k.well_formed))
+-- at the end of a run
+pub cut_off : {S A R : Type 0} (kind : ScriptKind S A R) (start : S) (read : List ℕ) (at_end : Type 0) (written : List ℕ) (p : Progress S) (r : Result Flow AllocError) (old new : Option (List ℕ)) → AppendsPrefix old new p.text
+    → IsAtLast kind start read at_end written p r → EndsWith kind start read at_end written old new (Err Write) p.state
+cut_off kind start read at_end written p (Ok flow) old new prefix (lines, given, closing, ends, text, status) =
+    (take prefix.0 p.text, prefix.2, (lines, given, length written + prefix.0, inr (closing, ends, prefix_of written p.text (lines_text kind given ++ closing.text) prefix.0 text)))
+cut_off kind start read at_end written p (Err e) old new prefix (lines, given, broke, text, well_formed) =
+    (take prefix.0 p.text, prefix.2, (lines, given, length written + prefix.0, inl (broke, prefix_of written p.text (lines_text kind given) prefix.0 text)))
 
 -- ---- one read
 
--- the writer failed
 pub turn_faults : {S A R : Type 0} (kind : ScriptKind S A R) (start : S) (read written : List ℕ) (p : Progress S) (r : Result Flow AllocError) (old new : Option (List ℕ)) → AppendsPrefix old new p.text
     → AnswersAs kind start read written p r → EndsWith kind start read ⊥ written old new (Err Write) p.state
-turn_faults kind start read written p (Ok GoesOn) old new prefix k = (
-  take prefix.0 p.text,
-  prefix.2,
-  (
-    k.lines,
-    k.given,
-    length written + prefix.0,
-    inl (record { end = p.state; answers = k.answers; breaks = After k.rest k.begins refl }, prefix_of written p.text (lines_text kind k.given) prefix.0 k.text),
-  ),
-)
-turn_faults kind start read written p (Ok (Stopped bad)) old new prefix k = stop_faults kind start read ⊥ written bad p old new prefix k
-turn_faults kind start read written p (Err e) old new prefix k = halt_faults kind start read ⊥ written p old new prefix k
+turn_faults kind start read written p (Ok GoesOn) old new prefix k =
+    let broke = inl (record { end = p.state; answers = k.answers; breaks = After k.rest k.begins refl }, prefix_of written p.text (lines_text kind k.given) prefix.0 k.text) in
+    (take prefix.0 p.text, prefix.2, (k.lines, k.given, length written + prefix.0, broke))
+turn_faults kind start read written p (Ok (Stopped bad)) old new prefix k = cut_off kind start read ⊥ written p (Ok (Stopped bad)) old new prefix k
+turn_faults kind start read written p (Err e) old new prefix k = cut_off kind start read ⊥ written p (Err e) old new prefix k
 
 -- the run goes on
 turn_goes_on : {S A R : Type 0} (kind : ScriptKind S A R) (start : S) (read written : List ℕ) (s : S) (r q : Running) → IsKeptBeside r q → q.replies.text.items ≡ []
@@ -97,32 +61,12 @@ turn_goes_on kind start read written s r q same none h = record {
 pub turn_answered : {S A R : Type 0} (kind : ScriptKind S A R) (start : S) (read written : List ℕ) (s : S) (r q : Running) (flow : Flow) (old new : Option (List ℕ)) → Appends old new r.replies.text.items
     → IsKeptBeside r q → q.replies.text.items ≡ [] → AnswersAs kind start read written (progress_of s r) (Ok flow) → TurnsTo kind start read written (progress_of s q) old new (Ok flow)
 turn_answered kind start read written s r q GoesOn old new all same none h = (r.replies.text.items, all, turn_goes_on kind start read written s r q same none h, none)
-turn_answered kind start read written s r q (Stopped bad) old new all same none h = stops kind start read ⊥ written bad (progress_of s r) old new all h
+turn_answered kind start read written s r q (Stopped bad) old new all same none h = (r.replies.text.items, all, h)
 
 -- a fault that was passed on
 pub err_is : {T E : Type 0} (r : Result T E) (e : E) → IsErr r × IsErrAnd r (λ x. x ≡ e) → r ≡ Err e
 err_is (Ok x) e h = let none = h.0 in cc
 err_is (Err x) e h = ap Err h.1
-
--- ---- the end of the script
-
-closed_ends_lines : {S A R : Type 0} (kind : ScriptKind S A R) (start : S) (read written : List ℕ) (p : Progress S) (h : HasClosed kind start read written p)
-    → Ends kind start read (Unit {0}) h.lines h.given h.closing p.state
-closed_ends_lines kind start read written p h = record { end = h.end; answers = h.answers; whole = inl (h.all, tt); closes = h.closes }
-
-pub finish_done : {S A R : Type 0} (kind : ScriptKind S A R) (start : S) (read written : List ℕ) (p : Progress S) (refused : Bool) (flow : Flow) (old new : Option (List ℕ)) → Appends old new p.text → refused ≡ p.refused
-    → EndsAs kind start read written p (Ok flow) → EndsWith kind start read (Unit {0}) written old new (Ok (status_after refused flow)) p.state
-finish_done kind start read written p refused GoesOn old new all same k =
-    (p.text, all, (k.lines, k.given, k.closing, closed_ends_lines kind start read written p k, k.text, status_is kind p.state k.lines k.given k.closing refused (same ∙ k.refused) k.well_formed))
-finish_done kind start read written p refused (Stopped bad) old new all same k = stops kind start read (Unit {0}) written bad p old new all k
-
-pub finish_faults : {S A R : Type 0} (kind : ScriptKind S A R) (start : S) (read written : List ℕ) (p : Progress S) (r : Result Flow AllocError) (old new : Option (List ℕ)) → AppendsPrefix old new p.text
-    → EndsAs kind start read written p r → EndsWith kind start read (Unit {0}) written old new (Err Write) p.state
-finish_faults kind start read written p (Ok GoesOn) old new prefix k =
-    let all = lines_text kind k.given ++ k.closing.text in
-    (take prefix.0 p.text, prefix.2, (k.lines, k.given, length written + prefix.0, inr (k.closing, closed_ends_lines kind start read written p k, prefix_of written p.text all prefix.0 k.text)))
-finish_faults kind start read written p (Ok (Stopped bad)) old new prefix k = stop_faults kind start read (Unit {0}) written bad p old new prefix k
-finish_faults kind start read written p (Err e) old new prefix k = halt_faults kind start read (Unit {0}) written p old new prefix k
 
 -- ---- whole runs
 

@@ -2,8 +2,9 @@
 use Rattle.std.specs.Prelude.{◌≡◌, ◌⊎◌, ℕ, Bool, false, List, ◌++◌}
 use Rattle.std.specs.List.{list_any}
 use Rattle.txc_script.specs.Kinds.{ScriptKind, Given, is_malformed}
-use Rattle.txc_script.specs.declared.unread.Unread.{Unread}
-use Rattle.txc_script.specs.declared.unread.Unread.TheVariants.{Malformed, Memory}
+use Rattle.txc_script.specs.Words.{words_of}
+use Rattle.txc_script.specs.declared.unread.Unanswered.{Unanswered}
+use Rattle.txc_script.specs.declared.unread.Unanswered.TheVariants.{Wrong, Memory}
 
 -- the line asks for something, which was done, and what is written of its reply was put after the text
 pub record LineIsAnswered {S A R : Type 0} (kind : ScriptKind S A R) (s : S) (line : List ℕ) (end : S)
@@ -15,10 +16,11 @@ pub record LineIsAnswered {S A R : Type 0} (kind : ScriptKind S A R) (s : S) (li
   pub text : new ≡ old ++ kind.text reply
   pub is_refused : refused ≡ kind.is_refused reply
 
--- the line asks for nothing, and nothing changed; or memory was refused, before anything was done or while it
--- was
-abbrev pub IsUnanswered : {S A R : Type 0} → ScriptKind S A R → S → List ℕ → S → Unread → Type 0
-IsUnanswered {S} {A} {R} kind s line end Malformed = ((asked : A) → kind.asks s line asked → ⊥) × (end ≡ s)
+-- the line asks for nothing, this is wrong with its words, and nothing changed; or memory was refused, before anything
+-- was done or while it was
+abbrev pub IsUnanswered : {S A R : Type 0} → ScriptKind S A R → S → List ℕ → S → Unanswered → Type 0
+IsUnanswered {S} {A} {R} kind s line end (Wrong fault) =
+    ((asked : A) → kind.asks s line asked → ⊥) × (end ≡ s) × kind.is_wrong s (words_of line) fault
 IsUnanswered kind s line end Memory = (end ≡ s) ⊎ kind.breaks_off s line end
 
 -- what comes after lines that left this state was done, whatever they gave, and what is written of it was put

@@ -1,30 +1,26 @@
 -- What is wrong with words, and with the words of a line.
-use Rattle.std.specs.Prelude.{◌≡◌, ◌≢◌, ◌==◌, ◌+◌, ℕ, Bool, false, List, [], ◌∷◌, ◌++◌, Option, Some, None, length, nat_lt, ◌||◌}
-use Rattle.std.specs.List.{list_any, flat_map}
-use Rattle.txc_tags.specs.TextGrammar.{IsLongestPrefix, IsText}
+use Rattle.std.specs.Prelude.{◌≡◌, ◌≢◌, ◌⊎◌, ◌==◌, ◌+◌, ℕ, Bool, false, List, [], ◌∷◌, ◌++◌, Option, Some, None, Result, Ok, Err, ⊤, length, nat_lt, ◌||◌}
+use Rattle.std.specs.List.{list_any}
+use Rattle.txc_tags.specs.TextGrammar.{IsLongestPrefix}
 use Rattle.txc_tags.specs.TextKey.{key_text, IsKeyInRange}
 use Rattle.txc_tags.specs.TextSet.{AreSpeltInRange, spelt_tags_text}
-use Rattle.txc_node.specs.Texts.{digits_of}
 use Rattle.txc_script.specs.Excerpts.{excerpt_of}
-use Rattle.txc_script.specs.Forms.{LineForm, MaySay, kinds_after, word_text}
-use Rattle.txc_script.specs.Hex.{IsBytes, IsHexWord}
+use Rattle.txc_script.specs.Forms.{LineForm, kinds_after}
 use Rattle.txc_script.specs.Lines.{IsPlain}
+use Rattle.txc_script.specs.SaidWords.{IsOfKind, SaysWord}
 use Rattle.txc_script.specs.Words.{words_of}
 use Rattle.txc_script.specs.declared.line_fault.WordKind.{WordKind}
 use Rattle.txc_script.specs.declared.line_fault.WordKind.TheVariants.{Key, Tags}
 use Rattle.txc_script.specs.declared.line_fault.WordFault.{WordFault}
 use Rattle.txc_script.specs.declared.line_fault.CommandFault.{CommandFault}
 use Rattle.txc_script.specs.declared.line_fault.CommandFault.TheVariants.{Unknown, Count, Word}
+use Rattle.txc_script.specs.declared.finding.Unsaid.{Unsaid}
+use Rattle.txc_script.specs.declared.finding.Unsaid.TheVariants as unsaid
+use Rattle.txc_script.specs.declared.said.Said.{Said}
+use Rattle.txc_script.specs.declared.unread.Unanswered.{Unanswered}
+use Rattle.txc_script.specs.declared.unread.Unanswered.TheVariants.{Wrong, Memory}
 
 -- ---- words
-
--- the word is the spelling of some bytes
-abbrev pub IsHex : List ℕ → Type 0
-IsHex word = (value : List ℕ) × IsHexWord word value
-
--- the word is one of this kind
-abbrev pub IsOfKind : WordKind → List ℕ → Type 0
-IsOfKind kind word = IsText (MaySay kind) (word_text kind) word
 
 -- each of the words is of its kind
 abbrev pub AreOfKinds : List WordKind → List (List ℕ) → Type 0
@@ -77,29 +73,31 @@ pub record HasWholeWords (line : List ℕ) : Type 0 where
 
 -- ---- commands
 
--- a line's words are a name, which in a table of forms wants words of these kinds after it, and others
-pub record IsCommand {A : Type 0} (forms : List (LineForm A)) (all words : List (List ℕ)) (kinds : List WordKind)
-    : Type 0 where
-  pub name : List ℕ
-  pub are : all ≡ name ∷ words
-  pub known : kinds_after forms name ≡ Some kinds
+-- what is wrong with words that are to be of these kinds: their number is another; else one is not of its kind
+abbrev pub IsKindsFault : List WordKind → List (List ℕ) → CommandFault → Type 0
+IsKindsFault kinds words (Count wanted given) =
+    (wanted ≡ length kinds) × (given ≡ length words) × (given ≢ wanted)
+IsKindsFault kinds words (Word fault) = (length words ≡ length kinds) × IsBadWord kinds words fault
+IsKindsFault kinds words fault = ⊥
 
--- What is wrong with the words of a line that is of no form of a table. No form has its name; else the number of
--- words is another; else a word is not of its kind.
+-- What is wrong with the words of a line that is of no form of a table: no form has its name; else it is in the words
+-- after that name.
 abbrev pub IsCommandFault : {A : Type 0} → List (LineForm A) → List (List ℕ) → CommandFault → Type 0
-IsCommandFault forms all (Unknown text) =
-    (name : List ℕ) × (words : List (List ℕ)) × (all ≡ name ∷ words) × (kinds_after forms name ≡ None)
-    × (text ≡ excerpt_of name)
-IsCommandFault forms all (Count wanted given) =
-    (words : List (List ℕ)) × (kinds : List WordKind) × IsCommand forms all words kinds
-    × (wanted ≡ length kinds) × (given ≡ length words) × (given ≢ wanted)
-IsCommandFault forms all (Word fault) =
-    (words : List (List ℕ)) × (kinds : List WordKind) × IsCommand forms all words kinds
-    × (length words ≡ length kinds) × IsBadWord kinds words fault
-IsCommandFault forms all fault = ⊥
+IsCommandFault forms all fault =
+    ((name : List ℕ) × (words : List (List ℕ)) × (all ≡ name ∷ words) × (kinds_after forms name ≡ None)
+    × (fault ≡ Unknown (excerpt_of name)))
+    ⊎ ((name : List ℕ) × (words : List (List ℕ)) × (kinds : List WordKind) × (all ≡ name ∷ words)
+    × (kinds_after forms name ≡ Some kinds) × IsKindsFault kinds words fault)
+
+-- what is wrong is this, or a growth was refused
+abbrev pub IsWrong : (CommandFault → Type 0) → Unanswered → Type 0
+IsWrong Is (Wrong fault) = Is fault
+IsWrong Is Memory = ⊤
 
 -- ---- only private functions need this
 
--- the text is the digits of some bytes
-abbrev pub AreDigitsOfBytes : List ℕ → Type 0
-AreDigitsOfBytes text = (value : List ℕ) × IsBytes value × (flat_map digits_of value ≡ text)
+-- the word is of this kind, and a reader gives this; or it is of another, and goes wrong there; or a growth was refused
+abbrev pub IsWordRead : WordKind → List ℕ → Result Said Unsaid → Type 0
+IsWordRead kind word (Ok given) = SaysWord kind word given
+IsWordRead kind word (Err (unsaid.Bad at)) = (IsOfKind kind word → ⊥) × StopsAt kind word at
+IsWordRead kind word (Err unsaid.Memory) = ⊤

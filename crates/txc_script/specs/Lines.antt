@@ -43,17 +43,11 @@ query_named word =
     else (if bytes_eq word (codes "all") then Some queries.All
     else (if bytes_eq word (codes "range") then Some queries.Range else None)))
 
-abbrev pub IsQueryName : List ℕ → Type 0
-IsQueryName word = (name : QueryName) × (query_named word ≡ Some name)
-
 -- the name of a change that the word is
 abbrev pub change_named : List ℕ → Option ChangeName
 change_named word =
     if bytes_eq word (codes "put") then Some changes.Put
     else (if bytes_eq word (codes "remove") then Some changes.Remove else None)
-
-abbrev pub IsChangeName : List ℕ → Type 0
-IsChangeName word = (name : ChangeName) × (change_named word ≡ Some name)
 
 -- tags in any order and with repeats; the set is what adding them one after the other gives
 abbrev pub IsTagsWord : List ℕ → List Tag → Type 0

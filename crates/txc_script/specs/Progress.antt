@@ -1,18 +1,17 @@
 -- Only private functions need this file: a run in progress.
-use Rattle.std.specs.Prelude.{◌≡◌, ◌⊎◌, ◌||◌, ℕ, Bool, true, false, List, [], ◌++◌, Option, Result, Ok, Err, length, take}
+use Rattle.std.specs.Prelude.{◌≡◌, ◌⊎◌, ◌||◌, ℕ, Bool, false, List, [], ◌++◌, Option, Result, Ok, Err, length, take}
 use Rattle.std.specs.List.{list_any}
 use Rattle.std.specs.Io.KnownBytes.{Appends, Keeps}
 use Rattle.std.specs.declared.alloc.AllocError.{AllocError}
-use Rattle.txc_script.specs.Flows.{IsFlowAfter}
-use Rattle.txc_script.specs.Kinds.{ScriptKind, Given, Closing, ClosesScript, EndInFault, Gives, IsWholeScript, is_malformed, is_refused, line_text, lines_text}
+use Rattle.txc_script.specs.Flows.{IsFlowAfter, status_after}
+use Rattle.txc_script.specs.Kinds.{ScriptKind, Given, Gives, is_malformed, is_refused, line_text, lines_text}
 use Rattle.txc_script.specs.Lines.{IsPlain}
-use Rattle.txc_script.specs.Runs.{Answers, BreaksOff, ScriptHasWritten}
+use Rattle.txc_script.specs.Runs.{Answers, ScriptHasWritten}
 use Rattle.txc_script.specs.Script.{BeginsWithLines, HasNoEnd, AreLinesOf}
 use Rattle.txc_script.specs.declared.fault.RunFault.{RunFault}
-use Rattle.txc_script.specs.declared.fault.RunFault.TheVariants.{Write}
+use Rattle.txc_script.specs.declared.fault.RunFault.TheVariants.{Memory, Write}
 use Rattle.txc_script.specs.declared.fault.Status.{Status}
 use Rattle.txc_script.specs.declared.fault.Status.TheVariants as statuses
-use Rattle.txc_script.specs.declared.line_fault.MalformedLine.{MalformedLine}
 use Rattle.txc_script.specs.declared.piece.TheConstants.{MAX_KEPT}
 use Rattle.txc_script.specs.declared.running.Flow.{Flow}
 use Rattle.txc_script.specs.declared.running.Flow.TheVariants.{GoesOn, Stopped}
@@ -70,26 +69,6 @@ pub record HasAnsweredLines {S A R : Type 0} (kind : ScriptKind S A R) (start : 
   pub refused : p.refused ≡ list_any (is_refused kind) given
   pub well_formed : list_any is_malformed given ≡ false
 
--- first lines were answered, and the last of them was malformed, for this fault; or these are all lines
-pub record IsStopped {S A R : Type 0} (kind : ScriptKind S A R) (start : S) (read : List ℕ) (at_end : Type 0)
-    (written : List ℕ) (malformed_line : MalformedLine) (p : Progress S) : Type 0 where
-  pub lines : List (List ℕ)
-  pub given : List (Given A R)
-  pub answers : Answers kind start lines given p.state
-  pub whole : IsWholeScript read at_end lines given
-  pub text : written ++ p.text ≡ lines_text kind given
-  pub malformed : list_any is_malformed given ≡ true
-  pub wrong : EndInFault kind p.state lines malformed_line
-
--- lines were answered, none of them malformed, and the run broke off
-pub record IsHalted {S A R : Type 0} (kind : ScriptKind S A R) (start : S) (read : List ℕ) (at_end : Type 0)
-    (written : List ℕ) (p : Progress S) : Type 0 where
-  pub lines : List (List ℕ)
-  pub given : List (Given A R)
-  pub broke : BreaksOff kind start read at_end lines given p.state
-  pub text : written ++ p.text ≡ lines_text kind given
-  pub well_formed : list_any is_malformed given ≡ false
-
 -- all lines of the script were answered, and none was malformed
 pub record HasLast {S A R : Type 0} (kind : ScriptKind S A R) (start : S) (read written : List ℕ)
     (p : Progress S) : Type 0 where
@@ -101,43 +80,32 @@ pub record HasLast {S A R : Type 0} (kind : ScriptKind S A R) (start : S) (read 
   pub refused : p.refused ≡ list_any (is_refused kind) given
   pub well_formed : list_any is_malformed given ≡ false
 
--- all lines of the script were answered, none of them malformed, and what comes after them was done
-pub record HasClosed {S A R : Type 0} (kind : ScriptKind S A R) (start : S) (read written : List ℕ)
-    (p : Progress S) : Type 0 where
-  pub lines : List (List ℕ)
-  pub given : List (Given A R)
-  pub closing : Closing
-  pub end : S
-  pub answers : Answers kind start lines given end
-  pub all : AreLinesOf read lines
-  pub closes : ClosesScript kind end given closing p.state
-  pub text : written ++ p.text ≡ lines_text kind given ++ closing.text
-  pub refused : p.refused ≡ (list_any (is_refused kind) given || closing.is_refused)
-  pub well_formed : list_any is_malformed given ≡ false
+-- how a run ends in which a refusal was written or none was, and that goes so far and no further
+abbrev pub result_after : Bool → Result Flow AllocError → Result Status RunFault
+result_after refused (Ok flow) = Ok (status_after refused flow)
+result_after refused (Err e) = Err Memory
+
+-- the run is at its end, but that the replies at hand are not written
+abbrev pub IsAtLast : {S A R : Type 0} → ScriptKind S A R → S → List ℕ → Type 0 → List ℕ → Progress S
+    → Result Flow AllocError → Type 0
+IsAtLast kind start read at_end written p r =
+    ScriptHasWritten kind start read at_end (written ++ p.text) (result_after p.refused r) p.state
 
 -- the lines that end in the bytes were answered: the run goes on, or was stopped by a malformed line, or is
 -- out of memory
 abbrev pub AnswersAs : {S A R : Type 0} → ScriptKind S A R → S → List ℕ → List ℕ → Progress S
     → Result Flow AllocError → Type 0
 AnswersAs kind start read written p (Ok GoesOn) = HasAnsweredLines kind start read written p
-AnswersAs kind start read written p (Ok (Stopped malformed)) = IsStopped kind start read ⊥ written malformed p
-AnswersAs kind start read written p (Err e) = IsHalted kind start read ⊥ written p
+AnswersAs kind start read written p (Ok (Stopped bad)) = IsAtLast kind start read ⊥ written p (Ok (Stopped bad))
+AnswersAs kind start read written p (Err e) = IsAtLast kind start read ⊥ written p (Err e)
 
 -- the last line was answered, or was malformed, or the run is out of memory
 abbrev pub AnswersLast : {S A R : Type 0} → ScriptKind S A R → S → List ℕ → List ℕ → Progress S
     → Result Flow AllocError → Type 0
 AnswersLast kind start read written p (Ok GoesOn) = HasLast kind start read written p
-AnswersLast kind start read written p (Ok (Stopped malformed)) =
-    IsStopped kind start read (Unit {0}) written malformed p
-AnswersLast kind start read written p (Err e) = IsHalted kind start read (Unit {0}) written p
-
--- the last line was answered, and what comes after it done; or it was malformed, or the run is out of memory
-abbrev pub EndsAs : {S A R : Type 0} → ScriptKind S A R → S → List ℕ → List ℕ → Progress S
-    → Result Flow AllocError → Type 0
-EndsAs kind start read written p (Ok GoesOn) = HasClosed kind start read written p
-EndsAs kind start read written p (Ok (Stopped malformed)) =
-    IsStopped kind start read (Unit {0}) written malformed p
-EndsAs kind start read written p (Err e) = IsHalted kind start read (Unit {0}) written p
+AnswersLast kind start read written p (Ok (Stopped bad)) =
+    IsAtLast kind start read (Unit {0}) written p (Ok (Stopped bad))
+AnswersLast kind start read written p (Err e) = IsAtLast kind start read (Unit {0}) written p (Err e)
 
 -- all but the replies at hand stay as they were
 pub record IsKeptBeside (old new : Running) : Type 0 where

@@ -1,40 +1,81 @@
--- What words say, as a reader gives it.
-use Rattle.std.specs.Prelude.{◌≡◌, ℕ, List, [], ◌∷◌, Option, Some, Result, Ok, Err}
+-- What words say, by their kinds.
+use Rattle.std.specs.Prelude.{◌≡◌, ℕ, Bool, List, [], ◌∷◌, Some}
 use Rattle.txc_tags.specs.declared.key.TheConstants.{LAST_FUNCTION}
 use Rattle.txc_tags.specs.declared.tag.TheConstants.{LAST_TABLE}
 use Rattle.txc_tags.specs.declared.text.number.TheConstants.{LAST_NUMBER}
-use Rattle.txc_script.specs.LineFaults.{IsOfKind, StopsAt}
-use Rattle.txc_script.specs.Lines.{IsKeyWord, IsNumberWord, IsStampWord, IsTextWord, change_named, query_named}
+use Rattle.txc_tags.specs.Keys.{Call}
+use Rattle.txc_tags.specs.TextGrammar.{IsTextOf}
+use Rattle.txc_tags.specs.TextSet.{AreSpeltInRange, spelt_tags_text}
+use Rattle.txc_tags.specs.TextTag.{SpeltTag}
+use Rattle.txc_script.specs.Hex.{IsHexWord}
+use Rattle.txc_script.specs.Lines.{IsKeyWord, IsNumberWord, IsStampWord, IsTextWord, change_named, query_named, still_text}
 use Rattle.txc_script.specs.declared.line_fault.WordKind.{WordKind}
-use Rattle.txc_script.specs.declared.line_fault.WordKind.TheVariants as word_kinds
+use Rattle.txc_script.specs.declared.line_fault.WordKind.TheVariants as kinds
+use Rattle.txc_script.specs.declared.said.ChangeName.{ChangeName}
+use Rattle.txc_script.specs.declared.said.QueryName.{QueryName}
 use Rattle.txc_script.specs.declared.said.Said.{Said}
 use Rattle.txc_script.specs.declared.said.Said.TheVariants as said
 
--- a word of this kind says this
-abbrev pub SaysWord : WordKind → List ℕ → Said → Type 0
-SaysWord word_kinds.Key word (said.Key key) = IsKeyWord word key
-SaysWord word_kinds.Stamp word (said.Stamp stamp) = IsStampWord word stamp
-SaysWord word_kinds.Table word (said.Table table) = IsNumberWord LAST_TABLE word table
-SaysWord word_kinds.Id word (said.Id id) = IsNumberWord LAST_NUMBER word id
-SaysWord word_kinds.Function word (said.Function function) = IsNumberWord LAST_FUNCTION word function
-SaysWord (word_kinds.Number most) word (said.Number number) = IsNumberWord most word number
-SaysWord (word_kinds.Text most) word (said.Text text) = IsTextWord most text × (word ≡ text)
-SaysWord word_kinds.QueryName word (said.Query name) = query_named word ≡ Some name
-SaysWord word_kinds.ChangeName word (said.Change name) = change_named word ≡ Some name
-SaysWord word_kinds.Reach word said.Other = IsOfKind word_kinds.Reach word
-SaysWord word_kinds.Tags word said.Other = IsOfKind word_kinds.Tags word
-SaysWord word_kinds.Bytes word said.Other = IsOfKind word_kinds.Bytes word
-SaysWord kind word value = ⊥
+-- what words of a kind say
+abbrev pub SaidOf : WordKind → Type 0
+SaidOf kinds.Key = Call
+SaidOf kinds.Reach = Bool
+SaidOf kinds.Tags = List SpeltTag
+SaidOf kinds.Bytes = List ℕ
+SaidOf (kinds.Text most) = List ℕ
+SaidOf kinds.QueryName = QueryName
+SaidOf kinds.ChangeName = ChangeName
+SaidOf kind = ℕ
 
--- each of the words says what is said, by its kind
+-- the word says this
+abbrev pub Means : (kind : WordKind) → List ℕ → SaidOf kind → Type 0
+Means kinds.Key = IsKeyWord
+Means kinds.Stamp = IsStampWord
+Means kinds.Reach = λ word still. word ≡ still_text still
+Means kinds.Tags = IsTextOf AreSpeltInRange spelt_tags_text
+Means kinds.Bytes = IsHexWord
+Means kinds.Table = IsNumberWord LAST_TABLE
+Means kinds.Id = IsNumberWord LAST_NUMBER
+Means kinds.Function = IsNumberWord LAST_FUNCTION
+Means (kinds.Number most) = IsNumberWord most
+Means (kinds.Text most) = λ word text. IsTextWord most text × (word ≡ text)
+Means kinds.QueryName = λ word name. query_named word ≡ Some name
+Means kinds.ChangeName = λ word name. change_named word ≡ Some name
+
+-- the word is one of this kind
+abbrev pub IsOfKind : WordKind → List ℕ → Type 0
+IsOfKind kind word = (value : SaidOf kind) × Means kind word value
+
+-- the word is one of this kind, and a reader gives this
+abbrev pub SaysWord : WordKind → List ℕ → Said → Type 0
+SaysWord kinds.Key word (said.Key key) = IsKeyWord word key
+SaysWord kinds.Stamp word (said.Stamp stamp) = IsStampWord word stamp
+SaysWord kinds.Table word (said.Table table) = IsNumberWord LAST_TABLE word table
+SaysWord kinds.Id word (said.Id id) = IsNumberWord LAST_NUMBER word id
+SaysWord kinds.Function word (said.Function function) = IsNumberWord LAST_FUNCTION word function
+SaysWord (kinds.Number most) word (said.Number number) = IsNumberWord most word number
+SaysWord (kinds.Text most) word (said.Text text) = IsTextWord most text × (word ≡ text)
+SaysWord kinds.QueryName word (said.Query name) = query_named word ≡ Some name
+SaysWord kinds.ChangeName word (said.Change name) = change_named word ≡ Some name
+SaysWord kinds.Reach word said.Other = IsOfKind kinds.Reach word
+SaysWord kinds.Tags word said.Other = IsOfKind kinds.Tags word
+SaysWord kinds.Bytes word said.Other = IsOfKind kinds.Bytes word
+SaysWord kind word given = ⊥
+
+-- each of the words is of its kind, and a reader gives these
 abbrev pub SayAll : List WordKind → List (List ℕ) → List Said → Type 0
 SayAll [] [] [] = Unit {0}
 SayAll (kind ∷ kinds) (word ∷ words) (value ∷ values) = SaysWord kind word value × SayAll kinds words values
 SayAll kinds words values = ⊥
 
--- ---- only private functions need this
+-- what words of these kinds say, each in its place
+abbrev pub AllSaidOf : List WordKind → Type 0
+AllSaidOf [] = Unit {0}
+AllSaidOf (kind ∷ kinds) = SaidOf kind × AllSaidOf kinds
 
--- the word says this; or it is not of this kind, and goes wrong there
-abbrev pub IsWordRead : WordKind → List ℕ → Result Said (Option ℕ) → Type 0
-IsWordRead kind word (Ok value) = SaysWord kind word value
-IsWordRead kind word (Err at) = (IsOfKind kind word → ⊥) × StopsAt kind word at
+-- each of the words says its value
+abbrev pub Mean : (kinds : List WordKind) → List (List ℕ) → AllSaidOf kinds → Type 0
+Mean [] [] values = Unit {0}
+Mean [] (word ∷ words) values = ⊥
+Mean (kind ∷ kinds) [] values = ⊥
+Mean (kind ∷ kinds) (word ∷ words) values = Means kind word values.0 × Mean kinds words values.1

@@ -1,75 +1,62 @@
 //! Finding what is wrong with a malformed line.
-ghost use Rattle.std.specs.Prelude.{◌≡◌, ◌∷◌, ◌↔◌, ℕ, List, IfSome, IfNone, position, length, IsTrue};
+ghost use Rattle.std.specs.Prelude.{◌≡◌, ◌∷◌, ◌↔◌, ℕ, List, position, IsTrue};
 ghost use Rattle.std.specs.List.{list_any};
-ghost use Rattle.txc_script.specs.Kinds.{IsFaultOf, IsMalformed};
-ghost use Rattle.txc_script.specs.Lines.{IsTextWord, change_named, query_named};
-ghost use Rattle.txc_script.specs.Words.{words_of, words_left};
-ghost use Rattle.txc_script.specs.SaidWords.{IsWordRead};
-ghost use Rattle.txc_script.specs.LineFaults.{AreOfKinds, is_foreign, is_empty, kinds_for, IsHex, AreDigitsOfBytes, IsBadWord};
+ghost use Rattle.txc_script.specs.Kinds.{IsFaultOf};
+ghost use Rattle.txc_script.specs.Lines.{IsPlain, IsTextWord, change_named, query_named};
+ghost use Rattle.txc_script.specs.Words.{words_of};
+ghost use Rattle.txc_script.specs.LineFaults.{is_foreign, is_empty, kinds_for, IsWordRead};
 
-use crate::excerpt::Excerpt;
-use crate::hex::read_byte;
+use crate::hex::read_hex;
 use crate::kind::Script;
 use crate::line::MAX_LINE_LEN;
-use crate::line_fault::{LineFault, WordFault, WordKind};
+use crate::line_fault::{CommandFault, LineFault, WordKind};
 use crate::said::{ChangeName, QueryName, Said, TextWord};
+use crate::unread::Unread;
 use crate::word::{read_function, read_id, read_stamp, read_still, read_table};
-use crate::words::{WordsLeft, all_words, count_words};
+use crate::words::{all_words, count_words};
 use std::alloc::Global;
 use txc_tags::{Key, SetError, TagSet, read_number};
 
-/// Whether the text is digits in pairs.
-fn are_digits(text: &[u8]) -> bool
-    ensures { IsTrue result ↔ AreDigitsOfBytes text.now }
-{
-    let mut rest = text;
-    'digits: loop {
-        match rest {
-            [] => return true,
-            [_] => return false,
-            [high, low, after @ ..] => {
-                match read_byte(*high, *low) {
-                    None => return false,
-                    Some(_) => rest = after,
-                }
-            }
-        }
-    }
+/// Why a word says nothing of its kind.
+#[derive(Debug, Drop)]
+pub enum Unsaid {
+    /// It is of another; where a key or tags go wrong.
+    Bad(Option<usize>),
+    /// A growth was refused.
+    Memory,
 }
 
-/// Whether the word is the spelling of bytes. It takes no memory.
-fn is_hex(word: &[u8]) -> bool
-    ensures { IsTrue result ↔ IsHex word.now }
-{
-    if word == b"-".as_slice() {
-        return true;
-    }
-    if word.is_empty() {
-        return false;
-    }
-    are_digits(word)
-}
-
-/// The key that the word is; if it is none, where it goes wrong.
-fn read_key(word: &[u8]) -> Result<Said<'_>, Option<usize>>
+/// The key that the word is.
+fn read_key(word: &[u8]) -> Result<Said<'_>, Unsaid>
     ensures { IsWordRead WordKind.Key word.now result }
 {
     match Key::read(word) {
         Ok(key) => Ok(Said::Key(key)),
-        Err(bad) => Err(Some(bad.at)),
+        Err(bad) => Err(Unsaid::Bad(Some(bad.at))),
     }
 }
 
-/// Whether the word is tags; if not, where it goes wrong.
-fn test_tags(alloc: Global, word: &[u8]) -> Result<Said<'_>, Option<usize>>
+/// Whether the word is tags.
+fn test_tags(alloc: Global, word: &[u8]) -> Result<Said<'_>, Unsaid>
     ensures { IsWordRead WordKind.Tags word.now result }
 {
     match TagSet::read(alloc, word) {
         Ok(_) => Ok(Said::Other),
-        Err(SetError::BadTag(bad)) => Err(Some(bad.at)),
-        // Memory is refused only for a word that is tags.
-        Err(SetError::Memory(_)) => Ok(Said::Other),
+        Err(SetError::BadTag(bad)) => Err(Unsaid::Bad(Some(bad.at))),
+        Err(SetError::Memory(_)) => Err(Unsaid::Memory),
     }
+}
+
+/// Whether the word is the spelling of bytes.
+fn test_bytes(alloc: Global, word: &[u8]) -> Result<Said<'_>, Unsaid>
+    ensures { IsWordRead WordKind.Bytes word.now result }
+{
+    let _bytes = match read_hex(alloc, word) {
+        Ok(bytes) => bytes,
+        Err(Unread::Malformed) => return Err(Unsaid::Bad(None)),
+        Err(Unread::Memory) => return Err(Unsaid::Memory),
+    };
+    Ok(Said::Other)
 }
 
 /// Whether the word has at most so many bytes, each of which prints.
@@ -114,48 +101,47 @@ pub fn change_name(word: &[u8]) -> Option<ChangeName>
     None
 }
 
-/// What the word says, if it is of its kind; if not, where a key or tags go wrong.
-pub fn read_word(alloc: Global, kind: WordKind, word: &[u8]) -> Result<Said<'_>, Option<usize>>
+/// What the word says, if it is of its kind.
+pub fn read_word(alloc: Global, kind: WordKind, word: &[u8]) -> Result<Said<'_>, Unsaid>
     ensures { IsWordRead kind word.now result }
 {
     match kind {
         WordKind::Key => read_key(word),
         WordKind::Tags => test_tags(alloc, word),
+        WordKind::Bytes => test_bytes(alloc, word),
         WordKind::Stamp => match read_stamp(word) {
             Ok(stamp) => Ok(Said::Stamp(stamp)),
-            Err(_) => Err(None),
+            Err(_) => Err(Unsaid::Bad(None)),
         },
         WordKind::Reach => match read_still(word) {
             Ok(_) => Ok(Said::Other),
-            Err(_) => Err(None),
+            Err(_) => Err(Unsaid::Bad(None)),
         },
         WordKind::Table => match read_table(word) {
             Ok(table) => Ok(Said::Table(table)),
-            Err(_) => Err(None),
+            Err(_) => Err(Unsaid::Bad(None)),
         },
         WordKind::Id => match read_id(word) {
             Ok(id) => Ok(Said::Id(id)),
-            Err(_) => Err(None),
+            Err(_) => Err(Unsaid::Bad(None)),
         },
         WordKind::Function => match read_function(word) {
             Ok(function) => Ok(Said::Function(function)),
-            Err(_) => Err(None),
+            Err(_) => Err(Unsaid::Bad(None)),
         },
         WordKind::Number(most) => match read_number(word, most) {
             Some(number) => Ok(Said::Number(number)),
-            None => Err(None),
+            None => Err(Unsaid::Bad(None)),
         },
-        WordKind::Bytes if is_hex(word) => Ok(Said::Other),
-        WordKind::Bytes => Err(None),
         WordKind::Text(most) if is_text(most, word) => Ok(Said::Text(TextWord::new(word))),
-        WordKind::Text(_) => Err(None),
+        WordKind::Text(_) => Err(Unsaid::Bad(None)),
         WordKind::QueryName => match query_name(word) {
             Some(name) => Ok(Said::Query(name)),
-            None => Err(None),
+            None => Err(Unsaid::Bad(None)),
         },
         WordKind::ChangeName => match change_name(word) {
             Some(name) => Ok(Said::Change(name)),
-            None => Err(None),
+            None => Err(Unsaid::Bad(None)),
         },
     }
 }
@@ -169,48 +155,6 @@ pub fn next_kind(kinds: &[WordKind], other: WordKind) -> (WordKind, &[WordKind])
         Some((kind, after)) => (*kind, after),
         None => (other, kinds),
     }
-}
-
-/// The first of the words, of which there are so many, that is not of its kind. The kinds are these, and then the
-/// other one.
-pub fn bad_word_of(
-    alloc: Global,
-    kinds: &[WordKind],
-    other: WordKind,
-    words: WordsLeft<'_>,
-    count: usize,
-) -> Option<WordFault>
-    requires { length (words_left words) ≡ count }
-    ensures answer { IfSome result (IsBadWord (kinds_for kinds.now other (words_left words.entry))
-        (words_left words.entry)) }
-    ensures refused { IfNone result (AreOfKinds (kinds_for kinds.now other (words_left words.entry))
-        (words_left words.entry)) }
-{
-    let mut left = words;
-    let mut rest = kinds;
-    for before in 0..count {
-        let (kind, after) = next_kind(rest, other);
-        let word = left.next();
-        if let Err(at) = read_word(alloc, kind, word) {
-            return Some(WordFault {
-                number: before + 1,
-                kind,
-                at,
-                text: Excerpt::new(word),
-            });
-        }
-        rest = after;
-    }
-    None
-}
-
-/// The first of the words that is not of its kind.
-pub fn bad_word(alloc: Global, kinds: &[WordKind], words: WordsLeft<'_>) -> Option<WordFault>
-    requires { length (words_left words) ≡ length kinds.now }
-    ensures answer { IfSome result (IsBadWord kinds.now (words_left words.entry)) }
-    ensures refused { IfNone result (AreOfKinds kinds.now (words_left words.entry)) }
-{
-    bad_word_of(alloc, kinds, WordKind::Key, words, kinds.len())
 }
 
 /// The place of the first byte that no line may have.
@@ -233,19 +177,33 @@ fn has_empty_word(line: &[u8]) -> bool
     false
 }
 
-/// What is wrong with a line that is malformed in a state. Where memory is refused the answer is the same.
-pub fn find_fault<K: Script>(alloc: Global, kind: &K, state: &K::State, line: &[u8]) -> LineFault
-    requires { IsMalformed (K.kind kind.now) state.now line.now }
+/// What is wrong with a line whose bytes are not as they may be.
+pub fn bad_bytes<K: Script>(kind: &K, state: &K::State, line: &[u8]) -> LineFault
+    requires { IsPlain line.now → ⊥ }
     ensures { IsFaultOf (K.kind kind.now) state.now line.now result }
 {
     if line.len() > MAX_LINE_LEN {
         return LineFault::TooLong;
     }
-    if let Some(at) = foreign_at(line) {
-        return LineFault::Byte { at, byte: line[at] };
+    match foreign_at(line) {
+        Some(at) => LineFault::Byte { at, byte: line[at] },
+        None => unreachable!(),
     }
+}
+
+/// What is wrong with a line of whose words this is: that a word is empty is told first.
+pub fn bad_words<K: Script>(
+    kind: &K,
+    state: &K::State,
+    line: &[u8],
+    fault: CommandFault,
+) -> LineFault
+    requires plain { IsPlain line.now }
+    requires wrong { (K.kind kind.now).is_wrong state.now (words_of line.now) fault }
+    ensures { IsFaultOf (K.kind kind.now) state.now line.now result }
+{
     if has_empty_word(line) {
         return LineFault::Blanks;
     }
-    LineFault::Command(kind.find_fault(alloc, state, line))
+    LineFault::Command(fault)
 }

@@ -39,7 +39,7 @@ fn digit_value(digit: u8) -> Option<u8>
 
 /// The byte of two digits.
 #[inline(always)]
-pub fn read_byte(high: u8, low: u8) -> Option<u8>
+fn read_byte(high: u8, low: u8) -> Option<u8>
     ensures answer { IfSome result (λ b. (b < 256) × (digits_of b ≡ high ∷ low ∷ [])) }
     ensures refused { IfNone result ((b : ℕ) → b < 256 → digits_of b ≡ high ∷ low ∷ [] → ⊥) }
 {

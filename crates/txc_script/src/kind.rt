@@ -3,12 +3,9 @@ ghost use Rattle.std.specs.Prelude.{◌≡◌, false, List, ◌++◌, IfOk, IfEr
 ghost use Rattle.std.specs.List.{list_any};
 ghost use Rattle.txc_script.specs.Kinds.{ScriptKind, Given, is_malformed};
 ghost use Rattle.txc_script.specs.Answers.{LineIsAnswered, IsUnanswered, IsClosed};
-ghost use Rattle.txc_script.specs.LineFaults.{HasWholeWords};
 ghost use Rattle.txc_script.specs.Lines.{IsPlain};
-ghost use Rattle.txc_script.specs.Words.{words_of};
 
-use crate::line_fault::CommandFault;
-use crate::unread::Unread;
+use crate::unread::Unanswered;
 use std::alloc::{AllocError, Global};
 
 /// A kind of script: how a run of one answers its lines. The value is what all lines of a run share.
@@ -24,27 +21,20 @@ pub trait Script {
     ghost kind: { Self → ScriptKind Self.State Self.Asked Self.Reply };
 
     /// Does what a line asks for that is neither empty nor a comment, and puts what is written of the reply
-    /// after the text. Returns whether that holds a refusal. Out of memory, what the line asks for may be done
-    /// in part.
+    /// after the text. Returns whether that holds a refusal; of a line that asks for nothing, what is wrong with its
+    /// words. Out of memory, what the line asks for may be done in part.
     fn answer(
         &self,
         alloc: Global,
         state: &mut Self::State,
         line: &[u8],
         text: &mut Vec<u8>,
-    ) -> Result<bool, Unread>
+    ) -> Result<bool, Unanswered>
         requires { IsPlain line.now }
         ensures answered { IfOk result (LineIsAnswered (kind self.now) state.old line.now state.new
             text.old.items text.new.items) }
         ensures refused { IfErr result (IsUnanswered (kind self.now) state.old line.now state.new) }
         ensures unchanged { OnErr result (text.new.items ≡ text.old.items) };
-
-    /// What is wrong with the words of a line that asks for nothing in a state. Where memory is refused the
-    /// answer is the same.
-    fn find_fault(&self, alloc: Global, state: &Self::State, line: &[u8]) -> CommandFault
-        requires whole { HasWholeWords line.now }
-        requires asks_nothing { (asked : Self.Asked) → (kind self.now).asks state.now line.now asked → ⊥ }
-        ensures { (kind self.now).is_wrong state.now (words_of line.now) result };
 
     /// Does what comes after all lines, none of which was malformed, and puts what is written of it after the
     /// text. Returns whether that holds a refusal.

@@ -24,18 +24,18 @@ mod writer;
 
 pub use excerpt::{Excerpt, MAX_SHOWN};
 pub use fault::{RunFault, Status, exit_of};
-pub use finding::{bad_word, bad_word_of, change_name, query_name};
+pub use finding::{change_name, query_name};
 pub use function_line::FunctionLine;
 pub use function_number::FunctionNumber;
 pub use hex::read_hex;
 pub use kind::Script;
 pub use line::MAX_LINE_LEN;
 pub use line_fault::{CommandFault, LineFault, MalformedLine, WordFault, WordKind};
-pub use reading::read_words;
+pub use reading::{read_each, read_words};
 pub use reads::MAX_READS;
 pub use run::run_script;
 pub use said::{ChangeName, QueryName, Said, TextWord};
-pub use unread::{Malformed, Unread};
+pub use unread::{Malformed, Unanswered, Unread};
 pub use word::{read_stamp, read_still, read_tags};
 pub use words::{
     WordsLeft, all_words, count_words, first_word, one_word, six_words, three_words, two_words,

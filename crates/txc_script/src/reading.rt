@@ -1,41 +1,71 @@
 //! Reading what the words of a line say.
 ghost use Rattle.std.specs.Prelude.{◌≡◌, IfOk, IfErr, length};
-ghost use Rattle.txc_script.specs.LineFaults.{kinds_for};
+ghost use Rattle.txc_script.specs.LineFaults.{kinds_for, IsKindsFault, IsWrong};
 ghost use Rattle.txc_script.specs.SaidWords.{SayAll};
-ghost use Rattle.txc_script.specs.Unread.{IsNone};
 ghost use Rattle.txc_script.specs.Words.{words_left};
 
-use crate::finding::{next_kind, read_word};
-use crate::line_fault::WordKind;
+use crate::excerpt::Excerpt;
+use crate::finding::{Unsaid, next_kind, read_word};
+use crate::line_fault::{CommandFault, WordFault, WordKind};
 use crate::said::Said;
-use crate::unread::Unread;
+use crate::unread::Unanswered;
 use crate::words::WordsLeft;
 use std::alloc::Global;
 
-/// What the words say, of which there are so many, each by its kind. The kinds are these, and then the other one.
-pub fn read_words<'a>(
+/// What the words say, of which there are so many, each by its kind; or the first that is not of its kind. The kinds are
+/// these, and then the other one.
+pub fn read_each<'a>(
     alloc: Global,
     kinds: &[WordKind],
     other: WordKind,
     words: WordsLeft<'a>,
     count: usize,
-) -> Result<Vec<Said<'a>>, Unread>
+) -> Result<Vec<Said<'a>>, Unanswered>
     requires { length (words_left words) ≡ count }
     ensures answer { IfOk result (λ said. SayAll (kinds_for kinds.now other (words_left words.entry))
         (words_left words.entry) said.items) }
-    ensures refused { IfErr result (IsNone (SayAll (kinds_for kinds.now other (words_left words.entry))
+    ensures refused { IfErr result (IsWrong (IsKindsFault (kinds_for kinds.now other (words_left words.entry))
         (words_left words.entry))) }
 {
     let mut said = Vec::with_capacity(alloc, count)?;
     let mut left = words;
     let mut rest = kinds;
-    for _ in 0..count {
+    for before in 0..count {
         let (kind, after) = next_kind(rest, other);
-        match read_word(alloc, kind, left.next()) {
+        let word = left.next();
+        match read_word(alloc, kind, word) {
             Ok(value) => said.push_reserved(value),
-            Err(_) => return Err(Unread::Malformed),
+            Err(Unsaid::Memory) => return Err(Unanswered::Memory),
+            Err(Unsaid::Bad(at)) => {
+                return Err(Unanswered::Wrong(CommandFault::Word(WordFault {
+                    number: before + 1,
+                    kind,
+                    at,
+                    text: Excerpt::new(word),
+                })));
+            }
         }
         rest = after;
     }
     Ok(said)
+}
+
+/// What the words say, of which there are so many, each by its kind; or what is wrong with them.
+pub fn read_words<'a>(
+    alloc: Global,
+    kinds: &[WordKind],
+    words: WordsLeft<'a>,
+    count: usize,
+) -> Result<Vec<Said<'a>>, Unanswered>
+    requires { length (words_left words) ≡ count }
+    ensures answer { IfOk result (λ said. SayAll kinds.now (words_left words.entry) said.items) }
+    ensures refused { IfErr result (IsWrong (IsKindsFault kinds.now (words_left words.entry))) }
+{
+    if count != kinds.len() {
+        return Err(Unanswered::Wrong(CommandFault::Count {
+            wanted: kinds.len(),
+            given: count,
+        }));
+    }
+    read_each(alloc, kinds, WordKind::Key, words, count)
 }

@@ -2,19 +2,19 @@
 ghost use Rattle.std.specs.Prelude.{◌≡◌, true, false, ℕ, ◌+◌, ◌^◌, ◌<◌, ◌≤◌, List, [], ◌∷◌, ◌++◌, length, take, Err, IfOk, OnOk, OnErr};
 ghost use Rattle.std.specs.Io.KnownBytes.{Appends};
 ghost use Rattle.txc_script.specs.Script.{HasNoEnd};
-ghost use Rattle.txc_script.specs.Kinds.{IsMalformed, malformed_text};
+ghost use Rattle.txc_script.specs.Kinds.{IsFaultOf, malformed_text};
 ghost use Rattle.txc_script.specs.Lines.{ArePlain};
 ghost use Rattle.txc_script.specs.Written.{AppendsPrefix};
 ghost use Rattle.txc_script.specs.Flows.{IsStoppedAt, status_after};
-ghost use Rattle.txc_script.specs.Progress.{progress_of, AnswersAs, AnswersLast, AnswersLine, EndsAs, HasAnsweredLines, HasLast, IsKeptBeside, MayBreakOff};
+ghost use Rattle.txc_script.specs.Progress.{progress_of, AnswersAs, AnswersLast, AnswersLine, HasAnsweredLines, HasLast, IsAtLast, IsKeptBeside, MayBreakOff};
 
 use crate::fault::{RunFault, Status};
-use crate::finding::find_fault;
+use crate::finding::{bad_bytes, bad_words};
 use crate::kind::Script;
 use crate::line::{is_plain, is_quiet};
-use crate::line_fault::MalformedLine;
+use crate::line_fault::{LineFault, MalformedLine};
 use crate::piece::{LineStart, MAX_KEPT, cut_line};
-use crate::unread::Unread;
+use crate::unread::Unanswered;
 use crate::writer::write_text;
 use std::alloc::{AllocError, Global};
 use std::io::Write;
@@ -47,23 +47,7 @@ pub struct Running {
     replies: Replies,
 }
 
-impl Replies {
-    /// Takes a malformed line.
-    #[cold]
-    #[inline(never)]
-    fn take_malformed(&mut self, alloc: Global, number: u64) -> Result<(), AllocError>
-        ensures text { OnOk result (self.new.text.items ≡ self.old.text.items ++ malformed_text number) }
-        ensures refused { OnOk result (self.new.is_refused ≡ true) }
-        ensures unchanged { OnErr result (self.new.text.items ≡ self.old.text.items) }
-    {
-        let line = format!(in alloc; "line {number}: malformed\n")?;
-        self.text.extend_from_slice(line.as_bytes())?;
-        self.is_refused = true;
-        Ok(())
-    }
-}
-
-/// Answers a line that is malformed in this state, and has this number.
+/// Answers a line with which this is wrong in this state, and which has this number.
 #[cold]
 #[inline(never)]
 fn answer_malformed<K: Script>(
@@ -73,15 +57,17 @@ fn answer_malformed<K: Script>(
     replies: &mut Replies,
     number: u64,
     line: &[u8],
+    fault: LineFault,
 ) -> Result<Flow, AllocError>
-    requires { IsMalformed (K.kind kind.now) state.now line.now }
+    requires { IsFaultOf (K.kind kind.now) state.now line.now fault }
     ensures stopped { IfOk result (IsStoppedAt (K.kind kind.now) state.now number line.now) }
     ensures text { OnOk result (replies.new.text.items ≡ replies.old.text.items ++ malformed_text number) }
     ensures refused { OnOk result (replies.new.is_refused ≡ true) }
     ensures unchanged { OnErr result (replies.new.text.items ≡ replies.old.text.items) }
 {
-    let fault = find_fault(alloc, kind, state, line);
-    replies.take_malformed(alloc, number)?;
+    let text = format!(in alloc; "line {number}: malformed\n")?;
+    replies.text.extend_from_slice(text.as_bytes())?;
+    replies.is_refused = true;
     Ok(Flow::Stopped(MalformedLine { number, fault }))
 }
 
@@ -102,7 +88,8 @@ fn answer<K: Script>(
     ensures unchanged { OnErr result (replies.new.text.items ≡ replies.old.text.items) }
 {
     if !is_plain(line, known_plain) {
-        return answer_malformed(alloc, kind, state, replies, number, line);
+        let fault = bad_bytes(kind, state, line);
+        return answer_malformed(alloc, kind, state, replies, number, line, fault);
     }
     if is_quiet(line) {
         return Ok(Flow::GoesOn);
@@ -112,8 +99,11 @@ fn answer<K: Script>(
             replies.is_refused |= is_refused;
             Ok(Flow::GoesOn)
         }
-        Err(Unread::Malformed) => answer_malformed(alloc, kind, state, replies, number, line),
-        Err(Unread::Memory) => Err(AllocError),
+        Err(Unanswered::Wrong(fault)) => {
+            let fault = bad_words(kind, state, line, fault);
+            answer_malformed(alloc, kind, state, replies, number, line, fault)
+        }
+        Err(Unanswered::Memory) => Err(AllocError),
     }
 }
 
@@ -308,7 +298,7 @@ impl Running {
     ) -> Result<Flow, AllocError>
         ensures { (start : K.State) (read written : List ℕ)
             → HasLast (K.kind kind.now) start read written (progress_of state.old self.old)
-            → EndsAs (K.kind kind.now) start read written (progress_of state.new self.new) result }
+            → IsAtLast (K.kind kind.now) start read (Unit {0}) written (progress_of state.new self.new) result }
     {
         match kind.close(alloc, state, &mut self.replies.text) {
             Ok(is_refused) => {
@@ -329,7 +319,7 @@ impl Running {
         requires { self.old.lines + 1 < 2 ^ 64 }
         ensures { (start : K.State) (read written : List ℕ)
             → HasAnsweredLines (K.kind kind.now) start read written (progress_of state.old self.old)
-            → EndsAs (K.kind kind.now) start read written (progress_of state.new self.new) result }
+            → IsAtLast (K.kind kind.now) start read (Unit {0}) written (progress_of state.new self.new) result }
     {
         match self.answer_last(alloc, kind, state) {
             Ok(Flow::GoesOn) => self.close(alloc, kind, state),

@@ -1,4 +1,3 @@
 pub mod Names
-pub mod KnownKinds
 pub mod Meant
 pub mod Offered

@@ -1,13 +1,12 @@
 -- Words that are of the kinds that a line's name wants say what they are to say.
-use Rattle.std.proofs.Common.{◌≡◌, ℕ, List, [], ◌∷◌, Option, Some, None, Result, Ok, Err, IfErr, get_or, length, ◌≤◌, arith, refl, sym, ap, subst, ◌∙◌}
-use Rattle.std.specs.Prelude.{IfOk, option_map}
-use Rattle.txc_script.specs.Unread.{IsNone}
-use Rattle.txc_script.specs.declared.unread.Unread.{Unread}
-use Rattle.txc_script.specs.declared.unread.Unread.TheVariants as reasons
+use Rattle.std.proofs.Common.{◌≡◌, ℕ, List, [], ◌∷◌, Option, Some, None, get_or, length, take, ◌≤◌, arith, refl, sym, ap, subst, ◌∙◌}
+use Rattle.std.specs.Prelude.{option_map, MatchOption}
 use Rattle.txc_rows.specs.Values.{IsBody}
 use Rattle.txc_rows.specs.declared.row.TheConstants.{MAX_BODY_LEN}
 use Rattle.txc_script.specs.Lines.{change_named, query_named}
-use Rattle.txc_script.specs.SaidWords.{SayAll, SaysWord}
+use Rattle.txc_script.specs.LineFaults.{IsKindsFault}
+use Rattle.txc_script.specs.SaidWords.{AllSaidOf, Mean, SaidOf, SayAll, SaysWord}
+use Rattle.txc_script.specs.declared.line_fault.CommandFault.{CommandFault}
 use Rattle.txc_script.specs.declared.line_fault.WordKind.{WordKind}
 use Rattle.txc_script.specs.declared.line_fault.WordKind.TheVariants as word_kinds
 use Rattle.txc_script.specs.declared.said.ChangeName.{ChangeName}
@@ -16,10 +15,11 @@ use Rattle.txc_script.specs.declared.said.QueryName.{QueryName}
 use Rattle.txc_script.specs.declared.said.QueryName.TheVariants.{ById, ByGroup, All, Range}
 use Rattle.txc_script.specs.declared.said.Said.{Said}
 use Rattle.txc_script.specs.declared.said.Said.TheVariants as said
-use Rattle.txc_script.proofs.Offered.{AllSaidOf, SaidOf, all_said_by, said_by, say_by, says_by}
-use Rattle.txc_words.specs.Faults.{kinds_of_change, kinds_of_query, change_line, kinds_after_name, place, query_line, second_of}
+use Rattle.txc_script.proofs.Offered.{all_said_by, meant, none_wrong, said_by, said_of}
+use Rattle.txc_words.specs.Faults.{IsFaultAfter, IsUnkindFault, first_kinds, kinds_of_change, kinds_of_query, change_line, kinds_after_name, place, query_line, second_of}
 use Rattle.txc_words.specs.Said.{AreBodies, SaysAfter, change_said, query_said}
 use Rattle.txc_words.specs.declared.name.LineName.{LineName}
+use Rattle.txc_words.specs.declared.name.LineName.TheVariants as names
 
 pub same_some : {X : Type 0} (x y : X) → Some x ≡ Some y → x ≡ y
 same_some x y e = cc
@@ -27,15 +27,32 @@ same_some x y e = cc
 pub none_some : {X : Type 0} (x : X) → Some x ≡ None → ⊥
 none_some x e = cc
 
--- what is refused is refused of what is like it, and what is answered holds of it
-pub none_as : {T V W : Type 0} (r : Result T Unread) (Is : V → Type 0) (Js : W → Type 0) → IfErr r (IsNone Is) → ((w : W) → Js w → (v : V) × Is v) → IfErr r (IsNone Js)
-none_as (Ok x) Is Js h there = tt
-none_as (Err reasons.Malformed) Is Js h there = λ w js. h (there w js).0 (there w js).1
-none_as (Err reasons.Memory) Is Js h there = tt
+pub none_mapped : {X Y : Type 0} (f : X → Y) (o : Option X) → option_map f o ≡ None → o ≡ None
+none_mapped f None e = refl
+none_mapped f (Some x) e = absurd (none_some (f x) e)
 
-pub ok_as : {T E : Type 0} (r : Result T E) (Is Js : T → Type 0) → IfOk r Is → ((x : T) → Is x → Js x) → IfOk r Js
-ok_as (Ok x) Is Js h there = there x h
-ok_as (Err e) Is Js h there = tt
+-- nothing is wrong with words that say what they are to say
+pub none_after : (name : LineName) (words : List (List ℕ)) (fault : CommandFault) (values : List Said) → IsFaultAfter name words fault → SaysAfter name words values → ⊥
+none_after name words fault values h k =
+    none_wrong k.kinds words fault values (subst (λ (o : Option (List WordKind)). MatchOption o (IsUnkindFault name words fault) (λ kinds. IsKindsFault kinds words fault)) k.known h) k.say
+
+-- ---- a second word that names no query and no change
+
+no_query : (first : WordKind) (words : List (List ℕ)) (all : AllSaidOf (first ∷ word_kinds.QueryName ∷ [])) → query_line first (second_of words) ≡ None → Mean (first ∷ word_kinds.QueryName ∷ []) (take 2 words) all → ⊥
+no_query first [] all none h = h
+no_query first (a ∷ []) all none h = h.1
+no_query first (a ∷ b ∷ words) all none h = none_some all.1.0 (sym h.1.0 ∙ none_mapped (λ name. first ∷ word_kinds.QueryName ∷ kinds_of_query name) (query_named b) none)
+
+no_change : (words : List (List ℕ)) (all : AllSaidOf (place ∷ word_kinds.ChangeName ∷ [])) → change_line (second_of words) ≡ None → Mean (place ∷ word_kinds.ChangeName ∷ []) (take 2 words) all → ⊥
+no_change [] all none h = h
+no_change (a ∷ []) all none h = h.1
+no_change (a ∷ b ∷ words) all none h = none_some all.1.0 (sym h.1.0 ∙ none_mapped (λ name. place ∷ word_kinds.ChangeName ∷ kinds_of_change name) (change_named b) none)
+
+pub none_unkind : (name : LineName) (words : List (List ℕ)) (all : AllSaidOf (first_kinds name)) → kinds_after_name name (second_of words) ≡ None → Mean (first_kinds name) (take 2 words) all → ⊥
+none_unkind names.Query words all none h = no_query word_kinds.Stamp words all none h
+none_unkind names.Ask words all none h = no_query place words all none h
+none_unkind names.Write words all none h = no_change words all none h
+none_unkind name words all none h = none_some _ none
 
 -- ---- texts
 
@@ -91,8 +108,8 @@ change_by Remove all e = none_some _ e
 
 pub change_there : (name : ChangeName) (words : List (List ℕ)) (values : List Said) → SayAll (kinds_of_change name) words values → change_said name values ≡ None → ⊥
 change_there name words values h none =
-    let by = say_by (kinds_of_change name) words values h in
-    change_by name by.0 (ap (change_said name) (sym by.1) ∙ none)
+    let by = said_of (kinds_of_change name) words values h in
+    change_by name by.0 (ap (change_said name) (sym by.2) ∙ none)
 
 -- the change of a line of one's own
 pub own_change : (line : LineName) (name : ChangeName) (words : List (List ℕ)) (values : List Said) → kinds_after_name line (second_of words) ≡ Some (kinds_of_change name) → SaysAfter line words values → SayAll (kinds_of_change name) words values
@@ -125,8 +142,8 @@ change_in name (a ∷ []) values e h = absurd (none_some name (sym e))
 change_in name (a ∷ b ∷ words) [] e h = absurd h
 change_in name (a ∷ b ∷ words) (x ∷ []) e h = absurd h.1
 change_in name (a ∷ b ∷ words) (x ∷ y ∷ rest) e h =
-    let first = says_by place a x h.0 in
-    record { actor = first.0; name = name; words = words; rest = rest; are = pair_are x y (said.Number first.0) (said.Change name) rest first.1 (change_is b y name h.1.0 e); say = h.1.1 }
+    let first = meant place a x h.0 in
+    record { actor = first.0; name = name; words = words; rest = rest; are = pair_are x y (said.Number first.0) (said.Change name) rest first.2 (change_is b y name h.1.0 e); say = h.1.1 }
 
 pub has_change : (words : List (List ℕ)) (values : List Said) (kinds : List WordKind) → change_line (second_of words) ≡ Some kinds → SayAll kinds words values → HasChange values
 has_change words values kinds e h =
@@ -160,8 +177,8 @@ pub record HasQuery (first : WordKind) (values : List Said) : Type 0 where
 
 query_rest : (first : WordKind) (head : SaidOf first) (name : QueryName) (words : List (List ℕ)) (x y : Said) (rest : List Said) → x ≡ said_by first head → y ≡ said.Query name → SayAll (kinds_of_query name) words rest → HasQuery first (x ∷ y ∷ rest)
 query_rest first head name words x y rest e f h =
-    let by = say_by (kinds_of_query name) words rest h in
-    let tail : y ∷ rest ≡ said.Query name ∷ all_said_by (kinds_of_query name) by.0 = ap (λ (v : Said). v ∷ rest) f ∙ ap (λ (vs : List Said). said.Query name ∷ vs) by.1 in
+    let by = said_of (kinds_of_query name) words rest h in
+    let tail : y ∷ rest ≡ said.Query name ∷ all_said_by (kinds_of_query name) by.0 = ap (λ (v : Said). v ∷ rest) f ∙ ap (λ (vs : List Said). said.Query name ∷ vs) by.2 in
     record {
       head = head;
       rest = said.Query name ∷ all_said_by (kinds_of_query name) by.0;
@@ -176,8 +193,8 @@ query_in first name (a ∷ []) values e h = absurd (none_some name (sym e))
 query_in first name (a ∷ b ∷ words) [] e h = absurd h
 query_in first name (a ∷ b ∷ words) (x ∷ []) e h = absurd h.1
 query_in first name (a ∷ b ∷ words) (x ∷ y ∷ rest) e h =
-    let head = says_by first a x h.0 in
-    query_rest first head.0 name words x y rest head.1 (query_is b y name h.1.0 e) h.1.1
+    let head = meant first a x h.0 in
+    query_rest first head.0 name words x y rest head.2 (query_is b y name h.1.0 e) h.1.1
 
 pub has_query : (first : WordKind) (words : List (List ℕ)) (values : List Said) (kinds : List WordKind) → query_line first (second_of words) ≡ Some kinds → SayAll kinds words values → HasQuery first values
 has_query first words values kinds e h =

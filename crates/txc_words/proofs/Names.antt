@@ -1,34 +1,22 @@
 -- The names of lines.
-use Rattle.std.proofs.Common.{◌≡◌, ℕ, true, false, List, ◌∷◌, Option, Some, None, refl, sym, ap, ◌∙◌}
+use Rattle.std.proofs.Common.{◌≡◌, ℕ, true, false, List, [], ◌∷◌, Option, Some, None, refl, sym, ap, ◌∙◌}
 use Rattle.std.proofs.lemmas.Slice.Eq.{bytes_eq-Decides}
-use Rattle.std.specs.Prelude.{codes, if◌then◌else◌}
+use Rattle.std.specs.Prelude.{if◌then◌else◌}
 use Rattle.std.specs.Str.{bytes_eq}
 use Rattle.txc_words.specs.declared.name.LineName.{LineName}
 use Rattle.txc_words.specs.declared.name.LineName.TheVariants as names
 use Rattle.txc_words.specs.Names.{name_text}
 
--- the name that a text is, if it is one
+-- the first of these names that a text is
+abbrev find_name : List LineName → List ℕ → Option LineName
+find_name [] text = None
+find_name (name ∷ others) text = if bytes_eq text (name_text name) then Some name else find_name others text
+
 abbrev read_name : List ℕ → Option LineName
-read_name text =
-    if bytes_eq text (codes "put") then Some names.Put
-    else (if bytes_eq text (codes "remove") then Some names.Remove
-    else (if bytes_eq text (codes "pin") then Some names.Pin
-    else (if bytes_eq text (codes "query") then Some names.Query
-    else (if bytes_eq text (codes "ro") then Some names.Ro
-    else (if bytes_eq text (codes "rw") then Some names.Rw
-    else (if bytes_eq text (codes "session") then Some names.Session
-    else (if bytes_eq text (codes "call") then Some names.Call
-    else (if bytes_eq text (codes "step") then Some names.Step
-    else (if bytes_eq text (codes "finish") then Some names.Finish
-    else (if bytes_eq text (codes "ask") then Some names.Ask
-    else (if bytes_eq text (codes "write") then Some names.Write
-    else (if bytes_eq text (codes "pins") then Some names.Pins
-    else (if bytes_eq text (codes "commit") then Some names.Commit
-    else (if bytes_eq text (codes "abort") then Some names.Abort
-    else (if bytes_eq text (codes "advance") then Some names.Advance
-    else (if bytes_eq text (codes "sweep") then Some names.Sweep
-    else (if bytes_eq text (codes "tidy") then Some names.Tidy
-    else (if bytes_eq text (codes "counts") then Some names.Counts else None))))))))))))))))))
+read_name text = find_name (
+    names.Put ∷ names.Remove ∷ names.Pin ∷ names.Query ∷ names.Ro ∷ names.Rw ∷ names.Session ∷ names.Call ∷ names.Step ∷ names.Finish
+    ∷ names.Ask ∷ names.Write ∷ names.Pins ∷ names.Commit ∷ names.Abort ∷ names.Advance ∷ names.Sweep ∷ names.Tidy ∷ names.Counts ∷ []
+    ) text
 
 read_back : (name : LineName) → read_name (name_text name) ≡ Some name
 read_back names.Put = refl

@@ -1,10 +1,9 @@
 -- Of which kinds the words of lines are to be, and what is wrong with them.
-use Rattle.std.specs.Prelude.{◌≡◌, ◌≢◌, ◌<◌, ◌≤◌, ℕ, List, [], ◌∷◌, Option, Some, None, option_map, codes, length, take}
+use Rattle.std.specs.Prelude.{◌≡◌, ◌<◌, ◌≤◌, ℕ, List, [], ◌∷◌, Option, Some, option_map, codes, length, take, MatchOption}
 use Rattle.txc_rows.specs.declared.row.TheConstants.{MAX_BODY_LEN}
-use Rattle.txc_script.specs.LineFaults.{IsBadWord}
+use Rattle.txc_script.specs.LineFaults.{IsKindsFault}
 use Rattle.txc_script.specs.declared.line_fault.CommandFault.{CommandFault}
-use Rattle.txc_script.specs.declared.line_fault.CommandFault.TheVariants as faults
-use Rattle.txc_script.specs.declared.line_fault.WordFault.{WordFault}
+use Rattle.txc_script.specs.declared.line_fault.CommandFault.TheVariants.{Usage}
 use Rattle.txc_script.specs.declared.line_fault.WordKind.{WordKind}
 use Rattle.txc_script.specs.declared.line_fault.WordKind.TheVariants.{Key, Stamp, Table, Id, Function, Number, Text, QueryName, ChangeName}
 use Rattle.txc_script.specs.declared.said.QueryName as query_names
@@ -93,22 +92,14 @@ second_of words = []
 
 -- ---- what is wrong
 
--- the first word that is not of its kind: of all words, where these are their kinds and they are as many; or of
--- the first two, where the kinds of the others are not known
-abbrev pub IsFirstBad : LineName → List (List ℕ) → Option (List WordKind) → WordFault → Type 0
-IsFirstBad name words (Some kinds) fault = (length words ≡ length kinds) × IsBadWord kinds words fault
-IsFirstBad name words None fault = (2 ≤ length words) × IsBadWord (first_kinds name) (take 2 words) fault
+-- What is wrong where the second word names no query and no change: the words end before it; else it names none, or the
+-- one before it is not of its kind.
+abbrev pub IsUnkindFault : LineName → List (List ℕ) → CommandFault → Type 0
+IsUnkindFault name words (Usage form) = (form.now ≡ usage_text name) × (length words < 2)
+IsUnkindFault name words fault = (2 ≤ length words) × IsKindsFault (first_kinds name) (take 2 words) fault
 
--- What is wrong with the words after a line's name. They end before the one that names a query or a change; else
--- that word names none, or the one before it is not of its kind. Else the number of words is another; else a word
--- is not of its kind.
+-- what is wrong with the words after a line's name
 abbrev pub IsFaultAfter : LineName → List (List ℕ) → CommandFault → Type 0
-IsFaultAfter name words (faults.Unknown text) = ⊥
-IsFaultAfter name words (faults.Usage form) =
-    (form.now ≡ usage_text name) × (kinds_after_name name (second_of words) ≡ None) × (length words < 2)
-IsFaultAfter name words (faults.Count wanted given) =
-    (kinds : List WordKind) × (kinds_after_name name (second_of words) ≡ Some kinds)
-    × (wanted ≡ length kinds) × (given ≡ length words) × (given ≢ wanted)
-IsFaultAfter name words (faults.Word fault) = IsFirstBad name words (kinds_after_name name (second_of words)) fault
-IsFaultAfter name words (faults.Few least given) = ⊥
-IsFaultAfter name words (faults.Misplaced text) = ⊥
+IsFaultAfter name words fault =
+    MatchOption (kinds_after_name name (second_of words)) (IsUnkindFault name words fault)
+    (λ kinds. IsKindsFault kinds words fault)

@@ -1,37 +1,67 @@
 //! What the words after the names of lines say, and the queries and changes that they make.
-ghost use Rattle.std.specs.Prelude.{◌≡◌, IfOk, IfErr, length};
-ghost use Rattle.txc_script.specs.Unread.{IsNone};
+ghost use Rattle.std.specs.Prelude.{◌≡◌, None, IfOk, IfErr, length};
+ghost use Rattle.txc_script.specs.LineFaults.{IsWrong};
 ghost use Rattle.txc_script.specs.Words.{words_left};
+ghost use Rattle.txc_words.specs.Faults.{IsFaultAfter, IsUnkindFault, kinds_after_name, second_of};
 ghost use Rattle.txc_words.specs.Said.{AreBodies, SaysAfter, change_said, query_said, row_said};
 
-use crate::finding::second_of;
-use crate::kinds::kinds_after_name;
+use crate::kinds::{first_kinds, kinds_after_name, usage_of};
 use crate::name::LineName;
 use std::alloc::{AllocError, Global};
 use txc_rows::{Change, Query, Row};
-use txc_script::{ChangeName, QueryName, Said, Unread, WordKind, WordsLeft, read_words};
+use txc_script::{ChangeName, CommandFault, QueryName, Said, Unanswered, WordsLeft, read_words};
 
 /// The greatest moment and the longest time, in milliseconds.
 pub const LAST_MOMENT: u64 = u64::MAX;
 
-/// What the words after the name of a line say, of which there are so many.
+/// The second of the words, of which there are so many; no bytes where there is none.
+fn second_of(words: WordsLeft<'_>, count: usize) -> &[u8]
+    requires { length (words_left words) ≡ count }
+    ensures { result.now ≡ second_of (words_left words.entry) }
+{
+    if count < 2 {
+        return b"".as_slice();
+    }
+    let mut left = words;
+    let _first = left.next();
+    left.next()
+}
+
+/// What is wrong with the words after the name of a line, where they do not say of which kinds they are to be.
+fn find_without_kinds(
+    alloc: Global,
+    name: LineName,
+    words: WordsLeft<'_>,
+    count: usize,
+) -> Unanswered
+    requires counted { length (words_left words) ≡ count }
+    requires unknown { kinds_after_name name (second_of (words_left words)) ≡ None }
+    ensures { IsWrong (IsUnkindFault name (words_left words.entry)) result }
+{
+    if count < 2 {
+        return Unanswered::Wrong(CommandFault::Usage(usage_of(name)));
+    }
+    match read_words(alloc, first_kinds(name), words.first(2), 2) {
+        Ok(_) => unreachable!(),
+        Err(reason) => reason,
+    }
+}
+
+/// What the words after the name of a line say, of which there are so many; or what is wrong with them.
 pub fn read_after_name<'a>(
     alloc: Global,
     name: LineName,
     words: WordsLeft<'a>,
     count: usize,
-) -> Result<Vec<Said<'a>>, Unread>
-    requires { count ≡ length (words_left words) }
+) -> Result<Vec<Said<'a>>, Unanswered>
+    requires { length (words_left words) ≡ count }
     ensures answer { IfOk result (λ said. SaysAfter name (words_left words.entry) said.items) }
-    ensures refused { IfErr result (IsNone (SaysAfter name (words_left words.entry))) }
+    ensures refused { IfErr result (IsWrong (IsFaultAfter name (words_left words.entry))) }
 {
-    let Some(kinds) = kinds_after_name(name, second_of(words, count)) else {
-        return Err(Unread::Malformed);
-    };
-    if count != kinds.len() {
-        return Err(Unread::Malformed);
+    match kinds_after_name(name, second_of(words, count)) {
+        Some(kinds) => read_words(alloc, kinds, words, count),
+        None => Err(find_without_kinds(alloc, name, words, count)),
     }
-    read_words(alloc, kinds, WordKind::Key, words, count)
 }
 
 /// The row that words say.

@@ -1,22 +1,25 @@
-use Rattle.std.proofs.Common.{ℕ, List, length, sym, ap, subst, arith, ◌∙◌}
-use Rattle.txc_script.specs.LineFaults.{kinds_for}
+use Rattle.std.proofs.Common.{List, sym, ap, subst, arith, inl, inr, ◌∙◌}
+use Rattle.txc_script.specs.LineFaults.{IsKindsFault, IsWrong, kinds_for}
 use Rattle.txc_script.specs.SaidWords.{SayAll}
 use Rattle.txc_script.specs.Words.{words_left}
 use Rattle.txc_script.specs.declared.line_fault.WordKind.{WordKind}
 use Rattle.txc_script.specs.declared.line_fault.WordKind.TheVariants.{Key}
-use Rattle.txc_script.proofs.Offered.{none_like}
-use Rattle.txc_batch.specs.Orders.{AreJobWords, job_kinds, job_said}
+use Rattle.txc_script.proofs.Offered.{wrong_as}
+use Rattle.txc_batch.specs.BatchFaults.{IsJobFault}
+use Rattle.txc_batch.specs.declared.reading.TheConstants.{LEAST_WORDS}
+use Rattle.txc_script.specs.declared.line_fault.CommandFault.TheVariants.{Few}
+use Rattle.txc_batch.specs.Orders.{job_kinds, job_said}
 use Rattle.txc_batch.proofs.JobFaults.{job_there}
 use Rattle.txc_batch.proofs.reading.read_queued.Goals as goal
 
 pub returns-then-count-lt-LEAST_WORDS-clause-refused : goal.returns-then-count-lt-LEAST_WORDS-clause-refused
-returns-then-count-lt-LEAST_WORDS-clause-refused c = λ q h. absurd (omega (arith, h.some, c.requires))
+returns-then-count-lt-LEAST_WORDS-clause-refused c = inl (omega (arith, c.requires, c.if-count-lt-LEAST_WORDS.true), ap (Few LEAST_WORDS) (sym c.requires))
 
 pub returns-in_err-said-clause-refused : goal.returns-in_err-said-clause-refused
 returns-in_err-said-clause-refused c =
     let words = words_left c.args.words in
-    none_like _ c.in_err-said.field-0.0 (SayAll (kinds_for c.as_slice.result.now Key words) words) (AreJobWords words) c.from_residual.ensures c.in_err-said.ensures.refused
-    (λ q h. (h.values, subst (λ (ks : List WordKind). SayAll (kinds_for ks Key words) words h.values) (sym c.as_slice.ensures) h.say))
+    let wrong = subst (λ (ks : List WordKind). IsWrong (IsKindsFault (kinds_for ks Key words) words) c.in_err-said.field-0.0) c.as_slice.ensures c.in_err-said.ensures.refused in
+    wrong_as _ c.in_err-said.field-0.0 (IsKindsFault (job_kinds words) words) (IsJobFault words) c.from_residual.ensures wrong (λ fault h. inr (omega (arith, c.requires, c.if-count-lt-LEAST_WORDS.false), h))
 
 pub unreachable-requires : goal.unreachable-requires
 unreachable-requires c =

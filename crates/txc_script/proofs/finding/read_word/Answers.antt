@@ -1,20 +1,13 @@
-use Rattle.std.proofs.Common.{◌≡◌, ℕ, List, Some, None, refl, sym, subst, ◌∙◌}
-use Rattle.txc_script.specs.LineFaults.{IsOfKind, StopsAt}
-use Rattle.txc_script.specs.Lines.{IsTextWord, change_named, query_named}
+use Rattle.std.proofs.Common.{◌≡◌, ℕ, List, None, refl, subst, sym, ◌∙◌}
+use Rattle.txc_script.specs.LineFaults.{StopsAt}
+use Rattle.txc_script.specs.Lines.{IsTextWord}
+use Rattle.txc_script.specs.SaidWords.{IsOfKind}
 use Rattle.txc_script.specs.declared.line_fault.WordKind.{WordKind}
-use Rattle.txc_script.specs.declared.line_fault.WordKind.TheVariants.{Stamp, Bytes, Table, Id, Function, Number, Text, QueryName, ChangeName}
-use Rattle.txc_script.specs.declared.said.ChangeName as change_names
-use Rattle.txc_script.specs.declared.said.QueryName as query_names
+use Rattle.txc_script.specs.declared.line_fault.WordKind.TheVariants.{Stamp, Table, Id, Function, Number, Text, QueryName, ChangeName}
 use Rattle.txc_script.proofs.finding.read_word.Goals as goal
 
 bad : (kind k : WordKind) (word : List ℕ) → kind ≡ k → (IsOfKind k word → ⊥) × StopsAt k word None → (IsOfKind kind word → ⊥) × StopsAt kind word None
 bad kind k word is h = subst (λ (j : WordKind). (IsOfKind j word → ⊥) × StopsAt j word None) (sym is) h
-
-no_query : (name : query_names.QueryName) → None ≡ Some name → ⊥
-no_query name e = cc
-
-no_change : (name : change_names.ChangeName) → None ≡ Some name → ⊥
-no_change name e = cc
 
 pub returns-in-Err : goal.returns-in-Err
 returns-in-Err c = bad c.args.kind Stamp c.args.word.now c.in-Stamp.is ((λ h. c.in-Err.ensures.refused h.0 h.1), refl)
@@ -31,23 +24,11 @@ returns-in-Err-read_function c = bad c.args.kind Function c.args.word.now c.in-F
 pub returns-in-None : goal.returns-in-None
 returns-in-None c = bad c.args.kind (Number c.in-Number.most) c.args.word.now c.in-Number.is (c.in-None.ensures.refused, refl)
 
-pub returns-in-Bytes-2 : goal.returns-in-Bytes-2
-returns-in-Bytes-2 c = bad c.args.kind Bytes c.args.word.now c.in-Bytes-2.is ((λ h. let yes = c.is_hex.ensures.1 h in let no = c.if-is_hex.false in cc), refl)
-
 pub returns-in-Text-2 : goal.returns-in-Text-2
-returns-in-Text-2 c = bad c.args.kind (Text c.in-Text.most) c.args.word.now c.in-Text.is
-    ((λ h. let yes = c.is_text.ensures.1 (subst (IsTextWord c.in-Text.most) (sym h.1.1) h.1.0) in let no = c.if-is_text.false in cc), refl)
+returns-in-Text-2 c = bad c.args.kind (Text c.in-Text.most) c.args.word.now c.in-Text.is ((λ h. let yes = c.is_text.ensures.1 (subst (IsTextWord c.in-Text.most) (sym h.1.1) h.1.0) in let no = c.if-is_text.false in cc), refl)
 
 pub returns-in-None-query_name : goal.returns-in-None-query_name
-returns-in-None-query_name c = bad c.args.kind QueryName c.args.word.now c.in-QueryName.is (
-  (λ h. let none : query_named c.args.word.now ≡ None = sym c.query_name.ensures ∙ c.in-None-query_name.is in
-      no_query h.1.0.0 (sym none ∙ subst (λ (w : List ℕ). query_named w ≡ Some h.1.0.0) (sym h.1.1) h.1.0.1)),
-  refl,
-)
+returns-in-None-query_name c = bad c.args.kind QueryName c.args.word.now c.in-QueryName.is ((λ h. let same = sym c.in-None-query_name.is ∙ c.query_name.ensures ∙ h.1 in cc), refl)
 
 pub returns-in-None-change_name : goal.returns-in-None-change_name
-returns-in-None-change_name c = bad c.args.kind ChangeName c.args.word.now c.in-ChangeName.is (
-  (λ h. let none : change_named c.args.word.now ≡ None = sym c.change_name.ensures ∙ c.in-None-change_name.is in
-      no_change h.1.0.0 (sym none ∙ subst (λ (w : List ℕ). change_named w ≡ Some h.1.0.0) (sym h.1.1) h.1.0.1)),
-  refl,
-)
+returns-in-None-change_name c = bad c.args.kind ChangeName c.args.word.now c.in-ChangeName.is ((λ h. let same = sym c.in-None-change_name.is ∙ c.change_name.ensures ∙ h.1 in cc), refl)

@@ -2,7 +2,7 @@ use Rattle.std.proofs.Common.{rules, refl, subst, ◌||◌}
 use Rattle.txc_script.specs.Answers.{IsUnanswered}
 use Rattle.txc_script.specs.Lines.{IsPlain}
 use Rattle.txc_script.specs.declared.running.Replies.{Replies}
-use Rattle.txc_script.specs.declared.unread.Unread.TheVariants.{Malformed}
+use Rattle.txc_script.specs.declared.unread.Unanswered.TheVariants.{Wrong}
 use Rattle.txc_script.proofs.Answering.{line_answered, malformed_answered, not_plain, asks_nothing}
 use Rattle.txc_script.proofs.running.answer.Goals as goal
 
@@ -18,11 +18,11 @@ returns-in-Ok-clause-answered g c =
     let q : Replies = record { text = c.answer.new.text; is_refused = c.args.replies.now.is_refused || c.in-Ok.is_refused } in
     line_answered (g.K.Script.kind c.args.kind.now) c.args.state.now c.answer.new.state c.args.replies.now q c.in-Ok.is_refused c.args.number c.args.line.now plain c.in-Ok.ensures.answered refl
 
-pub returns-in-Err-Malformed-clause-answered : goal.returns-in-Err-Malformed-clause-answered
-returns-in-Err-Malformed-clause-answered g c =
+pub returns-in-Err-Wrong-clause-answered : goal.returns-in-Err-Wrong-clause-answered
+returns-in-Err-Wrong-clause-answered g c =
     let kind = g.K.Script.kind c.args.kind.now in
-    let ended = c.answer_malformed-in-Err-Malformed in
-    let none : IsUnanswered kind c.args.state.now c.args.line.now c.answer.new.state Malformed =
-    subst (IsUnanswered kind c.args.state.now c.args.line.now c.answer.new.state) c.in-Err-Malformed.field-0-is c.in-Err-Malformed.ensures.refused in
+    let ended = c.answer_malformed-in-Err-Wrong in
+    let none : IsUnanswered kind c.args.state.now c.args.line.now c.answer.new.state (Wrong c.in-Err-Wrong.fault) =
+    subst (IsUnanswered kind c.args.state.now c.args.line.now c.answer.new.state) c.in-Err-Wrong.field-0-is c.in-Err-Wrong.ensures.refused in
     malformed_answered kind c.args.state.now c.answer.new.state c.args.replies.now ended.new.replies c.answer.new.text.items c.args.number c.args.line.now ended.result
-    (asks_nothing kind c.args.state.now c.args.line.now (λ quiet. let yes = c.is_quiet.ensures.1 quiet in let no = c.if-is_quiet.false in cc) none.0) none.1 c.in-Err-Malformed.ensures.unchanged ended.ensures.stopped ended.ensures.text ended.ensures.refused
+    (asks_nothing kind c.args.state.now c.args.line.now (λ quiet. let yes = c.is_quiet.ensures.1 quiet in let no = c.if-is_quiet.false in cc) none.0) none.1 c.in-Err-Wrong.ensures.unchanged ended.ensures.stopped ended.ensures.text ended.ensures.refused

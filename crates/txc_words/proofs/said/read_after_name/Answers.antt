@@ -1,39 +1,44 @@
-use Rattle.std.proofs.Common.{◌≡◌, ℕ, List, Some, None, length, refl, sym, ap, subst, ◌∙◌, arith}
-use Rattle.txc_script.specs.LineFaults.{kinds_for}
+use Rattle.std.proofs.Common.{◌≡◌, List, Option, Result, Ok, Err, Some, None, IfOk, ℕ, sym, ap, subst, ◌∙◌}
+use Rattle.std.specs.Global.{Vec}
+use Rattle.std.specs.Prelude.{MatchOption}
+use Rattle.txc_script.specs.LineFaults.{IsKindsFault}
 use Rattle.txc_script.specs.SaidWords.{SayAll}
 use Rattle.txc_script.specs.Words.{words_left}
+use Rattle.txc_script.specs.declared.line_fault.CommandFault.{CommandFault}
 use Rattle.txc_script.specs.declared.line_fault.WordKind.{WordKind}
-use Rattle.txc_script.specs.declared.line_fault.WordKind.TheVariants.{Key}
 use Rattle.txc_script.specs.declared.said.Said.{Said}
-use Rattle.txc_script.proofs.Offered.{same_kinds, say_count}
-use Rattle.txc_words.specs.Faults.{kinds_after_name, second_of}
+use Rattle.txc_script.proofs.Offered.{wrong_in, wrong_of}
+use Rattle.txc_words.specs.Faults.{IsFaultAfter, IsUnkindFault, kinds_after_name, second_of}
 use Rattle.txc_words.specs.Said.{SaysAfter}
-use Rattle.txc_words.proofs.Meant.{none_as, none_some, ok_as, same_some}
+use Rattle.txc_words.specs.declared.name.LineName.{LineName}
 use Rattle.txc_words.proofs.said.read_after_name.Goals as goal
 
-pub returns-in_default-clause-refused : goal.returns-in_default-clause-refused
-returns-in_default-clause-refused c = λ values says.
-    let none : kinds_after_name c.args.name (second_of (words_left c.args.words)) ≡ None = ap (kinds_after_name c.args.name) (sym c.second_of.ensures) ∙ c.in_default.ensures.refused in
-    none_some says.kinds (sym says.known ∙ none)
+-- by the kinds, or where there are none
+by_kinds : (name : LineName) (words : List (List ℕ)) (o : Option (List WordKind)) (fault : CommandFault) → kinds_after_name name (second_of words) ≡ o
+    → MatchOption o (IsUnkindFault name words fault) (λ kinds. IsKindsFault kinds words fault) → IsFaultAfter name words fault
+by_kinds name words o fault e h = subst (λ (k : Option (List WordKind)). MatchOption k (IsUnkindFault name words fault) (λ kinds. IsKindsFault kinds words fault)) (sym e) h
 
-pub returns-then-count-kinds-clause-refused : goal.returns-then-count-kinds-clause-refused
-returns-then-count-kinds-clause-refused c = λ values says.
-    let known : kinds_after_name c.args.name (second_of (words_left c.args.words)) ≡ Some c.in-Some.kinds.now = ap (kinds_after_name c.args.name) (sym c.second_of.ensures) ∙ c.in-Some.ensures.answer in
-    let same = same_some says.kinds c.in-Some.kinds.now (sym says.known ∙ known) in
-    c.if-count-kinds.true (c.requires ∙ say_count says.kinds (words_left c.args.words) values says.say ∙ ap length same)
+says_after : {E : Type 0} (name : LineName) (words : List (List ℕ)) (kinds : List WordKind) (r : Result (Vec Said) E) → kinds_after_name name (second_of words) ≡ Some kinds → IfOk r (λ said. SayAll kinds words said.items)
+    → IfOk r (λ said. SaysAfter name words said.items)
+says_after name words kinds (Ok said) known h = record { kinds = kinds; known = known; say = h }
+says_after name words kinds (Err e) known h = tt
 
-pub returns-clause-answer : goal.returns-clause-answer
-returns-clause-answer c =
+pub returns-in-Some-clause-answer : goal.returns-in-Some-clause-answer
+returns-in-Some-clause-answer c =
     let words = words_left c.args.words in
-    let known : kinds_after_name c.args.name (second_of words) ≡ Some c.in-Some.kinds.now = ap (kinds_after_name c.args.name) (sym c.second_of.ensures) ∙ c.in-Some.ensures.answer in
-    let kinds = same_kinds c.in-Some.kinds.now Key words (omega (arith, c.requires, c.if-count-kinds.false)) in
-    ok_as c.read_words.result _ _ c.read_words.ensures.answer (λ said says. record { kinds = c.in-Some.kinds.now; known = known; say = subst (λ (ks : List WordKind). SayAll ks words said.items) kinds says })
+    says_after c.args.name words c.in-Some.kinds.now c.read_words.result (ap (kinds_after_name c.args.name) (sym c.second_of.ensures) ∙ c.in-Some.ensures.answer) c.read_words.ensures.answer
 
-pub returns-clause-refused : goal.returns-clause-refused
-returns-clause-refused c =
+pub returns-in-Some-clause-refused : goal.returns-in-Some-clause-refused
+returns-in-Some-clause-refused c =
     let words = words_left c.args.words in
-    let known : kinds_after_name c.args.name (second_of words) ≡ Some c.in-Some.kinds.now = ap (kinds_after_name c.args.name) (sym c.second_of.ensures) ∙ c.in-Some.ensures.answer in
-    let kinds = same_kinds c.in-Some.kinds.now Key words (omega (arith, c.requires, c.if-count-kinds.false)) in
-    none_as c.read_words.result (SayAll (kinds_for c.in-Some.kinds.now Key words) words) (SaysAfter c.args.name words) c.read_words.ensures.refused (λ values says.
-    let same = same_some says.kinds c.in-Some.kinds.now (sym says.known ∙ known) ∙ sym kinds in
-    (values, subst (λ (ks : List WordKind). SayAll ks words values) same says.say))
+    let known = ap (kinds_after_name c.args.name) (sym c.second_of.ensures) ∙ c.in-Some.ensures.answer in
+    wrong_of c.read_words.result _ (IsFaultAfter c.args.name words) c.read_words.ensures.refused (λ fault h. by_kinds c.args.name words (Some c.in-Some.kinds.now) fault known h)
+
+pub find_without_kinds-requires-clause-unknown : goal.find_without_kinds-requires-clause-unknown
+find_without_kinds-requires-clause-unknown c = ap (kinds_after_name c.args.name) (sym c.second_of.ensures) ∙ c.in-None.ensures.refused
+
+pub returns-in-None-clause-refused : goal.returns-in-None-clause-refused
+returns-in-None-clause-refused c =
+    let words = words_left c.args.words in
+    let none = ap (kinds_after_name c.args.name) (sym c.second_of.ensures) ∙ c.in-None.ensures.refused in
+    wrong_in c.find_without_kinds.result _ (IsFaultAfter c.args.name words) c.find_without_kinds.ensures (λ fault h. by_kinds c.args.name words None fault none h)

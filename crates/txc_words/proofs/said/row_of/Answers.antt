@@ -1,4 +1,4 @@
-use Rattle.std.proofs.Common.{ℕ, List, sym, subst, ◌∙◌}
+use Rattle.std.proofs.Common.{sym, subst, ◌∙◌}
 use Rattle.txc_rows.specs.Values.{IsBody}
 use Rattle.txc_words.proofs.Meant.{last_body}
 use Rattle.txc_words.proofs.said.row_of.Goals as goal

@@ -1,6 +1,8 @@
 use Rattle.std.proofs.Common.{List, subst}
-use Rattle.txc_script.specs.Unread.{IsNone}
+use Rattle.txc_script.specs.LineFaults.{IsWrong}
+use Rattle.txc_script.specs.Words.{words_of}
 use Rattle.txc_work.specs.declared.job.Job.{Job}
+use Rattle.txc_batch.specs.BatchFaults.{IsBatchFault}
 use Rattle.txc_batch.specs.Orders.{AsksFor}
 use Rattle.txc_batch.proofs.Closing.{broke, unread}
 use Rattle.txc_batch.proofs.player.BatchScriptScript.answer.Goals as goal
@@ -24,4 +26,4 @@ returns-in-Err-obey-clause-refused g c =
 
 pub returns-in-Err-clause-refused : goal.returns-in-Err-clause-refused
 returns-in-Err-clause-refused g c =
-    unread c.args.state.now c.args.line.now c.in-Err.reason (subst (λ (js : List Job). IsNone (AsksFor js c.args.line.now) c.in-Err.reason) c.jobs.ensures c.in-Err.ensures.refused)
+    unread c.args.state.now c.args.line.now c.in-Err.reason (subst (λ (js : List Job). IsWrong (IsBatchFault js (words_of c.args.line.now)) c.in-Err.reason) c.jobs.ensures c.in-Err.ensures.refused)

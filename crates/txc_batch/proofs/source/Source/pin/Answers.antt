@@ -1,4 +1,4 @@
-use Rattle.std.proofs.Common.{refl, subst, sym, ◌∙◌}
+use Rattle.std.proofs.Common.{refl, subst, ◌∙◌}
 use Rattle.txc_batch.specs.Sources.{HasPinnedPresent, HasUnpinnedPresent, SourceValue}
 use Rattle.txc_batch.proofs.Pinning.{pinned_present, unpinned_present}
 use Rattle.txc_batch.proofs.source.Source.pin.Goals as goal

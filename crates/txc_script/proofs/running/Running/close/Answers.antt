@@ -11,4 +11,4 @@ returns-in-Ok g c start read written h =
 pub returns-in-Err : goal.returns-in-Err
 returns-in-Err g c start read written h =
     let q : Running = record c.args.self.now { replies = record { text = c.close.new.text; is_refused = c.args.self.now.replies.is_refused } } in
-    unclosed (g.K.Script.kind c.args.kind.now) start read written c.args.state.now c.close.new.state c.args.self.now q h c.in-Err.ensures.unchanged c.in-Err.ensures.broke
+    unclosed (g.K.Script.kind c.args.kind.now) start read written c.args.state.now c.close.new.state c.args.self.now q c.in-Err.e h c.in-Err.ensures.unchanged c.in-Err.ensures.broke
