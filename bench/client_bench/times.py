@@ -260,7 +260,7 @@ def machine():
 
 def figures(program):
     """The table of docs/FIGURES.md, below the line that says when, where and how it was made."""
-    print(f"Measured on {time.strftime('%Y-%m-%d')} by `bench/client.sh --figures`, on {machine()}; instructions of one call.\n")
+    print(f"Measured on {time.strftime('%Y-%m-%d')} by `bench/client_bench/times.py --figures`, on {machine()}; instructions of one call.\n")
     made = [column(program, Instructions, *it)[1] for it in COLUMNS.values()]
     blocks = column(program, Blocks, *COLUMNS["1,024 entries"])[1]
     print(f"| One of | {' | '.join(COLUMNS)} | Blocks |")
