@@ -1,5 +1,5 @@
 -- Words that are a job, and what is wrong with the place of a line.
-use Rattle.std.proofs.Common.{◌≡◌, ℕ, ◌≤◌, List, [], ◌∷◌, None, length, sym, ap, ◌∙◌, arith}
+use Rattle.std.proofs.Common.{◌≡◌, ℕ, ◌≤◌, List, [], ◌∷◌, None, length, refl, sym, ap, ◌∙◌, arith}
 use Rattle.txc_script.specs.LineFaults.{kinds_for}
 use Rattle.txc_script.specs.SaidWords.{SayAll}
 use Rattle.txc_script.specs.declared.line_fault.CommandFault.{CommandFault}

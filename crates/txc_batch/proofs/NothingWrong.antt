@@ -1,5 +1,5 @@
 -- Nothing is wrong with the words of a line of a batch's script that asks for something.
-use Rattle.std.proofs.Common.{◌≡◌, ℕ, List, subst, inl, inr, arith}
+use Rattle.std.proofs.Common.{ℕ, List, subst, inl, inr, arith}
 use Rattle.txc_script.specs.Words.{words_of}
 use Rattle.txc_script.specs.declared.line_fault.CommandFault.{CommandFault}
 use Rattle.txc_script.proofs.Offered.{none_wrong}
