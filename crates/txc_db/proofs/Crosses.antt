@@ -4,6 +4,7 @@ use denote.RattleType.{RattleType}
 use denote.Param.Send.{IsSend, IsSync, plain_send, view_send, view_sync}
 use denote.Param.SendFields.{declared_send, declared_sync}
 use Rattle.std.proofs.Crossing.{Arc-send, Arc-sync}
+use Rattle.std.proofs.option.Option.TheSendSync as option
 use Rattle.std.proofs.marker.PhantomData.TheSendSync as phantom
 use Rattle.std.proofs.sync.Mutex.TheSendSync as mutex
 use Rattle.txc_stream.proofs.row.EventRow.TheSendSync as row
@@ -38,7 +39,7 @@ history_front_send = history_front.the_send
 
 pub history_front_sync : IsSync HistoryFront.the_row
 history_front_sync =
-    view_sync front_inside.the_row _ _ _ _ (declared_sync front_inside.the_type (Arc-sync (EventRow.the_row Event.the_row) events_send events_sync, (front.the_sync Event.the_row, tt)))
+    view_sync front_inside.the_row _ _ _ _ (declared_sync front_inside.the_type (option.the_sync _ (Arc-sync (EventRow.the_row Event.the_row) events_send events_sync), (front.the_sync Event.the_row, tt)))
 
 -- ---- what is named
 

@@ -2,6 +2,7 @@
 use Rattle.std.proofs.Common.{◌≡◌, ℕ, suc, ◌+◌, ◌==◌, ◌≤◌, Bool, true, false, List, Some, slice_get, refl, ap, sym, ◌∙◌, add-one, eqb-true, arith}
 use Rattle.std.proofs.lemmas.Bool.{eqb-false}
 use Rattle.txc_tags.specs.Tags.{sets_match}
+use Rattle.txc_stream.specs.Names.{Name}
 use Rattle.txc_db.specs.Refusals.{NoneMatches}
 use Rattle.txc_tags.specs.declared.tag.Tag.{Tag}
 use Rattle.txc_db.specs.Facts.{EventValue}
@@ -21,7 +22,7 @@ none_more L base t read none off e low high = go (e == t + 1) refl
     go false is = let up : e ≤ t = let ne = eqb-false e (t + 1) is in omega (arith, high, ne) in none e low up
 
 -- a front is its row of events and its history
-pub front_is : (f : FrontValue) (events : List ℕ) (L : History) → f.events ≡ events → f.history ≡ L → f ≡ record { events = events; history = L }
+pub front_is : (f : FrontValue) (events : Name) (L : History) → f.events ≡ events → f.history ≡ L → f ≡ record { events = events; history = L }
 front_is f events L same is =
-    let one : f ≡ record { events = events; history = f.history } = ap (λ (r : List ℕ). let g : FrontValue = record { events = r; history = f.history } in g) same in
+    let one : f ≡ record { events = events; history = f.history } = ap (λ (r : Name). let g : FrontValue = record { events = r; history = f.history } in g) same in
     one ∙ ap (λ (l : History). let g : FrontValue = record { events = events; history = l } in g) is

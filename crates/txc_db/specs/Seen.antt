@@ -1,10 +1,11 @@
 -- What fronts and feeds have seen of a history.
 use Rattle.std.specs.Prelude.{ℕ, List, [], fold}
+use Rattle.txc_stream.specs.Names.{Name}
 use Rattle.txc_db.specs.History.{History}
 
--- the names of all cells for events, and what was seen in the first of them
+-- what the history of events is called, and the first of them, as they were seen
 pub record FrontValue : Type 0 where
-  pub events : List ℕ
+  pub events : Name
   pub history : History
 
 -- the events that a feed has seen, and how many of them were taken

@@ -1,6 +1,7 @@
 //! The database under its lock: each call answers with a front that proves what it says.
 ghost use Rattle.std.specs.Prelude.{◌≡◌, ◌+◌, ◌≤◌, ◌⊎◌, ◌∷◌, [], length, Some, IfOk, IfErr};
 ghost use Rattle.std.specs.Arc.{arc_value};
+ghost use Rattle.txc_stream.specs.Names.{stored, HasRow};
 ghost use Rattle.txc_rows.specs.RowTags.{query_tag};
 ghost use Rattle.txc_db.specs.History.{event_at, pin_event};
 ghost use Rattle.txc_db.specs.Calls.{IsHoldRefused, IsUnpinRefused, IsVacuumRefused, IsQueryRefused, IsPinRefused};
@@ -36,16 +37,19 @@ pub struct Database<J: Naming> {
     events: Arc<EventRow<Event>>,
     marks: Arc<EventRow<Mark<J>>>,
     lock: Mutex<Locked<J>>,
-    ghost named: { arc_value events ≡ J.database_row },
+    ghost named: { stored (arc_value events) ≡ J.database_history },
 }
 
 impl<J: Naming> Database<J> {
-    /// Puts the database under a lock. Its row is the named one. Where memory is refused, the database is
-    /// dropped.
+    /// Puts the database under a lock. Its history is the named one, and stored. Where memory is refused, the
+    /// database is dropped.
     pub fn new(alloc: Global, core: DbCore) -> Result<Database<J>, AllocError>
-        requires { core.events ≡ J.database_row }
+        requires named { core.events ≡ J.database_history }
+        requires stored { HasRow core.events }
     {
-        let events = core.history().events_handle()?;
+        let Some(events) = core.history().row_handle()? else {
+            unreachable!();
+        };
 
         // The events that are there already have one mark, the others will have one each, so that there is
         // room.
@@ -67,18 +71,18 @@ impl<J: Naming> Database<J> {
         query: &Query,
         stamp: Stamp,
     ) -> Result<Answered<Found>, DbError>
-        ensures named { IfOk result (λ answered. answered.front.events ≡ J.database_row) }
+        ensures named { IfOk result (λ answered. answered.front.events ≡ J.database_history) }
         ensures answer { IfOk result
-            (MayAnswer J.database_row (λ d. IsQueryAnswer d query.now stamp)) }
+            (MayAnswer J.database_history (λ d. IsQueryAnswer d query.now stamp)) }
         ensures tag { IfOk result (λ answered. answered.answer.tags ≡ query_tag query.now ∷ []) }
-        ensures refused { IfErr result (MayRefuse J.database_row (λ d. IsQueryRefused d query.now stamp)) }
+        ensures refused { IfErr result (MayRefuse J.database_history (λ d. IsQueryRefused d query.now stamp)) }
     {
         lock_soon(rt, &self.lock).query(alloc, query, stamp)
     }
 
     /// Holds the newest stamp, so that no vacuum passes it until the hold is released.
     pub fn hold(&self, rt: &impl Wait, alloc: Global) -> Result<Held<J>, DbError>
-        ensures refused { IfErr result (MayRefuse J.database_row IsHoldRefused) }
+        ensures refused { IfErr result (MayRefuse J.database_history IsHoldRefused) }
     {
         let Answered { answer, front } = lock_soon(rt, &self.lock).hold(alloc)?;
         Ok(Held::new(answer, front))
@@ -88,7 +92,7 @@ impl<J: Naming> Database<J> {
     /// hold of the stamp was taken away by [`Database::unpin`]. It takes no memory.
     pub fn release(&self, rt: &impl Wait, held: Held<J>) -> Result<(), DbError>
         ensures refused { IfErr result
-            (MayRefuse J.database_row (λ d. IsUnpinRefused d (length held))) }
+            (MayRefuse J.database_history (λ d. IsUnpinRefused d (length held))) }
     {
         self.unpin(rt, held.spend())
     }
@@ -104,12 +108,12 @@ impl<J: Naming> Database<J> {
         read: &TagSet,
         changes: &[Change],
     ) -> Result<Answered<Stamp>, CommitError>
-        ensures named { IfOk result (λ answered. answered.front.events ≡ J.database_row) }
+        ensures named { IfOk result (λ answered. answered.front.events ≡ J.database_history) }
         ensures answer { IfOk result (λ answered.
             IsQuietIn answered.front.history base read.now changes.now answered.answer
             ⊎ IsEventIn answered.front.history base read.now changes.now answered.answer) }
         ensures refused { IfErr result
-            (MayRefuse J.database_row (λ d. IsSharedCommitRefused d base read.now changes.now)) }
+            (MayRefuse J.database_history (λ d. IsSharedCommitRefused d base read.now changes.now)) }
     {
         lock_soon(rt, &self.lock).commit(alloc, base, read, changes)
     }
@@ -123,34 +127,34 @@ impl<J: Naming> Database<J> {
         now: u64,
         at_least: Stamp,
     ) -> Result<Pinned, DbError>
-        ensures named { IfOk result (λ pinned. pinned.front.events ≡ J.database_row) }
+        ensures named { IfOk result (λ pinned. pinned.front.events ≡ J.database_history) }
         ensures answer { IfOk result (λ pinned. pinned.stamp ≡ length pinned.front.history) }
         ensures event { IfOk result (λ pinned.
             event_at pinned.front.history pinned.stamp ≡ Some (pin_event now)) }
         ensures moment { IfOk result (λ pinned. pinned.moment ≡ now) }
         ensures late { IfOk result (λ pinned. at_least ≤ pinned.stamp) }
-        ensures refused { IfErr result (MayRefuse J.database_row (λ d. IsPinRefused d at_least)) }
+        ensures refused { IfErr result (MayRefuse J.database_history (λ d. IsPinRefused d at_least)) }
     {
         lock_soon(rt, &self.lock).pin(alloc, now, at_least)
     }
 
     /// Takes one hold of the stamp away, as a keeper does with those of pins. It takes no memory.
     pub fn unpin(&self, rt: &impl Wait, stamp: Stamp) -> Result<(), DbError>
-        ensures refused { IfErr result (MayRefuse J.database_row (λ d. IsUnpinRefused d stamp)) }
+        ensures refused { IfErr result (MayRefuse J.database_history (λ d. IsUnpinRefused d stamp)) }
     {
         lock_soon(rt, &self.lock).unpin(stamp)
     }
 
     /// Makes the horizon the least held stamp, or the newest where none is held, and answers it.
     pub fn vacuum(&self, rt: &impl Wait) -> Result<Stamp, DbError>
-        ensures refused { IfErr result (MayRefuse J.database_row IsVacuumRefused) }
+        ensures refused { IfErr result (MayRefuse J.database_history IsVacuumRefused) }
     {
         lock_soon(rt, &self.lock).vacuum()
     }
 
     /// The database without its lock, once no thread has it any more.
     pub fn into_core(self) -> DbCore
-        ensures { IsDatabaseOf J.database_row result }
+        ensures { IsDatabaseOf J.database_history result }
     {
         let Database {
             events: _,
@@ -162,7 +166,7 @@ impl<J: Naming> Database<J> {
 
     /// The row of the events, which anybody reads without the lock.
     pub fn events(&self) -> &EventRow<Event>
-        ensures { result.now ≡ J.database_row }
+        ensures { stored result.now ≡ J.database_history }
     {
         &self.events
     }
@@ -175,9 +179,9 @@ impl<J: Naming> Database<J> {
 
     /// A front of the history that shows nothing yet. It takes no lock.
     pub fn reader(&self) -> Result<HistoryFront, AllocError>
-        ensures { IfOk result (λ front. front ≡ record { events = J.database_row; history = [] }) }
+        ensures { IfOk result (λ front. front ≡ record { events = J.database_history; history = [] }) }
     {
-        Ok(HistoryFront::new(Arc::try_clone(&self.events)?))
+        Ok(HistoryFront::stored(Arc::try_clone(&self.events)?))
     }
 
     /// A feed of the events that has taken none yet. It takes no lock.

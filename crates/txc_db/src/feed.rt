@@ -1,5 +1,6 @@
 //! The events of a database for those who hold no lock.
-ghost use Rattle.std.specs.Prelude.{◌≡◌, ◌+◌, ◌<◌, ◌≤◌, ◌↔◌, ◌⊎◌, IsTrue, [], length, Some};
+ghost use Rattle.std.specs.Prelude.{◌≡◌, ◌+◌, ◌<◌, ◌≤◌, ◌↔◌, ◌⊎◌, IsTrue, MatchOption, [], length, Some};
+ghost use Rattle.txc_stream.specs.Names.{HasRow};
 ghost use Rattle.std.specs.Arc.{arc_value};
 ghost use Rattle.txc_db.specs.History.{tags_at, event_at};
 ghost use mathlib.Core.List.{IsPrefix};
@@ -29,13 +30,13 @@ impl<J: Naming> Model for Mark<J> {
 
     ghost view = { λ m. m.front.history };
 
-    ghost invariant = { λ m. m.front.events ≡ J.database_row };
+    ghost invariant = { λ m. m.front.events ≡ J.database_history };
 }
 
 impl<J: Naming> Mark<J> {
     /// Marks the events that the front shows.
     pub fn new(front: HistoryFront) -> Mark<J>
-        requires { front.events ≡ J.database_row }
+        requires { front.events ≡ J.database_history }
         ensures { result ≡ front.history }
     {
         Mark {
@@ -46,7 +47,7 @@ impl<J: Naming> Mark<J> {
 
     /// Marks the events of a longer front.
     pub(crate) fn lengthen(&mut self, front: &HistoryFront)
-        requires named { front.now.events ≡ J.database_row }
+        requires named { front.now.events ≡ J.database_history }
         requires begins { IsPrefix self.old front.now.history }
         ensures { self.new ≡ front.now.history }
     {
@@ -75,13 +76,13 @@ impl<J: Naming> Model for Feed<J> {
 
     ghost view = { λ f. record { history = f.front.history; taken = f.taken } };
 
-    ghost invariant = { λ f. (f.front.events ≡ J.database_row) × (f.read.name ≡ stored (arc_value f.marks))
+    ghost invariant = { λ f. (f.front.events ≡ J.database_history) × (f.read.name ≡ stored (arc_value f.marks))
         × (f.taken ≤ length f.front.history) };
 }
 
 impl<J: Naming> Feed<J> {
     pub(crate) fn new(front: HistoryFront, marks: Arc<EventRow<Mark<J>>>) -> Feed<J>
-        requires { front.events ≡ J.database_row }
+        requires { front.events ≡ J.database_history }
         ensures history { result.history ≡ front.history }
         ensures taken { result.taken ≡ 0 }
     {
@@ -126,7 +127,7 @@ impl<J: Naming> Feed<J> {
 
     /// Takes over what a front shows beyond the events seen so far. It takes no memory.
     pub fn longer(&mut self, other: &HistoryFront)
-        requires { other.now.events ≡ J.database_row }
+        requires { other.now.events ≡ J.database_history }
         ensures taken { self.new.taken ≡ self.old.taken }
         ensures one { (self.new.history ≡ self.old.history) ⊎ (self.new.history ≡ other.now.history) }
         ensures this { IsPrefix self.old.history self.new.history }
@@ -135,11 +136,15 @@ impl<J: Naming> Feed<J> {
         self.front.longer(other);
     }
 
-    /// The event after those that were taken, beside its tags.
-    pub fn next_event(&self) -> &Event
+    /// The event after those that were taken, beside its tags; none where the events are not stored.
+    pub fn next_event(&self) -> Option<&Event>
         requires { self.now.taken < length self.now.history }
-        ensures event { event_at self.now.history (self.now.taken + 1) ≡ Some result.now }
-        ensures tags { result.now.tags ≡ tags_at self.now.history (self.now.taken + 1) }
+        ensures event { MatchOption result
+            (¬ (HasRow J.database_history))
+            (λ event. event_at self.now.history (self.now.taken + 1) ≡ Some event.now) }
+        ensures tags { MatchOption result
+            (¬ (HasRow J.database_history))
+            (λ event. event.now.tags ≡ tags_at self.now.history (self.now.taken + 1)) }
     {
         let _seen = self.front.len();
         self.front.event_at(self.taken + 1)
@@ -157,7 +162,7 @@ impl<J: Naming> Feed<J> {
 
     /// A front that shows the events seen so far.
     pub fn front(&self) -> &HistoryFront
-        ensures named { result.now.events ≡ J.database_row }
+        ensures named { result.now.events ≡ J.database_history }
         ensures history { result.now.history ≡ self.now.history }
         ensures taken { self.now.taken ≤ length self.now.history }
     {

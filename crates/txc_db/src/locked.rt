@@ -50,7 +50,7 @@ impl<J: Naming> Model for Locked<J> {
 
     ghost view = { λ l. l.core };
 
-    ghost invariant = { λ l. (l.core.events ≡ J.database_row) × (l.marked.name ≡ stored (arc_value l.marks))
+    ghost invariant = { λ l. (l.core.events ≡ J.database_history) × (l.marked.name ≡ stored (arc_value l.marks))
         × (l.core.broken ≡ false → last_mark l.marked.list ≡ l.core.history) };
 }
 
@@ -61,7 +61,7 @@ impl<J: Naming> Locked<J> {
         mut core: DbCore,
         marks: Arc<EventRow<Mark<J>>>,
     ) -> Result<Locked<J>, AllocError>
-        requires { core.events ≡ J.database_row }
+        requires { core.events ≡ J.database_history }
     {
         let mut marked = marks.start();
         if !core.history().is_empty() {
@@ -79,7 +79,7 @@ impl<J: Naming> Locked<J> {
 
     // It is a database of the named row. It does nothing when it runs.
     fn is_named(&self)
-        ensures { IsDatabaseOf J.database_row self.now }
+        ensures { IsDatabaseOf J.database_history self.now }
     {
         self.core.is_sound();
         let _events = self.core.history().len();
@@ -87,7 +87,7 @@ impl<J: Naming> Locked<J> {
 
     /// The database alone.
     pub(crate) fn into_core(self) -> DbCore
-        ensures { IsDatabaseOf J.database_row result }
+        ensures { IsDatabaseOf J.database_history result }
     {
         self.is_named();
         let Locked {
@@ -104,7 +104,7 @@ impl<J: Naming> Locked<J> {
         query: &Query,
         stamp: Stamp,
     ) -> Result<Answered<Found>, DbError>
-        ensures database { IsDatabaseOf J.database_row self.old }
+        ensures database { IsDatabaseOf J.database_history self.old }
         ensures same { self.new ≡ self.old }
         ensures answer { IfOk result (λ answered. IsAnswer (state_at self.old.history) query.now stamp
             self.old.horizon (newest self.old) answered.answer) }
@@ -121,7 +121,7 @@ impl<J: Naming> Locked<J> {
     }
 
     pub(crate) fn hold(&mut self, alloc: Global) -> Result<Answered<Stamp>, DbError>
-        ensures database { IsDatabaseOf J.database_row self.old }
+        ensures database { IsDatabaseOf J.database_history self.old }
         ensures after { OnOk result (self.new ≡ after_hold self.old) }
         ensures answer { IfOk result (λ answered. answered.answer ≡ newest self.old) }
         ensures front { IfOk result (λ answered. answered.front ≡ front_of self.new) }
@@ -140,7 +140,7 @@ impl<J: Naming> Locked<J> {
     }
 
     pub(crate) fn unpin(&mut self, stamp: Stamp) -> Result<(), DbError>
-        ensures database { IsDatabaseOf J.database_row self.old }
+        ensures database { IsDatabaseOf J.database_history self.old }
         ensures after { OnOk result (self.new ≡ after_unpin self.old stamp) }
         ensures only_if { IsOk result → is_held stamp self.old.holds ≡ true }
         ensures unchanged { OnErr result (self.new ≡ self.old) }
@@ -151,7 +151,7 @@ impl<J: Naming> Locked<J> {
     }
 
     pub(crate) fn vacuum(&mut self) -> Result<Stamp, DbError>
-        ensures database { IsDatabaseOf J.database_row self.old }
+        ensures database { IsDatabaseOf J.database_history self.old }
         ensures after { OnOk result (self.new ≡ after_vacuum self.old) }
         ensures answer { IfOk result (λ horizon. horizon ≡ next_horizon self.old) }
         ensures unchanged { OnErr result (self.new ≡ self.old) }
@@ -167,7 +167,7 @@ impl<J: Naming> Locked<J> {
         now: u64,
         at_least: Stamp,
     ) -> Result<Pinned, DbError>
-        ensures database { IsDatabaseOf J.database_row self.old }
+        ensures database { IsDatabaseOf J.database_history self.old }
         ensures after { OnOk result (self.new ≡ after_pin self.old now) }
         ensures answer { IfOk result (λ pinned. pinned.stamp ≡ newest self.new) }
         ensures moment { IfOk result (λ pinned. pinned.moment ≡ now) }
@@ -194,7 +194,7 @@ impl<J: Naming> Locked<J> {
         read: &TagSet,
         changes: &[Change],
     ) -> Result<Answered<Stamp>, CommitError>
-        ensures database { IsDatabaseOf J.database_row self.old }
+        ensures database { IsDatabaseOf J.database_history self.old }
         ensures after { OnOk result (self.new ≡ after_commit self.old changes.now) }
         ensures answer { IfOk result (λ answered. answered.answer ≡ newest self.new) }
         ensures front { IfOk result (λ answered. answered.front ≡ front_of self.new) }
@@ -236,7 +236,7 @@ fn leave_mark<J: Naming>(
     history: &HistoryFront,
 ) -> bool
     requires row { marked.old.name ≡ stored marks.now }
-    requires named { history.now.events ≡ J.database_row }
+    requires named { history.now.events ≡ J.database_history }
     requires begins { IsPrefix mark.value history.now.history }
     ensures name { marked.new.name ≡ marked.old.name }
     ensures last { IsTrue result → last_mark marked.new.list ≡ history.now.history }
