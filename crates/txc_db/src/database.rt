@@ -1,9 +1,9 @@
 //! The database under its lock: each call answers with a front that proves what it says.
-ghost use Rattle.std.specs.Prelude.{◌≡◌, ◌+◌, ◌≤◌, ◌⊎◌, ◌∷◌, [], length, Some, IfOk, IfErr};
-ghost use Rattle.std.specs.Arc.{arc_value};
+ghost use Rattle.std.specs.Prelude.{◌≡◌, ◌+◌, ◌≤◌, ◌⊎◌, ◌∷◌, [], length, Some, IfOk, IfErr, MatchOption};
 ghost use Rattle.txc_stream.specs.Names.{stored, HasRow};
 ghost use Rattle.txc_rows.specs.RowTags.{query_tag};
 ghost use Rattle.txc_db.specs.History.{event_at, pin_event};
+ghost use Rattle.txc_db.specs.Seen.{HasBegun};
 ghost use Rattle.txc_db.specs.Calls.{IsHoldRefused, IsUnpinRefused, IsVacuumRefused, IsQueryRefused, IsPinRefused};
 ghost use Rattle.txc_db.specs.Shared.{IsDatabaseOf, MayAnswer, IsQueryAnswer, IsQuietIn, IsEventIn, MayRefuse, IsSharedCommitRefused};
 
@@ -11,14 +11,14 @@ use crate::answered::{Answered, CommitError};
 use crate::db_core::DbCore;
 use crate::error::DbError;
 use crate::event::Event;
-use crate::feed::{Feed, Mark};
+use crate::feed::Feed;
 use crate::held::Held;
 use crate::history_front::HistoryFront;
 use crate::locked::Locked;
 use crate::naming::Naming;
 use crate::pinned::Pinned;
 use std::alloc::{AllocError, Global};
-use std::sync::{Arc, Mutex, Wait};
+use std::sync::{Mutex, Wait};
 use txc_lock::lock_soon;
 use txc_rows::{Change, Query};
 use txc_stamp::Stamp;
@@ -34,30 +34,21 @@ use txc_validity::Found;
 /// from then on, whatever memory there is.
 #[derive(Drop)]
 pub struct Database<J: Naming> {
-    events: Arc<EventRow<Event>>,
-    marks: Arc<EventRow<Mark<J>>>,
+    start: HistoryFront,
     lock: Mutex<Locked<J>>,
-    ghost named: { stored (arc_value events) ≡ J.database_history },
+    ghost begins: { start ≡ record { events = J.database_history; history = [] } },
 }
 
 impl<J: Naming> Database<J> {
-    /// Puts the database under a lock. Its history is the named one, and stored. Where memory is refused, the
-    /// database is dropped.
+    /// Puts the database under a lock. Its history is the named one. Where memory is refused, the database is
+    /// dropped.
     pub fn new(alloc: Global, core: DbCore) -> Result<Database<J>, AllocError>
-        requires named { core.events ≡ J.database_history }
-        requires stored { HasRow core.events }
+        requires { core.events ≡ J.database_history }
     {
-        let Some(events) = core.history().row_handle()? else {
-            unreachable!();
-        };
-
-        // The events that are there already have one mark, the others will have one each, so that there is
-        // room.
-        let marks = Arc::new(alloc, EventRow::new(alloc, events.capacity())?)?;
-        let locked = Locked::new(alloc, core, Arc::try_clone(&marks)?)?;
+        let start = core.reader()?;
+        let locked = Locked::new(alloc, core)?;
         Ok(Database {
-            events,
-            marks,
+            start,
             lock: Mutex::new(locked),
         })
     }
@@ -115,7 +106,7 @@ impl<J: Naming> Database<J> {
         ensures refused { IfErr result
             (MayRefuse J.database_history (λ d. IsSharedCommitRefused d base read.now changes.now)) }
     {
-        lock_soon(rt, &self.lock).commit(alloc, base, read, changes)
+        lock_soon(rt, &self.lock).commit(rt, alloc, base, read, changes)
     }
 
     /// Appends a pin of the moment `now`, in milliseconds, and holds its stamp, which is not below
@@ -135,7 +126,7 @@ impl<J: Naming> Database<J> {
         ensures late { IfOk result (λ pinned. at_least ≤ pinned.stamp) }
         ensures refused { IfErr result (MayRefuse J.database_history (λ d. IsPinRefused d at_least)) }
     {
-        lock_soon(rt, &self.lock).pin(alloc, now, at_least)
+        lock_soon(rt, &self.lock).pin(rt, alloc, now, at_least)
     }
 
     /// Takes one hold of the stamp away, as a keeper does with those of pins. It takes no memory.
@@ -156,38 +147,32 @@ impl<J: Naming> Database<J> {
     pub fn into_core(self) -> DbCore
         ensures { IsDatabaseOf J.database_history result }
     {
-        let Database {
-            events: _,
-            marks: _,
-            lock,
-        } = self;
+        let Database { start: _, lock } = self;
         lock.into_inner().into_core()
     }
 
-    /// The row of the events, which anybody reads without the lock.
-    pub fn events(&self) -> &EventRow<Event>
-        ensures { stored result.now ≡ J.database_history }
+    /// The row of the events, where they are stored, which anybody reads without the lock. Whoever appends to it
+    /// breaks the database; tests do.
+    pub fn events(&self) -> Option<&EventRow<Event>>
+        ensures { MatchOption result
+            (¬ (HasRow J.database_history))
+            (λ row. J.database_history ≡ stored row.now) }
     {
-        &self.events
-    }
-
-    /// The row of the marks that the feeds read. Whoever appends to it breaks the database; tests do. No
-    /// clause names this row: nothing that callers see has a name for it.
-    pub fn marks(&self) -> &EventRow<Mark<J>> {
-        &self.marks
+        self.start.events()
     }
 
     /// A front of the history that shows nothing yet. It takes no lock.
     pub fn reader(&self) -> Result<HistoryFront, AllocError>
         ensures { IfOk result (λ front. front ≡ record { events = J.database_history; history = [] }) }
     {
-        Ok(HistoryFront::stored(Arc::try_clone(&self.events)?))
+        self.start.again()
     }
 
-    /// A feed of the events that has taken none yet. It takes no lock.
-    pub fn feed(&self) -> Result<Feed<J>, AllocError>
-        ensures { IfOk result (λ feed. (feed.history ≡ []) × (feed.taken ≡ 0)) }
+    /// A feed of the events. Of a stored history it has taken none yet; of any other it begins after the events that
+    /// are there.
+    pub fn feed(&self, rt: &impl Wait) -> Result<Feed<J>, AllocError>
+        ensures { IfOk result (HasBegun J.database_history) }
     {
-        Ok(Feed::new(self.reader()?, Arc::try_clone(&self.marks)?))
+        lock_soon(rt, &self.lock).feed()
     }
 }

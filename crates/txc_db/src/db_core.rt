@@ -1,10 +1,11 @@
 //! The database for one thread, which its lock holds too.
-ghost use Rattle.std.specs.Prelude.{◌≡◌, ◌+◌, ◌≤◌, ◌∷◌, [], ◌↔◌, true, false, length, Ok, Err, IfOk, OnOk, OnErr, IfErr, IsOk, IsTrue, MatchOption};
+ghost use Rattle.std.specs.Prelude.{◌≡◌, ◌+◌, ◌≤◌, ◌∷◌, [], ◌↔◌, true, false, length, Ok, Err, IfOk, OnOk, OnErr, IfErr, IfSome, IsOk, IsTrue, MatchOption};
 ghost use mathlib.Core.List.{IsPrefix};
 ghost use Rattle.txc_rows.specs.RowTags.{query_tag};
 ghost use Rattle.txc_validity.specs.Answers.{IsAnswer};
 ghost use Rattle.txc_stream.specs.Names.{stored, unstored, HasRow};
-ghost use Rattle.txc_db.specs.History.{state_at};
+ghost use Rattle.std.specs.Arc.{arc_value};
+ghost use Rattle.txc_db.specs.History.{state_at, tags_at};
 ghost use Rattle.txc_db.specs.Room.{HasCapacity};
 ghost use Rattle.txc_db.specs.Refusals.{IsWant};
 ghost use Rattle.txc_db.specs.Calls.{IsLeft, IsHoldable, IsHoldRefused, IsUnpinRefused, IsVacuumRefused, IsPinnable, IsPinRefused, IsAnswerable, matching_of, IsQueryRefused};
@@ -22,6 +23,7 @@ use std::sync::Arc;
 use txc_rows::{Query, VersionRows, tags_are_sound, versions_keep_states};
 use txc_stamp::Stamp;
 use txc_stream::{EventRow, MAX_CAPACITY, Pen};
+use txc_tags::TagSet;
 use txc_validity::{Found, answer_at};
 
 /// A versioned database for one thread: one history of commits and pins, the versions of the rows from the
@@ -148,6 +150,13 @@ impl DbCore {
         ensures { result.now ≡ front_of self.now }
     {
         self.told.front()
+    }
+
+    /// A handle of the tags of its last event, where it is not stored.
+    pub(crate) fn last_tags(&self) -> Option<Arc<TagSet>>
+        ensures { IfSome result (λ tags. arc_value tags ≡ tags_at self.now.history (newest self.now)) }
+    {
+        self.told.last_tags()
     }
 
     /// A front of the history that shows nothing yet.

@@ -54,17 +54,19 @@ impl Noted<Event, Arc<TagSet>> for EventTags {
     ghost notes = { λ event tags. arc_value tags ≡ event.tags };
 }
 
-/// Of the named history the tags of each event are posted, where it is not stored.
+/// Of the named history each event is posted, with its tags where it is not stored.
 pub struct PostedTags<J: Naming> {
     of: PhantomData<J>,
 }
 
-impl<J: Naming> Posts<Event, Arc<TagSet>> for PostedTags<J> {
-    ghost use Rattle.std.specs.Prelude.{◌≡◌, length};
+impl<J: Naming> Posts<Event, Option<Arc<TagSet>>> for PostedTags<J> {
+    ghost use Rattle.std.specs.Prelude.{◌≡◌, length, IfSome};
     ghost use Rattle.std.specs.Arc.{arc_value};
     ghost use Rattle.txc_db.specs.History.{AreTagged, tags_at};
+    ghost use Rattle.txc_db.specs.Room.{FitsEvents};
 
     ghost history = { J.database_history };
 
-    ghost notes = { λ L tags. AreTagged L × (arc_value tags ≡ tags_at L (length L)) };
+    ghost notes = { λ L note. AreTagged L × FitsEvents J.database_history (length L)
+        × IfSome note (λ tags. arc_value tags ≡ tags_at L (length L)) };
 }

@@ -1,5 +1,5 @@
 //! The history of a database, and who lengthens it.
-ghost use Rattle.std.specs.Prelude.{◌≡◌, ◌+◌, ◌<◌, ◌≤◌, ◌++◌, ◌∷◌, [], true, false, length, max, IfOk, OnOk, OnErr};
+ghost use Rattle.std.specs.Prelude.{◌≡◌, ◌+◌, ◌<◌, ◌≤◌, ◌++◌, ◌∷◌, [], true, false, length, max, IfOk, IfSome, OnOk, OnErr};
 ghost use Rattle.std.specs.Arc.{arc_value};
 ghost use Rattle.txc_stamp.specs.declared.stamp.TheConstants.{LAST_STAMP};
 ghost use Rattle.txc_stream.specs.Names.{stored, unstored, HasRow};
@@ -108,7 +108,7 @@ impl History {
         ensures kept { result ≡ true → AreTagsKept self.now.events horizon base }
         ensures gone { result ≡ false → AreTagsGone self.now.events horizon base }
     {
-        self.front.events().is_some() || base >= horizon
+        self.front.is_stored() || base >= horizon
     }
 
     /// One that shows nothing yet.
@@ -133,6 +133,21 @@ impl History {
         window.get(number - 1)
     }
 
+    /// A handle of the tags of its last event, where it is not stored.
+    pub(crate) fn last_tags(&self) -> Option<Arc<TagSet>>
+        ensures { IfSome result (λ tags.
+            arc_value tags ≡ tags_at self.now.history (length self.now.history)) }
+    {
+        let Some(window) = &self.window else {
+            return None;
+        };
+        let events = self.front.len();
+        if window.first() >= events {
+            return None;
+        }
+        Arc::try_clone(window.get(events - 1)).ok()
+    }
+
     // Makes room for the tags of one event more, where they are kept.
     fn reserve(&mut self) -> Result<(), AllocError>
         ensures same { self.new ≡ record self.old { room = self.new.room } }
@@ -152,16 +167,14 @@ impl History {
         ensures prepared { IfOk result (IsPrepared self.new) }
     {
         self.reserve()?;
-        let is_stored = self.front.events().is_some();
-        let Net { changes, tags } = net;
-        if is_stored {
+        if self.front.is_stored() {
+            let Net { changes, tags } = net;
             let event = Event {
                 what: What::Commit(changes),
                 tags,
             };
             return Ok(Prepared::Stored(Box::new(alloc, event)?));
         }
-        let net = Net { changes, tags };
         let draft = Draft::of::<Net, AsCommit>(&net);
         let Net { changes, tags } = net;
         let tags = Arc::new(alloc, tags)?;
@@ -180,7 +193,7 @@ impl History {
     {
         self.reserve()?;
         let tags = TagSet::new(alloc);
-        if self.front.events().is_some() {
+        if self.front.is_stored() {
             let event = Event {
                 what: What::Pin(moment),
                 tags,

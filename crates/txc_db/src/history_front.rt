@@ -75,8 +75,15 @@ impl HistoryFront {
         Ok(HistoryFront { row, front })
     }
 
-    /// A handle of its row, where it is stored.
-    pub(crate) fn row_handle(&self) -> Result<Option<Arc<EventRow<Event>>>, AllocError>
+    /// Whether its history is stored.
+    pub fn is_stored(&self) -> bool
+        ensures { IsTrue result ↔ HasRow self.now.events }
+    {
+        self.row.is_some()
+    }
+
+    // A handle of its row, where it is stored.
+    fn row_handle(&self) -> Result<Option<Arc<EventRow<Event>>>, AllocError>
         ensures { IfOk result (λ row. MatchOption row
             (¬ (HasRow self.now.events))
             (λ row. self.now.events ≡ stored (arc_value row))) }
@@ -174,7 +181,20 @@ impl HistoryFront {
         ensures this { IsPrefix self.old.history self.new.history }
         ensures that { IsPrefix other.now.history self.new.history }
     {
-        self.front.longer(&other.front);
+        self.see(&other.front);
+    }
+
+    /// Takes over what a front alone shows beyond this one, of which each event stands beside its tags.
+    pub(crate) fn see(&mut self, front: &Front<Event>)
+        requires named { front.now.name ≡ self.old.events }
+        requires tagged { AreTagged front.now.list }
+        requires fits { FitsEvents front.now.name (length front.now.list) }
+        ensures events { self.new.events ≡ self.old.events }
+        ensures one { (self.new.history ≡ self.old.history) ⊎ (self.new.history ≡ front.now.list) }
+        ensures this { IsPrefix self.old.history self.new.history }
+        ensures that { IsPrefix front.now.list self.new.history }
+    {
+        self.front.longer(front);
     }
 
     /// Takes over the whole of a front that goes on from this one.

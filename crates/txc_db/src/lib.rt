@@ -25,7 +25,7 @@ pub use database::Database;
 pub use db_core::DbCore;
 pub use error::DbError;
 pub use event::{Event, EventTags, PostedTags, What};
-pub use feed::{Feed, Mark};
+pub use feed::Feed;
 pub use held::Held;
 pub use history_front::HistoryFront;
 pub use holds::MAX_HOLDS;
