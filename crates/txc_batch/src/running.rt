@@ -126,7 +126,7 @@ where
     J: Naming + Send + Sync,
     H: Threads + Wait + Sync,
     ghost functions: { List ℕ }
-    requires database { batch.source.database.events ≡ J.database_row }
+    requires database { batch.source.database.events ≡ J.database_history }
     requires rows { AreRowsOf J.node_histories 0 rows.items }
     requires count { vec_len rows ≡ batch.settings.nodes }
     requires rooms { All (λ row. length row ≡ batch.settings.row_cap) rows.items }

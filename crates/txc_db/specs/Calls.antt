@@ -14,7 +14,7 @@ use Rattle.txc_db.specs.declared.error.DbError.{DbError}
 use Rattle.txc_db.specs.declared.error.DbError.TheVariants.{SnapshotGone, Conflict, Full, Store, Broken, NotPinned, FutureStamp, HoldsFull, Memory}
 use Rattle.txc_db.specs.declared.holds.TheConstants.{MAX_HOLDS}
 use Rattle.txc_db.specs.DatabaseValue.{DatabaseValue, newest, newest_net, next_horizon, is_held, IsReadable}
-use Rattle.txc_db.specs.Room.{HasEventRoom, IsEventsFull, AreTagsKept, AreTagsGone}
+use Rattle.txc_db.specs.Room.{events_room, AreTagsKept, AreTagsGone}
 use Rattle.txc_db.specs.Refusals.{IsOwn, IsConflict, NoneMatches}
 
 -- the call found another record in the row after the history: the history, the horizon and the holds are as
@@ -67,7 +67,7 @@ IsVacuumRefused d e = ⊥
 pub record IsPinnable (d : DatabaseValue) (at_least : ℕ) : Type 0 where
   pub whole : d.broken ≡ false
   pub late : at_least ≤ newest d + 1
-  pub room : HasEventRoom d.events (newest d)
+  pub room : newest d < events_room d.events
   pub hold : length d.holds < MAX_HOLDS
 
 -- of a pin: broken, or asked for beyond the next stamp, or there is no room, or too many holds, each where
@@ -77,9 +77,9 @@ IsPinRefused d at_least Broken = (d.broken ≡ true) ⊎ IsPinnable d at_least
 IsPinRefused d at_least (FutureStamp last) =
     (d.broken ≡ false) × (newest d + 1 < at_least) × (last ≡ newest d)
 IsPinRefused d at_least Full =
-    (d.broken ≡ false) × (at_least ≤ newest d + 1) × IsEventsFull d.events (newest d)
+    (d.broken ≡ false) × (at_least ≤ newest d + 1) × (newest d ≡ events_room d.events)
 IsPinRefused d at_least HoldsFull =
-    (d.broken ≡ false) × (at_least ≤ newest d + 1) × HasEventRoom d.events (newest d)
+    (d.broken ≡ false) × (at_least ≤ newest d + 1) × (newest d < events_room d.events)
     × (MAX_HOLDS ≤ length d.holds)
 IsPinRefused d at_least Memory = IsPinnable d at_least
 IsPinRefused d at_least e = ⊥
@@ -141,14 +141,14 @@ pub record IsCommittable (d : DatabaseValue) (base : ℕ) (read : List Tag) (cha
     : Type 0 where
   pub unread : IsUnread d base read
   pub few : AreFewNamed d changes
-  pub room : newest_net d changes ≢ [] → HasEventRoom d.events (newest d)
+  pub room : newest_net d changes ≢ [] → newest d < events_room d.events
 
 -- a commit has an event to append, for which there is room
 pub record IsEventDue (d : DatabaseValue) (base : ℕ) (read : List Tag) (changes : List Change) : Type 0 where
   pub unread : IsUnread d base read
   pub few : AreFewNamed d changes
   pub some : newest_net d changes ≢ []
-  pub room : HasEventRoom d.events (newest d)
+  pub room : newest d < events_room d.events
 
 -- a commit has an event to append, and there is no room for it
 pub record IsEventBarred (d : DatabaseValue) (base : ℕ) (read : List Tag) (changes : List Change)
@@ -156,7 +156,7 @@ pub record IsEventBarred (d : DatabaseValue) (base : ℕ) (read : List Tag) (cha
   pub unread : IsUnread d base read
   pub few : AreFewNamed d changes
   pub some : newest_net d changes ≢ []
-  pub full : IsEventsFull d.events (newest d)
+  pub full : newest d ≡ events_room d.events
 
 -- the store refused a commit: of a row that it names too many versions are kept; or there are changes, and
 -- it refused by itself

@@ -3,20 +3,10 @@ use Rattle.std.specs.Prelude.{◌≡◌, ⊤, ℕ, ◌<◌, ◌≤◌, length}
 use Rattle.txc_stamp.specs.declared.stamp.TheConstants.{LAST_STAMP}
 use Rattle.txc_stream.specs.Names.{Name, stored, unstored}
 
--- it may have so many events: a row, one in each of its cells; any other, one for each stamp
-abbrev pub FitsEvents : Name → ℕ → Type 0
-FitsEvents (stored cells) n = n ≤ length cells
-FitsEvents (unstored number) n = n ≤ LAST_STAMP
-
--- with so many events there is room for one more
-abbrev pub HasEventRoom : Name → ℕ → Type 0
-HasEventRoom (stored cells) n = n < length cells
-HasEventRoom (unstored number) n = n < LAST_STAMP
-
--- with so many events there is none
-abbrev pub IsEventsFull : Name → ℕ → Type 0
-IsEventsFull (stored cells) n = n ≡ length cells
-IsEventsFull (unstored number) n = n ≡ LAST_STAMP
+-- for how many events there is room: in a row, for one in each of its cells; else for one for each stamp
+abbrev pub events_room : Name → ℕ
+events_room (stored cells) = length cells
+events_room (unstored number) = LAST_STAMP
 
 -- it is stored in a row with so many cells
 abbrev pub HasCapacity : Name → ℕ → Type 0

@@ -1,5 +1,5 @@
 -- What fronts and feeds have seen of a history.
-use Rattle.std.specs.Prelude.{◌≡◌, ℕ, length}
+use Rattle.std.specs.Prelude.{ℕ}
 use Rattle.txc_stream.specs.Names.{Name, stored, unstored}
 use Rattle.txc_db.specs.History.{History}
 
@@ -13,7 +13,8 @@ pub record FeedValue : Type 0 where
   pub history : History
   pub taken : ℕ
 
--- what a feed has taken at its beginning: none where the history is stored, else all that it has seen
-abbrev pub HasBegun : Name → FeedValue → Type 0
-HasBegun (stored cells) f = f.taken ≡ 0
-HasBegun (unstored number) f = f.taken ≡ length f.history
+-- how many events a feed has taken at its beginning, where there are so many: none of a stored history, and each of
+-- any other
+abbrev pub begun_at : Name → ℕ → ℕ
+begun_at (stored cells) events = 0
+begun_at (unstored number) events = events

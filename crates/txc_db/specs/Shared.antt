@@ -14,7 +14,7 @@ use Rattle.txc_db.specs.declared.answered.CommitError.{CommitError}
 use Rattle.txc_db.specs.declared.answered.CommitError.TheVariants as commits
 use Rattle.txc_db.specs.History.{History, state_at, event_at, commit_event}
 use Rattle.txc_db.specs.DatabaseValue.{DatabaseValue, IsSound, front_of}
-use Rattle.txc_db.specs.Room.{FitsEvents}
+use Rattle.txc_db.specs.Room.{events_room}
 use Rattle.txc_db.specs.Refusals.{NoneMatches, IsConflict}
 use Rattle.txc_db.specs.Calls.{IsAnswerable, matching_of, IsBase, IsCommitRefused}
 
@@ -22,7 +22,7 @@ use Rattle.txc_db.specs.Calls.{IsAnswerable, matching_of, IsBase, IsCommitRefuse
 -- broken, it is sound
 pub record IsDatabaseOf (events : Name) (d : DatabaseValue) : Type 0 where
   pub named : d.events ≡ events
-  pub fits : FitsEvents d.events (length d.history)
+  pub fits : length d.history ≤ events_room d.events
   pub sound : d.broken ≡ false → IsSound d
 
 -- some database with the history of this name answers so

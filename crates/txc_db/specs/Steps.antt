@@ -5,7 +5,7 @@ use Rattle.txc_rows.specs.declared.query.Change.{Change}
 use Rattle.txc_db.specs.declared.error.DbError.{DbError}
 use Rattle.txc_db.specs.declared.error.DbError.TheVariants.{SnapshotGone, Full, Store, Broken, FutureStamp, Memory}
 use Rattle.txc_db.specs.DatabaseValue.{DatabaseValue, newest}
-use Rattle.txc_db.specs.Room.{HasEventRoom, IsEventsFull, AreTagsGone}
+use Rattle.txc_db.specs.Room.{events_room, AreTagsGone}
 use Rattle.txc_db.specs.Refusals.{IsOwn}
 use Rattle.txc_db.specs.Calls.{IsStoreRefused, IsStoreRefusedIn}
 
@@ -30,8 +30,8 @@ IsNetRefused d changes e = e ≡ Memory
 -- of an event that is to be appended: there is no room; else the store refused by itself, or out of memory,
 -- or another record stands in the row
 abbrev pub IsAppendRefused : DatabaseValue → DbError → Type 0
-IsAppendRefused d Full = IsEventsFull d.events (newest d)
-IsAppendRefused d (Store cause) = HasEventRoom d.events (newest d) × IsOwn cause
-IsAppendRefused d Memory = HasEventRoom d.events (newest d)
-IsAppendRefused d Broken = HasEventRoom d.events (newest d)
+IsAppendRefused d Full = newest d ≡ events_room d.events
+IsAppendRefused d (Store cause) = (newest d < events_room d.events) × IsOwn cause
+IsAppendRefused d Memory = newest d < events_room d.events
+IsAppendRefused d Broken = newest d < events_room d.events
 IsAppendRefused d e = ⊥

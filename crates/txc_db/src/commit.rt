@@ -1,6 +1,7 @@
 //! Commits: conflicts with what was read, net changes against the newest state, and the event that is
 //! appended.
 ghost use Rattle.std.specs.Prelude.{◌≡◌, ◌≢◌, ◌+◌, ◌<◌, ◌≤◌, ◌++◌, ◌∷◌, [], ℕ, true, false, length, Ok, Err, IfOk, OnOk, OnErr, IfErr, IfSome, IfNone, IsOk, ◌↔◌};
+ghost use Rattle.txc_stream.specs.Names.{HasRow};
 ghost use Rattle.txc_rows.specs.declared.query.Query.TheVariants.{ById};
 ghost use Rattle.txc_rows.specs.States.{answer, after_changes};
 ghost use Rattle.txc_rows.specs.RowTags.{tags_between};
@@ -13,7 +14,7 @@ ghost use Rattle.txc_db.specs.NetWith.{IsNetWith};
 ghost use Rattle.txc_db.specs.Refusals.{IsConflict, NoneMatches};
 ghost use Rattle.txc_db.specs.Calls.{IsLeft, IsBase, AreFewNamed, row_query, matching_of, IsCommittable, IsCommitRefused};
 ghost use Rattle.txc_rows.specs.declared.store_error.TheConstants.{MAX_MATCHING};
-ghost use Rattle.txc_db.specs.Room.{HasEventRoom};
+ghost use Rattle.txc_db.specs.Room.{events_room};
 ghost use Rattle.txc_db.specs.Steps.{IsBaseRefused, IsReadRefused, IsNetRefused, IsAppendRefused};
 
 use crate::db_core::DbCore;
@@ -31,7 +32,7 @@ use txc_validity::rows_at;
 
 /// The number of the first event after the base whose tags match those read.
 fn first_conflict(told: &History, base: usize, read: &TagSet) -> Option<usize>
-    requires { told.now.first ≤ base }
+    requires { ¬ (HasRow told.now.events) → told.now.first ≤ base }
     ensures some { IfSome result (IsConflict told.now.history base read.now) }
     ensures none { IfNone result (NoneMatches told.now.history base (length told.now.history) read.now) }
 {
@@ -114,7 +115,7 @@ impl DbCore {
             ≡ after_event_of self.old (record { fact = commit net.changes.items; tags = net.tags })
             net.changes.items) }
         ensures answer { IfOk result (λ stamp. stamp ≡ newest self.old + 1) }
-        ensures room { IsOk result → HasEventRoom self.old.events (newest self.old) }
+        ensures room { IsOk result → newest self.old < events_room self.old.events }
         ensures unchanged { IfErr result (IsLeft self.old self.new) }
         ensures refused { IfErr result (IsAppendRefused self.old) }
     {

@@ -101,7 +101,7 @@ impl DbCore {
     fn of(alloc: Global, told: History) -> Result<DbCore, DbError>
         requires none { told.history ≡ [] }
         requires all { told.first ≡ 0 }
-        ensures { IfOk result (λ d. d ≡ record {
+        ensures made { IfOk result (λ d. d ≡ record {
           events = told.events;
           history = [];
           versions = [];

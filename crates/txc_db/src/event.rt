@@ -60,13 +60,13 @@ pub struct PostedTags<J: Naming> {
 }
 
 impl<J: Naming> Posts<Event, Option<Arc<TagSet>>> for PostedTags<J> {
-    ghost use Rattle.std.specs.Prelude.{◌≡◌, length, IfSome};
+    ghost use Rattle.std.specs.Prelude.{◌≡◌, ◌≤◌, length, IfSome};
     ghost use Rattle.std.specs.Arc.{arc_value};
     ghost use Rattle.txc_db.specs.History.{AreTagged, tags_at};
-    ghost use Rattle.txc_db.specs.Room.{FitsEvents};
+    ghost use Rattle.txc_db.specs.Room.{events_room};
 
     ghost history = { J.database_history };
 
-    ghost notes = { λ L note. AreTagged L × FitsEvents J.database_history (length L)
+    ghost notes = { λ L note. AreTagged L × (length L ≤ events_room J.database_history)
         × IfSome note (λ tags. arc_value tags ≡ tags_at L (length L)) };
 }

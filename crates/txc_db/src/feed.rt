@@ -10,7 +10,7 @@ use crate::history_front::HistoryFront;
 use crate::naming::Naming;
 use std::marker::Model;
 use std::sync::{Arc, Wait};
-use txc_stream::{Walker, prefix_of_itself, prefix_of_prefix};
+use txc_stream::{Walker, longer_of_two, prefix_of_itself};
 use txc_tags::TagSet;
 
 /// Walks through the events that a database has posted.
@@ -28,24 +28,19 @@ pub struct Feed<J: Naming> {
 
 impl<J: Naming> Model for Feed<J> {
     ghost use Rattle.std.specs.Prelude.{◌≡◌, ◌≤◌, length};
-    ghost use mathlib.Core.List.{IsPrefix};
     ghost use Rattle.txc_db.specs.Seen.{FeedValue};
 
     ghost Value = { FeedValue };
 
     ghost view = { λ f. record { history = f.front.history; taken = f.taken } };
 
-    ghost invariant = { λ f. (f.front.events ≡ J.database_history) × IsPrefix f.walker.list f.front.history
-        × (f.taken ≤ length f.front.history) };
+    ghost invariant = { λ f. (f.front.events ≡ J.database_history) × (f.taken ≤ length f.front.history) };
 }
 
-// Looks for an event after the first `taken`. It passes over one that was taken.
+// Looks for an event after the first `taken`.
 fn find_after<J: Naming>(walker: &mut EventWalker<J>, rt: &impl Wait, taken: usize) -> bool
-    ensures found { result ≡ true → walker.new.found ≡ true }
-    ensures longer { IsPrefix walker.old.list walker.new.list }
+    ensures { result ≡ walker.new.found }
 {
-    prefix_of_itself::<Event>();
-    prefix_of_prefix::<Event>();
     if walker.look(rt) && walker.front().len() <= taken {
         walker.take();
     }
@@ -55,7 +50,6 @@ fn find_after<J: Naming>(walker: &mut EventWalker<J>, rt: &impl Wait, taken: usi
 impl<J: Naming> Feed<J> {
     pub(crate) fn new(front: HistoryFront, walker: EventWalker<J>, taken: usize) -> Feed<J>
         requires named { front.events ≡ J.database_history }
-        requires walked { IsPrefix walker.list front.history }
         requires taken { taken ≤ length front.history }
         ensures { result ≡ record { history = front.history; taken = taken } }
     {
@@ -63,6 +57,18 @@ impl<J: Naming> Feed<J> {
             front,
             walker,
             taken,
+        }
+    }
+
+    // Shows what its walker finds.
+    fn walk(&mut self, rt: &impl Wait)
+        ensures taken { self.new.taken ≡ self.old.taken }
+        ensures longer { IsPrefix self.old.history self.new.history }
+    {
+        prefix_of_itself::<Event>();
+        if find_after(&mut self.walker, rt, self.taken) {
+            let _tags = self.walker.note();
+            self.front.see(self.walker.front());
         }
     }
 
@@ -74,10 +80,7 @@ impl<J: Naming> Feed<J> {
         ensures taken { self.new.taken ≡ self.old.taken }
         ensures longer { IsPrefix self.old.history self.new.history }
     {
-        if find_after(&mut self.walker, rt, self.taken) {
-            let _tags = self.walker.note();
-            self.front.see(self.walker.front());
-        }
+        self.walk(rt);
         self.taken < self.front.len()
     }
 
@@ -89,7 +92,6 @@ impl<J: Naming> Feed<J> {
         ensures this { IsPrefix self.old.history self.new.history }
         ensures that { IsPrefix other.now.history self.new.history }
     {
-        prefix_of_prefix::<Event>();
         self.front.longer(other);
     }
 
@@ -123,19 +125,20 @@ impl<J: Naming> Feed<J> {
 
     // The tags of that event, where its walker stands at it and they were posted.
     fn posted_tags(&self) -> Option<&TagSet>
+        requires { self.now.taken < length self.now.history }
         ensures { IfSome result (λ tags. tags.now ≡ tags_at self.now.history (self.now.taken + 1)) }
     {
-        if !self.walker.is_found() {
+        longer_of_two::<Event>();
+        let _seen = self.front.len();
+        let found = self.walker.front();
+        if !self.walker.is_found() || found.len() != self.taken + 1 {
             return None;
         }
-        let Some(tags) = self.walker.note() else {
-            return None;
-        };
-        if self.walker.front().len() != self.taken + 1 {
-            return None;
+        found.agree(self.front.front());
+        match self.walker.note() {
+            Some(tags) => Some(tags),
+            None => None,
         }
-        let tags: &TagSet = tags;
-        Some(tags)
     }
 
     /// Takes that event.

@@ -6,7 +6,7 @@ ghost use Rattle.txc_stream.specs.Names.{stored, unstored, HasRow};
 ghost use Rattle.txc_rows.specs.RowTags.{tags_between};
 ghost use Rattle.txc_db.specs.Facts.{commit, net_of};
 ghost use Rattle.txc_db.specs.History.{pin_event, state_at, state_after_event, tags_at};
-ghost use Rattle.txc_db.specs.Room.{HasEventRoom, IsEventsFull, AreTagsKept, AreTagsGone};
+ghost use Rattle.txc_db.specs.Room.{events_room, AreTagsKept, AreTagsGone};
 ghost use Rattle.txc_db.specs.Held.{HistoryValue, front_in, event_in, IsPrepared};
 
 use crate::event::{Event, EventTags, What};
@@ -97,8 +97,9 @@ impl History {
 
     /// Whether there is no room for one event more.
     pub(crate) fn is_full(&self) -> bool
-        ensures full { result ≡ true → IsEventsFull self.now.events (length self.now.history) }
-        ensures room { result ≡ false → HasEventRoom self.now.events (length self.now.history) }
+        ensures full { result ≡ true → length self.now.history ≡ events_room self.now.events }
+        ensures room { result ≡ false → length self.now.history < events_room self.now.events }
+        ensures next { result ≡ false → length self.now.history < LAST_STAMP }
     {
         self.front.is_full()
     }
@@ -118,22 +119,34 @@ impl History {
         &self.start
     }
 
-    /// The tags of one of its events, by its number, from 1 on.
-    pub(crate) fn tags_of(&self, number: usize) -> &TagSet
+    // The tags that are kept of one of its events, by its number, from 1 on.
+    fn kept_tags(&self, number: usize) -> &Arc<TagSet>
+        requires unstored { ¬ (HasRow self.now.events) }
         requires kept { self.now.first < number }
         requires last { number ≤ length self.now.history }
-        ensures { result.now ≡ tags_at self.now.history number }
+        ensures { arc_value result.now ≡ tags_at self.now.history number }
     {
-        if let Some(event) = self.front.event_at(number) {
-            return &event.tags;
-        }
+        self.front.is_tagged();
         let Some(window) = &self.window else {
             unreachable!();
         };
         window.get(number - 1)
     }
 
-    /// A handle of the tags of its last event, where it is not stored.
+    /// The tags of one of its events, by its number, from 1 on, where they are kept.
+    pub(crate) fn tags_of(&self, number: usize) -> &TagSet
+        requires first { 1 ≤ number }
+        requires kept { ¬ (HasRow self.now.events) → self.now.first < number }
+        requires last { number ≤ length self.now.history }
+        ensures { result.now ≡ tags_at self.now.history number }
+    {
+        if let Some(event) = self.front.event_at(number) {
+            return &event.tags;
+        }
+        self.kept_tags(number)
+    }
+
+    /// A handle of the tags of its last event, where they are kept and not stored.
     pub(crate) fn last_tags(&self) -> Option<Arc<TagSet>>
         ensures { IfSome result (λ tags.
             arc_value tags ≡ tags_at self.now.history (length self.now.history)) }
@@ -145,7 +158,10 @@ impl History {
         if window.first() >= events {
             return None;
         }
-        Arc::try_clone(window.get(events - 1)).ok()
+        match Arc::try_clone(self.kept_tags(events)) {
+            Ok(tags) => Some(tags),
+            Err(_) => None,
+        }
     }
 
     // Makes room for the tags of one event more, where they are kept.
@@ -213,7 +229,7 @@ impl History {
     /// cell; then nothing has changed.
     pub(crate) fn append(&mut self, next: Prepared) -> bool
         requires prepared { IsPrepared self.old next }
-        requires room { HasEventRoom self.old.events (length self.old.history) }
+        requires room { length self.old.history < events_room self.old.events }
         requires tagged { let before = state_at self.old.history (length self.old.history)
             in (event_in next).tags ≡ tags_between before (state_after_event before (event_in next)) }
         ensures after { result ≡ true → self.new ≡ record self.old {
@@ -235,7 +251,7 @@ impl History {
     fn write(&mut self, next: Loose)
         requires unstored { ¬ (HasRow self.old.events) }
         requires kept { 0 < self.old.room }
-        requires room { HasEventRoom self.old.events (length self.old.history) }
+        requires room { length self.old.history < events_room self.old.events }
         requires tagged { let before = state_at self.old.history (length self.old.history)
             in next.draft.value.tags ≡ tags_between before (state_after_event before next.draft.value) }
         ensures { self.new ≡ record self.old {
@@ -243,6 +259,7 @@ impl History {
           room = self.new.room;
         } }
     {
+        self.front.is_tagged();
         let Some(window) = &mut self.window else {
             unreachable!();
         };

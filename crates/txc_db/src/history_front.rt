@@ -1,12 +1,12 @@
 //! What somebody has seen of a history, wherever it goes.
-ghost use Rattle.std.specs.Prelude.{◌≡◌, ◌+◌, ◌<◌, ◌≤◌, ◌⊎◌, ◌++◌, ◌∷◌, [], length, Some, IfOk, OnOk, IfErr, IsTrue, ◌↔◌, MatchOption};
+ghost use Rattle.std.specs.Prelude.{◌≡◌, ◌+◌, ◌<◌, ◌≤◌, ◌⊎◌, ◌++◌, ◌∷◌, [], true, false, length, Some, IfOk, OnOk, IfErr, IsTrue, ◌↔◌, MatchOption};
 ghost use Rattle.std.specs.Arc.{arc_value};
 ghost use mathlib.Core.List.{IsPrefix};
 ghost use Rattle.txc_stamp.specs.declared.stamp.TheConstants.{LAST_STAMP};
 ghost use Rattle.txc_stream.specs.Names.{stored, HasRow};
 ghost use Rattle.txc_rows.specs.RowTags.{tags_between};
 ghost use Rattle.txc_db.specs.History.{AreTagged, state_after_event, state_at, tags_at, event_at};
-ghost use Rattle.txc_db.specs.Room.{FitsEvents, HasEventRoom, IsEventsFull};
+ghost use Rattle.txc_db.specs.Room.{events_room};
 
 use crate::error::DbError;
 use crate::event::Event;
@@ -27,10 +27,10 @@ pub struct HistoryFront {
 }
 
 impl Model for HistoryFront {
-    ghost use Rattle.std.specs.Prelude.{◌≡◌, MatchOption, length};
+    ghost use Rattle.std.specs.Prelude.{◌≡◌, ◌≤◌, MatchOption, length};
     ghost use Rattle.std.specs.Arc.{arc_value};
     ghost use Rattle.txc_db.specs.History.{AreTagged};
-    ghost use Rattle.txc_db.specs.Room.{FitsEvents};
+    ghost use Rattle.txc_db.specs.Room.{events_room};
     ghost use Rattle.txc_stream.specs.Names.{stored, HasRow};
     ghost use Rattle.txc_db.specs.Seen.{FrontValue};
 
@@ -40,7 +40,7 @@ impl Model for HistoryFront {
 
     ghost invariant = { λ f.
         MatchOption f.row (¬ (HasRow f.front.name)) (λ row. f.front.name ≡ stored (arc_value row))
-        × AreTagged f.front.list × FitsEvents f.front.name (length f.front.list) };
+        × AreTagged f.front.list × (length f.front.list ≤ events_room f.front.name) };
 }
 
 impl HistoryFront {
@@ -59,7 +59,7 @@ impl HistoryFront {
     pub(crate) fn unstored(front: Front<Event>) -> HistoryFront
         requires unstored { ¬ (HasRow front.name) }
         requires tagged { AreTagged front.list }
-        requires fits { FitsEvents front.name (length front.list) }
+        requires fits { length front.list ≤ events_room front.name }
         ensures { result ≡ record { events = front.name; history = front.list } }
     {
         HistoryFront { row: None, front }
@@ -124,7 +124,7 @@ impl HistoryFront {
     /// How many events it shows.
     pub fn len(&self) -> usize
         ensures shown { result ≡ length self.now.history }
-        ensures room { FitsEvents self.now.events result }
+        ensures room { result ≤ events_room self.now.events }
         ensures most { result ≤ LAST_STAMP }
     {
         self.front.len()
@@ -137,15 +137,24 @@ impl HistoryFront {
         self.front.is_empty()
     }
 
-    /// Whether it shows as many events as there is room for.
-    pub(crate) fn is_full(&self) -> bool
-        ensures full { result ≡ true → IsEventsFull self.now.events (length self.now.history) }
-        ensures room { result ≡ false → HasEventRoom self.now.events (length self.now.history) }
+    /// For how many events its history has room.
+    pub fn room(&self) -> usize
+        ensures room { result ≡ events_room self.now.events }
+        ensures most { result ≤ LAST_STAMP }
     {
         match &self.row {
-            Some(row) => self.front.len() == row.capacity(),
-            None => self.front.len() == LAST_STAMP as usize,
+            Some(row) => row.capacity(),
+            None => LAST_STAMP as usize,
         }
+    }
+
+    /// Whether it shows as many events as there is room for.
+    pub(crate) fn is_full(&self) -> bool
+        ensures full { result ≡ true → length self.now.history ≡ events_room self.now.events }
+        ensures room { result ≡ false → length self.now.history < events_room self.now.events }
+        ensures next { result ≡ false → length self.now.history < LAST_STAMP }
+    {
+        self.front.len() >= self.room()
     }
 
     /// The stamp after the events that it shows.
@@ -188,7 +197,7 @@ impl HistoryFront {
     pub(crate) fn see(&mut self, front: &Front<Event>)
         requires named { front.now.name ≡ self.old.events }
         requires tagged { AreTagged front.now.list }
-        requires fits { FitsEvents front.now.name (length front.now.list) }
+        requires fits { length front.now.list ≤ events_room front.now.name }
         ensures events { self.new.events ≡ self.old.events }
         ensures one { (self.new.history ≡ self.old.history) ⊎ (self.new.history ≡ front.now.list) }
         ensures this { IsPrefix self.old.history self.new.history }
@@ -217,7 +226,7 @@ impl HistoryFront {
     /// Appends a stored event that stands beside its tags. `Broken` where another record stands in its cell.
     pub(crate) fn append(&mut self, event: Box<Event>) -> Result<(), DbError>
         requires stored { HasRow self.old.events }
-        requires room { HasEventRoom self.old.events (length self.old.history) }
+        requires room { length self.old.history < events_room self.old.events }
         requires tagged { let before = state_at self.old.history (length self.old.history)
             in event.value.tags ≡ tags_between before (state_after_event before event.value) }
         ensures after { OnOk result (self.new

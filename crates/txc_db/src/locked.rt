@@ -1,11 +1,11 @@
 //! What is done to the database under its lock.
-ghost use Rattle.std.specs.Prelude.{◌≡◌, ◌+◌, ◌≤◌, ◌∷◌, [], true, false, length, Err, IfOk, IfErr, IsOk, OnOk, OnErr, IsTrue};
+ghost use Rattle.std.specs.Prelude.{◌≡◌, ◌+◌, ◌<◌, ◌≤◌, ◌∷◌, [], true, false, length, Err, IfOk, IfErr, IsOk, OnOk, OnErr};
 ghost use Rattle.txc_stream.specs.Posted.{PosterValue};
 ghost use Rattle.txc_stream.specs.declared.segment.TheConstants.{SEGMENT_LEN};
 ghost use Rattle.txc_rows.specs.RowTags.{query_tag};
 ghost use Rattle.txc_validity.specs.Answers.{IsAnswer};
 ghost use Rattle.txc_db.specs.History.{state_at};
-ghost use Rattle.txc_db.specs.Seen.{FeedValue, HasBegun};
+ghost use Rattle.txc_db.specs.Seen.{begun_at};
 ghost use Rattle.txc_db.specs.DatabaseValue.{DatabaseValue, front_of, after_hold, after_unpin, after_vacuum, after_pin, after_commit, newest, next_horizon, is_held};
 ghost use Rattle.txc_db.specs.Calls.{IsHoldable, IsHoldRefused, IsUnpinRefused, IsVacuumRefused, IsAnswerable, matching_of, IsQueryRefused, IsPinnable, IsPinRefused, IsCommittable};
 ghost use Rattle.txc_rows.specs.declared.store_error.TheConstants.{MAX_MATCHING};
@@ -26,7 +26,7 @@ use std::marker::Model;
 use std::sync::{Arc, Wait};
 use txc_rows::{Change, Query};
 use txc_stamp::Stamp;
-use txc_stream::{Poster, Slip, prefix_of_itself};
+use txc_stream::{Poster, Slip};
 use txc_tags::TagSet;
 use txc_validity::Found;
 
@@ -68,12 +68,12 @@ impl<J: Naming> Locked<J> {
 
     /// A feed of the events. Of a history that is not stored it begins after those that are there.
     pub(crate) fn feed(&self) -> Result<Feed<J>, AllocError>
-        ensures { IfOk result (HasBegun J.database_history) }
+        ensures { IfOk result (λ feed.
+            feed.taken ≡ begun_at J.database_history (length feed.history)) }
     {
-        prefix_of_itself::<Event>();
         let front = self.core.front()?;
         let walker = self.poster.walker(front.front())?;
-        let taken = if front.is_stored() { 0 } else { front.len() };
+        let taken = begun(&front);
         Ok(Feed::new(front, walker, taken))
     }
 
@@ -216,6 +216,14 @@ impl<J: Naming> Locked<J> {
             Err(refusal) => Err(refused_with(front, refusal)),
         }
     }
+}
+
+/// How many of the events that the front shows a feed has taken that begins with it.
+fn begun(front: &HistoryFront) -> usize
+    ensures begun { result ≡ begun_at front.now.events (length front.now.history) }
+    ensures within { result ≤ length front.now.history }
+{
+    if front.is_stored() { 0 } else { front.len() }
 }
 
 /// Posts the last event. `false` where another record stands where it was to be posted.

@@ -2,7 +2,6 @@
 ghost use Rattle.std.specs.Prelude.{◌≡◌};
 ghost use Rattle.std.specs.Arc.{arc_value};
 ghost use Rattle.txc_db.specs.Facts.{net_of};
-ghost use Rattle.txc_db.specs.Held.{event_in};
 
 use crate::event::Event;
 use crate::net::Net;
@@ -47,6 +46,8 @@ pub(crate) enum Prepared {
 }
 
 impl Prepared {
+    ghost use Rattle.txc_db.specs.Held.{event_in};
+
     /// The changes that it makes: a pin makes none.
     pub(crate) fn net(&self) -> &[Change]
         ensures { result.now ≡ net_of (event_in self.now).fact }

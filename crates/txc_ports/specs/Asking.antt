@@ -54,5 +54,5 @@ AddsSuch P (turns.Ask (requests.AddPin pinned)) = P pinned.front
 AddsSuch P turn = Unit {0}
 
 -- what the reply shows is of the row
-abbrev pub IsOfRow : List ℕ → PortReply → Type 0
+abbrev pub IsOfRow : Name → PortReply → Type 0
 IsOfRow row reply = ForSome (front_of_reply reply) (λ front. front.events ≡ row)

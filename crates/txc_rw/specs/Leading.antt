@@ -1,6 +1,7 @@
 -- How a call of a transaction goes: by what it is answered, and what comes of it.
 use Rattle.std.specs.Prelude.{◌≡◌, ◌⊎◌, ℕ, List, [], ◌∷◌, ◌++◌, Some, Result, Ok, Err}
 use Rattle.std.specs.List.{flat_map}
+use Rattle.txc_stream.specs.Names.{Name}
 use Rattle.txc_tags.specs.Keys.{Call}
 use Rattle.txc_rows.specs.declared.query.Query.{Query}
 use Rattle.txc_rows.specs.States.{RowValue, State, answer}
@@ -116,7 +117,7 @@ EndsCall row base (Err cause) objects result = result ≡ Err (refused_call caus
 
 -- a call in a state: replies of no cache led it on to where it stands; the queries that were answered on the
 -- way, and no other, were answered the transaction; and it ended so
-pub record IsUncachedRun (next : Next) (row : List ℕ) (s : State) (from : CallTurn) (old new : RwValue)
+pub record IsUncachedRun (next : Next) (row : Name) (s : State) (from : CallTurn) (old new : RwValue)
     (objects : Objects) (result : Result (List ℕ) TxnError) : Type 0 where
   pub queries : List Query
   pub stands : CallTurn

@@ -44,14 +44,14 @@ impl<A: App, J: Naming> Model for Held<A, J> {
 
     ghost view = { λ h. h.node };
 
-    ghost invariant = { λ h. LiesUnderLock J.node_histories J.database_row h.feed.taken h.node };
+    ghost invariant = { λ h. LiesUnderLock J.node_histories J.database_history h.feed.taken h.node };
 }
 
 impl<A: App, J: Naming> Held<A, J> {
     /// The named node, which has taken no event, and a feed of which none was taken.
     pub(crate) fn new(node: StoredNode<A>, feed: Feed<J>) -> Held<A, J>
         requires name { node.name ≡ J.node_histories node.settings.number }
-        requires events { node.seen.events ≡ J.database_row }
+        requires events { node.seen.events ≡ J.database_history }
         requires none { node.cache.processed ≡ 0 }
         requires feed { feed.taken ≡ 0 }
         ensures { result ≡ node }
@@ -196,7 +196,7 @@ impl<A: App, J: Naming> Held<A, J> {
         ensures found { IfOk result (λ found.
             HasFound pass.old pass.new (Lookup key.now lo hi) (option_map (λ f. f.entry) found)) }
         ensures key { IfOk result (λ found. IfSome found (λ f. f.entry.key ≡ key.now)) }
-        ensures front { IfOk result (λ found. IfSome found (λ f. f.front.events ≡ J.database_row)) }
+        ensures front { IfOk result (λ found. IfSome found (λ f. f.front.events ≡ J.database_history)) }
         ensures shown { IfOk result (λ found. IfSome found (λ f. IsPrefix f.front.history pass.new.history)) }
         ensures left { IfErr result (IsPassLeft (J.node_histories pass.old.settings.number) pass.old pass.new) }
     {
@@ -219,7 +219,7 @@ impl<A: App, J: Naming> Held<A, J> {
         entry: Entry,
         front: &HistoryFront,
     ) -> Result<Insertion, NodeError>
-        requires row { front.now.events ≡ J.database_row }
+        requires row { front.now.events ≡ J.database_history }
         requires is_true { IsTrueIn A.next front.now.history entry }
         ensures named { self.old.name ≡ J.node_histories self.old.settings.number }
         ensures after { OnOk result

@@ -96,7 +96,7 @@ impl<A: App, J: Naming> SharedNode<A, J> {
     // The node under its lock.
     fn of(node: StoredNode<A>, database: &Database<J>) -> Result<SharedNode<A, J>, AllocError>
         requires name { node.name ≡ J.node_histories node.settings.number }
-        requires events { node.seen.events ≡ J.database_row }
+        requires events { node.seen.events ≡ J.database_history }
         requires none { node.cache.processed ≡ 0 }
         ensures { IfOk result (λ shared. shared ≡ node.settings) }
     {
@@ -168,7 +168,7 @@ impl<J: Naming> NodePass<J> {
         ensures found { IfOk result (λ found.
             HasFound self.old self.new (Lookup key.now lo hi) (option_map (λ f. f.entry) found)) }
         ensures key { IfOk result (λ found. IfSome found (λ f. f.entry.key ≡ key.now)) }
-        ensures front { IfOk result (λ found. IfSome found (λ f. f.front.events ≡ J.database_row)) }
+        ensures front { IfOk result (λ found. IfSome found (λ f. f.front.events ≡ J.database_history)) }
         ensures shown { IfOk result (λ found. IfSome found (λ f. IsPrefix f.front.history self.new.history)) }
         ensures left { IfErr result (IsPassLeft (J.node_histories self.old.settings.number) self.old self.new) }
         ensures refused { IfErr result
@@ -188,7 +188,7 @@ impl<J: Naming> NodePass<J> {
         entry: Entry,
         front: &HistoryFront,
     ) -> Result<Insertion, NodeError>
-        requires row { front.now.events ≡ J.database_row }
+        requires row { front.now.events ≡ J.database_history }
         requires is_true { IsTrueIn A.next front.now.history entry }
         ensures longer { HasGrown self.old self.new }
         ensures legal { IsLegal self.new.history (start_of self.new.settings) self.new.records }

@@ -59,7 +59,7 @@ module _ (plan : Plan) (numbers : List ℕ) (sound : IsPlan plan) where
   client_so sites.Memory h = (sound, tt)
 
   -- the opening was refused
-  pub opening_so : {T : Type 0} (row : List ℕ) (makes : RwValue → T → Type 0) (refuses : RunError → Type 0) (error : OpenError) → length row ≡ plan.events
+  pub opening_so : {T : Type 0} (row : Name) (makes : RwValue → T → Type 0) (refuses : RunError → Type 0) (error : OpenError) → length row ≡ plan.events
       → IsOpeningRefused numbers row makes refuses error → IsOpenRefused plan numbers makes refuses error
   opening_so row makes refuses (opens.Site error) room h = registry_so error h
   opening_so row makes refuses (opens.Opening error) room h = (sound, record { row = row; room = room; refused = h })

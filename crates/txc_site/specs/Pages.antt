@@ -45,7 +45,7 @@ HaveCalled next row histories old (call ∷ earlier) new = (before : RoTxnValue)
 
 -- A transaction of the client as it was began with these bounds and no answer. Since then it has made these calls and
 -- no others, and those that were answered are its answers.
-pub record HasCalled (next : Next) (row : List ℕ) (histories : ℕ → Name) (client : ClientValue) (bounds : Bounds) (t : RoTxnValue) : Type 0 where
+pub record HasCalled (next : Next) (row : Name) (histories : ℕ → Name) (client : ClientValue) (bounds : Bounds) (t : RoTxnValue) : Type 0 where
   pub first : RoTxnValue
   pub calls : List MadeCall
   pub began : client_of first ≡ client
@@ -57,7 +57,7 @@ pub record HasCalled (next : Next) (row : List ℕ) (histories : ℕ → Name) (
   pub functions : t.txn.objects ≡ first.txn.objects
 
 -- such a transaction, which has these answers, was ended, and left the client so
-pub record IsPageRun (next : Next) (row : List ℕ) (histories : ℕ → Name) (client : ClientValue) (bounds : Bounds) (answers : List Recorded)
+pub record IsPageRun (next : Next) (row : Name) (histories : ℕ → Name) (client : ClientValue) (bounds : Bounds) (answers : List Recorded)
     (left : ClientValue) : Type 0 where
   pub last : RoTxnValue
   pub called : HasCalled next row histories client bounds last
@@ -71,7 +71,7 @@ IsLeftByRefused next row histories client bounds (reads.Page cause) left =
     (answers : List Recorded) × IsPageRun next row histories client bounds answers left
 
 -- what these calls asked and were replied, in order
-abbrev pub exchanges_of : (next : Next) (row : List ℕ) (histories : ℕ → Name) (old : RoTxnValue) (calls : List MadeCall) (new : RoTxnValue)
+abbrev pub exchanges_of : (next : Next) (row : Name) (histories : ℕ → Name) (old : RoTxnValue) (calls : List MadeCall) (new : RoTxnValue)
     → HaveCalled next row histories old calls new → List Exchange
 exchanges_of next row histories old [] new h = []
 exchanges_of next row histories old (call ∷ earlier) new h = exchanges_of next row histories old earlier h.0 h.1 ++ h.2.exchanges
@@ -80,7 +80,7 @@ exchanges_of next row histories old (call ∷ earlier) new h = exchanges_of next
 -- calls' exchanges with the node, in their order. They are one of each hit, at most one of each miss and of each insertion,
 -- and no others.
 abbrev pub PagesStandOnce : Type 0
-PagesStandOnce = (next : Next) (row : List ℕ) (histories : ℕ → Name) (old : RoTxnValue) (calls : List MadeCall) (new : RoTxnValue)
+PagesStandOnce = (next : Next) (row : Name) (histories : ℕ → Name) (old : RoTxnValue) (calls : List MadeCall) (new : RoTxnValue)
     (made : HaveCalled next row histories old calls new) (node : ℕ) (before after : PassValue)
     → slice_get old.passes node ≡ Some before → slice_get new.passes node ≡ Some after
     → HasAdded (filter (asks node) (exchanges_of next row histories old calls new made)) before after

@@ -1,5 +1,6 @@
 -- What a change that was tried came to.
 use Rattle.std.specs.Prelude.{◌≡◌, ◌⊎◌, ℕ, List, All, vec_len}
+use Rattle.txc_stream.specs.Names.{Name}
 use Rattle.txc_app.specs.Eval.{Next}
 use Rattle.txc_db.specs.declared.answered.Answered.{Answered}
 use Rattle.txc_db.specs.declared.answered.CommitError.{CommitError}
@@ -17,7 +18,7 @@ use Rattle.txc_site.specs.declared.error.WriteError.TheVariants as writes
 
 -- The change left a transaction of which it says this output, and that one was committed. What it was answered is
 -- right at its base and where it was committed, and none of the events in between matches what it read.
-pub record IsWritten {T : Type 0} (next : Next) (row : List ℕ) (makes : RwValue → T → Type 0) (output : T)
+pub record IsWritten {T : Type 0} (next : Next) (row : Name) (makes : RwValue → T → Type 0) (output : T)
     (committed : Committed) : Type 0 where
   pub core : RwValue
   pub made : makes core output
@@ -29,7 +30,7 @@ pub record IsWritten {T : Type 0} (next : Next) (row : List ℕ) (makes : RwValu
       ⊎ IsEventIn committed.front.history core.base (tags_read core) core.changes committed.stamp
 
 -- the change left a transaction, which a database of the row refused to commit so
-pub record IsRefusedCommit {T : Type 0} (row : List ℕ) (makes : RwValue → T → Type 0) (error : CommitError) : Type 0 where
+pub record IsRefusedCommit {T : Type 0} (row : Name) (makes : RwValue → T → Type 0) (error : CommitError) : Type 0 where
   pub core : RwValue
   pub output : T
   pub made : makes core output

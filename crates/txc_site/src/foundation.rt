@@ -61,7 +61,7 @@ impl<A: App, J: Naming> Foundation<A, J> {
         histories: Vec<NodeHistory>,
     ) -> Result<(Foundation<A, J>, Committers<J>), AllocError>
         requires plan { IsPlan plan }
-        requires database { core.events ≡ J.database_row }
+        requires database { core.events ≡ J.database_history }
         requires each { vec_len histories ≡ plan.nodes }
         requires histories { AreHistoriesOf J.node_histories 0 histories.items }
         ensures { IfOk result (λ made. made.0.plan ≡ plan) }
@@ -79,7 +79,7 @@ impl<A: App, J: Naming> Foundation<A, J> {
 
     /// The database without its lock, once no thread has it any more. No pin is held but one that is lost.
     pub(crate) fn into_core(self, rt: &impl Wait, alloc: Global) -> DbCore
-        ensures { IsDatabaseOf J.database_row result }
+        ensures { IsDatabaseOf J.database_history result }
     {
         let Foundation {
             ledger,

@@ -72,14 +72,14 @@ where
     J: Naming + Send + Sync,
     R: Threads + Wait + Sync,
     requires plan { IsPlan plan }
-    requires database { core.events ≡ J.database_row }
+    requires database { core.events ≡ J.database_history }
     requires each { vec_len histories ≡ plan.nodes }
     requires histories { AreHistoriesOf J.node_histories 0 histories.items }
     requires stored_so { HaveHistoriesBy plan J.node_histories }
     ensures each { IfOk result (λ visited. vec_len visited.outputs ≡ count) }
     ensures gives { IfOk result (λ visited.
-        HaveCome (V.gives visitors.now plan J.database_row) visited.outputs.items) }
-    ensures database { IfOk result (λ visited. IsDatabaseOf J.database_row visited.core) }
+        HaveCome (V.gives visitors.now plan J.database_history) visited.outputs.items) }
+    ensures database { IfOk result (λ visited. IsDatabaseOf J.database_history visited.core) }
     ensures refused { IfErr result (IsVisitRefused A.numbers) }
 {
     let (foundation, committers) = Foundation::<A, J>::new(alloc, plan, core, histories)?;

@@ -98,7 +98,7 @@ where
     J: Naming,
     R: Wait,
     requires plan { IsPlan plan }
-    requires database { core.events ≡ J.database_row }
+    requires database { core.events ≡ J.database_history }
     requires each { vec_len histories ≡ plan.nodes }
     requires histories { AreHistoriesOf J.node_histories 0 histories.items }
     requires stored_so { HaveHistoriesBy plan J.node_histories }
@@ -106,7 +106,7 @@ where
     ensures explained { IfOk result (λ shown. Explains A.next shown.receipt.seen.history
         (last_bounds newest) shown.receipt.pin shown.receipt.answers.items) }
     ensures newest { IfOk result (λ shown. IsAtLeast newest shown.receipt.pin) }
-    ensures row { IfOk result (λ shown. shown.receipt.seen.events ≡ J.database_row) }
+    ensures row { IfOk result (λ shown. shown.receipt.seen.events ≡ J.database_history) }
     ensures refused { IfErr result (IsLastRefused A.numbers (P.refuses page.now)) }
 {
     let (foundation, committers) = Foundation::<A, J>::new(alloc, plan, core, histories)?;

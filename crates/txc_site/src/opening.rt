@@ -130,13 +130,13 @@ where
     J: Naming,
     R: Wait,
     requires plan { IsPlan plan }
-    requires database { core.events ≡ J.database_row }
-    ensures opened { IfOk result (λ opened. IsWritten A.next J.database_row (O.makes opening.now)
+    requires database { core.events ≡ J.database_history }
+    ensures opened { IfOk result (λ opened. IsWritten A.next J.database_history (O.makes opening.now)
         opened.0.output opened.0.committed) }
     ensures once { IfOk result (λ opened. vec_len opened.0.conflicts ≡ 0) }
-    ensures database { IfOk result (λ opened. IsDatabaseOf J.database_row opened.1) }
+    ensures database { IfOk result (λ opened. IsDatabaseOf J.database_history opened.1) }
     ensures refused { IfErr result
-        (IsOpeningRefused A.numbers J.database_row (O.makes opening.now) (O.refuses opening.now)) }
+        (IsOpeningRefused A.numbers J.database_history (O.makes opening.now) (O.refuses opening.now)) }
 {
     let (ledger, committers) = Ledger::<J>::new(alloc, core)?;
     let mut committer = committers.committer();

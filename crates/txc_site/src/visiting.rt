@@ -104,7 +104,7 @@ where
     requires stored_so { HaveHistoriesBy foundation.now.plan J.node_histories }
     ensures each { IfOk result (λ outputs. vec_len outputs ≡ count) }
     ensures gives { IfOk result (λ outputs.
-        HaveCome (V.gives visitors.now foundation.now.plan J.database_row) outputs.items) }
+        HaveCome (V.gives visitors.now foundation.now.plan J.database_history) outputs.items) }
     ensures refused { IfErr result (IsVisitRefused A.numbers) }
 {
     let guests = guests::<A, D, J>(rt, alloc, foundation, committers, pool, count)?;
@@ -113,7 +113,7 @@ where
         guests,
         &|guest: Guest<SiteClient<'_, A, D, J>>| -> V::Output
             requires { IsNewClient J.node_histories guest.client }
-            ensures { V.gives visitors.entry.now guest.entry.client.plan J.database_row
+            ensures { V.gives visitors.entry.now guest.entry.client.plan J.database_history
                 guest.entry.number result }
         {
             let Guest { number, client } = guest;

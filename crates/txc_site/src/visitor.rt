@@ -30,5 +30,5 @@ pub trait Visitor<A: App, D: Definition> {
     ) -> Self::Output
         requires some { IsSome client.old }
         requires new { IfSome client.old (IsNewClient J.node_histories) }
-        ensures { IfSome client.old (λ client. gives self.now client.plan J.database_row number result) };
+        ensures { IfSome client.old (λ client. gives self.now client.plan J.database_history number result) };
 }

@@ -44,7 +44,7 @@ fn by_calls<J: Naming>(
 ) -> Result<usize> {
     let asked = ask(rt, alloc, database)?.max(commit(rt, alloc, database)?);
     let stuck = stick(rt, alloc, database, cushion)?.max(retire(rt, alloc, database)?);
-    let fed = feed(database)?.max(update(rt, alloc, database)?);
+    let fed = feed(rt, database)?.max(update(rt, alloc, database)?);
     Ok(asked.max(stuck).max(fed))
 }
 
@@ -94,7 +94,7 @@ fn over_histories<J: Naming, R: Wait>(
     row: EventRow<Record>,
     pen: Pen<Record>,
 ) -> Result<(DbCore, usize)>
-    requires database { core.events ≡ J.database_row }
+    requires database { core.events ≡ J.database_history }
     requires one { stored row ≡ J.node_histories 0 }
     requires other { unstored pen.number ≡ J.node_histories 1 }
     requires none { pen.list ≡ [] }
