@@ -1,5 +1,5 @@
 //! The events of a database for those who hold no lock.
-ghost use Rattle.std.specs.Prelude.{◌≡◌, ◌+◌, ◌<◌, ◌≤◌, ◌↔◌, ◌⊎◌, IsTrue, IfSome, MatchOption, [], true, length, Some};
+ghost use Rattle.std.specs.Prelude.{◌≡◌, ◌+◌, ◌<◌, ◌≤◌, ◌↔◌, ◌⊎◌, IsTrue, IfSome, IfNone, MatchOption, [], true, length, Some};
 ghost use Rattle.std.specs.Arc.{arc_value};
 ghost use Rattle.txc_stream.specs.Names.{HasRow};
 ghost use Rattle.txc_db.specs.History.{tags_at, event_at};
@@ -109,14 +109,17 @@ impl<J: Naming> Feed<J> {
         self.front.event_at(self.taken + 1)
     }
 
-    /// The tags of the event after those that were taken. A feed that has seen an event of a history that is not
-    /// stored, and has not found it where the database posts them, does not know its tags.
+    /// The tags of the event after those that were taken, where there is one. A feed that has seen an event of a
+    /// history that is not stored, and has not found it where the database posts them, does not know its tags.
     pub fn next_tags(&self) -> Option<&TagSet>
-        requires { self.now.taken < length self.now.history }
-        ensures { MatchOption result
-            (¬ (HasRow J.database_history))
-            (λ tags. tags.now ≡ tags_at self.now.history (self.now.taken + 1)) }
+        ensures tags { IfSome result (λ tags. (self.now.taken < length self.now.history)
+            × (tags.now ≡ tags_at self.now.history (self.now.taken + 1))) }
+        ensures none { IfNone result
+            ((length self.now.history ≤ self.now.taken) ⊎ ¬ (HasRow J.database_history)) }
     {
+        if self.taken >= self.front.len() {
+            return None;
+        }
         if let Some(event) = self.next_event() {
             return Some(&event.tags);
         }
@@ -141,7 +144,14 @@ impl<J: Naming> Feed<J> {
         }
     }
 
-    /// Takes that event.
+    /// How many events were taken.
+    pub fn taken(&self) -> usize
+        ensures { result ≡ self.now.taken }
+    {
+        self.taken
+    }
+
+    /// Takes the event after those that were taken.
     pub fn take(&mut self)
         requires { self.old.taken < length self.old.history }
         ensures history { self.new.history ≡ self.old.history }

@@ -28,6 +28,7 @@ pub(crate) struct Foundation<A: App, J: Naming> {
 
 /// The nodes of the histories, by their numbers.
 fn nodes<A: App, J: Naming>(
+    rt: &impl Wait,
     alloc: Global,
     plan: Plan,
     histories: Vec<NodeHistory>,
@@ -46,7 +47,7 @@ fn nodes<A: App, J: Naming>(
             capacity: plan.capacity,
             recent: plan.recent,
         };
-        nodes.push(ledger.node(alloc, settings, history)?)?;
+        nodes.push(ledger.node(rt, alloc, settings, history)?)?;
     }
     Ok(nodes)
 }
@@ -55,6 +56,7 @@ impl<A: App, J: Naming> Foundation<A, J> {
     /// Puts the database and the nodes of these histories under their locks. Whoever is to commit gets a
     /// committer.
     pub(crate) fn new(
+        rt: &impl Wait,
         alloc: Global,
         plan: Plan,
         core: DbCore,
@@ -67,7 +69,7 @@ impl<A: App, J: Naming> Foundation<A, J> {
         ensures { IfOk result (λ made. made.0.plan ≡ plan) }
     {
         let (ledger, committers) = Ledger::<J>::new(alloc, core)?;
-        let nodes = nodes(alloc, plan, histories, &ledger)?;
+        let nodes = nodes(rt, alloc, plan, histories, &ledger)?;
         let foundation = Foundation {
             ledger,
             nodes,

@@ -82,7 +82,7 @@ where
     ensures database { IfOk result (λ visited. IsDatabaseOf J.database_history visited.core) }
     ensures refused { IfErr result (IsVisitRefused A.numbers) }
 {
-    let (foundation, committers) = Foundation::<A, J>::new(alloc, plan, core, histories)?;
+    let (foundation, committers) = Foundation::<A, J>::new(rt, alloc, plan, core, histories)?;
     let mut pool = PermitPool::new(alloc, plan.permits)?;
     let outputs = visit::<A, D, V, J, R>(
         rt,

@@ -109,7 +109,7 @@ where
     ensures row { IfOk result (λ shown. shown.receipt.seen.events ≡ J.database_history) }
     ensures refused { IfErr result (IsLastRefused A.numbers (P.refuses page.now)) }
 {
-    let (foundation, committers) = Foundation::<A, J>::new(alloc, plan, core, histories)?;
+    let (foundation, committers) = Foundation::<A, J>::new(rt, alloc, plan, core, histories)?;
     let mut pool = PermitPool::new(alloc, plan.permits)?;
     let client = client::<A, D, J>(rt, alloc, &foundation, &committers, &mut pool)?;
     let bounds = fresh_since(u64::MAX, u64::MAX, newest);

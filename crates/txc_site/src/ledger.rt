@@ -108,6 +108,7 @@ impl<J: Naming> Ledger<J> {
     /// A node of the history, which will take the database's events.
     pub(crate) fn node<A: App>(
         &self,
+        rt: &impl Wait,
         alloc: Global,
         settings: NodeSettings,
         history: NodeHistory,
@@ -119,9 +120,11 @@ impl<J: Naming> Ledger<J> {
         ensures { IfOk result (λ node. node ≡ settings) }
     {
         match history {
-            NodeHistory::Stored(row) => SharedNode::new(alloc, settings, row, &self.database),
+            NodeHistory::Stored(row) => {
+                SharedNode::new(rt, alloc, settings, row, &self.database)
+            }
             NodeHistory::Unstored(pen) => {
-                SharedNode::unstored(alloc, settings, pen, &self.database)
+                SharedNode::unstored(rt, alloc, settings, pen, &self.database)
             }
         }
     }

@@ -50,6 +50,7 @@ fn by_calls<J: Naming>(
 
 /// A node of the row, and one of the pen.
 fn nodes<J: Naming>(
+    rt: &impl Wait,
     alloc: Global,
     database: &Database<J>,
     row: EventRow<Record>,
@@ -61,8 +62,8 @@ fn nodes<J: Naming>(
     ensures { IfOk result (λ nodes. vec_len nodes ≡ 2) }
 {
     let mut nodes = Vec::new(alloc);
-    nodes.push(SharedNode::new(alloc, SETTINGS, row, database)?)?;
-    nodes.push(SharedNode::unstored(alloc, OTHERS, pen, database)?)?;
+    nodes.push(SharedNode::new(rt, alloc, SETTINGS, row, database)?)?;
+    nodes.push(SharedNode::unstored(rt, alloc, OTHERS, pen, database)?)?;
     Ok(nodes)
 }
 
@@ -78,7 +79,7 @@ fn over_database<J: Naming, R: Wait>(
     requires other { unstored pen.number ≡ J.node_histories 1 }
     requires none { pen.list ≡ [] }
 {
-    let nodes = nodes(alloc, database, row, pen)?;
+    let nodes = nodes(rt, alloc, database, row, pen)?;
     let cushion = Pincushion::new(alloc, database)?;
     let called = by_calls(rt, alloc, database, &cushion)?;
     let stepped = step(rt, alloc, &nodes[0])?.max(step(rt, alloc, &nodes[1])?);

@@ -31,4 +31,11 @@ invariant_of-self-2 c =
     )
 
 pub lengthen-requires-clause-begins : goal.lengthen-requires-clause-begins
-lengthen-requires-clause-begins c = ?
+lengthen-requires-clause-begins c =
+    let was = c.self.inside.told.history in
+    let e = event_in c.in_ok-event.event in
+    let prepared = c.in_ok-event.ensures.same in
+    let whole : c.front-3.result.now.history ≡ c.self.inside.told.history ++ event_in c.in_ok-event.event ∷ [] =
+    ap (λ (f : FrontValue). f.history) c.front-3.ensures ∙ (ap (λ (h : HistoryValue). h.history) (c.if-not-append.ensures.after refl) ∙ ap (λ (h : HistoryValue). h.history ++ e ∷ []) prepared) in
+    let old : c.in_ok-front.front.history ≡ c.self.inside.told.history = ap (λ (f : FrontValue). f.history) (c.in_ok-front.ensures ∙ c.front.ensures) ∙ ap (λ (h : HistoryValue). h.history) prepared in
+    subst (λ (l : History). IsPrefix c.in_ok-front.front.history l) (sym whole) (subst (λ (l : History). IsPrefix l (was ++ e ∷ [])) (sym old) (prefix_push was e))

@@ -13,7 +13,7 @@ returns-in-Taken-clause-after g c =
     let own : c.pass.inside.pass ≡ p.pass = ap (λ (x : PassValue). x.pass) c.pass.view_is in
     let same = c.self.view_is ∙ c.in_ok-admit.ensures.unchanged in
     let n = c.self.inside.node in
-    let m = c.advance.new.self in
+    let m = c.advance_by.new.self in
     let done = subst (λ k. HasAdvanced (seeing n m.seen) k m c.in-Ok.advanced) own c.in-Ok.ensures.after in
     subst (λ (k : NodeValue). HasAdvanced (seeing k m.seen) p.pass m c.in-Ok.advanced) same done
 
@@ -23,7 +23,7 @@ returns-in-Taken-clause-taken g c =
     let own : c.pass.inside.pass ≡ p.pass = ap (λ (x : PassValue). x.pass) c.pass.view_is in
     let same = c.self.view_is ∙ c.in_ok-admit.ensures.unchanged in
     let n = c.self.inside.node in
-    let m = c.advance.new.self in
+    let m = c.advance_by.new.self in
     let done = subst (λ k. HasAdvanced (seeing n m.seen) k m c.in-Ok.advanced) own c.in-Ok.ensures.after in
     let admitted : IsAdmitted n p = subst (λ (k : NodeValue). IsAdmitted k p) (sym same) c.in_ok-admit.ensures.ok in
     let fed = prefix_trans c.pass.inside.events.history c.longer.new.self.history c.longer-2.new.self.history c.longer.ensures.that c.longer-2.ensures.this in
@@ -39,7 +39,7 @@ returns-in_default-clause-taken g c =
     let own : c.pass.inside.pass ≡ p.pass = ap (λ (x : PassValue). x.pass) c.pass.view_is in
     let same = c.self.view_is ∙ c.in_ok-admit.ensures.unchanged in
     let n = c.self.inside.node in
-    let m = c.advance.new.self in
+    let m = c.advance_by.new.self in
     let done = subst (λ k. HasAdvanced (seeing n m.seen) k m c.in-Ok.advanced) own c.in-Ok.ensures.after in
     let admitted : IsAdmitted n p = subst (λ (k : NodeValue). IsAdmitted k p) (sym same) c.in_ok-admit.ensures.ok in
     let fed = prefix_trans c.pass.inside.events.history c.longer.new.self.history c.longer-2.new.self.history c.longer.ensures.that c.longer-2.ensures.this in
