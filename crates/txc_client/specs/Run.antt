@@ -26,7 +26,7 @@ use Rattle.txc_client.specs.Txn.{RoTxnValue}
 -- What the database or the pincushion refuses, some database or some pincushion of the row refuses so. A pin is the newest
 -- event of the history that it shows. What is found for a query, some database of the row answers so, over the largest reach
 -- that it can tell, and with the query's tag alone.
-abbrev pub IsToldSo : List ℕ → Exchange → Type 0
+abbrev pub IsToldSo : Name → Exchange → Type 0
 IsToldSo row (exchanges.Pin now at_least (Ok pinned)) = pinned.stamp ≡ length pinned.front.history
 IsToldSo row (exchanges.Pin now at_least (Err error)) = MayRefuse row (λ d. IsPinRefused d at_least) error
 IsToldSo row (exchanges.AddPin pinned given (Err error)) =
@@ -61,7 +61,7 @@ pub record ExchangeLeads (next : Next) (row : Name) (node_histories : ℕ → Na
   pub goes_on : HasGoneOn next old.txn (reply_of x) new.txn turn
 
 -- the exchanges lead on, one after the other, to the last turn
-abbrev pub ExchangesLead : Next → List ℕ → (ℕ → Name) → RoTxnValue → Turn → List Exchange → RoTxnValue → Turn → Type 0
+abbrev pub ExchangesLead : Next → Name → (ℕ → Name) → RoTxnValue → Turn → List Exchange → RoTxnValue → Turn → Type 0
 ExchangesLead next row node_histories old asking [] new turn = (new ≡ old) × (turn ≡ asking)
 ExchangesLead next row node_histories old asking (x ∷ exchanges) new turn = (after : RoTxnValue) × (then : Turn)
     × ExchangeLeads next row node_histories old asking x after then × ExchangesLead next row node_histories after then exchanges new turn

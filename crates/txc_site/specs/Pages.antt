@@ -38,7 +38,7 @@ answers_of (call ∷ earlier) = answers_of earlier ++ answer_of call
 
 -- These calls of the transaction were made, one after the other, the latest first. Each ran from what the one before it
 -- left, and no pass has seen less of its node since.
-abbrev pub HaveCalled : Next → List ℕ → (ℕ → Name) → RoTxnValue → List MadeCall → RoTxnValue → Type 0
+abbrev pub HaveCalled : Next → Name → (ℕ → Name) → RoTxnValue → List MadeCall → RoTxnValue → Type 0
 HaveCalled next row histories old [] new = new ≡ old
 HaveCalled next row histories old (call ∷ earlier) new = (before : RoTxnValue) × HaveCalled next row histories old earlier before
     × HasRun next row histories before call.0 new call.1 × HaveGrown before.passes new.passes
@@ -65,7 +65,7 @@ pub record IsPageRun (next : Next) (row : Name) (histories : ℕ → Name) (clie
   pub ended : left ≡ client_of last
 
 -- what a page that was refused left of the client: where it was not run, all; else what its transaction did
-abbrev pub IsLeftByRefused : Next → List ℕ → (ℕ → Name) → ClientValue → Bounds → ReadError → ClientValue → Type 0
+abbrev pub IsLeftByRefused : Next → Name → (ℕ → Name) → ClientValue → Bounds → ReadError → ClientValue → Type 0
 IsLeftByRefused next row histories client bounds reads.Memory left = left ≡ client
 IsLeftByRefused next row histories client bounds (reads.Page cause) left =
     (answers : List Recorded) × IsPageRun next row histories client bounds answers left

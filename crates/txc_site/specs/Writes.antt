@@ -37,12 +37,12 @@ pub record IsRefusedCommit {T : Type 0} (row : Name) (makes : RwValue → T → 
   pub refused : MayRefuse row (λ d. IsSharedCommitRefused d core.base (tags_read core) core.changes) error
 
 -- each of these conflicts refused a transaction that the change left
-abbrev pub AreConflicts : {T : Type 0} → List ℕ → (RwValue → T → Type 0) → List (Answered ℕ) → Type 0
+abbrev pub AreConflicts : {T : Type 0} → Name → (RwValue → T → Type 0) → List (Answered ℕ) → Type 0
 AreConflicts row makes conflicts = All (λ conflict. IsRefusedCommit row makes (commits.Conflict conflict)) conflicts
 
 -- there were as many conflicts as tries, or a transaction was not begun, the change was refused, or its commit
 -- was for another reason than a conflict
-abbrev pub IsSiteWriteRefused : {T : Type 0} → List ℕ → (RwValue → T → Type 0) → (RunError → Type 0) → ℕ → WriteError → Type 0
+abbrev pub IsSiteWriteRefused : {T : Type 0} → Name → (RwValue → T → Type 0) → (RunError → Type 0) → ℕ → WriteError → Type 0
 IsSiteWriteRefused row makes refuses tries (writes.Conflicts conflicts) =
     (vec_len conflicts ≡ tries) × AreConflicts row makes conflicts.items
 IsSiteWriteRefused row makes refuses tries (writes.Begin cause) = MayRefuse row IsHoldRefused cause

@@ -52,7 +52,7 @@ pub record IsRefusedAt (next : Next) (row : Name) (node_histories : ℕ → Name
 
 -- A receipt is the job's. A refusal is out of memory, or that of the first of the job's calls that was
 -- refused, in a transaction of these functions.
-abbrev pub Meets : Next → List ℕ → (ℕ → Name) → List ℕ → Job → Outcome → Type 0
+abbrev pub Meets : Next → Name → (ℕ → Name) → List ℕ → Job → Outcome → Type 0
 Meets next row node_histories functions job (outcomes.Receipt receipt) = IsReceiptOfJob next row job receipt
 Meets next row node_histories functions job (outcomes.Refused error) =
     (error ≡ refusals.Memory) ⊎ IsRefusedAt next row node_histories functions job.bounds job.keys.items error
