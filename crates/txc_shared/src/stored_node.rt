@@ -473,7 +473,8 @@ impl<A: App> StoredNode<A> {
         }
         self.check_room()?;
         let stamp = Stamp::after(number);
-        let Some(tags) = self.tags_of(alloc, front, number, posted)? else {
+        let known = self.tags_of(alloc, front, number, posted)?;
+        let Some(tags) = known else {
             self.broken = true;
             return Err(NodeError::Broken);
         };

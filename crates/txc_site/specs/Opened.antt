@@ -1,6 +1,7 @@
 -- What a site that is opened comes to.
 use Rattle.std.specs.Prelude.{◌≡◌, ℕ, List, length, vec_len}
 use Rattle.txc_stream.specs.Names.{Name}
+use Rattle.txc_db.specs.Room.{HasCapacity}
 use Rattle.txc_app.specs.Eval.{Next}
 use Rattle.txc_site.specs.declared.run_error.RunError.{RunError}
 use Rattle.txc_rw.specs.Core.{RwValue}

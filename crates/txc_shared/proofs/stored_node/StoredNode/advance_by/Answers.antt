@@ -1,4 +1,6 @@
-use Rattle.std.proofs.Common.{◌≡◌, inl, inr, ◌+◌, ℕ, Option, None, List, length, refl, ap, sym, subst, ◌∙◌, false, true≢false, arith}
+use Rattle.std.specs.Prelude.{IfSome}
+use Rattle.txc_tags.specs.declared.tag.Tag.{Tag}
+use Rattle.std.proofs.Common.{◌≡◌, ◌⊎◌, inl, inr, ◌+◌, ℕ, Option, None, List, length, refl, ap, sym, subst, ◌∙◌, false, true≢false, arith}
 use Rattle.txc_db.specs.History.{tags_at}
 use Rattle.txc_node.specs.declared.op.Op.{Op}
 use Rattle.txc_node.specs.declared.op.Op.TheVariants.{Event}
@@ -31,7 +33,7 @@ invariant_of-self-then-not-append g c =
     let tags = c.in-Some.tags in
     let seen = c.longer-2.new.self.history in
     let number = c.number.result + 1 in
-    let has : HasTags seen number tags = elim c.in-Some.ensures.tags [
+    let has : HasTags seen number tags = elim (subst (λ (o : Option (List Tag)). IfSome o (λ ts. HasTags c.args.self.now.seen.history number ts ⊎ HasTags c.args.front.now.history number ts)) c.in-Some.is c.in_ok-known.ensures.tags) [
       | inl own ↦ tags_in_longer c.states_stay.ensures.tags c.self.inside.seen.history seen number tags c.longer-2.ensures.this (subst (λ (n : NodeValue). HasTags n.seen.history number tags) (sym c.self.view_is) own)
       | inr other ↦ tags_in_longer c.states_stay.ensures.tags c.args.front.now.history seen number tags c.longer-2.ensures.that other
     ] in
@@ -51,7 +53,7 @@ invariant_of-self-else-not-append g c =
     let tags = c.in-Some.tags in
     let seen = c.longer-2.new.self.history in
     let number = c.number.result + 1 in
-    let has : HasTags seen number tags = elim c.in-Some.ensures.tags [
+    let has : HasTags seen number tags = elim (subst (λ (o : Option (List Tag)). IfSome o (λ ts. HasTags c.args.self.now.seen.history number ts ⊎ HasTags c.args.front.now.history number ts)) c.in-Some.is c.in_ok-known.ensures.tags) [
       | inl own ↦ tags_in_longer c.states_stay.ensures.tags c.self.inside.seen.history seen number tags c.longer-2.ensures.this (subst (λ (n : NodeValue). HasTags n.seen.history number tags) (sym c.self.view_is) own)
       | inr other ↦ tags_in_longer c.states_stay.ensures.tags c.args.front.now.history seen number tags c.longer-2.ensures.that other
     ] in
@@ -79,7 +81,7 @@ returns-clause-after g c =
     let tags = c.in-Some.tags in
     let seen = c.longer-2.new.self.history in
     let number = c.number.result + 1 in
-    let has : HasTags seen number tags = elim c.in-Some.ensures.tags [
+    let has : HasTags seen number tags = elim (subst (λ (o : Option (List Tag)). IfSome o (λ ts. HasTags c.args.self.now.seen.history number ts ⊎ HasTags c.args.front.now.history number ts)) c.in-Some.is c.in_ok-known.ensures.tags) [
       | inl own ↦ tags_in_longer c.states_stay.ensures.tags inside.seen.history seen number tags c.longer-2.ensures.this (subst (λ (m : NodeValue). HasTags m.seen.history number tags) (sym c.self.view_is) own)
       | inr other ↦ tags_in_longer c.states_stay.ensures.tags c.args.front.now.history seen number tags c.longer-2.ensures.that other
     ] in
