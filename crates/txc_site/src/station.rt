@@ -3,8 +3,7 @@ ghost use Rattle.std.specs.Prelude.{◌≡◌, [], IfErr, IfOk};
 ghost use Rattle.txc_node.specs.declared.op.Op.TheVariants.{Sweep};
 ghost use Rattle.txc_node.specs.declared.reply.Reply.TheVariants.{Swept};
 ghost use Rattle.txc_shared.specs.Passes.{HasMade, HasTaken};
-ghost use Rattle.txc_shared.specs.Refusals.{IsNewPassRefused, NodeMayRefuse};
-ghost use Rattle.txc_shared.specs.Refusals.{IsStepRefused, IsTakingRefused};
+ghost use Rattle.txc_shared.specs.Refusals.{IsNewPassRefused, IsStepRefused, IsTakingRefused, NodeMayRefuse};
 ghost use Rattle.txc_site.specs.Stations.{HasNotRefused, HasBeenRefused, IsSamePass};
 
 use crate::ledger::Horizon;
