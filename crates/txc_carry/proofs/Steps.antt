@@ -1,8 +1,8 @@
 -- What a step of a carry does, and why it is refused.
-use Rattle.std.proofs.Common.{◌≡◌, ◌≢◌, ⊥, inl, inr, ℕ, ◌+◌, ◌<◌, ◌≤◌, List, [], ◌∷◌, ◌++◌, filter, map, length, Bool, true, false, true≢false, refl, sym, ap, subst, ◌∙◌, arith, length-append}
+use Rattle.std.proofs.Common.{◌≡◌, ◌≢◌, inl, inr, ℕ, ◌+◌, ◌<◌, ◌≤◌, List, [], ◌∷◌, ◌++◌, filter, map, length, Bool, true, false, true≢false, refl, sym, ap, subst, ◌∙◌, arith, length-append}
 use Rattle.std.proofs.lemmas.List.{length_push}
 use Rattle.std.specs.List.{AllByRecursion}
-use Rattle.txc_stream.specs.Names.{Name, stored, unstored}
+use Rattle.txc_stream.specs.Names.{Name, stored, unstored, HasRow}
 use Rattle.txc_tags.specs.declared.tag.Tag.{Tag}
 use Rattle.txc_tags.specs.Tags.{sets_match}
 use Rattle.txc_tags.specs.declared.tag.TheConstants.{LAST_TABLE}
@@ -33,9 +33,13 @@ use Rattle.txc_carry.proofs.Puts.{puts_append, after_either, commit_state, Puts,
 
 -- ---- rows
 
-capacity_room : (name : Name) (n : ℕ) → HasCapacity name n → events_room name ≡ n
+pub capacity_room : (name : Name) (n : ℕ) → HasCapacity name n → events_room name ≡ n
 capacity_room (stored cells) n has = has
 capacity_room (unstored number) n has = absurd has
+
+pub capacity_row : (name : Name) (n : ℕ) → HasCapacity name n → HasRow name
+capacity_row (stored cells) n has = tt
+capacity_row (unstored number) n has = absurd has
 
 row_keeps_all : (name : Name) (n horizon base : ℕ) → HasCapacity name n → AreTagsGone name horizon base → ⊥
 row_keeps_all (stored cells) n horizon base has gone = gone
@@ -162,7 +166,7 @@ module _ (old new : DatabaseValue) (capacity t f l : ℕ) (rows : List RowValue)
   put_refused Broken r = tt
   put_refused (FutureStamp last) r = absurd (omega (arith, r.1))
   put_refused (Conflict first) r = absurd (no_match (tags_at new.history first) r.1.matches)
-  put_refused (SnapshotGone horizon) r = absurd (row_keeps_all new.events capacity new.horizon 0 h.room r.1.0)
+  put_refused (SnapshotGone horizon) r = absurd (row_keeps_all new.events capacity new.horizon 0 h.room r.1)
   put_refused e r = absurd r
 
 -- ---- refusals of the read

@@ -1,5 +1,6 @@
 //! A carry reads the old state by ranges of ids, table by table, and commits what each range answers.
 ghost use Rattle.std.specs.Prelude.{◌≡◌, ◌⊎◌, ◌+◌, ◌≤◌, [], true, false, length, map, Err, IfOk, OnOk, OnErr, IfErr};
+ghost use Rattle.txc_stream.specs.Names.{HasRow};
 ghost use Rattle.txc_rows.specs.declared.query.Change.TheVariants.{Put};
 ghost use Rattle.txc_db.specs.History.{state_at};
 ghost use Rattle.txc_db.specs.DatabaseValue.{newest, newest_state, after_commit, after_vacuum};
@@ -28,7 +29,8 @@ fn puts_of(alloc: Global, rows: Vec<Row>) -> Result<Vec<Change>, AllocError>
 
 /// Puts the rows, in one commit.
 fn put_rows(alloc: Global, new: &mut DbCore, rows: Vec<Row>) -> Result<Stamp, DbError>
-    requires { new.old.broken ≡ false }
+    requires whole { new.old.broken ≡ false }
+    requires row { HasRow new.old.events }
     ensures after { OnOk result (new.new ≡ after_commit new.old (map Put rows.items)) }
     ensures refused { IfErr result (IsCommitRefused new.old 0 [] (map Put rows.items)) }
 {
