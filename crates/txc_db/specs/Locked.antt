@@ -28,5 +28,5 @@ IsRefusalWith front (Conflict first) e = e ≡ commits.Conflict (record { answer
 IsRefusalWith front refusal e = e ≡ commits.Database refusal
 
 -- each event was posted, or stood there before the poster did
-abbrev pub IsToldOf : History → PosterValue EventValue → Type 0
-IsToldOf L p = p.from + length p.posted ≡ length L
+abbrev pub AreAllPosted : History → PosterValue EventValue → Type 0
+AreAllPosted L p = p.from + length p.posted ≡ length L

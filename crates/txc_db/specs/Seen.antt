@@ -15,6 +15,6 @@ pub record FeedValue : Type 0 where
 
 -- how many events a feed has taken at its beginning, where there are so many: none of a stored history, and each of
 -- any other
-abbrev pub begun_at : Name → ℕ → ℕ
-begun_at (stored cells) events = 0
-begun_at (unstored number) events = events
+abbrev pub taken_at_start : Name → ℕ → ℕ
+taken_at_start (stored cells) events = 0
+taken_at_start (unstored number) events = events

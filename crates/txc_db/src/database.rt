@@ -3,7 +3,7 @@ ghost use Rattle.std.specs.Prelude.{◌≡◌, ◌+◌, ◌≤◌, ◌⊎◌, �
 ghost use Rattle.txc_stream.specs.Names.{stored, HasRow};
 ghost use Rattle.txc_rows.specs.RowTags.{query_tag};
 ghost use Rattle.txc_db.specs.History.{event_at, pin_event};
-ghost use Rattle.txc_db.specs.Seen.{begun_at};
+ghost use Rattle.txc_db.specs.Seen.{taken_at_start};
 ghost use Rattle.txc_db.specs.Calls.{IsHoldRefused, IsUnpinRefused, IsVacuumRefused, IsQueryRefused, IsPinRefused};
 ghost use Rattle.txc_db.specs.Shared.{IsDatabaseOf, MayAnswer, IsQueryAnswer, IsQuietIn, IsEventIn, MayRefuse, IsSharedCommitRefused};
 
@@ -172,7 +172,7 @@ impl<J: Naming> Database<J> {
     /// are there.
     pub fn feed(&self, rt: &impl Wait) -> Result<Feed<J>, AllocError>
         ensures { IfOk result (λ feed.
-            feed.taken ≡ begun_at J.database_history (length feed.history)) }
+            feed.taken ≡ taken_at_start J.database_history (length feed.history)) }
     {
         lock_soon(rt, &self.lock).feed()
     }

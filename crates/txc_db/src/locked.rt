@@ -5,12 +5,12 @@ ghost use Rattle.txc_stream.specs.declared.segment.TheConstants.{SEGMENT_LEN};
 ghost use Rattle.txc_rows.specs.RowTags.{query_tag};
 ghost use Rattle.txc_validity.specs.Answers.{IsAnswer};
 ghost use Rattle.txc_db.specs.History.{state_at};
-ghost use Rattle.txc_db.specs.Seen.{begun_at};
+ghost use Rattle.txc_db.specs.Seen.{taken_at_start};
 ghost use Rattle.txc_db.specs.DatabaseValue.{DatabaseValue, front_of, after_hold, after_unpin, after_vacuum, after_pin, after_commit, newest, next_horizon, is_held};
 ghost use Rattle.txc_db.specs.Calls.{IsHoldable, IsHoldRefused, IsUnpinRefused, IsVacuumRefused, IsAnswerable, matching_of, IsQueryRefused, IsPinnable, IsPinRefused, IsCommittable};
 ghost use Rattle.txc_rows.specs.declared.store_error.TheConstants.{MAX_MATCHING};
 ghost use Rattle.txc_db.specs.Shared.{IsDatabaseOf, IsSharedCommitRefused};
-ghost use Rattle.txc_db.specs.Locked.{IsLockedLeft, IsCommitLeft, IsRefusalWith, IsToldOf};
+ghost use Rattle.txc_db.specs.Locked.{IsLockedLeft, IsCommitLeft, IsRefusalWith, AreAllPosted};
 
 use crate::answered::{Answered, CommitError};
 use crate::db_core::DbCore;
@@ -46,7 +46,7 @@ pub(crate) struct Locked<J: Naming> {
 
 impl<J: Naming> Model for Locked<J> {
     ghost use Rattle.std.specs.Prelude.{◌≡◌, false};
-    ghost use Rattle.txc_db.specs.Locked.{IsToldOf};
+    ghost use Rattle.txc_db.specs.Locked.{AreAllPosted};
     ghost use Rattle.txc_db.specs.DatabaseValue.{DatabaseValue};
 
     ghost Value = { DatabaseValue };
@@ -54,7 +54,7 @@ impl<J: Naming> Model for Locked<J> {
     ghost view = { λ l. l.core };
 
     ghost invariant = { λ l. (l.core.events ≡ J.database_history)
-        × (l.core.broken ≡ false → IsToldOf l.core.history l.poster) };
+        × (l.core.broken ≡ false → AreAllPosted l.core.history l.poster) };
 }
 
 impl<J: Naming> Locked<J> {
@@ -69,7 +69,7 @@ impl<J: Naming> Locked<J> {
     /// A feed of the events. Of a history that is not stored it begins after those that are there.
     pub(crate) fn feed(&self) -> Result<Feed<J>, AllocError>
         ensures { IfOk result (λ feed.
-            feed.taken ≡ begun_at J.database_history (length feed.history)) }
+            feed.taken ≡ taken_at_start J.database_history (length feed.history)) }
     {
         let front = self.core.front()?;
         let walker = self.poster.walker(front.front())?;
@@ -220,7 +220,7 @@ impl<J: Naming> Locked<J> {
 
 /// How many of the events that the front shows a feed has taken that begins with it.
 fn begun(front: &HistoryFront) -> usize
-    ensures begun { result ≡ begun_at front.now.events (length front.now.history) }
+    ensures begun { result ≡ taken_at_start front.now.events (length front.now.history) }
     ensures within { result ≤ length front.now.history }
 {
     if front.is_stored() { 0 } else { front.len() }
