@@ -523,7 +523,8 @@ impl<A: App> StoredNode<A> {
 
 // The tags of an event, where there is one.
 fn copied(alloc: Global, event: Option<&Event>) -> Result<Option<TagSet>, AllocError>
-    ensures { IfOk result (λ tags. MatchOption event (tags ≡ None) (λ event. tags ≡ Some event.now.tags)) }
+    ensures { IfOk result (λ tags.
+        MatchOption event.entry (tags ≡ None) (λ event. tags ≡ Some event.now.tags)) }
 {
     match event {
         Some(event) => Ok(Some(event.tags.copy(alloc)?)),

@@ -56,5 +56,5 @@ advance_by-requires-clause-posted g c =
     let n = c.self.inside.node in
     let admitted : IsAdmitted n p = subst (λ (k : NodeValue). IsAdmitted k p) (sym same) c.in_ok-admit.ensures.ok in
     let taken : c.look.new.self.taken ≡ n.cache.processed = c.look.ensures.taken ∙ (c.longer-2.ensures.taken ∙ (c.longer.ensures.taken ∙ c.self.invariant.in_step admitted.ahead.whole)) in
-    posted_so (λ tags. tags.now) c.next_tags.result c.look.new.self.history c.front.result.now.history c.look.new.self.taken (n.cache.processed + 1) c.front.ensures.history
-    (ap (λ (k : ℕ). k + 1) (sym taken)) c.next_tags.ensures.tags
+    posted_so (λ tags. tags.now) c.next_tags-tags.result c.look.new.self.history c.front.result.now.history c.look.new.self.taken (n.cache.processed + 1) c.front.ensures.history
+    (ap (λ (k : ℕ). k + 1) (sym taken)) c.next_tags-tags.ensures.tags
