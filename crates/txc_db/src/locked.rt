@@ -1,5 +1,5 @@
 //! What is done to the database under its lock.
-ghost use Rattle.std.specs.Prelude.{◌≡◌, ◌+◌, ◌<◌, ◌≤◌, ◌∷◌, [], true, false, length, Err, IfOk, IfErr, IsOk, OnOk, OnErr};
+ghost use Rattle.std.specs.Prelude.{◌≡◌, ◌+◌, ◌<◌, ◌≤◌, ◌++◌, ◌∷◌, [], true, false, length, Some, Err, IfOk, IfErr, IsOk, OnOk, OnErr};
 ghost use Rattle.txc_stream.specs.Posted.{PosterValue};
 ghost use Rattle.txc_stream.specs.declared.segment.TheConstants.{SEGMENT_LEN};
 ghost use Rattle.txc_rows.specs.RowTags.{query_tag};
@@ -230,8 +230,8 @@ fn begun(front: &HistoryFront) -> usize
 fn post<J: Naming>(core: &DbCore, poster: &mut EventPoster<J>, slip: EventSlip<J>) -> bool
     requires named { core.now.events ≡ J.database_history }
     requires room { length poster.old.posted < SEGMENT_LEN }
-    ensures { result ≡ true → (poster.new.from ≡ poster.old.from)
-        × (length poster.new.posted ≡ length poster.old.posted + 1) }
+    ensures { result ≡ true
+        → poster.new ≡ record poster.old { posted = poster.old.posted ++ Some core.now.history ∷ [] } }
 {
     let history = core.history();
     history.is_tagged();
