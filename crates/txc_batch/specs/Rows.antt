@@ -10,6 +10,6 @@ AreRowsOf named number [] = Unit {0}
 AreRowsOf named number (row ∷ rows) = (stored row ≡ named number) × AreRowsOf named (number + 1) rows
 
 -- a receipt shows a part of this row
-abbrev pub OutcomeIsOfRow : List ℕ → Outcome → Type 0
+abbrev pub OutcomeIsOfRow : Name → Outcome → Type 0
 OutcomeIsOfRow row (outcomes.Receipt receipt) = receipt.seen.events ≡ row
 OutcomeIsOfRow row (outcomes.Refused error) = Unit {0}

@@ -1,5 +1,6 @@
 -- What jobs run over, and what changes and pins make of it.
 use Rattle.std.specs.Prelude.{◌≡◌, ℕ, false, [], ◌∷◌, length, Result, Ok, Err}
+use Rattle.txc_db.specs.Room.{HasCapacity}
 use Rattle.txc_rows.specs.declared.query.Change.{Change}
 use Rattle.txc_db.specs.declared.error.DbError.{DbError}
 use Rattle.txc_db.specs.declared.pinned.Pinned.{Pinned}
@@ -19,7 +20,7 @@ pub record SourceValue : Type 0 where
 -- a new database, with room for so many events, and no pin
 pub record IsNewSource (row_cap : ℕ) (s : SourceValue) : Type 0 where
   pub history : s.database.history ≡ []
-  pub room : length s.database.events ≡ row_cap
+  pub room : HasCapacity s.database.events row_cap
   pub versions : s.database.versions ≡ []
   pub horizon : s.database.horizon ≡ 0
   pub holds : s.database.holds ≡ []

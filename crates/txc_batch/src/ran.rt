@@ -64,7 +64,7 @@ impl Ran {
         ensures once { IfOk result (λ ran. IsPermutation (job_numbers jobs.items) (result_numbers ran.results)) }
         ensures in_order { IfOk result (λ ran. IsStrictlyIncreasing (result_numbers ran.results)) }
         ensures met { IfOk result (λ ran.
-            All (IsResultOf jobs.items (Meets A.next J.database_row J.node_histories functions)) ran.results) }
+            All (IsResultOf jobs.items (Meets A.next J.database_history J.node_histories functions)) ran.results) }
         ensures named { IfErr result (NamesOneOf (job_numbers jobs.items)) }
     {
         let results = run_batch(rt, alloc, jobs, clients, &OpenGate)?;

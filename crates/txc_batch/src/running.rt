@@ -41,6 +41,7 @@ fn node_rows(alloc: Global, nodes: usize, room: usize) -> Result<Vec<EventRow<Re
 
 /// The nodes of the rows, by their numbers.
 fn nodes<A: App, J: Naming>(
+    rt: &impl Wait,
     alloc: Global,
     settings: Settings,
     rows: Vec<EventRow<Record>>,
@@ -57,7 +58,7 @@ fn nodes<A: App, J: Naming>(
             capacity: settings.capacity,
             recent: settings.recent,
         };
-        nodes.push(SharedNode::new(alloc, made, row, database)?)?;
+        nodes.push(SharedNode::new(rt, alloc, made, row, database)?)?;
     }
     Ok(nodes)
 }
@@ -126,7 +127,7 @@ where
     J: Naming + Send + Sync,
     H: Threads + Wait + Sync,
     ghost functions: { List ℕ }
-    requires database { batch.source.database.events ≡ J.database_row }
+    requires database { batch.source.database.events ≡ J.database_history }
     requires rows { AreRowsOf J.node_histories 0 rows.items }
     requires count { vec_len rows ≡ batch.settings.nodes }
     requires rooms { All (λ row. length row ≡ batch.settings.row_cap) rows.items }
@@ -148,7 +149,7 @@ where
         return Err(BatchError::Memory);
     };
     let cushion = Pincushion::of_core(cushion);
-    let Ok(nodes) = nodes(alloc, settings, rows, &database) else {
+    let Ok(nodes) = nodes(rt, alloc, settings, rows, &database) else {
         return Err(BatchError::Memory);
     };
     let renew_after = settings.renew_after;

@@ -1,20 +1,29 @@
 -- A commit that read nothing, and results of calls.
-use Rattle.std.proofs.Common.{◌≡◌, List, [], ◌∷◌, Bool, true, false, refl, arith}
+use Rattle.std.proofs.Common.{◌≡◌, ℕ, List, [], ◌∷◌, Bool, true, false, refl, arith}
 use Rattle.std.specs.Prelude.{Result, Ok, Err, OnOk}
 use Rattle.txc_tags.specs.declared.tag.Tag.{Tag}
 use Rattle.txc_tags.specs.Tags.{sets_match}
 use Rattle.txc_db.specs.declared.error.DbError.{DbError}
 use Rattle.txc_db.specs.declared.error.DbError.TheVariants.{Broken}
 use Rattle.txc_db.specs.History.{tags_at}
+use Rattle.txc_stream.specs.Names.{Name, stored, unstored, HasRow}
 use Rattle.txc_db.specs.DatabaseValue.{DatabaseValue}
+use Rattle.txc_db.specs.Room.{AreTagsKept}
 use Rattle.txc_db.specs.Calls.{IsUnread}
+use Rattle.txc_carry.specs.declared.error.CarryError.{CarryError}
+use Rattle.txc_carry.specs.declared.error.CarryError.TheVariants.{Old}
+use Rattle.txc_carry.specs.Carried.{IsCarryRefused, IsCarryStepRefused}
 
 pub none_matches : (xs : List Tag) → sets_match xs [] ≡ false
 none_matches [] = refl
 none_matches (x ∷ xs) = none_matches xs
 
-pub nothing_read : (d : DatabaseValue) → d.broken ≡ false → IsUnread d 0 []
-nothing_read d whole = record { whole = whole; known = omega arith; apart = λ e after within. none_matches (tags_at d.history e) }
+row_keeps : (name : Name) (horizon base : ℕ) → HasRow name → AreTagsKept name horizon base
+row_keeps (stored cells) horizon base row = tt
+row_keeps (unstored number) horizon base row = absurd row
+
+pub nothing_read : (d : DatabaseValue) → d.broken ≡ false → HasRow d.events → IsUnread d 0 []
+nothing_read d whole row = record { whole = whole; known = omega arith; kept = row_keeps d.events d.horizon 0 row; apart = λ e after within. none_matches (tags_at d.history e) }
 
 -- ---- results
 
@@ -29,3 +38,8 @@ not_broken d r x refused is = go d.broken refl
     go : (b : Bool) → d.broken ≡ b → d.broken ≡ false
     go true e = let f = refused e in absurd (cc (f, is))
     go false e = e
+
+-- what a step is refused for, the carry is, where the old database is whole
+pub refused_by : (d : DatabaseValue) (room : ℕ) (e : CarryError) → d.broken ≡ false → IsCarryStepRefused d room e → IsCarryRefused d room e
+refused_by d room (Old Broken) whole r = absurd r
+refused_by d room e whole r = (whole, r)

@@ -2,6 +2,7 @@
 use Rattle.std.proofs.Common.{◌≡◌, ◌≢◌, inl, inr, ℕ, ◌+◌, ◌<◌, ◌≤◌, List, [], ◌∷◌, ◌++◌, filter, map, length, Bool, true, false, true≢false, refl, sym, ap, subst, ◌∙◌, arith, length-append}
 use Rattle.std.proofs.lemmas.List.{length_push}
 use Rattle.std.specs.List.{AllByRecursion}
+use Rattle.txc_stream.specs.Names.{Name, stored, unstored, HasRow}
 use Rattle.txc_tags.specs.declared.tag.Tag.{Tag}
 use Rattle.txc_tags.specs.Tags.{sets_match}
 use Rattle.txc_tags.specs.declared.tag.TheConstants.{LAST_TABLE}
@@ -20,6 +21,7 @@ use Rattle.txc_rows.specs.Versions.{suits}
 use Rattle.txc_rows.specs.Laws.{ChangedIsState, NetLeads}
 use Rattle.txc_db.specs.declared.error.DbError.{DbError}
 use Rattle.txc_db.specs.declared.error.DbError.TheVariants.{SnapshotGone, Conflict, Full, Store, Broken, FutureStamp, Memory}
+use Rattle.txc_db.specs.Room.{events_room, HasCapacity, AreTagsGone}
 use Rattle.txc_db.specs.History.{History, state_at, tags_at, commit_event}
 use Rattle.txc_db.specs.DatabaseValue.{DatabaseValue, IsSound, newest, newest_state, newest_net, after_commit}
 use Rattle.txc_db.specs.Calls.{matching_of, row_query, IsCommitRefused, IsQueryRefused}
@@ -29,12 +31,27 @@ use Rattle.txc_carry.proofs.Places.{all_to, length_filter, range_joined, before_
 use Rattle.txc_carry.proofs.Refusing.{none_matches}
 use Rattle.txc_carry.proofs.Puts.{puts_append, after_either, commit_state, Puts, all_net, all_written, all_puts}
 
+-- ---- rows
+
+pub capacity_room : (name : Name) (n : ℕ) → HasCapacity name n → events_room name ≡ n
+capacity_room (stored cells) n has = has
+capacity_room (unstored number) n has = absurd has
+
+pub capacity_row : (name : Name) (n : ℕ) → HasCapacity name n → HasRow name
+capacity_row (stored cells) n has = tt
+capacity_row (unstored number) n has = absurd has
+
+row_keeps_all : (name : Name) (n horizon base : ℕ) → HasCapacity name n → AreTagsGone name horizon base → ⊥
+row_keeps_all (stored cells) n horizon base has gone = gone
+row_keeps_all (unstored number) n horizon base has gone = has
+
 -- ---- the first step and the last
 
-pub start_carried : (old new : DatabaseValue) → new.broken ≡ false → new.holds ≡ [] → new.history ≡ [] → new.versions ≡ [] → HasCarried old (length new.events) 0 0 new
-start_carried old new whole holds history versions = record {
+pub start_carried : (old new : DatabaseValue) → new.broken ≡ false → new.holds ≡ [] → new.history ≡ [] → new.versions ≡ [] → (capacity : ℕ) → HasCapacity new.events capacity
+    → HasCarried old (events_room new.events) 0 0 new
+start_carried old new whole holds history versions capacity has = record {
   whole = whole;
-  room = refl;
+  room = subst (HasCapacity new.events) (sym (capacity_room new.events capacity has)) has;
   holds = holds;
   rows = ap (λ (L : History). state_at L (length L)) history ∙ sym (none_before (newest_state old));
   versions = subst (AllByRecursion (λ (v : Versioned). stands_before 0 0 v.row ≡ true)) (sym versions) tt;
@@ -55,8 +72,8 @@ pub all_carried : (old new : DatabaseValue) (capacity : ℕ) → IsSound old →
 all_carried old new capacity sound h = h.rows ∙ all_before old sound
 
 -- the capacity is the new database's
-pub same_capacity : (old new : DatabaseValue) (capacity t i : ℕ) → HasCarried old capacity t i new → HasCarried old (length new.events) t i new
-same_capacity old new capacity t i h = subst (λ (n : ℕ). HasCarried old n t i new) (sym h.room) h
+pub same_capacity : (old new : DatabaseValue) (capacity t i : ℕ) → HasCarried old capacity t i new → HasCarried old (events_room new.events) t i new
+same_capacity old new capacity t i h = subst (λ (n : ℕ). HasCarried old n t i new) (sym (capacity_room new.events capacity h.room)) h
 
 -- ---- one range
 
@@ -105,7 +122,7 @@ module _ (old new : DatabaseValue) (capacity t f l : ℕ) (rows : List RowValue)
   range_carried : NetLeads → HasCarried old capacity t (l + 1) (after_commit new (map Put rows))
   range_carried leads = record {
     whole = after_either new (map Put rows) (λ v. v.broken ≡ false) (λ none. h.whole) (λ some. h.whole);
-    room = after_either new (map Put rows) (λ v. length v.events ≡ capacity) (λ none. h.room) (λ some. h.room);
+    room = after_either new (map Put rows) (λ v. HasCapacity v.events capacity) (λ none. h.room) (λ some. h.room);
     holds = after_either new (map Put rows) (λ v. v.holds ≡ []) (λ none. h.holds) (λ some. h.holds);
     rows = new_state leads ∙ whole_state;
     versions = put_versions;
@@ -133,8 +150,8 @@ module _ (old new : DatabaseValue) (capacity t f l : ℕ) (rows : List RowValue)
   pub put_refused : (e : DbError) → IsCommitRefused new 0 [] (map Put rows) e → IsPutRefusal old capacity e
   put_refused Full r =
       let some = some_rows new rows r.some in
-      let full : newest new ≡ length new.events = r.full in
-      let room : length new.events ≡ capacity = h.room in
+      let full : newest new ≡ events_room new.events = r.full in
+      let room : events_room new.events ≡ capacity = capacity_room new.events capacity h.room in
       let few : newest new ≤ length (newest_state new) = h.few in
       let whole : length (newest_state new ++ rows) ≡ length (filter (stands_before t (l + 1)) (newest_state old)) = ap (λ (s : State). length s) whole_state in
       omega (arith, some, full, room, few, whole, length-append (newest_state new) rows, length_filter (stands_before t (l + 1)) (newest_state old))
@@ -149,6 +166,7 @@ module _ (old new : DatabaseValue) (capacity t f l : ℕ) (rows : List RowValue)
   put_refused Broken r = tt
   put_refused (FutureStamp last) r = absurd (omega (arith, r.1))
   put_refused (Conflict first) r = absurd (no_match (tags_at new.history first) r.1.matches)
+  put_refused (SnapshotGone horizon) r = absurd (row_keeps_all new.events capacity new.horizon 0 h.room r.1)
   put_refused e r = absurd r
 
 -- ---- refusals of the read

@@ -7,6 +7,7 @@ use Rattle.txc_rows.specs.States.{RowValue}
 use Rattle.txc_db.specs.declared.error.DbError.{DbError}
 use Rattle.txc_db.specs.declared.error.DbError.TheVariants as refusals
 use Rattle.txc_db.specs.DatabaseValue.{DatabaseValue, newest, newest_state}
+use Rattle.txc_db.specs.Room.{HasCapacity}
 use Rattle.txc_db.specs.Refusals.{IsOwn}
 use Rattle.txc_db.specs.Calls.{matching_of}
 use Rattle.txc_carry.specs.declared.error.CarryError.{CarryError}
@@ -20,7 +21,7 @@ stands_before table id r = nat_lt r.table table || ((r.table == table) && nat_lt
 -- before the table and id, and so are the rows of its versions. It has at most one event for each row.
 pub record HasCarried (old : DatabaseValue) (capacity table id : ℕ) (new : DatabaseValue) : Type 0 where
   pub whole : new.broken ≡ false
-  pub room : length new.events ≡ capacity
+  pub room : HasCapacity new.events capacity
   pub holds : new.holds ≡ []
   pub rows : newest_state new ≡ filter (stands_before table id) (newest_state old)
   pub versions : AllByRecursion (λ v. stands_before table id v.row ≡ true) new.versions

@@ -1,8 +1,10 @@
 //! A carry reads the old state by ranges of ids, table by table, and commits what each range answers.
 ghost use Rattle.std.specs.Prelude.{◌≡◌, ◌⊎◌, ◌+◌, ◌≤◌, [], true, false, length, map, Err, IfOk, OnOk, OnErr, IfErr};
+ghost use Rattle.txc_stream.specs.Names.{HasRow};
 ghost use Rattle.txc_rows.specs.declared.query.Change.TheVariants.{Put};
 ghost use Rattle.txc_db.specs.History.{state_at};
 ghost use Rattle.txc_db.specs.DatabaseValue.{newest, newest_state, after_commit, after_vacuum};
+ghost use Rattle.txc_db.specs.Room.{events_room, HasCapacity};
 ghost use Rattle.txc_db.specs.Calls.{IsCommitRefused};
 ghost use Rattle.txc_carry.specs.Carried.{HasCarried, IsCarryRefused, IsCarryStepRefused, IsNotTooMany};
 
@@ -27,7 +29,8 @@ fn puts_of(alloc: Global, rows: Vec<Row>) -> Result<Vec<Change>, AllocError>
 
 /// Puts the rows, in one commit.
 fn put_rows(alloc: Global, new: &mut DbCore, rows: Vec<Row>) -> Result<Stamp, DbError>
-    requires { new.old.broken ≡ false }
+    requires whole { new.old.broken ≡ false }
+    requires row { HasRow new.old.events }
     ensures after { OnOk result (new.new ≡ after_commit new.old (map Put rows.items)) }
     ensures refused { IfErr result (IsCommitRefused new.old 0 [] (map Put rows.items)) }
 {
@@ -51,11 +54,11 @@ fn carry_range(
     requires whole { old.old.broken ≡ false }
     requires stamp { stamp ≡ newest old.old }
     requires some { first ≤ last }
-    requires carried { HasCarried old.old (length new.old.events) table first new.old }
+    requires carried { HasCarried old.old (events_room new.old.events) table first new.old }
     ensures same { old.new ≡ old.old }
     ensures carried { OnOk result
-        (HasCarried old.old (length new.old.events) table (last + 1) new.new) }
-    ensures refused { IfErr result (IsCarryStepRefused old.old (length new.old.events)) }
+        (HasCarried old.old (events_room new.old.events) table (last + 1) new.new) }
+    ensures refused { IfErr result (IsCarryStepRefused old.old (events_room new.old.events)) }
 {
     states_are_maps();
     net_changes_are_differences();
@@ -87,11 +90,11 @@ fn carry_table(
 ) -> Result<(), CarryError>
     requires whole { old.old.broken ≡ false }
     requires stamp { stamp ≡ newest old.old }
-    requires carried { HasCarried old.old (length new.old.events) table 0 new.old }
+    requires carried { HasCarried old.old (events_room new.old.events) table 0 new.old }
     ensures same { old.new ≡ old.old }
     ensures carried { OnOk result
-        (HasCarried old.old (length new.old.events) (table + 1) 0 new.new) }
-    ensures refused { IfErr result (IsCarryStepRefused old.old (length new.old.events)) }
+        (HasCarried old.old (events_room new.old.events) (table + 1) 0 new.new) }
+    ensures refused { IfErr result (IsCarryStepRefused old.old (events_room new.old.events)) }
 {
     old.is_sound();
     carry_range(alloc, old, new, stamp, table, 0, u32::MAX)
@@ -106,11 +109,11 @@ fn carry_tables(
 ) -> Result<(), CarryError>
     requires whole { old.old.broken ≡ false }
     requires stamp { stamp ≡ newest old.old }
-    requires carried { HasCarried old.old (length new.old.events) 0 0 new.old }
+    requires carried { HasCarried old.old (events_room new.old.events) 0 0 new.old }
     ensures same { old.new ≡ old.old }
     ensures carried { OnOk result
-        (HasCarried old.old (length new.old.events) (LAST_TABLE + 1) 0 new.new) }
-    ensures refused { IfErr result (IsCarryStepRefused old.old (length new.old.events)) }
+        (HasCarried old.old (events_room new.old.events) (LAST_TABLE + 1) 0 new.new) }
+    ensures refused { IfErr result (IsCarryStepRefused old.old (events_room new.old.events)) }
 {
     for number in 0..LAST_TABLE + 1 {
         match carry_table(alloc, old, new, stamp, Table::new(number).unwrap()) {
@@ -139,7 +142,7 @@ pub fn carry(alloc: Global, old: &mut DbCore, room: usize) -> Result<DbCore, Car
         ≡ state_at old.old.history (length old.old.history)) }
     ensures whole { IfOk result (λ new. new.broken ≡ false) }
     ensures holds { IfOk result (λ new. new.holds ≡ []) }
-    ensures room { IfOk result (λ new. length new.events ≡ room) }
+    ensures room { IfOk result (λ new. HasCapacity new.events room) }
     ensures few { IfOk result (λ new. length new.history ≤ length (newest_state new)) }
     ensures vacuumed { OnOk result (old.new ≡ after_vacuum old.old) }
     ensures left { OnErr result ((old.new ≡ old.old) ⊎ (old.new ≡ after_vacuum old.old)) }

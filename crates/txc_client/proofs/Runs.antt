@@ -15,7 +15,7 @@ use Rattle.txc_client.specs.Ports.{PassesAfter}
 use Rattle.txc_client.specs.Run.{ExchangeLeads, ExchangesLead, HasBegun, HasRun, IsToldSo}
 use Rattle.txc_client.specs.Txn.{RoTxnValue}
 
-module _ (next : Next) (row : List ℕ) (node_histories : ℕ → Name) where
+module _ (next : Next) (row : Name) (node_histories : ℕ → Name) where
   led_more : (old mid new : RoTxnValue) (asking then turn : Turn) (exchanges : List Exchange) (x : Exchange)
       → ExchangesLead next row node_histories old asking exchanges mid then → ExchangeLeads next row node_histories mid then x new turn
       → ExchangesLead next row node_histories old asking (exchanges ++ x ∷ []) new turn

@@ -197,7 +197,7 @@ module _ (node_histories : ℕ → Name) (olds news : List PassValue) (node : �
 
 -- ---- a run
 
-module _ (next : Next) (row : List ℕ) (node_histories : ℕ → Name) (node : ℕ) where
+module _ (next : Next) (row : Name) (node_histories : ℕ → Name) (node : ℕ) where
   led_adds : (xs : List Exchange) (old new : RoTxnValue) (asking turn : Turn) (p : PassValue) → ExchangesLead next row node_histories old asking xs new turn
       → slice_get old.passes node ≡ Some p → AddedAt node (filter (asks node) xs) p new.passes
   led_adds [] old new asking turn p led is = stays_at node p old.passes new.passes (ap (λ (v : RoTxnValue). v.passes) led.0) is

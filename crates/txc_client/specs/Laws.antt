@@ -60,7 +60,7 @@ pub record HasAdded (xs : List Exchange) (before after : PassValue) : Type 0 whe
 -- those of the call's exchanges with the node, in their order. They are one of each hit, at most one of each miss and
 -- of each insertion, and no others.
 abbrev pub CallsStandOnce : Type 0
-CallsStandOnce = (next : Next) (row : List ℕ) (node_histories : ℕ → Name) (old new : RoTxnValue) (k : Call)
+CallsStandOnce = (next : Next) (row : Name) (node_histories : ℕ → Name) (old new : RoTxnValue) (k : Call)
     (turn : Turn) (run : HasRun next row node_histories old k new turn) (node : ℕ) (before after : PassValue)
     → slice_get old.passes node ≡ Some before → slice_get new.passes node ≡ Some after
     → HasAdded (filter (asks node) run.exchanges) before after

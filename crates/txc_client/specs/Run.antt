@@ -26,7 +26,7 @@ use Rattle.txc_client.specs.Txn.{RoTxnValue}
 -- What the database or the pincushion refuses, some database or some pincushion of the row refuses so. A pin is the newest
 -- event of the history that it shows. What is found for a query, some database of the row answers so, over the largest reach
 -- that it can tell, and with the query's tag alone.
-abbrev pub IsToldSo : List ℕ → Exchange → Type 0
+abbrev pub IsToldSo : Name → Exchange → Type 0
 IsToldSo row (exchanges.Pin now at_least (Ok pinned)) = pinned.stamp ≡ length pinned.front.history
 IsToldSo row (exchanges.Pin now at_least (Err error)) = MayRefuse row (λ d. IsPinRefused d at_least) error
 IsToldSo row (exchanges.AddPin pinned given (Err error)) =
@@ -38,7 +38,7 @@ IsToldSo row (exchanges.Query query stamp (Err error)) =
 IsToldSo row exchange = Unit {0}
 
 -- the reply is one of the ports of the row, right in the history that it shows
-pub record IsGiven (next : Next) (row : List ℕ) (x : Exchange) : Type 0 where
+pub record IsGiven (next : Next) (row : Name) (x : Exchange) : Type 0 where
   pub right : IsAnsweredRight next x
   pub of_row : IsOfRow row (reply_of x)
   pub told : IsToldSo row x
@@ -53,7 +53,7 @@ pub record HasBegun (old : RoTxnValue) (k : Call) (new : RoTxnValue) (turn : Tur
   pub passes : new.passes ≡ old.passes
 
 -- the turn asks, the request leaves the passes so, and the reply to it leads on to the next turn
-pub record ExchangeLeads (next : Next) (row : List ℕ) (node_histories : ℕ → Name) (old : RoTxnValue) (asking : Turn)
+pub record ExchangeLeads (next : Next) (row : Name) (node_histories : ℕ → Name) (old : RoTxnValue) (asking : Turn)
     (x : Exchange) (new : RoTxnValue) (turn : Turn) : Type 0 where
   pub asks : asking ≡ Ask (request_of x)
   pub given : IsGiven next row x
@@ -61,13 +61,13 @@ pub record ExchangeLeads (next : Next) (row : List ℕ) (node_histories : ℕ �
   pub goes_on : HasGoneOn next old.txn (reply_of x) new.txn turn
 
 -- the exchanges lead on, one after the other, to the last turn
-abbrev pub ExchangesLead : Next → List ℕ → (ℕ → Name) → RoTxnValue → Turn → List Exchange → RoTxnValue → Turn → Type 0
+abbrev pub ExchangesLead : Next → Name → (ℕ → Name) → RoTxnValue → Turn → List Exchange → RoTxnValue → Turn → Type 0
 ExchangesLead next row node_histories old asking [] new turn = (new ≡ old) × (turn ≡ asking)
 ExchangesLead next row node_histories old asking (x ∷ exchanges) new turn = (after : RoTxnValue) × (then : Turn)
     × ExchangeLeads next row node_histories old asking x after then × ExchangesLead next row node_histories after then exchanges new turn
 
 -- the call of a transaction ran from its beginning, by such exchanges, to this turn
-pub record HasRun (next : Next) (row : List ℕ) (node_histories : ℕ → Name) (old : RoTxnValue) (k : Call)
+pub record HasRun (next : Next) (row : Name) (node_histories : ℕ → Name) (old : RoTxnValue) (k : Call)
     (new : RoTxnValue) (turn : Turn) : Type 0 where
   pub first : RoTxnValue
   pub first_turn : Turn

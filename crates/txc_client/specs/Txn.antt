@@ -1,5 +1,6 @@
 -- What callers see of clients and of their transactions.
 use Rattle.std.specs.Prelude.{◌≡◌, ℕ, List, Some, All, length}
+use Rattle.txc_stream.specs.Names.{Name}
 use Rattle.txc_tags.specs.Keys.{Call}
 use Rattle.txc_db.specs.History.{state_at}
 use Rattle.txc_app.specs.Eval.{Next, eval}
@@ -21,7 +22,7 @@ pub record RoTxnValue : Type 0 where
   pub passes : List PassValue
 
 -- between two calls: none is open, what was seen is of the row, and there is a pass through each node
-pub record IsResting (row : List ℕ) (t : RoTxnValue) : Type 0 where
+pub record IsResting (row : Name) (t : RoTxnValue) : Type 0 where
   pub idle : IsIdle t.txn.core
   pub events : t.txn.core.seen.events ≡ row
   pub nodes : t.txn.core.nodes ≡ length t.passes

@@ -28,17 +28,17 @@ pub(crate) fn call_at<A: App, C: Cacheable, J: Naming>(
     key: Key,
 ) -> Turn
     requires idle { IsIdle txn.old.core }
-    requires events { txn.old.core.seen.events ≡ J.database_row }
+    requires events { txn.old.core.seen.events ≡ J.database_history }
     requires nodes { txn.old.core.nodes ≡ length ports.old }
     ensures passes { HaveGrown ports.old ports.new }
     ensures ended { IsCallEnd result }
     ensures idle { IsIdle txn.new.core }
     ensures recorded { txn.new.core.recorded ≡ recorded_after txn.old.core.recorded result (Some key) }
     ensures settings { KeepsSettings txn.old.core txn.new.core }
-    ensures events { txn.new.core.seen.events ≡ J.database_row }
+    ensures events { txn.new.core.seen.events ≡ J.database_history }
     ensures longer { IsPrefix txn.old.core.seen.history txn.new.core.seen.history }
     ensures functions { numbers_of txn.new.objects ≡ numbers_of txn.old.objects }
-    ensures run { HasRun A.next J.database_row J.node_histories
+    ensures run { HasRun A.next J.database_history J.node_histories
         (record { txn = txn.old; passes = ports.old }) key
         (record { txn = txn.new; passes = ports.new }) result }
     ensures missing { txn.old.core.pins.members ≢ [] → IsNone (activity_of txn.old.objects key.function)

@@ -95,12 +95,12 @@ impl<'a, A: App, C: Cacheable, J: Naming> Client<'a, A, C, J> {
         ensures bounds { IfOk result (λ txn. txn.txn.core.bounds ≡ bounds) }
         ensures recorded { IfOk result (λ txn. txn.txn.core.recorded ≡ []) }
         ensures meant { IfOk result (λ txn. IsTxn A.next txn.txn) }
-        ensures members { IfOk result (CushionMayAnswer J.database_row (λ c txn. (txn.txn.core.seen ≡ cushion_front c)
+        ensures members { IfOk result (CushionMayAnswer J.database_history (λ c txn. (txn.txn.core.seen ≡ cushion_front c)
             × (txn.txn.core.pins.members ≡ handed_out c bounds.now bounds.staleness bounds.at_least))) }
         ensures taken { IfOk result (λ txn. txn.txn.core.taken
             ≡ map (λ pin. pin.stamp) txn.txn.core.pins.members) }
         ensures present { IfOk result (λ txn. txn.txn.core.pins.has_present ≡ true) }
-        ensures row { IfOk result (λ txn. txn.txn.core.seen.events ≡ J.database_row) }
+        ensures row { IfOk result (λ txn. txn.txn.core.seen.events ≡ J.database_history) }
         ensures client { IfOk result (λ txn. client_of txn ≡ self.entry) }
         ensures handed_back { IfErr result (λ e. e.1 ≡ self.entry) }
     {
@@ -142,12 +142,12 @@ impl<'a, A: App, C: Cacheable, J: Naming> Client<'a, A, C, J> {
             ≡ record { now = now; staleness = staleness; at_least = session.now }) }
         ensures recorded { IfOk result (λ txn. txn.txn.core.recorded ≡ []) }
         ensures meant { IfOk result (λ txn. IsTxn A.next txn.txn) }
-        ensures members { IfOk result (CushionMayAnswer J.database_row (λ c txn. (txn.txn.core.seen ≡ cushion_front c)
+        ensures members { IfOk result (CushionMayAnswer J.database_history (λ c txn. (txn.txn.core.seen ≡ cushion_front c)
             × (txn.txn.core.pins.members ≡ handed_out c now staleness session.now))) }
         ensures taken { IfOk result (λ txn. txn.txn.core.taken
             ≡ map (λ pin. pin.stamp) txn.txn.core.pins.members) }
         ensures present { IfOk result (λ txn. txn.txn.core.pins.has_present ≡ true) }
-        ensures row { IfOk result (λ txn. txn.txn.core.seen.events ≡ J.database_row) }
+        ensures row { IfOk result (λ txn. txn.txn.core.seen.events ≡ J.database_history) }
         ensures client { IfOk result (λ txn. client_of txn ≡ self.entry) }
         ensures handed_back { IfErr result (λ e. e.1 ≡ self.entry) }
     {
@@ -221,12 +221,12 @@ fn begun<J: Naming>(
     ensures holds { IfOk result (λ core. (next : Next) (objects : Objects)
         → CoreHolds next (value_of core).seen.history objects (value_of core)) }
     ensures idle { IfOk result (λ core. IsIdle (value_of core)) }
-    ensures row { IfOk result (λ core. (value_of core).seen.events ≡ J.database_row) }
+    ensures row { IfOk result (λ core. (value_of core).seen.events ≡ J.database_history) }
     ensures bounds { IfOk result (λ core. (value_of core).bounds ≡ bounds) }
     ensures renew_after { IfOk result (λ core. (value_of core).renew_after ≡ renew_after) }
     ensures nodes { IfOk result (λ core. (value_of core).nodes ≡ nodes) }
     ensures recorded { IfOk result (λ core. (value_of core).recorded ≡ []) }
-    ensures members { IfOk result (CushionMayAnswer J.database_row (λ c core. ((value_of core).seen ≡ cushion_front c)
+    ensures members { IfOk result (CushionMayAnswer J.database_history (λ c core. ((value_of core).seen ≡ cushion_front c)
         × ((value_of core).pins.members ≡ handed_out c bounds.now bounds.staleness bounds.at_least))) }
     ensures taken { IfOk result (λ core. (value_of core).taken
         ≡ map (λ pin. pin.stamp) (value_of core).pins.members) }

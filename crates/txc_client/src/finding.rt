@@ -22,10 +22,10 @@ pub(crate) fn find<J: Naming>(
     stamp: Stamp,
 ) -> Result<Answered<Found>, DbError>
     ensures answer { IfOk result (λ found. IsFoundOver found.front.history query.now stamp found.answer) }
-    ensures database { IfOk result (MayAnswer J.database_row (λ d. IsQueryAnswer d query.now stamp)) }
+    ensures database { IfOk result (MayAnswer J.database_history (λ d. IsQueryAnswer d query.now stamp)) }
     ensures tag { IfOk result (λ found. found.answer.tags ≡ query_tag query.now ∷ []) }
-    ensures row { IfOk result (λ found. found.front.events ≡ J.database_row) }
-    ensures refused { IfErr result (MayRefuse J.database_row (λ d. IsQueryRefused d query.now stamp)) }
+    ensures row { IfOk result (λ found. found.front.events ≡ J.database_history) }
+    ensures refused { IfErr result (MayRefuse J.database_history (λ d. IsQueryRefused d query.now stamp)) }
 {
     found_rows_give_true_entries();
     database.query(rt, alloc, query, stamp)

@@ -111,7 +111,7 @@ impl<'a, A: App, J: Naming> Ports<'a, A, J> {
         requires { node < length self.old }
         ensures answer { IfSome result (λ hit.
             IsTrueIn A.next hit.front.history (entry_shown key.now hit.answer)) }
-        ensures row { IfSome result (λ hit. hit.front.events ≡ J.database_row) }
+        ensures row { IfSome result (λ hit. hit.front.events ≡ J.database_history) }
         ensures passes { HaveGrown self.old self.new }
         ensures left { IsCallAt node (LookupLeaves J.node_histories key.now lo hi result) self.old self.new }
     {
@@ -134,7 +134,7 @@ impl<'a, A: App, J: Naming> Ports<'a, A, J> {
         seen: &HistoryFront,
     )
         requires node { node < length self.old }
-        requires row { seen.now.events ≡ J.database_row }
+        requires row { seen.now.events ≡ J.database_history }
         requires is_true { IsTrueIn A.next seen.now.history entry }
         ensures passes { HaveGrown self.old self.new }
         ensures left { IsCallAt node (InsertLeaves J.node_histories entry) self.old self.new }
@@ -152,11 +152,11 @@ impl<'a, A: App, J: Naming> Ports<'a, A, J> {
         seen: &HistoryFront,
         request: PortRequest,
     ) -> PortReply
-        requires row { seen.now.events ≡ J.database_row }
-        requires may { MayAsk A.next J.database_row (length self.old) seen.now.history request }
+        requires row { seen.now.events ≡ J.database_history }
+        requires may { MayAsk A.next J.database_history (length self.old) seen.now.history request }
         ensures answer { IsReplyTo A.next request result }
-        ensures row { IsOfRow J.database_row result }
-        ensures told { IsExchange (IsToldSo J.database_row) request result }
+        ensures row { IsOfRow J.database_history result }
+        ensures told { IsExchange (IsToldSo J.database_history) request result }
         ensures passes { HaveGrown self.old self.new }
         ensures left { IsExchange (λ x. PassesAfter J.node_histories self.old x self.new) request result }
     {

@@ -43,7 +43,7 @@ impl<'a, A: App, C: Cacheable, J: Naming> Model for RoTxn<'a, A, C, J> {
 
     ghost view = { λ t. record { txn = t.txn; passes = t.ports } };
 
-    ghost invariant = { λ t. IsResting J.database_row (record { txn = t.txn; passes = t.ports })
+    ghost invariant = { λ t. IsResting J.database_history (record { txn = t.txn; passes = t.ports })
         × (t.renew_after ≡ t.txn.core.renew_after) };
 }
 
@@ -61,7 +61,7 @@ impl<'a, A: App, C: Cacheable, J: Naming> RoTxn<'a, A, C, J> {
         ensures meant { IsTxn A.next self.new.txn }
         ensures idle { AllIdle self.new.txn.objects }
         ensures functions { self.new.txn.objects ≡ self.old.txn.objects }
-        ensures run { HasRun A.next J.database_row J.node_histories self.old key self.new (turn_of_result result) }
+        ensures run { HasRun A.next J.database_history J.node_histories self.old key self.new (turn_of_result result) }
         ensures settings { KeepsSettings self.old.txn.core self.new.txn.core }
         ensures longer { IsPrefix self.old.txn.core.seen.history self.new.txn.core.seen.history }
         ensures missing { self.old.txn.core.pins.members ≢ []
@@ -102,7 +102,7 @@ impl<'a, A: App, C: Cacheable, J: Naming> RoTxn<'a, A, C, J> {
     /// What it has seen of the history.
     pub fn seen(&self) -> &HistoryFront
         ensures answer { result.now ≡ self.now.txn.core.seen }
-        ensures row { result.now.events ≡ J.database_row }
+        ensures row { result.now.events ≡ J.database_history }
     {
         self.txn.core().seen()
     }
@@ -125,7 +125,7 @@ impl<'a, A: App, C: Cacheable, J: Naming> RoTxn<'a, A, C, J> {
             result.0.answers.items }
         ensures not_before { IsAtLeast self.entry.txn.core.bounds.at_least result.0.pin }
         ensures seen { result.0.seen ≡ self.entry.txn.core.seen }
-        ensures row { result.0.seen.events ≡ J.database_row }
+        ensures row { result.0.seen.events ≡ J.database_history }
         ensures client { result.1 ≡ client_of self.entry }
     {
         let RoTxn {

@@ -1,5 +1,6 @@
 -- What callers see of a pincushion, and what its calls make of it.
 use Rattle.std.specs.Prelude.{◌≡◌, ℕ, ◌≤◌, nat_lt, not, List, [], length, map, filter, take, reverse, All, Some, if◌then◌else◌}
+use Rattle.txc_stream.specs.Names.{Name}
 use Rattle.txc_db.specs.declared.pinned.Pinned.{Pinned}
 use Rattle.txc_db.specs.History.{History, moment_at}
 use Rattle.txc_db.specs.Seen.{FrontValue}
@@ -12,7 +13,7 @@ use Rattle.txc_cushion.specs.Entries.{pins_of, stamps_of, EntriesFall, may_be_ha
 -- the names of the cells for the events of its database; what its front shows of the history; and the pins,
 -- the newest first, each with its users
 pub record CushionValue : Type 0 where
-  pub events : List ℕ
+  pub events : Name
   pub history : History
   pub entries : List PinEntry
 

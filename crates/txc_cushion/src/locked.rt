@@ -27,12 +27,12 @@ impl<J: Naming> Model for Locked<J> {
 
     ghost view = { λ l. l.core };
 
-    ghost invariant = { λ l. l.core.events ≡ J.database_row };
+    ghost invariant = { λ l. l.core.events ≡ J.database_history };
 }
 
 impl<J: Naming> Locked<J> {
     pub(crate) fn new(core: CushionCore) -> Locked<J>
-        requires { core.events ≡ J.database_row }
+        requires { core.events ≡ J.database_history }
     {
         Locked {
             core,
@@ -47,7 +47,7 @@ impl<J: Naming> Locked<J> {
         staleness: u64,
         at_least: Stamp,
     ) -> Result<Pins, AllocError>
-        ensures named { self.old.events ≡ J.database_row }
+        ensures named { self.old.events ≡ J.database_history }
         ensures cushion { IsCushion self.old }
         ensures after { OnOk result (self.new ≡ after_fresh self.old now staleness at_least) }
         ensures pins { IfOk result (λ given.
@@ -62,8 +62,8 @@ impl<J: Naming> Locked<J> {
     }
 
     pub(crate) fn add(&mut self, pinned: &Pinned) -> Result<(), AddError>
-        requires { pinned.now.front.events ≡ J.database_row }
-        ensures named { self.old.events ≡ J.database_row }
+        requires { pinned.now.front.events ≡ J.database_history }
+        ensures named { self.old.events ≡ J.database_history }
         ensures cushion { IsCushion self.old }
         ensures after { OnOk result (self.new ≡ after_add self.old pinned.now) }
         ensures unchanged { OnErr result (self.new ≡ self.old) }
@@ -74,7 +74,7 @@ impl<J: Naming> Locked<J> {
     }
 
     pub(crate) fn give_back(&mut self, stamps: &[Stamp]) -> Result<(), UnknownPin>
-        ensures named { self.old.events ≡ J.database_row }
+        ensures named { self.old.events ≡ J.database_history }
         ensures cushion { IsCushion self.old }
         ensures after { OnOk result (self.new ≡ after_give_back self.old stamps.now) }
         ensures unchanged { OnErr result (self.new ≡ self.old) }
@@ -91,7 +91,7 @@ impl<J: Naming> Locked<J> {
         now: u64,
         age: u64,
     ) -> Result<Vec<Stamp>, AllocError>
-        ensures named { self.old.events ≡ J.database_row }
+        ensures named { self.old.events ≡ J.database_history }
         ensures cushion { IsCushion self.old }
         ensures after { OnOk result (self.new ≡ after_retire self.old now age) }
         ensures answer { IfOk result (λ stamps. stamps.items ≡ retired self.old now age) }

@@ -32,7 +32,7 @@ impl<J: Naming> Pincushion<J> {
 
     /// A pincushion with what the core has, whose pins are those of the named row.
     pub fn of_core(core: CushionCore) -> Pincushion<J>
-        requires { core.events ≡ J.database_row }
+        requires { core.events ≡ J.database_history }
     {
         Pincushion {
             lock: Mutex::new(Locked::new(core)),
@@ -50,10 +50,10 @@ impl<J: Naming> Pincushion<J> {
         staleness: u64,
         at_least: Stamp,
     ) -> Result<Pins, AllocError>
-        ensures named { IfOk result (λ given. given.front.events ≡ J.database_row) }
+        ensures named { IfOk result (λ given. given.front.events ≡ J.database_history) }
         ensures allowed { IfOk result (λ given. All
             (λ pin. IsAllowed given.front.history pin.stamp now staleness at_least) given.pins.items) }
-        ensures answer { IfOk result (CushionMayAnswer J.database_row (λ c given.
+        ensures answer { IfOk result (CushionMayAnswer J.database_history (λ c given.
             (given.pins.items ≡ handed_out c now staleness at_least) × (given.front ≡ cushion_front c))) }
     {
         lock_soon(rt, &self.lock).fresh(alloc, now, staleness, at_least)
@@ -61,8 +61,8 @@ impl<J: Naming> Pincushion<J> {
 
     /// Adds a pin, with one user.
     pub fn add(&self, rt: &impl Wait, pinned: &Pinned) -> Result<(), AddError>
-        requires { pinned.now.front.events ≡ J.database_row }
-        ensures refused { IfErr result (CushionMayAnswer J.database_row (λ c.
+        requires { pinned.now.front.events ≡ J.database_history }
+        ensures refused { IfErr result (CushionMayAnswer J.database_history (λ c.
             IsAddRefused c pinned.now.stamp)) }
     {
         lock_soon(rt, &self.lock).add(pinned)
@@ -70,7 +70,7 @@ impl<J: Naming> Pincushion<J> {
 
     /// Takes one user away for each stamp named. It takes no memory.
     pub fn give_back(&self, rt: &impl Wait, stamps: &[Stamp]) -> Result<(), UnknownPin>
-        ensures refused { IfErr result (CushionMayAnswer J.database_row (λ c unknown.
+        ensures refused { IfErr result (CushionMayAnswer J.database_history (λ c unknown.
             IsFirstUnused c.entries stamps.now unknown.stamp)) }
     {
         lock_soon(rt, &self.lock).give_back(stamps)
@@ -85,7 +85,7 @@ impl<J: Naming> Pincushion<J> {
         now: u64,
         age: u64,
     ) -> Result<Vec<Stamp>, AllocError>
-        ensures answer { IfOk result (CushionMayAnswer J.database_row (λ c stamps.
+        ensures answer { IfOk result (CushionMayAnswer J.database_history (λ c stamps.
             stamps.items ≡ retired c now age)) }
     {
         lock_soon(rt, &self.lock).retire(alloc, now, age)

@@ -1,3 +1,4 @@
+pub mod Rooms
 pub mod Histories
 pub mod HeldStamps
 pub mod Settling

@@ -7,7 +7,7 @@ use Rattle.txc_rows.specs.declared.query.Change.{Change}
 use Rattle.txc_rows.specs.declared.store_error.StoreError.TheVariants as store
 use Rattle.txc_rows.proofs.Offered.{IsIn, contains_it}
 use Rattle.txc_db.specs.declared.error.DbError.{DbError}
-use Rattle.txc_db.specs.declared.error.DbError.TheVariants.{Store, Broken, FutureStamp}
+use Rattle.txc_db.specs.declared.error.DbError.TheVariants.{Store, Broken, FutureStamp, SnapshotGone}
 use Rattle.txc_db.specs.DatabaseValue.{DatabaseValue, newest_net}
 use Rattle.txc_db.specs.Calls.{IsLeft, IsCommittable, row_query, IsCommitRefused}
 use Rattle.txc_db.specs.Steps.{IsBaseRefused, IsReadRefused, IsNetRefused}
@@ -26,6 +26,7 @@ base_left d base e r = refl
 pub base_refused : (d : DatabaseValue) (base : ℕ) (read : List Tag) (changes : List Change) (e : DbError) → IsBaseRefused d base e → IsCommitRefused d base read changes e
 base_refused d base read changes Broken h = inl h
 base_refused d base read changes (FutureStamp last) h = h
+base_refused d base read changes (SnapshotGone horizon) h = h
 base_refused d base read changes e h = absurd h
 
 some_in : (c : Change) (changes : List Change) → IsIn c changes → changes ≢ []

@@ -5,6 +5,7 @@ use Rattle.std.proofs.lemmas.Result.{IfErr-weaker, IfOk-weaker}
 use Rattle.txc_rows.specs.declared.query.Query.{Query}
 use Rattle.txc_validity.specs.declared.answer.Found.{Found}
 use Rattle.txc_validity.specs.Answers.{IsAnswer}
+use Rattle.txc_stream.specs.Names.{Name}
 use Rattle.txc_db.specs.declared.answered.Answered.{Answered}
 use Rattle.txc_db.specs.declared.error.DbError.{DbError}
 use Rattle.txc_db.specs.Seen.{FrontValue}
@@ -15,15 +16,15 @@ use Rattle.txc_rows.specs.declared.store_error.TheConstants.{MAX_MATCHING}
 use Rattle.txc_db.specs.Shared.{IsDatabaseOf, MayAnswer, IsQueryAnswer, MayRefuse}
 
 -- the database under the lock is the one that refuses
-pub may_refuse : {T E : Type 0} (d : DatabaseValue) (events : List ℕ) (refused : DatabaseValue → E → Type 0) (r : Result T E) → IsDatabaseOf events d → IfErr r (refused d) → IfErr r (MayRefuse events refused)
+pub may_refuse : {T E : Type 0} (d : DatabaseValue) (events : Name) (refused : DatabaseValue → E → Type 0) (r : Result T E) → IsDatabaseOf events d → IfErr r (refused d) → IfErr r (MayRefuse events refused)
 may_refuse d events refused r one h = IfErr-weaker r (refused d) (MayRefuse events refused) (λ e w. (d, one, w)) h
 
 -- and the one that answers
-pub may_answer : {T E : Type 0} (d : DatabaseValue) (events : List ℕ) (answers : DatabaseValue → T → Type 0) (r : Result T E) → IsDatabaseOf events d → IfOk r (answers d) → IfOk r (MayAnswer events answers)
+pub may_answer : {T E : Type 0} (d : DatabaseValue) (events : Name) (answers : DatabaseValue → T → Type 0) (r : Result T E) → IsDatabaseOf events d → IfOk r (answers d) → IfOk r (MayAnswer events answers)
 may_answer d events answers r one h = IfOk-weaker r (answers d) (MayAnswer events answers) (λ a w. (d, one, w)) h
 
 -- so does a query
-pub query_result : (d : DatabaseValue) (events : List ℕ) (q : Query) (stamp : ℕ) (r : Result (Answered Found) DbError) → IsDatabaseOf events d
+pub query_result : (d : DatabaseValue) (events : Name) (q : Query) (stamp : ℕ) (r : Result (Answered Found) DbError) → IsDatabaseOf events d
     → IfOk r (λ answered. IsAnswer (state_at d.history) q stamp d.horizon (newest d) answered.answer)
     → IfOk r (λ answered. answered.front ≡ front_of d)
     → (IsOk r → IsAnswerable d stamp)

@@ -9,6 +9,7 @@ use Rattle.txc_rows.specs.RowTags.{tags_between}
 use Rattle.txc_rows.specs.Keeping.{KeepsStates, KeepsWritten, KeepsPurged, Leads}
 use Rattle.txc_rows.specs.Laws.{NoTagsBetween}
 use Rattle.txc_rows.specs.Uses.{KeepsAgreed, KeepsQuiet}
+use Rattle.txc_stream.specs.Names.{Name}
 use Rattle.txc_db.specs.Facts.{Fact, EventValue, commit}
 use Rattle.txc_db.specs.History.{state_at, AreTagged, pin_event, after_fact}
 use Rattle.txc_db.specs.DatabaseValue.{DatabaseValue, newest, newest_state, IsSound, IsReadable, least}
@@ -25,7 +26,7 @@ tagged_empty : AreTagged []
 tagged_empty zero v is = absurd (cc is)
 tagged_empty (suc t) v is = absurd (cc is)
 
-pub new_sound : (events : List ℕ) (vs : List Versioned) → ((states : ℕ → State) → states 0 ≡ [] → KeepsStates states 0 0 vs)
+pub new_sound : (events : Name) (vs : List Versioned) → ((states : ℕ → State) → states 0 ≡ [] → KeepsStates states 0 0 vs)
     → IsSound (record { events = events; history = []; versions = vs; horizon = 0; holds = []; broken = false })
 new_sound events vs keeps = record {
   tagged = tagged_empty;

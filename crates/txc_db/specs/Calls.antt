@@ -14,6 +14,7 @@ use Rattle.txc_db.specs.declared.error.DbError.{DbError}
 use Rattle.txc_db.specs.declared.error.DbError.TheVariants.{SnapshotGone, Conflict, Full, Store, Broken, NotPinned, FutureStamp, HoldsFull, Memory}
 use Rattle.txc_db.specs.declared.holds.TheConstants.{MAX_HOLDS}
 use Rattle.txc_db.specs.DatabaseValue.{DatabaseValue, newest, newest_net, next_horizon, is_held, IsReadable}
+use Rattle.txc_db.specs.Room.{events_room, AreTagsKept, AreTagsGone}
 use Rattle.txc_db.specs.Refusals.{IsOwn, IsConflict, NoneMatches}
 
 -- the call found another record in the row after the history: the history, the horizon and the holds are as
@@ -66,18 +67,19 @@ IsVacuumRefused d e = ⊥
 pub record IsPinnable (d : DatabaseValue) (at_least : ℕ) : Type 0 where
   pub whole : d.broken ≡ false
   pub late : at_least ≤ newest d + 1
-  pub room : newest d < length d.events
+  pub room : newest d < events_room d.events
   pub hold : length d.holds < MAX_HOLDS
 
--- of a pin: broken, or asked for beyond the next stamp, or the row is full, or too many holds, each where
+-- of a pin: broken, or asked for beyond the next stamp, or there is no room, or too many holds, each where
 -- none before it comes; and then out of memory, or another record stands in the row
 abbrev pub IsPinRefused : DatabaseValue → ℕ → DbError → Type 0
 IsPinRefused d at_least Broken = (d.broken ≡ true) ⊎ IsPinnable d at_least
 IsPinRefused d at_least (FutureStamp last) =
     (d.broken ≡ false) × (newest d + 1 < at_least) × (last ≡ newest d)
-IsPinRefused d at_least Full = (d.broken ≡ false) × (at_least ≤ newest d + 1) × (newest d ≡ length d.events)
+IsPinRefused d at_least Full =
+    (d.broken ≡ false) × (at_least ≤ newest d + 1) × (newest d ≡ events_room d.events)
 IsPinRefused d at_least HoldsFull =
-    (d.broken ≡ false) × (at_least ≤ newest d + 1) × (newest d < length d.events)
+    (d.broken ≡ false) × (at_least ≤ newest d + 1) × (newest d < events_room d.events)
     × (MAX_HOLDS ≤ length d.holds)
 IsPinRefused d at_least Memory = IsPinnable d at_least
 IsPinRefused d at_least e = ⊥
@@ -120,15 +122,17 @@ row_query c = ById (change_table c) (change_id c)
 abbrev pub AreFewNamed : DatabaseValue → List Change → Type 0
 AreFewNamed d changes = (c : Change) → Contains changes c → matching_of d (row_query c) ≤ MAX_MATCHING
 
--- the database is whole and knows the base
+-- the database is whole, knows the base, and has the tags of the events after it
 pub record IsBase (d : DatabaseValue) (base : ℕ) : Type 0 where
   pub whole : d.broken ≡ false
   pub known : base ≤ newest d
+  pub kept : AreTagsKept d.events d.horizon base
 
 -- and no event after the base has tags that match those read
 pub record IsUnread (d : DatabaseValue) (base : ℕ) (read : List Tag) : Type 0 where
   pub whole : d.broken ≡ false
   pub known : base ≤ newest d
+  pub kept : AreTagsKept d.events d.horizon base
   pub apart : NoneMatches d.history base (newest d) read
 
 -- a commit can be done: what was read is as it was, the rows that the changes name can be looked up, and
@@ -137,22 +141,22 @@ pub record IsCommittable (d : DatabaseValue) (base : ℕ) (read : List Tag) (cha
     : Type 0 where
   pub unread : IsUnread d base read
   pub few : AreFewNamed d changes
-  pub room : newest_net d changes ≢ [] → newest d < length d.events
+  pub room : newest_net d changes ≢ [] → newest d < events_room d.events
 
 -- a commit has an event to append, for which there is room
 pub record IsEventDue (d : DatabaseValue) (base : ℕ) (read : List Tag) (changes : List Change) : Type 0 where
   pub unread : IsUnread d base read
   pub few : AreFewNamed d changes
   pub some : newest_net d changes ≢ []
-  pub room : newest d < length d.events
+  pub room : newest d < events_room d.events
 
--- a commit has an event to append, and the row is full
+-- a commit has an event to append, and there is no room for it
 pub record IsEventBarred (d : DatabaseValue) (base : ℕ) (read : List Tag) (changes : List Change)
     : Type 0 where
   pub unread : IsUnread d base read
   pub few : AreFewNamed d changes
   pub some : newest_net d changes ≢ []
-  pub full : newest d ≡ length d.events
+  pub full : newest d ≡ events_room d.events
 
 -- the store refused a commit: of a row that it names too many versions are kept; or there are changes, and
 -- it refused by itself
@@ -163,12 +167,14 @@ IsStoreRefusedIn d changes (store.Store cause) = changes ≢ []
 IsStoreRefusedIn d changes store.StoreMemory = changes ≢ []
 IsStoreRefusedIn d changes store.Memory = ⊥
 
--- of a commit: broken, or beyond the newest stamp, or a conflict with what was read; then the store, or the
--- row is full. It may be out of memory as soon as there is no conflict. And last another record stands in the row.
+-- of a commit: broken, or beyond the newest stamp, or from before the tags that are kept, or a conflict with what
+-- was read; then the store, or there is no room. It may be out of memory as soon as there is no conflict. And last another record stands in the row.
 abbrev pub IsCommitRefused : DatabaseValue → ℕ → List Tag → List Change → DbError → Type 0
 IsCommitRefused d base read changes Broken = (d.broken ≡ true) ⊎ IsEventDue d base read changes
 IsCommitRefused d base read changes (FutureStamp last) =
     (d.broken ≡ false) × (newest d < base) × (last ≡ newest d)
+IsCommitRefused d base read changes (SnapshotGone horizon) =
+    (d.broken ≡ false) × AreTagsGone d.events d.horizon base × (horizon ≡ d.horizon)
 IsCommitRefused d base read changes (Conflict first) = IsBase d base × IsConflict d.history base read first
 IsCommitRefused d base read changes (Store cause) = IsUnread d base read × IsStoreRefusedIn d changes cause
 IsCommitRefused d base read changes Full = IsEventBarred d base read changes

@@ -1,6 +1,7 @@
 -- What callers see of a database.
 use Rattle.std.specs.Prelude.{ℕ, ◌+◌, ◌≤◌, Bool, List, [], ◌∷◌, ◌++◌, length, min, ◌==◌, if◌then◌else◌}
 use Rattle.std.specs.List.{AllByRecursion, list_any}
+use Rattle.txc_stream.specs.Names.{Name}
 use Rattle.txc_rows.specs.declared.version.Versioned.{Versioned}
 use Rattle.txc_rows.specs.States.{State}
 use Rattle.txc_rows.specs.Keeping.{KeepsStates}
@@ -11,11 +12,11 @@ use Rattle.txc_db.specs.Facts.{EventValue}
 use Rattle.txc_db.specs.Seen.{FrontValue}
 use Rattle.txc_db.specs.History.{History, state_at, AreTagged, pin_event, commit_event}
 
--- the names of the cells for its events; the history; the versions that are kept; the horizon; the stamps
+-- what the history of its events is called; the history; the versions that are kept; the horizon; the stamps
 -- that are held, one for each hold, the earliest hold first; and whether another record was found in its
 -- row
 pub record DatabaseValue : Type 0 where
-  pub events : List ℕ
+  pub events : Name
   pub history : History
   pub versions : List Versioned
   pub horizon : ℕ

@@ -1,6 +1,8 @@
 pub mod Facts
 pub mod History
 pub mod Seen
+pub mod Room
+pub mod Held
 pub mod DatabaseValue
 pub mod Refusals
 pub mod Calls

@@ -1,10 +1,13 @@
 -- Words for what is done under the lock, which only this crate's private functions promise.
-use Rattle.std.specs.Prelude.{◌≡◌, ◌⊎◌, true, false}
+use Rattle.std.specs.Prelude.{◌≡◌, ◌⊎◌, ◌+◌, true, false, length, fold, Some}
+use Rattle.txc_stream.specs.Posted.{PosterValue}
 use Rattle.txc_db.specs.declared.error.DbError.{DbError}
 use Rattle.txc_db.specs.declared.error.DbError.TheVariants.{Conflict, Broken}
 use Rattle.txc_db.specs.declared.answered.CommitError.{CommitError}
 use Rattle.txc_db.specs.declared.answered.CommitError.TheVariants as commits
+use Rattle.txc_db.specs.Facts.{EventValue}
 use Rattle.txc_db.specs.Seen.{FrontValue}
+use Rattle.txc_db.specs.History.{History}
 use Rattle.txc_db.specs.DatabaseValue.{DatabaseValue}
 
 -- what a refusal leaves: the database as it was; and refused as broken, it was broken before, or is so from
@@ -23,3 +26,7 @@ IsCommitLeft old new (commits.Database refusal) = IsLockedLeft old new refusal
 abbrev pub IsRefusalWith : FrontValue → DbError → CommitError → Type 0
 IsRefusalWith front (Conflict first) e = e ≡ commits.Conflict (record { answer = first; front = front })
 IsRefusalWith front refusal e = e ≡ commits.Database refusal
+
+-- each event was posted, or stood there before the poster did, and what was posted last shows the whole history
+abbrev pub AreAllPosted : History → PosterValue EventValue → Type 0
+AreAllPosted L p = (p.from + length p.posted ≡ length L) × (fold (λ before last. last) (Some L) p.posted ≡ Some L)

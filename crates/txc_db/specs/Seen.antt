@@ -1,10 +1,11 @@
 -- What fronts and feeds have seen of a history.
-use Rattle.std.specs.Prelude.{ℕ, List, [], fold}
+use Rattle.std.specs.Prelude.{ℕ}
+use Rattle.txc_stream.specs.Names.{Name, stored, unstored}
 use Rattle.txc_db.specs.History.{History}
 
--- the names of all cells for events, and what was seen in the first of them
+-- what the history of events is called, and the first of them, as they were seen
 pub record FrontValue : Type 0 where
-  pub events : List ℕ
+  pub events : Name
   pub history : History
 
 -- the events that a feed has seen, and how many of them were taken
@@ -12,6 +13,8 @@ pub record FeedValue : Type 0 where
   pub history : History
   pub taken : ℕ
 
--- what the last of the marks shows; nothing where there is none
-abbrev pub last_mark : List History → History
-last_mark marks = fold (λ before mark. mark) [] marks
+-- how many events a feed has taken at its beginning, where there are so many: none of a stored history, and each of
+-- any other
+abbrev pub taken_at_start : Name → ℕ → ℕ
+taken_at_start (stored cells) events = 0
+taken_at_start (unstored number) events = events

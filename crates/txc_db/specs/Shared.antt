@@ -1,6 +1,7 @@
 -- What a call of the shared database answers, by its numbers and by the front beside its answer.
 use Rattle.std.specs.Prelude.{◌≡◌, ◌≢◌, ℕ, ◌+◌, ◌≤◌, false, List, [], length, Some}
 use Rattle.txc_tags.specs.declared.tag.Tag.{Tag}
+use Rattle.txc_stream.specs.Names.{Name}
 use Rattle.txc_rows.specs.declared.query.Change.{Change}
 use Rattle.txc_rows.specs.declared.query.Query.{Query}
 use Rattle.txc_rows.specs.declared.store_error.TheConstants.{MAX_MATCHING}
@@ -13,18 +14,19 @@ use Rattle.txc_db.specs.declared.answered.CommitError.{CommitError}
 use Rattle.txc_db.specs.declared.answered.CommitError.TheVariants as commits
 use Rattle.txc_db.specs.History.{History, state_at, event_at, commit_event}
 use Rattle.txc_db.specs.DatabaseValue.{DatabaseValue, IsSound, front_of}
+use Rattle.txc_db.specs.Room.{events_room}
 use Rattle.txc_db.specs.Refusals.{NoneMatches, IsConflict}
 use Rattle.txc_db.specs.Calls.{IsAnswerable, matching_of, IsBase, IsCommitRefused}
 
--- a database of this row of events: it has no more events than the row has cells, and unless it is broken, it
--- is sound
-pub record IsDatabaseOf (events : List ℕ) (d : DatabaseValue) : Type 0 where
+-- a database with the history of this name: it has no more events than there is room for, and unless it is
+-- broken, it is sound
+pub record IsDatabaseOf (events : Name) (d : DatabaseValue) : Type 0 where
   pub named : d.events ≡ events
-  pub fits : length d.history ≤ length d.events
+  pub fits : length d.history ≤ events_room d.events
   pub sound : d.broken ≡ false → IsSound d
 
--- some database of this row of events answers so
-abbrev pub MayAnswer : {A : Type 0} → List ℕ → (DatabaseValue → A → Type 0) → A → Type 0
+-- some database with the history of this name answers so
+abbrev pub MayAnswer : {A : Type 0} → Name → (DatabaseValue → A → Type 0) → A → Type 0
 MayAnswer events answers a = (d : DatabaseValue) × IsDatabaseOf events d × answers d a
 
 -- ---- answers of a query
@@ -62,8 +64,8 @@ pub record IsEventIn (L : History) (base : ℕ) (read : List Tag) (changes : Lis
 
 -- ---- refusals
 
--- some database of this row of events refuses so
-abbrev pub MayRefuse : {E : Type 0} → List ℕ → (DatabaseValue → E → Type 0) → E → Type 0
+-- some database with the history of this name refuses so
+abbrev pub MayRefuse : {E : Type 0} → Name → (DatabaseValue → E → Type 0) → E → Type 0
 MayRefuse events refused e = MayAnswer events refused e
 
 -- the first event after the base that matches what was read, and a front of the whole history in which it is

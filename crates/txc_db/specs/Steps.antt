@@ -3,15 +3,18 @@ use Rattle.std.specs.Prelude.{◌≡◌, ℕ, ◌<◌, true, false, List, length
 use Rattle.txc_rows.specs.declared.query.Query.{Query}
 use Rattle.txc_rows.specs.declared.query.Change.{Change}
 use Rattle.txc_db.specs.declared.error.DbError.{DbError}
-use Rattle.txc_db.specs.declared.error.DbError.TheVariants.{Full, Store, Broken, FutureStamp, Memory}
+use Rattle.txc_db.specs.declared.error.DbError.TheVariants.{SnapshotGone, Full, Store, Broken, FutureStamp, Memory}
 use Rattle.txc_db.specs.DatabaseValue.{DatabaseValue, newest}
+use Rattle.txc_db.specs.Room.{events_room, AreTagsGone}
 use Rattle.txc_db.specs.Refusals.{IsOwn}
 use Rattle.txc_db.specs.Calls.{IsStoreRefused, IsStoreRefusedIn}
 
--- of the base of a commit: broken, or beyond the newest stamp
+-- of the base of a commit: broken, or beyond the newest stamp, or from before the tags that are kept
 abbrev pub IsBaseRefused : DatabaseValue → ℕ → DbError → Type 0
 IsBaseRefused d base Broken = d.broken ≡ true
 IsBaseRefused d base (FutureStamp last) = (d.broken ≡ false) × (newest d < base) × (last ≡ newest d)
+IsBaseRefused d base (SnapshotGone horizon) =
+    (d.broken ≡ false) × AreTagsGone d.events d.horizon base × (horizon ≡ d.horizon)
 IsBaseRefused d base e = ⊥
 
 -- of a look at the rows of a query: the store, or out of memory
@@ -24,11 +27,11 @@ abbrev pub IsNetRefused : DatabaseValue → List Change → DbError → Type 0
 IsNetRefused d changes (Store cause) = IsStoreRefusedIn d changes cause
 IsNetRefused d changes e = e ≡ Memory
 
--- of an event that is to be appended: the row is full; else the store refused by itself, or out of memory,
+-- of an event that is to be appended: there is no room; else the store refused by itself, or out of memory,
 -- or another record stands in the row
 abbrev pub IsAppendRefused : DatabaseValue → DbError → Type 0
-IsAppendRefused d Full = newest d ≡ length d.events
-IsAppendRefused d (Store cause) = (newest d < length d.events) × IsOwn cause
-IsAppendRefused d Memory = newest d < length d.events
-IsAppendRefused d Broken = newest d < length d.events
+IsAppendRefused d Full = newest d ≡ events_room d.events
+IsAppendRefused d (Store cause) = (newest d < events_room d.events) × IsOwn cause
+IsAppendRefused d Memory = newest d < events_room d.events
+IsAppendRefused d Broken = newest d < events_room d.events
 IsAppendRefused d e = ⊥

@@ -1,6 +1,7 @@
 //! Commits: conflicts with what was read, net changes against the newest state, and the event that is
 //! appended.
 ghost use Rattle.std.specs.Prelude.{◌≡◌, ◌≢◌, ◌+◌, ◌<◌, ◌≤◌, ◌++◌, ◌∷◌, [], ℕ, true, false, length, Ok, Err, IfOk, OnOk, OnErr, IfErr, IfSome, IfNone, IsOk, ◌↔◌};
+ghost use Rattle.txc_stream.specs.Names.{HasRow};
 ghost use Rattle.txc_rows.specs.declared.query.Query.TheVariants.{ById};
 ghost use Rattle.txc_rows.specs.States.{answer, after_changes};
 ghost use Rattle.txc_rows.specs.RowTags.{tags_between};
@@ -13,14 +14,15 @@ ghost use Rattle.txc_db.specs.NetWith.{IsNetWith};
 ghost use Rattle.txc_db.specs.Refusals.{IsConflict, NoneMatches};
 ghost use Rattle.txc_db.specs.Calls.{IsLeft, IsBase, AreFewNamed, row_query, matching_of, IsCommittable, IsCommitRefused};
 ghost use Rattle.txc_rows.specs.declared.store_error.TheConstants.{MAX_MATCHING};
+ghost use Rattle.txc_db.specs.Room.{events_room};
 ghost use Rattle.txc_db.specs.Steps.{IsBaseRefused, IsReadRefused, IsNetRefused, IsAppendRefused};
 
 use crate::db_core::DbCore;
 use crate::error::DbError;
-use crate::event::{Event, What};
-use crate::history_front::HistoryFront;
+use crate::history::History;
+use crate::net::Net;
 use crate::settled::{add_puts, add_rows, id_of, makes_another, settle, table_of};
-use std::alloc::{AllocError, Global};
+use std::alloc::Global;
 use txc_rows::{
     Change, Query, Row, net_changes_are_differences, states_are_maps, versions_keep_states,
 };
@@ -28,20 +30,14 @@ use txc_stamp::Stamp;
 use txc_tags::{Table, TagSet};
 use txc_validity::rows_at;
 
-/// The changes that make another state of the newest one, and the tags of the rows that they find or put.
-#[derive(Drop)]
-struct Net {
-    changes: Vec<Change>,
-    tags: TagSet,
-}
-
 /// The number of the first event after the base whose tags match those read.
-fn first_conflict(front: &HistoryFront, base: usize, read: &TagSet) -> Option<usize>
-    ensures some { IfSome result (IsConflict front.now.history base read.now) }
-    ensures none { IfNone result (NoneMatches front.now.history base (length front.now.history) read.now) }
+fn first_conflict(told: &History, base: usize, read: &TagSet) -> Option<usize>
+    requires { ¬ (HasRow told.now.events) → told.now.first ≤ base }
+    ensures some { IfSome result (IsConflict told.now.history base read.now) }
+    ensures none { IfNone result (NoneMatches told.now.history base (length told.now.history) read.now) }
 {
-    for at in base..front.len() {
-        if front.event_at(at + 1).tags.matches(read) {
+    for at in base..told.len() {
+        if told.tags_of(at + 1).matches(read) {
             return Some(at + 1);
         }
     }
@@ -57,7 +53,7 @@ impl DbCore {
         ensures few { IsOk result → matching_of self.old (ById table id) ≤ MAX_MATCHING }
         ensures refused { IfErr result (IsReadRefused self.old (ById table id)) }
     {
-        let newest = self.front.newest();
+        let newest = self.told.newest();
         let query = Query::ById(table, id);
         let versions = self.store.current(&query)?;
         Ok(rows_at(alloc, &versions, &query, newest)?)
@@ -119,28 +115,26 @@ impl DbCore {
             ≡ after_event_of self.old (record { fact = commit net.changes.items; tags = net.tags })
             net.changes.items) }
         ensures answer { IfOk result (λ stamp. stamp ≡ newest self.old + 1) }
-        ensures room { IsOk result → newest self.old < length self.old.events }
+        ensures room { IsOk result → newest self.old < events_room self.old.events }
         ensures unchanged { IfErr result (IsLeft self.old self.new) }
         ensures refused { IfErr result (IsAppendRefused self.old) }
     {
         versions_keep_states();
-        let events = self.front.len();
-        if events == self.front.events().capacity() {
+        let events = self.told.len();
+        if self.told.is_full() {
             return Err(DbError::Full);
         }
-        let event = commit_event(alloc, net)?;
+        let event = self.told.prepare_commit(alloc, net)?;
         let stamp = Stamp::after(events + 1);
         self.store.write(event.net(), stamp)?;
-        match self.front.append(event) {
-            Ok(()) => Ok(stamp),
-            Err(_) => {
-                self.broken = true;
-                Err(DbError::Broken)
-            }
+        if !self.told.append(event) {
+            self.broken = true;
+            return Err(DbError::Broken);
         }
+        Ok(stamp)
     }
 
-    /// The newest stamp, where the base is known.
+    /// The newest stamp, where the base is known and the tags of the events after it are kept.
     pub(crate) fn check_base(&self, base: Stamp) -> Result<Stamp, DbError>
         ensures only_if { IsOk result ↔ IsBase self.now base }
         ensures answer { IfOk result (λ stamp. stamp ≡ newest self.now) }
@@ -149,9 +143,12 @@ impl DbCore {
         if self.broken {
             return Err(DbError::Broken);
         }
-        let newest = self.front.newest();
+        let newest = self.told.newest();
         if newest < base {
             return Err(DbError::FutureStamp(newest));
+        }
+        if !self.told.keeps_tags(self.horizon, base) {
+            return Err(DbError::SnapshotGone(self.horizon));
         }
         Ok(newest)
     }
@@ -175,7 +172,7 @@ impl DbCore {
         states_are_maps();
         let newest = self.check_base(base)?;
         let base = base.number() as usize;
-        if let Some(first) = first_conflict(&self.front, base, read) {
+        if let Some(first) = first_conflict(&self.told, base, read) {
             return Err(DbError::Conflict(Stamp::after(first)));
         }
         let net = self.net_of(alloc, changes)?;
@@ -184,17 +181,4 @@ impl DbCore {
         }
         self.append_commit(alloc, net)
     }
-}
-
-/// The event of a commit.
-fn commit_event(alloc: Global, net: Net) -> Result<Box<Event>, AllocError>
-    ensures { IfOk result (λ event. event.value
-        ≡ record { fact = commit net.changes.items; tags = net.tags }) }
-{
-    let Net { changes, tags } = net;
-    let event = Event {
-        what: What::Commit(changes),
-        tags,
-    };
-    Ok(Box::new(alloc, event)?)
 }

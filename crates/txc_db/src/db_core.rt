@@ -1,15 +1,19 @@
 //! The database for one thread, which its lock holds too.
-ghost use Rattle.std.specs.Prelude.{◌≡◌, ◌+◌, ◌≤◌, ◌∷◌, [], ◌↔◌, true, false, length, Ok, Err, IfOk, OnOk, OnErr, IfErr, IsOk, IsTrue};
+ghost use Rattle.std.specs.Prelude.{◌≡◌, ◌+◌, ◌≤◌, ◌∷◌, [], ◌↔◌, true, false, length, Ok, Err, IfOk, OnOk, OnErr, IfErr, IfSome, IsOk, IsTrue, MatchOption};
 ghost use mathlib.Core.List.{IsPrefix};
 ghost use Rattle.txc_rows.specs.RowTags.{query_tag};
 ghost use Rattle.txc_validity.specs.Answers.{IsAnswer};
-ghost use Rattle.txc_db.specs.History.{state_at, pin_event};
+ghost use Rattle.txc_stream.specs.Names.{stored, unstored, HasRow};
+ghost use Rattle.std.specs.Arc.{arc_value};
+ghost use Rattle.txc_db.specs.History.{state_at, tags_at};
+ghost use Rattle.txc_db.specs.Room.{HasCapacity};
 ghost use Rattle.txc_db.specs.Refusals.{IsWant};
 ghost use Rattle.txc_db.specs.Calls.{IsLeft, IsHoldable, IsHoldRefused, IsUnpinRefused, IsVacuumRefused, IsPinnable, IsPinRefused, IsAnswerable, matching_of, IsQueryRefused};
 ghost use Rattle.txc_rows.specs.declared.store_error.TheConstants.{MAX_MATCHING};
 
 use crate::error::DbError;
-use crate::event::{Event, What};
+use crate::event::Event;
+use crate::history::History;
 use crate::history_front::HistoryFront;
 use crate::holds::{MAX_HOLDS, least_held, place_of};
 use crate::pinned::Pinned;
@@ -18,12 +22,15 @@ use std::marker::Model;
 use std::sync::Arc;
 use txc_rows::{Query, VersionRows, tags_are_sound, versions_keep_states};
 use txc_stamp::Stamp;
-use txc_stream::{EventRow, MAX_CAPACITY};
+use txc_stream::{EventRow, MAX_CAPACITY, Pen};
 use txc_tags::TagSet;
 use txc_validity::{Found, answer_at};
 
 /// A versioned database for one thread: one history of commits and pins, the versions of the rows from the
 /// horizon on, and the stamps that are held.
+///
+/// Its history is stored in a row, or exists in the proofs alone: then of its events after the horizon the tags
+/// are kept, and a commit with a base below the horizon is refused as a query there is.
 ///
 /// A stamp names the state after so many events of the history. `Memory` and `Store`, where the store
 /// refused by itself, may be answered by any call that needs memory or the store; every other refusal comes
@@ -31,57 +38,84 @@ use txc_validity::{Found, answer_at};
 #[derive(Drop)]
 pub struct DbCore {
     pub(crate) store: VersionRows,
-    pub(crate) front: HistoryFront,
-    horizon: Stamp,
+    pub(crate) told: History,
+    pub(crate) horizon: Stamp,
     // The earliest hold first, so that they rise.
     holds: Vec<Stamp>,
     pub(crate) broken: bool,
 }
 
 impl Model for DbCore {
-    ghost use Rattle.std.specs.Prelude.{◌≡◌, false};
+    ghost use Rattle.std.specs.Prelude.{◌≡◌, ◌≤◌, false};
     ghost use Rattle.txc_db.specs.DatabaseValue.{DatabaseValue, IsSound};
 
     ghost Value = { DatabaseValue };
 
     ghost view = { λ d. record {
-      events = d.front.events;
-      history = d.front.history;
+      events = d.told.events;
+      history = d.told.history;
       versions = d.store;
       horizon = d.horizon;
       holds = d.holds.items;
       broken = d.broken;
     } };
 
-    ghost invariant = { λ d. d.broken ≡ false → IsSound (record {
-      events = d.front.events;
-      history = d.front.history;
+    ghost invariant = { λ d. (d.told.first ≤ d.horizon) × (d.broken ≡ false → IsSound (record {
+      events = d.told.events;
+      history = d.told.history;
       versions = d.store;
       horizon = d.horizon;
       holds = d.holds.items;
       broken = d.broken;
-    }) };
+    })) };
 }
 
 impl DbCore {
     ghost use Rattle.txc_db.specs.DatabaseValue.{DatabaseValue, front_of, after_hold, after_pin, after_unpin, after_vacuum, newest, next_horizon, is_held, IsSound};
 
-    /// An empty database with room for `capacity` events.
+    /// An empty database with a row for `capacity` events.
     pub fn new(alloc: Global, capacity: usize) -> Result<DbCore, DbError>
         requires least { 1 ≤ capacity }
         requires most { capacity ≤ MAX_CAPACITY }
-        ensures history { IfOk result (λ d. (d.history ≡ []) × (length d.events ≡ capacity)) }
+        ensures history { IfOk result (λ d. (d.history ≡ []) × HasCapacity d.events capacity) }
         ensures kept { IfOk result (λ d. (d.versions ≡ []) × (d.horizon ≡ 0)) }
         ensures holds { IfOk result (λ d. (d.holds ≡ []) × (d.broken ≡ false)) }
         ensures refused { IfErr result IsWant }
     {
+        let row = Arc::new(alloc, EventRow::new(alloc, capacity)?)?;
+        DbCore::of(alloc, History::stored(row)?)
+    }
+
+    /// An empty database whose history the pen writes. It has room for as many events as there are stamps.
+    pub fn unstored(alloc: Global, pen: Pen<Event>) -> Result<DbCore, DbError>
+        requires { pen.list ≡ [] }
+        ensures history { IfOk result (λ d. (d.history ≡ []) × (d.events ≡ unstored pen.number)) }
+        ensures kept { IfOk result (λ d. (d.versions ≡ []) × (d.horizon ≡ 0)) }
+        ensures holds { IfOk result (λ d. (d.holds ≡ []) × (d.broken ≡ false)) }
+        ensures refused { IfErr result IsWant }
+    {
+        DbCore::of(alloc, History::unstored(alloc, pen))
+    }
+
+    // An empty database with this history.
+    fn of(alloc: Global, told: History) -> Result<DbCore, DbError>
+        requires none { told.history ≡ [] }
+        requires all { told.first ≡ 0 }
+        ensures made { IfOk result (λ d. d ≡ record {
+          events = told.events;
+          history = [];
+          versions = [];
+          horizon = 0;
+          holds = [];
+          broken = false;
+        }) }
+        ensures refused { IfErr result IsWant }
+    {
         versions_keep_states();
-        let events = Arc::new(alloc, EventRow::new(alloc, capacity)?)?;
-        let front = HistoryFront::new(events);
         let store = VersionRows::open_in_memory(alloc)?;
         Ok(DbCore {
             store,
-            front,
+            told,
             horizon: Stamp::ZERO,
             holds: Vec::new(alloc),
             broken: false,
@@ -115,28 +149,37 @@ impl DbCore {
     pub(crate) fn history(&self) -> &HistoryFront
         ensures { result.now ≡ front_of self.now }
     {
-        &self.front
+        self.told.front()
+    }
+
+    /// A handle of the tags of its last event, where it is not stored.
+    pub(crate) fn last_tags(&self) -> Option<Arc<TagSet>>
+        ensures { IfSome result (λ tags. arc_value tags ≡ tags_at self.now.history (newest self.now)) }
+    {
+        self.told.last_tags()
     }
 
     /// A front of the history that shows nothing yet.
     pub fn reader(&self) -> Result<HistoryFront, AllocError>
         ensures { IfOk result (λ front. front ≡ record { events = self.now.events; history = [] }) }
     {
-        Ok(HistoryFront::new(self.front.events_handle()?))
+        self.told.start().again()
     }
 
     /// A front that shows the whole history.
     pub fn front(&self) -> Result<HistoryFront, AllocError>
         ensures { IfOk result (λ front. front ≡ front_of self.now) }
     {
-        self.front.again()
+        self.told.front().again()
     }
 
-    /// The row of the events. Whoever appends to it breaks the database; tests do.
-    pub fn events(&self) -> &EventRow<Event>
-        ensures { result.now ≡ self.now.events }
+    /// The row of the events, where they are stored. Whoever appends to it breaks the database; tests do.
+    pub fn events(&self) -> Option<&EventRow<Event>>
+        ensures { MatchOption result
+            (¬ (HasRow self.now.events))
+            (λ row. self.now.events ≡ stored row.now) }
     {
-        self.front.events()
+        self.told.front().events()
     }
 
     /// The answer of the query at a stamp, with its validity and the query's tag.
@@ -152,7 +195,7 @@ impl DbCore {
         if self.broken {
             return Err(DbError::Broken);
         }
-        let newest = self.front.newest();
+        let newest = self.told.newest();
         if newest < stamp {
             return Err(DbError::FutureStamp(newest));
         }
@@ -203,7 +246,7 @@ impl DbCore {
             → result ≡ Err DbError.HoldsFull }
     {
         self.check_hold()?;
-        let newest = self.front.newest();
+        let newest = self.told.newest();
         self.holds.push(newest)?;
         Ok(newest)
     }
@@ -238,12 +281,13 @@ impl DbCore {
         if self.broken {
             return Err(DbError::Broken);
         }
-        let newest = self.front.newest();
+        let newest = self.told.newest();
         let horizon = least_held(&self.holds, newest);
         if horizon == self.horizon {
             return Ok(horizon);
         }
         self.store.purge(horizon)?;
+        self.told.forget(horizon.number() as usize);
         self.horizon = horizon;
         Ok(horizon)
     }
@@ -256,11 +300,11 @@ impl DbCore {
         if self.broken {
             return Err(DbError::Broken);
         }
-        let events = self.front.len();
+        let events = self.told.len();
         if at_least.number() as usize > events + 1 {
             return Err(DbError::FutureStamp(Stamp::after(events)));
         }
-        if events == self.front.events().capacity() {
+        if self.told.is_full() {
             return Err(DbError::Full);
         }
         if self.has_all_holds() {
@@ -283,36 +327,21 @@ impl DbCore {
         versions_keep_states();
         tags_are_sound();
         self.check_pin(at_least)?;
-        let events = self.front.len();
+        let events = self.told.len();
         self.holds.reserve(1)?;
-        let event = pin_event(alloc, now)?;
-        let mut front = self.front.again()?;
+        let event = self.told.prepare_pin(alloc, now)?;
+        let mut front = self.told.front().again()?;
         let stamp = Stamp::after(events + 1);
-        match self.front.append(event) {
-            Ok(()) => {
-                self.holds.push_reserved(stamp);
-                front.lengthen(&self.front);
-                Ok(Pinned {
-                    stamp,
-                    moment: now,
-                    front,
-                })
-            }
-            Err(_) => {
-                self.broken = true;
-                Err(DbError::Broken)
-            }
+        if !self.told.append(event) {
+            self.broken = true;
+            return Err(DbError::Broken);
         }
+        self.holds.push_reserved(stamp);
+        front.lengthen(self.told.front());
+        Ok(Pinned {
+            stamp,
+            moment: now,
+            front,
+        })
     }
-}
-
-/// The event of a pin.
-fn pin_event(alloc: Global, moment: u64) -> Result<Box<Event>, AllocError>
-    ensures { IfOk result (λ event. event.value ≡ pin_event moment) }
-{
-    let event = Event {
-        what: What::Pin(moment),
-        tags: TagSet::new(alloc),
-    };
-    Ok(Box::new(alloc, event)?)
 }

@@ -1,58 +1,20 @@
 //! The events of a database for those who hold no lock.
-ghost use Rattle.std.specs.Prelude.{◌≡◌, ◌+◌, ◌<◌, ◌≤◌, ◌↔◌, ◌⊎◌, IsTrue, [], length, Some};
+ghost use Rattle.std.specs.Prelude.{◌≡◌, ◌+◌, ◌<◌, ◌≤◌, ◌↔◌, ◌⊎◌, IsTrue, IfSome, IfNone, MatchOption, [], true, length, Some};
 ghost use Rattle.std.specs.Arc.{arc_value};
+ghost use Rattle.txc_stream.specs.Names.{HasRow};
 ghost use Rattle.txc_db.specs.History.{tags_at, event_at};
 ghost use mathlib.Core.List.{IsPrefix};
 
-use crate::event::Event;
+use crate::event::{Event, PostedTags};
 use crate::history_front::HistoryFront;
 use crate::naming::Naming;
-use std::marker::{Model, PhantomData};
-use std::sync::Arc;
-use txc_stream::{EventRow, Front, prefix_of_itself, prefix_of_prefix};
+use std::marker::Model;
+use std::sync::{Arc, Wait};
+use txc_stream::{Walker, longer_of_two, prefix_of_itself};
+use txc_tags::TagSet;
 
-/// A front of the named row, left for others to read.
-///
-/// The database makes one for each event that it appends, and leaves it in a second row. Whoever reads it
-/// there knows by its type what the database knew, and needs no lock for it.
-#[derive(Drop)]
-pub struct Mark<J: Naming> {
-    front: HistoryFront,
-    of: PhantomData<J>,
-}
-
-impl<J: Naming> Model for Mark<J> {
-    ghost use Rattle.std.specs.Prelude.{◌≡◌};
-    ghost use Rattle.txc_db.specs.History.{History};
-
-    ghost Value = { History };
-
-    ghost view = { λ m. m.front.history };
-
-    ghost invariant = { λ m. m.front.events ≡ J.database_row };
-}
-
-impl<J: Naming> Mark<J> {
-    /// Marks the events that the front shows.
-    pub fn new(front: HistoryFront) -> Mark<J>
-        requires { front.events ≡ J.database_row }
-        ensures { result ≡ front.history }
-    {
-        Mark {
-            front,
-            of: PhantomData,
-        }
-    }
-
-    /// Marks the events of a longer front.
-    pub(crate) fn lengthen(&mut self, front: &HistoryFront)
-        requires named { front.now.events ≡ J.database_row }
-        requires begins { IsPrefix self.old front.now.history }
-        ensures { self.new ≡ front.now.history }
-    {
-        self.front.lengthen(front);
-    }
-}
+/// Walks through the events that a database has posted.
+pub(crate) type EventWalker<J> = Walker<Event, Option<Arc<TagSet>>, PostedTags<J>>;
 
 /// The events of the database, one after the other, for one who holds no lock.
 ///
@@ -60,73 +22,71 @@ impl<J: Naming> Mark<J> {
 #[derive(Drop)]
 pub struct Feed<J: Naming> {
     front: HistoryFront,
-    marks: Arc<EventRow<Mark<J>>>,
-    read: Front<Mark<J>>,
+    walker: EventWalker<J>,
     taken: usize,
 }
 
 impl<J: Naming> Model for Feed<J> {
     ghost use Rattle.std.specs.Prelude.{◌≡◌, ◌≤◌, length};
-    ghost use Rattle.std.specs.Arc.{arc_value};
-    ghost use Rattle.txc_stream.specs.Names.{stored};
     ghost use Rattle.txc_db.specs.Seen.{FeedValue};
 
     ghost Value = { FeedValue };
 
     ghost view = { λ f. record { history = f.front.history; taken = f.taken } };
 
-    ghost invariant = { λ f. (f.front.events ≡ J.database_row) × (f.read.name ≡ stored (arc_value f.marks))
-        × (f.taken ≤ length f.front.history) };
+    ghost invariant = { λ f. (f.front.events ≡ J.database_history) × (f.taken ≤ length f.front.history) };
+}
+
+// Looks for an event after the first `taken`.
+fn find_after<J: Naming>(walker: &mut EventWalker<J>, rt: &impl Wait, taken: usize) -> bool
+    ensures { result ≡ walker.new.found }
+{
+    if walker.look(rt) && walker.front().len() <= taken {
+        walker.take();
+    }
+    walker.look(rt)
 }
 
 impl<J: Naming> Feed<J> {
-    pub(crate) fn new(front: HistoryFront, marks: Arc<EventRow<Mark<J>>>) -> Feed<J>
-        requires { front.events ≡ J.database_row }
-        ensures history { result.history ≡ front.history }
-        ensures taken { result.taken ≡ 0 }
+    pub(crate) fn new(front: HistoryFront, walker: EventWalker<J>, taken: usize) -> Feed<J>
+        requires named { front.events ≡ J.database_history }
+        requires taken { taken ≤ length front.history }
+        ensures { result ≡ record { history = front.history; taken = taken } }
     {
-        let read = marks.start();
         Feed {
             front,
-            marks,
-            read,
-            taken: 0,
+            walker,
+            taken,
         }
     }
 
-    // Shows what the next mark shows. `false` where there is none yet.
-    fn read_mark(&mut self) -> bool
-        ensures taken { self.new.taken ≡ self.old.taken }
-        ensures longer { IsPrefix self.old.history self.new.history }
-    {
-        let Some(mark) = self.marks.next(&mut self.read) else {
-            return false;
-        };
-        self.front.longer(&mark.front);
-        true
-    }
-
-    /// Looks whether there is an event after those that were taken. It takes no lock and no memory. That
-    /// `false` means that none was there yet is no clause, since one may be appended at any moment.
-    pub fn look(&mut self) -> bool
-        ensures next { IsTrue result ↔ (self.new.taken < length self.new.history) }
+    // Shows what its walker finds.
+    fn walk(&mut self, rt: &impl Wait)
         ensures taken { self.new.taken ≡ self.old.taken }
         ensures longer { IsPrefix self.old.history self.new.history }
     {
         prefix_of_itself::<Event>();
-        prefix_of_prefix::<Event>();
-        // Marks that show no more than was seen are passed over.
-        for _ in 0..self.marks.capacity() {
-            if self.taken < self.front.len() || !self.read_mark() {
-                break;
-            }
+        if find_after(&mut self.walker, rt, self.taken) {
+            let _tags = self.walker.note();
+            self.front.see(self.walker.front());
         }
+    }
+
+    /// Looks whether there is an event after those that were taken. It takes no memory, and waits for a lock once in
+    /// a thousand events at most. That `false` means that none was there yet is no clause, since one may be appended
+    /// at any moment.
+    pub fn look(&mut self, rt: &impl Wait) -> bool
+        ensures next { IsTrue result ↔ (self.new.taken < length self.new.history) }
+        ensures taken { self.new.taken ≡ self.old.taken }
+        ensures longer { IsPrefix self.old.history self.new.history }
+    {
+        self.walk(rt);
         self.taken < self.front.len()
     }
 
     /// Takes over what a front shows beyond the events seen so far. It takes no memory.
     pub fn longer(&mut self, other: &HistoryFront)
-        requires { other.now.events ≡ J.database_row }
+        requires { other.now.events ≡ J.database_history }
         ensures taken { self.new.taken ≡ self.old.taken }
         ensures one { (self.new.history ≡ self.old.history) ⊎ (self.new.history ≡ other.now.history) }
         ensures this { IsPrefix self.old.history self.new.history }
@@ -135,17 +95,63 @@ impl<J: Naming> Feed<J> {
         self.front.longer(other);
     }
 
-    /// The event after those that were taken, beside its tags.
-    pub fn next_event(&self) -> &Event
+    /// The event after those that were taken, beside its tags; none where the events are not stored.
+    pub fn next_event(&self) -> Option<&Event>
         requires { self.now.taken < length self.now.history }
-        ensures event { event_at self.now.history (self.now.taken + 1) ≡ Some result.now }
-        ensures tags { result.now.tags ≡ tags_at self.now.history (self.now.taken + 1) }
+        ensures event { MatchOption result
+            (¬ (HasRow J.database_history))
+            (λ event. event_at self.now.history (self.now.taken + 1) ≡ Some event.now) }
+        ensures tags { MatchOption result
+            (¬ (HasRow J.database_history))
+            (λ event. event.now.tags ≡ tags_at self.now.history (self.now.taken + 1)) }
     {
         let _seen = self.front.len();
         self.front.event_at(self.taken + 1)
     }
 
-    /// Takes that event.
+    /// The tags of the event after those that were taken, where there is one. A feed that has seen an event of a
+    /// history that is not stored, and has not found it where the database posts them, does not know its tags.
+    pub fn next_tags(&self) -> Option<&TagSet>
+        ensures tags { IfSome result (λ tags. (self.now.taken < length self.now.history)
+            × (tags.now ≡ tags_at self.now.history (self.now.taken + 1))) }
+        ensures none { IfNone result
+            ((length self.now.history ≤ self.now.taken) ⊎ ¬ (HasRow J.database_history)) }
+    {
+        if self.taken >= self.front.len() {
+            return None;
+        }
+        if let Some(event) = self.next_event() {
+            return Some(&event.tags);
+        }
+        self.posted_tags()
+    }
+
+    // The tags of that event, where its walker stands at it and they were posted.
+    fn posted_tags(&self) -> Option<&TagSet>
+        requires { self.now.taken < length self.now.history }
+        ensures { IfSome result (λ tags. tags.now ≡ tags_at self.now.history (self.now.taken + 1)) }
+    {
+        longer_of_two::<Event>();
+        let _seen = self.front.len();
+        let found = self.walker.front();
+        if !self.walker.is_found() || found.len() != self.taken + 1 {
+            return None;
+        }
+        found.agree(self.front.front());
+        match self.walker.note() {
+            Some(tags) => Some(tags),
+            None => None,
+        }
+    }
+
+    /// How many events were taken.
+    pub fn taken(&self) -> usize
+        ensures { result ≡ self.now.taken }
+    {
+        self.taken
+    }
+
+    /// Takes the event after those that were taken.
     pub fn take(&mut self)
         requires { self.old.taken < length self.old.history }
         ensures history { self.new.history ≡ self.old.history }
@@ -157,7 +163,7 @@ impl<J: Naming> Feed<J> {
 
     /// A front that shows the events seen so far.
     pub fn front(&self) -> &HistoryFront
-        ensures named { result.now.events ≡ J.database_row }
+        ensures named { result.now.events ≡ J.database_history }
         ensures history { result.now.history ≡ self.now.history }
         ensures taken { self.now.taken ≤ length self.now.history }
     {

@@ -23,12 +23,12 @@ impl<J: Naming> Model for Held<J> {
 
     ghost view = { λ h. h.front.history };
 
-    ghost invariant = { λ h. (h.front.events ≡ J.database_row) × (h.stamp ≡ length h.front.history) };
+    ghost invariant = { λ h. (h.front.events ≡ J.database_history) × (h.stamp ≡ length h.front.history) };
 }
 
 impl<J: Naming> Held<J> {
     pub(crate) fn new(stamp: Stamp, front: HistoryFront) -> Held<J>
-        requires named { front.events ≡ J.database_row }
+        requires named { front.events ≡ J.database_history }
         requires newest { stamp ≡ length front.history }
         ensures { result ≡ front.history }
     {
@@ -48,7 +48,7 @@ impl<J: Naming> Held<J> {
 
     /// The history up to the stamp.
     pub fn front(&self) -> &HistoryFront
-        ensures named { result.now.events ≡ J.database_row }
+        ensures named { result.now.events ≡ J.database_history }
         ensures history { result.now.history ≡ self.now }
     {
         &self.front

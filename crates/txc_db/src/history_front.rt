@@ -1,50 +1,68 @@
 //! What somebody has seen of a history, wherever it goes.
-ghost use Rattle.std.specs.Prelude.{◌≡◌, ◌+◌, ◌<◌, ◌≤◌, ◌⊎◌, ◌++◌, ◌∷◌, [], length, Some, IfOk, OnOk, IfErr, IsTrue, ◌↔◌};
+ghost use Rattle.std.specs.Prelude.{◌≡◌, ◌+◌, ◌<◌, ◌≤◌, ◌⊎◌, ◌++◌, ◌∷◌, [], true, false, length, Some, IfOk, OnOk, IfErr, IsTrue, ◌↔◌, MatchOption};
 ghost use Rattle.std.specs.Arc.{arc_value};
 ghost use mathlib.Core.List.{IsPrefix};
 ghost use Rattle.txc_stamp.specs.declared.stamp.TheConstants.{LAST_STAMP};
+ghost use Rattle.txc_stream.specs.Names.{stored, HasRow};
 ghost use Rattle.txc_rows.specs.RowTags.{tags_between};
 ghost use Rattle.txc_db.specs.History.{AreTagged, state_after_event, state_at, tags_at, event_at};
+ghost use Rattle.txc_db.specs.Room.{events_room};
 
 use crate::error::DbError;
 use crate::event::Event;
 use std::alloc::AllocError;
 use std::marker::Model;
 use std::sync::Arc;
-use txc_stamp::Stamp;
+use txc_stamp::{LAST_STAMP, Stamp};
 use txc_stream::{EventRow, Front};
 
 /// A prefix of the history of a database, as somebody has seen it. Each event in it stands beside its tags.
 ///
-/// Contracts see the names of the row's cells and the events seen. It has a handle of the row, so that
-/// whoever has one can read it, copy it and compare it with others of its row.
+/// Contracts see what the history is called and the events seen. Where it is stored, it has a handle of the row, so
+/// that whoever has one can read it. One whose history is not stored takes as much as a number.
 #[derive(Drop)]
 pub struct HistoryFront {
-    events: Arc<EventRow<Event>>,
+    row: Option<Arc<EventRow<Event>>>,
     front: Front<Event>,
 }
 
 impl Model for HistoryFront {
-    ghost use Rattle.std.specs.Prelude.{◌≡◌};
+    ghost use Rattle.std.specs.Prelude.{◌≡◌, ◌≤◌, MatchOption, length};
     ghost use Rattle.std.specs.Arc.{arc_value};
     ghost use Rattle.txc_db.specs.History.{AreTagged};
-    ghost use Rattle.txc_stream.specs.Names.{stored};
+    ghost use Rattle.txc_db.specs.Room.{events_room};
+    ghost use Rattle.txc_stream.specs.Names.{stored, HasRow};
     ghost use Rattle.txc_db.specs.Seen.{FrontValue};
 
     ghost Value = { FrontValue };
 
-    ghost view = { λ f. record { events = arc_value f.events; history = f.front.list } };
+    ghost view = { λ f. record { events = f.front.name; history = f.front.list } };
 
-    ghost invariant = { λ f. (f.front.name ≡ stored (arc_value f.events)) × AreTagged f.front.list };
+    ghost invariant = { λ f.
+        MatchOption f.row (¬ (HasRow f.front.name)) (λ row. f.front.name ≡ stored (arc_value row))
+        × AreTagged f.front.list × (length f.front.list ≤ events_room f.front.name) };
 }
 
 impl HistoryFront {
     /// A front that shows nothing yet of the row.
-    pub(crate) fn new(events: Arc<EventRow<Event>>) -> HistoryFront
-        ensures { result ≡ record { events = arc_value events; history = [] } }
+    pub(crate) fn stored(row: Arc<EventRow<Event>>) -> HistoryFront
+        ensures { result ≡ record { events = stored (arc_value row); history = [] } }
     {
-        let front = events.start();
-        HistoryFront { events, front }
+        let front = row.start();
+        HistoryFront {
+            row: Some(row),
+            front,
+        }
+    }
+
+    /// What the front shows of a history that is not stored.
+    pub(crate) fn unstored(front: Front<Event>) -> HistoryFront
+        requires unstored { ¬ (HasRow front.name) }
+        requires tagged { AreTagged front.list }
+        requires fits { length front.list ≤ events_room front.name }
+        ensures { result ≡ record { events = front.name; history = front.list } }
+    {
+        HistoryFront { row: None, front }
     }
 
     /// A front of one's own that shows the same. It takes no memory: only a row of which there are too many handles
@@ -52,25 +70,48 @@ impl HistoryFront {
     pub fn again(&self) -> Result<HistoryFront, AllocError>
         ensures { IfOk result (λ copy. copy ≡ self.now) }
     {
-        let events = Arc::try_clone(&self.events)?;
+        let row = self.row_handle()?;
         let front = self.front.again();
-        Ok(HistoryFront { events, front })
+        Ok(HistoryFront { row, front })
     }
 
-    /// A handle of its row.
-    pub(crate) fn events_handle(&self) -> Result<Arc<EventRow<Event>>, AllocError>
-        ensures { IfOk result (λ events. arc_value events ≡ self.now.events) }
+    /// Whether its history is stored.
+    pub fn is_stored(&self) -> bool
+        ensures { IsTrue result ↔ HasRow self.now.events }
     {
-        let _len = self.front.len();
-        Ok(Arc::try_clone(&self.events)?)
+        self.row.is_some()
     }
 
-    /// The row of the events. Whoever appends to it breaks the database; tests do.
-    pub fn events(&self) -> &EventRow<Event>
-        ensures { result.now ≡ self.now.events }
+    // A handle of its row, where it is stored.
+    fn row_handle(&self) -> Result<Option<Arc<EventRow<Event>>>, AllocError>
+        ensures { IfOk result (λ row. MatchOption row
+            (¬ (HasRow self.now.events))
+            (λ row. self.now.events ≡ stored (arc_value row))) }
     {
-        let _len = self.front.len();
-        &self.events
+        match &self.row {
+            Some(row) => Ok(Some(Arc::try_clone(row)?)),
+            None => Ok(None),
+        }
+    }
+
+    /// The row of the events, where they are stored. Whoever appends to it breaks the database; tests do.
+    pub fn events(&self) -> Option<&EventRow<Event>>
+        ensures { MatchOption result
+            (¬ (HasRow self.now.events))
+            (λ row. self.now.events ≡ stored row.now) }
+    {
+        match &self.row {
+            Some(row) => Some(row),
+            None => None,
+        }
+    }
+
+    /// The front alone, which reads the row.
+    pub(crate) fn front(&self) -> &Front<Event>
+        ensures name { result.now.name ≡ self.now.events }
+        ensures list { result.now.list ≡ self.now.history }
+    {
+        &self.front
     }
 
     /// Each of its events stands beside its tags. It does nothing when it runs.
@@ -83,8 +124,8 @@ impl HistoryFront {
     /// How many events it shows.
     pub fn len(&self) -> usize
         ensures shown { result ≡ length self.now.history }
-        ensures room { result ≤ length self.now.events }
-        ensures most { length self.now.events ≤ LAST_STAMP }
+        ensures room { result ≤ events_room self.now.events }
+        ensures most { result ≤ LAST_STAMP }
     {
         self.front.len()
     }
@@ -96,6 +137,26 @@ impl HistoryFront {
         self.front.is_empty()
     }
 
+    /// For how many events its history has room.
+    pub fn room(&self) -> usize
+        ensures room { result ≡ events_room self.now.events }
+        ensures most { result ≤ LAST_STAMP }
+    {
+        match &self.row {
+            Some(row) => row.capacity(),
+            None => LAST_STAMP as usize,
+        }
+    }
+
+    /// Whether it shows as many events as there is room for.
+    pub(crate) fn is_full(&self) -> bool
+        ensures full { result ≡ true → length self.now.history ≡ events_room self.now.events }
+        ensures room { result ≡ false → length self.now.history < events_room self.now.events }
+        ensures next { result ≡ false → length self.now.history < LAST_STAMP }
+    {
+        self.front.len() >= self.room()
+    }
+
     /// The stamp after the events that it shows.
     pub fn newest(&self) -> Stamp
         ensures { result ≡ length self.now.history }
@@ -103,14 +164,21 @@ impl HistoryFront {
         Stamp::after(self.len())
     }
 
-    /// One of the events that it shows, by its number, from 1 on, and its tags.
-    pub fn event_at(&self, number: usize) -> &Event
+    /// One of the events that it shows, by its number, from 1 on, and its tags; none where they are not stored.
+    pub fn event_at(&self, number: usize) -> Option<&Event>
         requires first { 1 ≤ number }
         requires last { number ≤ length self.now.history }
-        ensures event { event_at self.now.history number ≡ Some result.now }
-        ensures tags { result.now.tags ≡ tags_at self.now.history number }
+        ensures event { MatchOption result
+            (¬ (HasRow self.now.events))
+            (λ event. event_at self.now.history number ≡ Some event.now) }
+        ensures tags { MatchOption result
+            (¬ (HasRow self.now.events))
+            (λ event. event.now.tags ≡ tags_at self.now.history number) }
     {
-        self.events.get(&self.front, number - 1)
+        match &self.row {
+            Some(row) => Some(row.get(&self.front, number - 1)),
+            None => None,
+        }
     }
 
     /// Takes over what the other shows beyond this one, so that this one shows the longer history. It takes
@@ -122,7 +190,20 @@ impl HistoryFront {
         ensures this { IsPrefix self.old.history self.new.history }
         ensures that { IsPrefix other.now.history self.new.history }
     {
-        self.front.longer(&other.front);
+        self.see(&other.front);
+    }
+
+    /// Takes over what a front alone shows beyond this one, of which each event stands beside its tags.
+    pub(crate) fn see(&mut self, front: &Front<Event>)
+        requires named { front.now.name ≡ self.old.events }
+        requires tagged { AreTagged front.now.list }
+        requires fits { length front.now.list ≤ events_room front.now.name }
+        ensures events { self.new.events ≡ self.old.events }
+        ensures one { (self.new.history ≡ self.old.history) ⊎ (self.new.history ≡ front.now.list) }
+        ensures this { IsPrefix self.old.history self.new.history }
+        ensures that { IsPrefix front.now.list self.new.history }
+    {
+        self.front.longer(front);
     }
 
     /// Takes over the whole of a front that goes on from this one.
@@ -134,7 +215,7 @@ impl HistoryFront {
         self.longer(whole);
     }
 
-    /// Of two fronts of one row, the history of one is a prefix of the other's. It does nothing when it runs.
+    /// Of two fronts of one history, the events of one are a prefix of the other's. It does nothing when it runs.
     pub fn agree(&self, other: &HistoryFront)
         requires { self.now.events ≡ other.now.events }
         ensures { IsPrefix self.now.history other.now.history ⊎ IsPrefix other.now.history self.now.history }
@@ -142,9 +223,10 @@ impl HistoryFront {
         self.front.agree(&other.front);
     }
 
-    /// Appends an event that stands beside its tags. `Broken` where another record stands in its cell.
+    /// Appends a stored event that stands beside its tags. `Broken` where another record stands in its cell.
     pub(crate) fn append(&mut self, event: Box<Event>) -> Result<(), DbError>
-        requires room { length self.old.history < length self.old.events }
+        requires stored { HasRow self.old.events }
+        requires room { length self.old.history < events_room self.old.events }
         requires tagged { let before = state_at self.old.history (length self.old.history)
             in event.value.tags ≡ tags_between before (state_after_event before event.value) }
         ensures after { OnOk result (self.new
@@ -152,7 +234,10 @@ impl HistoryFront {
         ensures unchanged { IfErr result (λ refusal. self.new ≡ self.old) }
         ensures refused { IfErr result (λ refusal. refusal ≡ DbError.Broken) }
     {
-        match self.events.append(&mut self.front, event) {
+        let Some(row) = &self.row else {
+            unreachable!();
+        };
+        match row.append(&mut self.front, event) {
             Ok(()) => Ok(()),
             Err(_) => Err(DbError::Broken),
         }

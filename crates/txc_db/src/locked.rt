@@ -1,85 +1,85 @@
 //! What is done to the database under its lock.
-ghost use Rattle.std.specs.Prelude.{◌≡◌, ◌+◌, ◌≤◌, ◌∷◌, [], true, false, length, Err, IfOk, IfErr, IsOk, OnOk, OnErr, IsTrue};
-ghost use Rattle.std.specs.Arc.{arc_value};
-ghost use mathlib.Core.List.{IsPrefix};
-ghost use Rattle.txc_stream.specs.Names.{stored};
+ghost use Rattle.std.specs.Prelude.{◌≡◌, ◌+◌, ◌<◌, ◌≤◌, ◌++◌, ◌∷◌, [], true, false, length, Some, Err, IfOk, IfErr, IsOk, OnOk, OnErr};
+ghost use Rattle.txc_stream.specs.Posted.{PosterValue};
+ghost use Rattle.txc_stream.specs.declared.segment.TheConstants.{SEGMENT_LEN};
 ghost use Rattle.txc_rows.specs.RowTags.{query_tag};
 ghost use Rattle.txc_validity.specs.Answers.{IsAnswer};
 ghost use Rattle.txc_db.specs.History.{state_at};
-ghost use Rattle.txc_db.specs.Seen.{last_mark};
+ghost use Rattle.txc_db.specs.Seen.{taken_at_start};
 ghost use Rattle.txc_db.specs.DatabaseValue.{DatabaseValue, front_of, after_hold, after_unpin, after_vacuum, after_pin, after_commit, newest, next_horizon, is_held};
 ghost use Rattle.txc_db.specs.Calls.{IsHoldable, IsHoldRefused, IsUnpinRefused, IsVacuumRefused, IsAnswerable, matching_of, IsQueryRefused, IsPinnable, IsPinRefused, IsCommittable};
 ghost use Rattle.txc_rows.specs.declared.store_error.TheConstants.{MAX_MATCHING};
 ghost use Rattle.txc_db.specs.Shared.{IsDatabaseOf, IsSharedCommitRefused};
-ghost use Rattle.txc_db.specs.Locked.{IsLockedLeft, IsCommitLeft, IsRefusalWith};
+ghost use Rattle.txc_db.specs.Locked.{IsLockedLeft, IsCommitLeft, IsRefusalWith, AreAllPosted};
 
 use crate::answered::{Answered, CommitError};
 use crate::db_core::DbCore;
 use crate::error::DbError;
-use crate::feed::Mark;
+use crate::event::{Event, PostedTags};
+use crate::feed::Feed;
 use crate::history_front::HistoryFront;
 use crate::holds::MAX_HOLDS;
 use crate::naming::Naming;
 use crate::pinned::Pinned;
 use std::alloc::{AllocError, Global};
 use std::marker::Model;
-use std::sync::Arc;
+use std::sync::{Arc, Wait};
 use txc_rows::{Change, Query};
 use txc_stamp::Stamp;
-use txc_stream::{EventRow, Front};
+use txc_stream::{Poster, Slip};
 use txc_tags::TagSet;
 use txc_validity::Found;
 
-/// What lies under the lock: the named database, and the marks that it left for the feeds. While it is
-/// whole, the last mark shows its whole history.
+/// Posts the events of the named database.
+type EventPoster<J> = Poster<Event, Option<Arc<TagSet>>, PostedTags<J>>;
+
+/// Memory for what is posted of one event.
+type EventSlip<J> = Slip<Event, Option<Arc<TagSet>>, PostedTags<J>>;
+
+/// What lies under the lock: the named database, and who posts its events for the feeds. While it is whole, each
+/// event is posted.
 #[derive(Drop)]
 pub(crate) struct Locked<J: Naming> {
     core: DbCore,
-    marks: Arc<EventRow<Mark<J>>>,
-    marked: Front<Mark<J>>,
+    poster: EventPoster<J>,
 }
 
 impl<J: Naming> Model for Locked<J> {
     ghost use Rattle.std.specs.Prelude.{◌≡◌, false};
-    ghost use Rattle.std.specs.Arc.{arc_value};
-    ghost use Rattle.txc_stream.specs.Names.{stored};
-    ghost use Rattle.txc_db.specs.Seen.{last_mark};
+    ghost use Rattle.txc_db.specs.Locked.{AreAllPosted};
     ghost use Rattle.txc_db.specs.DatabaseValue.{DatabaseValue};
 
     ghost Value = { DatabaseValue };
 
     ghost view = { λ l. l.core };
 
-    ghost invariant = { λ l. (l.core.events ≡ J.database_row) × (l.marked.name ≡ stored (arc_value l.marks))
-        × (l.core.broken ≡ false → last_mark l.marked.list ≡ l.core.history) };
+    ghost invariant = { λ l. (l.core.events ≡ J.database_history)
+        × (l.core.broken ≡ false → AreAllPosted l.core.history l.poster) };
 }
 
 impl<J: Naming> Locked<J> {
-    /// The database with the row of its marks. The events that are there already have one mark.
-    pub(crate) fn new(
-        alloc: Global,
-        mut core: DbCore,
-        marks: Arc<EventRow<Mark<J>>>,
-    ) -> Result<Locked<J>, AllocError>
-        requires { core.events ≡ J.database_row }
+    /// The database, whose events are posted from now on.
+    pub(crate) fn new(alloc: Global, core: DbCore) -> Result<Locked<J>, AllocError>
+        requires { core.events ≡ J.database_history }
     {
-        let mut marked = marks.start();
-        if !core.history().is_empty() {
-            let mark = Box::new(alloc, Mark::new(core.front()?))?;
-            if !leave_mark(&marks, &mut marked, mark, core.history()) {
-                core.set_broken();
-            }
-        }
-        Ok(Locked {
-            core,
-            marks,
-            marked,
-        })
+        let poster = Poster::new(alloc, core.history().len())?;
+        Ok(Locked { core, poster })
+    }
+
+    /// A feed of the events. Of a history that is not stored it begins after those that are there.
+    pub(crate) fn feed(&self) -> Result<Feed<J>, AllocError>
+        ensures { IfOk result (λ feed.
+            feed.taken ≡ taken_at_start J.database_history (length feed.history)) }
+    {
+        let front = self.core.front()?;
+        let walker = self.poster.walker(front.front())?;
+        let taken = begun(&front);
+        Ok(Feed::new(front, walker, taken))
     }
 
     // It is a database of the named row. It does nothing when it runs.
     fn is_named(&self)
-        ensures { IsDatabaseOf J.database_row self.now }
+        ensures { IsDatabaseOf J.database_history self.now }
     {
         self.core.is_sound();
         let _events = self.core.history().len();
@@ -87,14 +87,10 @@ impl<J: Naming> Locked<J> {
 
     /// The database alone.
     pub(crate) fn into_core(self) -> DbCore
-        ensures { IsDatabaseOf J.database_row result }
+        ensures { IsDatabaseOf J.database_history result }
     {
         self.is_named();
-        let Locked {
-            core,
-            marks: _,
-            marked: _,
-        } = self;
+        let Locked { core, poster: _ } = self;
         core
     }
 
@@ -104,7 +100,7 @@ impl<J: Naming> Locked<J> {
         query: &Query,
         stamp: Stamp,
     ) -> Result<Answered<Found>, DbError>
-        ensures database { IsDatabaseOf J.database_row self.old }
+        ensures database { IsDatabaseOf J.database_history self.old }
         ensures same { self.new ≡ self.old }
         ensures answer { IfOk result (λ answered. IsAnswer (state_at self.old.history) query.now stamp
             self.old.horizon (newest self.old) answered.answer) }
@@ -121,7 +117,7 @@ impl<J: Naming> Locked<J> {
     }
 
     pub(crate) fn hold(&mut self, alloc: Global) -> Result<Answered<Stamp>, DbError>
-        ensures database { IsDatabaseOf J.database_row self.old }
+        ensures database { IsDatabaseOf J.database_history self.old }
         ensures after { OnOk result (self.new ≡ after_hold self.old) }
         ensures answer { IfOk result (λ answered. answered.answer ≡ newest self.old) }
         ensures front { IfOk result (λ answered. answered.front ≡ front_of self.new) }
@@ -140,7 +136,7 @@ impl<J: Naming> Locked<J> {
     }
 
     pub(crate) fn unpin(&mut self, stamp: Stamp) -> Result<(), DbError>
-        ensures database { IsDatabaseOf J.database_row self.old }
+        ensures database { IsDatabaseOf J.database_history self.old }
         ensures after { OnOk result (self.new ≡ after_unpin self.old stamp) }
         ensures only_if { IsOk result → is_held stamp self.old.holds ≡ true }
         ensures unchanged { OnErr result (self.new ≡ self.old) }
@@ -151,7 +147,7 @@ impl<J: Naming> Locked<J> {
     }
 
     pub(crate) fn vacuum(&mut self) -> Result<Stamp, DbError>
-        ensures database { IsDatabaseOf J.database_row self.old }
+        ensures database { IsDatabaseOf J.database_history self.old }
         ensures after { OnOk result (self.new ≡ after_vacuum self.old) }
         ensures answer { IfOk result (λ horizon. horizon ≡ next_horizon self.old) }
         ensures unchanged { OnErr result (self.new ≡ self.old) }
@@ -163,11 +159,12 @@ impl<J: Naming> Locked<J> {
 
     pub(crate) fn pin(
         &mut self,
+        rt: &impl Wait,
         alloc: Global,
         now: u64,
         at_least: Stamp,
     ) -> Result<Pinned, DbError>
-        ensures database { IsDatabaseOf J.database_row self.old }
+        ensures database { IsDatabaseOf J.database_history self.old }
         ensures after { OnOk result (self.new ≡ after_pin self.old now) }
         ensures answer { IfOk result (λ pinned. pinned.stamp ≡ newest self.new) }
         ensures moment { IfOk result (λ pinned. pinned.moment ≡ now) }
@@ -178,9 +175,9 @@ impl<J: Naming> Locked<J> {
     {
         self.is_named();
         self.core.check_pin(at_least)?;
-        let mark = self.mark(alloc)?;
+        let slip = self.poster.prepare(rt, alloc)?;
         let pinned = self.core.pin(alloc, now, at_least)?;
-        if !leave_mark(&self.marks, &mut self.marked, mark, self.core.history()) {
+        if !post(&self.core, &mut self.poster, slip) {
             self.core.set_broken();
             return Err(DbError::Broken);
         }
@@ -189,12 +186,13 @@ impl<J: Naming> Locked<J> {
 
     pub(crate) fn commit(
         &mut self,
+        rt: &impl Wait,
         alloc: Global,
         base: Stamp,
         read: &TagSet,
         changes: &[Change],
     ) -> Result<Answered<Stamp>, CommitError>
-        ensures database { IsDatabaseOf J.database_row self.old }
+        ensures database { IsDatabaseOf J.database_history self.old }
         ensures after { OnOk result (self.new ≡ after_commit self.old changes.now) }
         ensures answer { IfOk result (λ answered. answered.answer ≡ newest self.new) }
         ensures front { IfOk result (λ answered. answered.front ≡ front_of self.new) }
@@ -205,11 +203,11 @@ impl<J: Naming> Locked<J> {
         self.is_named();
         let newest = self.core.check_base(base)?;
         let mut front = self.core.front()?;
-        let mark = self.mark(alloc)?;
+        let slip = self.poster.prepare(rt, alloc)?;
         match self.core.commit(alloc, base, read, changes) {
             Ok(answer) => {
                 front.lengthen(self.core.history());
-                if newest < answer && !leave_mark(&self.marks, &mut self.marked, mark, &front) {
+                if newest < answer && !post(&self.core, &mut self.poster, slip) {
                     self.core.set_broken();
                     return Err(CommitError::Database(DbError::Broken));
                 }
@@ -218,34 +216,27 @@ impl<J: Naming> Locked<J> {
             Err(refusal) => Err(refused_with(front, refusal)),
         }
     }
-
-    /// The room for a mark of the history and the next event.
-    fn mark(&self, alloc: Global) -> Result<Box<Mark<J>>, AllocError>
-        ensures { IfOk result (λ mark. mark.value ≡ self.now.history) }
-    {
-        let front = self.core.front()?;
-        Ok(Box::new(alloc, Mark::new(front))?)
-    }
 }
 
-/// Leaves a mark of the history after the other marks. `false` where another record stands there.
-fn leave_mark<J: Naming>(
-    marks: &EventRow<Mark<J>>,
-    marked: &mut Front<Mark<J>>,
-    mut mark: Box<Mark<J>>,
-    history: &HistoryFront,
-) -> bool
-    requires row { marked.old.name ≡ stored marks.now }
-    requires named { history.now.events ≡ J.database_row }
-    requires begins { IsPrefix mark.value history.now.history }
-    ensures name { marked.new.name ≡ marked.old.name }
-    ensures last { IsTrue result → last_mark marked.new.list ≡ history.now.history }
+/// How many of the events that the front shows a feed has taken that begins with it.
+fn begun(front: &HistoryFront) -> usize
+    ensures begun { result ≡ taken_at_start front.now.events (length front.now.history) }
+    ensures within { result ≤ length front.now.history }
 {
-    mark.lengthen(history);
-    match marks.append(marked, mark) {
-        Ok(()) => true,
-        Err(_) => false,
-    }
+    if front.is_stored() { 0 } else { front.len() }
+}
+
+/// Posts the last event. `false` where another record stands where it was to be posted.
+fn post<J: Naming>(core: &DbCore, poster: &mut EventPoster<J>, slip: EventSlip<J>) -> bool
+    requires named { core.now.events ≡ J.database_history }
+    requires room { length poster.old.posted < SEGMENT_LEN }
+    ensures { result ≡ true
+        → poster.new ≡ record poster.old { posted = poster.old.posted ++ Some core.now.history ∷ [] } }
+{
+    let history = core.history();
+    history.is_tagged();
+    let _events = history.len();
+    poster.post(slip, core.last_tags(), history.front().again())
 }
 
 /// The refusal of a commit. A conflict takes the front with it.

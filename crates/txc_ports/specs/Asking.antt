@@ -6,6 +6,7 @@ use Rattle.txc_rows.specs.declared.query.Query.{Query}
 use Rattle.txc_validity.specs.declared.answer.Found.{Found}
 use Rattle.txc_db.specs.History.{History, moment_at}
 use Rattle.txc_db.specs.Seen.{FrontValue}
+use Rattle.txc_stream.specs.Names.{Name}
 use Rattle.txc_app.specs.Eval.{Next}
 use Rattle.txc_app.specs.Claims.{IsTrueIn, RowsHold, entry_shown}
 use Rattle.txc_ports.specs.declared.request.PortRequest.{PortRequest}
@@ -19,7 +20,7 @@ use Rattle.txc_ports.specs.Fronts.{front_of_reply}
 
 -- what may be asked of ports with so many nodes: to add a pin of the row, what a node that there is has, and to
 -- keep only an entry that is true in the history
-abbrev pub MayAsk : Next → List ℕ → ℕ → History → PortRequest → Type 0
+abbrev pub MayAsk : Next → Name → ℕ → History → PortRequest → Type 0
 MayAsk next row nodes L (requests.Pin now at_least) = Unit {0}
 MayAsk next row nodes L (requests.AddPin pinned) = pinned.front.events ≡ row
 MayAsk next row nodes L (requests.Unpin stamp) = Unit {0}
@@ -54,5 +55,5 @@ AddsSuch P (turns.Ask (requests.AddPin pinned)) = P pinned.front
 AddsSuch P turn = Unit {0}
 
 -- what the reply shows is of the row
-abbrev pub IsOfRow : List ℕ → PortReply → Type 0
+abbrev pub IsOfRow : Name → PortReply → Type 0
 IsOfRow row reply = ForSome (front_of_reply reply) (λ front. front.events ≡ row)

@@ -3,6 +3,7 @@ use Rattle.std.proofs.Common.{◌≡◌, ◌⊎◌, inl, inr, ℕ, List, [], ◌
 use Rattle.std.specs.Prelude.{Result, Vec, IfOk, IfErr}
 use Rattle.std.specs.declared.alloc.Global.{Global}
 use Rattle.std.proofs.lemmas.Grind.{flat_map-append}
+use Rattle.txc_stream.specs.Names.{Name}
 use Rattle.txc_rows.specs.declared.query.Query.{Query}
 use Rattle.txc_rows.specs.States.{RowValue, State, answer}
 use Rattle.txc_validity.specs.declared.answer.Found.{Found}
@@ -104,7 +105,7 @@ IsAskRefused row base (Ok standing) (Refused error) = (q : Query) × (standing.n
 IsAskRefused row base stands turn = ⊥
 
 -- a call came so far, and the core did this last
-pub record IsRunSo (next : Next) (row : List ℕ) (s : State) (from : CallTurn) (old new : RwValue) (objects : Objects) (turn : Turn) : Type 0 where
+pub record IsRunSo (next : Next) (row : Name) (s : State) (from : CallTurn) (old new : RwValue) (objects : Objects) (turn : Turn) : Type 0 where
   pub queries : List Query
   pub stands : CallTurn
   pub led : IsLedTo next s from queries stands
@@ -112,7 +113,7 @@ pub record IsRunSo (next : Next) (row : List ℕ) (s : State) (from : CallTurn) 
   pub does : RwStandingLeads stands new objects turn ⊎ IsAskRefused row old.base stands turn
 
 -- as the core begins
-pub run_begins : (next : Next) (row : List ℕ) (s : State) (from : CallTurn) (old new : RwValue) (objects : Objects) (turn : Turn) → new.queried ≡ old.queried
+pub run_begins : (next : Next) (row : Name) (s : State) (from : CallTurn) (old new : RwValue) (objects : Objects) (turn : Turn) → new.queried ≡ old.queried
     → RwCallLeads next s from [] new objects turn → IsRunSo next row s from old new objects turn
 run_begins next row s from old new objects turn same leads = record {
   queries = [];
@@ -123,7 +124,7 @@ run_begins next row s from old new objects turn same leads = record {
 }
 
 -- as it ends, with its value or a refusal
-run_ends : (next : Next) (row : List ℕ) (s : State) (from : CallTurn) (old new : RwValue) (objects : Objects) (turn : Turn) (result : Result (List ℕ) TxnError)
+run_ends : (next : Next) (row : Name) (s : State) (from : CallTurn) (old new : RwValue) (objects : Objects) (turn : Turn) (result : Result (List ℕ) TxnError)
     → ((stands : CallTurn) → RwStandingLeads stands new objects turn ⊎ IsAskRefused row old.base stands turn → EndsCall row old.base stands objects result)
     → IsRunSo next row s from old new objects turn → IsUncachedRun next row s from old new objects result
 run_ends next row s from old new objects turn result ends h = record {
@@ -134,21 +135,21 @@ run_ends next row s from old new objects turn result ends h = record {
   ended = ends h.stands h.does;
 }
 
-value_ends : (row : List ℕ) (base : ℕ) (stands : CallTurn) (new : RwValue) (objects : Objects) (v : List ℕ) → RwStandingLeads stands new objects (Value v) ⊎ IsAskRefused row base stands (Value v)
+value_ends : (row : Name) (base : ℕ) (stands : CallTurn) (new : RwValue) (objects : Objects) (v : List ℕ) → RwStandingLeads stands new objects (Value v) ⊎ IsAskRefused row base stands (Value v)
     → EndsCall row base stands objects (Ok v)
 value_ends row base (Ok standing) new objects v (inl h) = h
 value_ends row base (Ok standing) new objects v (inr h) = absurd h
 value_ends row base (Err e) new objects v (inl h) = absurd (cc h)
 value_ends row base (Err e) new objects v (inr h) = absurd h
 
-refusal_ends : (row : List ℕ) (base : ℕ) (stands : CallTurn) (new : RwValue) (objects : Objects) (e : TxnError) → RwStandingLeads stands new objects (Refused e) ⊎ IsAskRefused row base stands (Refused e)
+refusal_ends : (row : Name) (base : ℕ) (stands : CallTurn) (new : RwValue) (objects : Objects) (e : TxnError) → RwStandingLeads stands new objects (Refused e) ⊎ IsAskRefused row base stands (Refused e)
     → EndsCall row base stands objects (Err e)
 refusal_ends row base (Ok standing) new objects e (inl h) = inl h
 refusal_ends row base (Ok standing) new objects e (inr h) = inr h
 refusal_ends row base (Err cause) new objects e (inl h) = let same : e ≡ refused_call cause = cc h in ap Err same
 refusal_ends row base (Err cause) new objects e (inr h) = absurd h
 
-pub run_over : (next : Next) (row : List ℕ) (s : State) (from : CallTurn) (old new : RwValue) (objects : Objects) (turn : Turn) (result : Result (List ℕ) TxnError)
+pub run_over : (next : Next) (row : Name) (s : State) (from : CallTurn) (old new : RwValue) (objects : Objects) (turn : Turn) (result : Result (List ℕ) TxnError)
     → IfOk result (λ v. turn ≡ Value v) → IfErr result (λ e. turn ≡ Refused e) → IsRunSo next row s from old new objects turn → IsUncachedRun next row s from old new objects result
 run_over next row s from old new objects turn (Ok v) is there h =
     run_ends next row s from old new objects (Value v) (Ok v) (λ stands. value_ends row old.base stands new objects v) (subst (λ (t : Turn). IsRunSo next row s from old new objects t) is h)
@@ -156,7 +157,7 @@ run_over next row s from old new objects turn (Err e) there is h =
     run_ends next row s from old new objects (Refused e) (Err e) (λ stands. refusal_ends row old.base stands new objects e) (subst (λ (t : Turn). IsRunSo next row s from old new objects t) is h)
 
 -- a core that asks: its call stands as it came so far
-run_asks : (next : Next) (row : List ℕ) (s : State) (from : CallTurn) (old core : RwValue) (objects : Objects) (turn : Turn) (queries : List Query) (stands : CallTurn)
+run_asks : (next : Next) (row : Name) (s : State) (from : CallTurn) (old core : RwValue) (objects : Objects) (turn : Turn) (queries : List Query) (stands : CallTurn)
     → IsLedTo next s from queries stands → RwStandingLeads stands core objects turn ⊎ IsAskRefused row old.base stands turn → IsAsk turn
     → IsLedTo next s from queries (standing_of core.call objects)
 run_asks next row s from old core objects (Ask r) queries (Ok standing) led (inl does) asks = subst (λ (t : CallTurn). IsLedTo next s from queries t) (sym does) led
@@ -166,7 +167,7 @@ run_asks next row s from old core objects (Ask r) queries (Err e) led (inr does)
 run_asks next row s from old core objects turn queries stands led does asks = absurd asks
 
 -- and goes on with the database's answer
-pub run_goes_on : (next : Next) (row : List ℕ) (s : State) (from : CallTurn) (old core new : RwValue) (objects objects' : Objects) (turn turn' : Turn) (reply : Result Found DbError) (q : Query)
+pub run_goes_on : (next : Next) (row : Name) (s : State) (from : CallTurn) (old core new : RwValue) (objects objects' : Objects) (turn turn' : Turn) (reply : Result Found DbError) (q : Query)
     → IsRunSo next row s from old core objects turn → IsAsk turn → core.reading ≡ Some q → core.call.need ≡ Some (needs.Query q)
     → new.queried ≡ queried_after core.queried core.reading reply
     → IfErr reply (MayRefuse row (λ d. IsQueryRefused d q old.base))
@@ -195,7 +196,7 @@ run_goes_on next row s from old core new objects objects' turn turn' (Err e) q h
 
 -- ---- the transaction's own query
 
-pub query_refused : (row : List ℕ) (base : ℕ) (q : Query) (reply : Result Found DbError) (turn : Turn) (e : TxnError)
+pub query_refused : (row : Name) (base : ℕ) (q : Query) (reply : Result Found DbError) (turn : Turn) (e : TxnError)
     → IfErr reply (MayRefuse row (λ d. IsQueryRefused d q base))
     → ((f : Found) → reply ≡ Ok f → RowsLead f.rows.items turn) → ((d : DbError) → reply ≡ Err d → turn ≡ Refused (refused_request d)) → turn ≡ Refused e
     → IsQueryRefusal row base q e

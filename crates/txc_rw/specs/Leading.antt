@@ -1,6 +1,7 @@
 -- How a call of a transaction goes: by what it is answered, and what comes of it.
 use Rattle.std.specs.Prelude.{◌≡◌, ◌⊎◌, ℕ, List, [], ◌∷◌, ◌++◌, Some, Result, Ok, Err}
 use Rattle.std.specs.List.{flat_map}
+use Rattle.txc_stream.specs.Names.{Name}
 use Rattle.txc_tags.specs.Keys.{Call}
 use Rattle.txc_rows.specs.declared.query.Query.{Query}
 use Rattle.txc_rows.specs.States.{RowValue, State, answer}
@@ -101,13 +102,13 @@ RowsLead rows turn = ⊥
 -- ---- the transaction
 
 -- some database of the row refuses the query at the base so
-abbrev pub IsQueryRefusedAt : List ℕ → ℕ → Query → TxnError → Type 0
+abbrev pub IsQueryRefusedAt : Name → ℕ → Query → TxnError → Type 0
 IsQueryRefusedAt row base q error = (cause : DbError)
     × MayRefuse row (λ d. IsQueryRefused d q base) cause × (error ≡ refused_request cause)
 
 -- how a call ends that stands so: with its value; refused as the call is; or, where it needs a query, as the
 -- database refuses that; or out of memory
-abbrev pub EndsCall : List ℕ → ℕ → CallTurn → Objects → Result (List ℕ) TxnError → Type 0
+abbrev pub EndsCall : Name → ℕ → CallTurn → Objects → Result (List ℕ) TxnError → Type 0
 EndsCall row base (Ok standing) objects (Ok value) = (o : Outcome) × (standing.need ≡ Some (needs.Value o))
     × (value ≡ o.value) × (objects ≡ standing.objects)
 EndsCall row base (Ok standing) objects (Err error) = (error ≡ Memory)
@@ -116,7 +117,7 @@ EndsCall row base (Err cause) objects result = result ≡ Err (refused_call caus
 
 -- a call in a state: replies of no cache led it on to where it stands; the queries that were answered on the
 -- way, and no other, were answered the transaction; and it ended so
-pub record IsUncachedRun (next : Next) (row : List ℕ) (s : State) (from : CallTurn) (old new : RwValue)
+pub record IsUncachedRun (next : Next) (row : Name) (s : State) (from : CallTurn) (old new : RwValue)
     (objects : Objects) (result : Result (List ℕ) TxnError) : Type 0 where
   pub queries : List Query
   pub stands : CallTurn
@@ -125,12 +126,12 @@ pub record IsUncachedRun (next : Next) (row : List ℕ) (s : State) (from : Call
   pub ended : EndsCall row old.base stands objects result
 
 -- the call of a transaction ran in the state of its base, from its start
-abbrev pub HasRunAtBase : Next → List ℕ → RwTxnValue → Call → RwTxnValue → Result (List ℕ) TxnError → Type 0
+abbrev pub HasRunAtBase : Next → Name → RwTxnValue → Call → RwTxnValue → Result (List ℕ) TxnError → Type 0
 HasRunAtBase next row old k new result = IsUncachedRun next row (state_at old.history old.core.base)
     (standing_of (started k) old.objects) old.core new.core new.objects result
 
 -- of a query of its own: out of memory, or as the database refuses it
-abbrev pub IsQueryRefusal : List ℕ → ℕ → Query → TxnError → Type 0
+abbrev pub IsQueryRefusal : Name → ℕ → Query → TxnError → Type 0
 IsQueryRefusal row base q error = (error ≡ Memory) ⊎ IsQueryRefusedAt row base q error
 
 -- what a query that was refused leaves: all as it was, but that out of memory it may have been answered

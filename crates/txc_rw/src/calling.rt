@@ -68,7 +68,7 @@ pub(crate) fn call_at<J: Naming, A: App, C: Cacheable>(
     core: &mut RwCore,
     key: Key,
 ) -> Result<Value, TxnError>
-    requires named { seen.now.events ≡ J.database_row }
+    requires named { seen.now.events ≡ J.database_history }
     requires fits { IsRw A.next registry.old core.old }
     requires idle { core.old.reading ≡ None }
     requires shown { core.old.base ≤ length seen.now.history }
@@ -80,7 +80,7 @@ pub(crate) fn call_at<J: Naming, A: App, C: Cacheable>(
         core.new.answers ≡ core.old.answers ++ Given.Value key value ∷ []) }
     ensures unchanged { OnErr result (core.new.answers ≡ core.old.answers) }
     ensures run { IsSome (activity_of registry.old key.function)
-        → IsUncachedRun A.next J.database_row (state_at seen.now.history core.old.base)
+        → IsUncachedRun A.next J.database_history (state_at seen.now.history core.old.base)
         (standing_of (started key) registry.old) core.old core.new registry.new result }
     ensures missing { IsNone (activity_of registry.old key.function)
         → result ≡ Err (TxnError.Call (NoFunction key.function)) }
@@ -113,7 +113,7 @@ pub(crate) fn query_at<J: Naming, A: App, C: Cacheable>(
     core: &mut RwCore,
     query: Query,
 ) -> Result<Vec<Row>, TxnError>
-    requires named { seen.now.events ≡ J.database_row }
+    requires named { seen.now.events ≡ J.database_history }
     requires fits { IsRw A.next registry.old core.old }
     requires idle { IsRwIdle core.old }
     requires shown { core.old.base ≤ length seen.now.history }
@@ -126,7 +126,7 @@ pub(crate) fn query_at<J: Naming, A: App, C: Cacheable>(
           queried = core.old.queried ++ query ∷ [];
           answers = core.old.answers ++ Given.Rows query rows.items ∷ [];
         }) }
-    ensures refused { IfErr result (IsQueryRefusal J.database_row core.old.base query) }
+    ensures refused { IfErr result (IsQueryRefusal J.database_history core.old.base query) }
     ensures left { IfErr result (IsQueryLeft core.old query core.new) }
     ensures same_objects { registry.new ≡ registry.old }
 {

@@ -20,10 +20,10 @@ pub(crate) fn find<J: Naming>(
     query: &Query,
     stamp: Stamp,
 ) -> Result<Found, DbError>
-    requires named { seen.now.events ≡ J.database_row }
+    requires named { seen.now.events ≡ J.database_history }
     requires shown { stamp ≤ length seen.now.history }
     ensures answer { IfOk result (IsFoundAt seen.now.history stamp query.now) }
-    ensures refused { IfErr result (MayRefuse J.database_row (λ d. IsQueryRefused d query.now stamp)) }
+    ensures refused { IfErr result (MayRefuse J.database_history (λ d. IsQueryRefused d query.now stamp)) }
 {
     states_stay();
     let Answered { answer, front } = database.query(rt, alloc, query, stamp)?;

@@ -75,7 +75,7 @@ impl<'a, J: Naming, A: App, C: Cacheable> RwTxn<'a, J, A, C> {
         requires { AllIdle registry }
         ensures begun { IfOk result (λ txn. IsBegun (length txn.history) txn.core) }
         ensures objects { IfOk result (λ txn. txn.objects ≡ registry) }
-        ensures refused { IfErr result (λ e. MayRefuse J.database_row IsHoldRefused e.0) }
+        ensures refused { IfErr result (λ e. MayRefuse J.database_history IsHoldRefused e.0) }
         ensures handed_back { IfErr result (λ e. e.1 ≡ registry) }
     {
         transactions_stay_right();
@@ -130,7 +130,7 @@ impl<'a, J: Naming, A: App, C: Cacheable> RwTxn<'a, J, A, C> {
             self.new.core.answers ≡ self.old.core.answers ++ Given.Value key value ∷ []) }
         ensures unchanged { OnErr result (self.new.core.answers ≡ self.old.core.answers) }
         ensures run { IsSome (activity_of self.old.objects key.function)
-            → HasRunAtBase A.next J.database_row self.old key self.new result }
+            → HasRunAtBase A.next J.database_history self.old key self.new result }
         ensures missing { IsNone (activity_of self.old.objects key.function)
             → result ≡ Err (TxnError.Call (NoFunction key.function)) }
         ensures missing_left { IsNone (activity_of self.old.objects key.function) → self.new ≡ self.old }
@@ -169,7 +169,7 @@ impl<'a, J: Naming, A: App, C: Cacheable> RwTxn<'a, J, A, C> {
           queried = self.old.core.queried ++ query ∷ [];
           answers = self.old.core.answers ++ Given.Rows query rows.items ∷ [];
         }) }
-        ensures refused { IfErr result (IsQueryRefusal J.database_row self.old.core.base query) }
+        ensures refused { IfErr result (IsQueryRefusal J.database_history self.old.core.base query) }
         ensures left { IfErr result (IsQueryLeft self.old.core query self.new.core) }
         ensures same { self.new ≡ record self.old { core = self.new.core } }
     {
@@ -221,7 +221,7 @@ impl<'a, J: Naming, A: App, C: Cacheable> RwTxn<'a, J, A, C> {
         rt: &impl Wait,
         alloc: Global,
     ) -> Result<(Committed, Registry<A, C>), (RwTxn<'a, J, A, C>, CommitError)>
-        ensures named { IfOk result (λ done. done.0.front.events ≡ J.database_row) }
+        ensures named { IfOk result (λ done. done.0.front.events ≡ J.database_history) }
         ensures answer { IfOk result (λ done.
             IsCommitted A.next done.0.front.history self.entry.core done.0.stamp) }
         ensures at_base { IfOk result (λ done.
@@ -232,7 +232,7 @@ impl<'a, J: Naming, A: App, C: Cacheable> RwTxn<'a, J, A, C> {
         ensures answers { IfOk result (λ done. done.0.answers.items ≡ self.entry.core.answers) }
         ensures registry { IfOk result (λ done. done.1 ≡ self.entry.objects) }
         ensures idle { IfOk result (λ done. AllIdle done.1) }
-        ensures refused { IfErr result (λ e. MayRefuse J.database_row (λ d. let c = self.entry.core in
+        ensures refused { IfErr result (λ e. MayRefuse J.database_history (λ d. let c = self.entry.core in
             IsSharedCommitRefused d c.base (tags_read c) c.changes) e.1) }
         ensures handed_back { IfErr result (λ e. e.0 ≡ self.entry) }
     {

@@ -1,11 +1,13 @@
 -- What calls under the lock leave of the node, and what they show a pass.
-use Rattle.std.proofs.Common.{◌≡◌, ℕ, List, [], ◌∷◌, ◌++◌, length, false, Option, Some, None, sym, ap, subst, ◌∙◌, arith}
+use Rattle.std.proofs.Common.{◌≡◌, ℕ, ◌+◌, ◌<◌, List, [], ◌∷◌, ◌++◌, length, false, Option, Some, None, sym, ap, subst, ◌∙◌, arith}
+use Rattle.std.specs.Prelude.{IfSome}
 use Rattle.std.specs.Option.{option_map}
 use mathlib.Core.List.{IsPrefix}
 use Rattle.txc_stream.proofs.Offered.{prefix_trans, prefix_push, longer_is}
 use Rattle.txc_stream.specs.Names.{Name}
 use Rattle.txc_tags.specs.Keys.{Call}
-use Rattle.txc_db.specs.History.{tags_at}
+use Rattle.txc_tags.specs.declared.tag.Tag.{Tag}
+use Rattle.txc_db.specs.History.{History, tags_at}
 use Rattle.txc_db.specs.Seen.{FrontValue}
 use Rattle.txc_node.specs.declared.entry.Entry.{Entry}
 use Rattle.txc_node.specs.declared.hit.Shown.{Shown}
@@ -24,7 +26,7 @@ use Rattle.txc_shared.specs.declared.settings.NodeSettings.{NodeSettings}
 use Rattle.txc_shared.specs.Runs.{IsNode}
 use Rattle.txc_shared.specs.Laws.{EventsAreTaken}
 use Rattle.txc_shared.specs.Histories.{cache_after, records_of, events_of, next_record}
-use Rattle.txc_shared.specs.Nodes.{NodeValue, IsHistoryFull, start_of, after_call, seeing, next_event, HasAdvanced}
+use Rattle.txc_shared.specs.Nodes.{NodeValue, IsHistoryFull, start_of, after_call, seeing, next_event, HasTags, HasAdvanced}
 use Rattle.txc_shared.specs.Passes.{PassValue, HasSeen, GrowsByOthers, HasMade, HasFound, HasTaken}
 use Rattle.txc_shared.specs.Locked.{IsAhead, IsAdmitted}
 use Rattle.txc_shared.proofs.Histories.{records_of-append}
@@ -114,3 +116,13 @@ full_shown histories n p q h full named shows = (
   subst (GrowsByOthers p.pass p.records) (sym shows) (others_did p.pass p.records n.records h.ahead.records h.turn),
   subst (IsHistoryFull (histories p.settings.number)) (sym shows) (subst (λ (name : Name). IsHistoryFull name n.records) (named ∙ ap (λ (s : NodeSettings). histories s.number) (sym h.ahead.settings)) full),
 )
+
+-- ---- tags that were posted
+
+-- what a feed tells of the next event are the tags of the event that the node takes next
+pub posted_so : {X : Type 0} (tags_in : X → List Tag) (o : Option X) (L M : History) (taken number : ℕ) → M ≡ L → number ≡ taken + 1
+    → IfSome o (λ x. (taken < length L) × (tags_in x ≡ tags_at L (taken + 1))) → IfSome o (λ x. HasTags M number (tags_in x))
+posted_so tags_in None L M taken number same next told = tt
+posted_so tags_in (Some x) L M taken number same next told =
+    let low : taken < length L = told.0 in
+    subst (λ (l : History). HasTags l number (tags_in x)) (sym same) (subst (λ (n : ℕ). HasTags L n (tags_in x)) (sym next) (omega (arith, low), told.1))

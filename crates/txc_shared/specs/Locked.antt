@@ -16,7 +16,7 @@ use Rattle.txc_shared.specs.Passes.{PassValue}
 
 -- what lies under a node's lock: the node's history and the database's row are the named ones, and, unless it is
 -- broken, as many events were taken from the feed as it took
-pub record LiesUnderLock (histories : ℕ → Name) (row : List ℕ) (taken : ℕ) (n : NodeValue) : Type 0 where
+pub record LiesUnderLock (histories : ℕ → Name) (row : Name) (taken : ℕ) (n : NodeValue) : Type 0 where
   pub name : n.name ≡ histories n.settings.number
   pub events : n.seen.events ≡ row
   pub in_step : n.broken ≡ false → taken ≡ n.cache.processed

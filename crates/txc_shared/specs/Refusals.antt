@@ -27,6 +27,16 @@ IsStepRefused n HistoryFull = (n.broken ≡ false) × IsHistoryFull n.name n.rec
 IsStepRefused n PassesFull = ⊥
 IsStepRefused n Memory = CanRecord n
 
+-- the tags of the next event may be unknown: it stands in no row
+pub record MayLackTags (n : NodeValue) : Type 0 where
+  pub recorded : CanRecord n
+  pub in_none : ¬ (HasRow n.seen.events)
+
+-- of the next event: as of a step; or broken, where its tags are not known
+abbrev pub IsTakingRefused : NodeValue → NodeError → Type 0
+IsTakingRefused n Broken = IsStepRefused n Broken ⊎ MayLackTags n
+IsTakingRefused n e = IsStepRefused n e
+
 -- of a lookup: the stamps too, before a full history, end before they begin
 abbrev pub IsLookupRefused : NodeValue → ℕ → ℕ → NodeError → Type 0
 IsLookupRefused n lo hi Broken = (n.broken ≡ true) ⊎ (MayBeForestalled n × (lo ≤ hi))

@@ -8,7 +8,7 @@ ghost use Rattle.txc_node.specs.Counts.{AreCountsOf};
 ghost use Rattle.txc_app.specs.Claims.{IsTrueIn};
 ghost use Rattle.txc_shared.specs.Nodes.{NodeValue, IsHistoryFull, after_call, seeing, HasAdvanced};
 ghost use Rattle.txc_shared.specs.Passes.{PassValue, HasGrown, HasSeen, DoAgree, GrowsByOthers, HasFound, HasMade, HasInserted, HasTaken, IsPassLeft};
-ghost use Rattle.txc_shared.specs.Refusals.{IsLookupRefused, IsStepRefused, IsCountRefused, IsNodeLeft, IsRefusedThrough, IsNewPassRefused};
+ghost use Rattle.txc_shared.specs.Refusals.{IsLookupRefused, IsStepRefused, IsTakingRefused, IsCountRefused, IsNodeLeft, IsRefusedThrough, IsNewPassRefused};
 ghost use Rattle.txc_shared.specs.Locked.{IsAhead, IsAdmitted, LiesUnderLock};
 
 use crate::advanced::Advanced;
@@ -22,6 +22,7 @@ use crate::settings::NodeSettings;
 use crate::stored_node::StoredNode;
 use std::alloc::Global;
 use std::marker::Model;
+use std::sync::Wait;
 use txc_app::App;
 use txc_db::{Event, Feed, HistoryFront, Naming};
 use txc_node::{Counts, Entry, Record};
@@ -44,18 +45,21 @@ impl<A: App, J: Naming> Model for Held<A, J> {
 
     ghost view = { λ h. h.node };
 
-    ghost invariant = { λ h. LiesUnderLock J.node_histories J.database_row h.feed.taken h.node };
+    ghost invariant = { λ h. LiesUnderLock J.node_histories J.database_history h.feed.taken h.node };
 }
 
 impl<A: App, J: Naming> Held<A, J> {
-    /// The named node, which has taken no event, and a feed of which none was taken.
-    pub(crate) fn new(node: StoredNode<A>, feed: Feed<J>) -> Held<A, J>
+    /// The named node, which has taken no event. It is broken where the feed begins after events, of whose tags
+    /// nothing is known any more.
+    pub(crate) fn new(mut node: StoredNode<A>, feed: Feed<J>) -> Held<A, J>
         requires name { node.name ≡ J.node_histories node.settings.number }
-        requires events { node.seen.events ≡ J.database_row }
+        requires events { node.seen.events ≡ J.database_history }
         requires none { node.cache.processed ≡ 0 }
-        requires feed { feed.taken ≡ 0 }
-        ensures { result ≡ node }
+        ensures { result ≡ record node { broken = result.broken } }
     {
+        if feed.taken() != 0 {
+            node.set_broken();
+        }
         Held { node, feed }
     }
 
@@ -196,7 +200,7 @@ impl<A: App, J: Naming> Held<A, J> {
         ensures found { IfOk result (λ found.
             HasFound pass.old pass.new (Lookup key.now lo hi) (option_map (λ f. f.entry) found)) }
         ensures key { IfOk result (λ found. IfSome found (λ f. f.entry.key ≡ key.now)) }
-        ensures front { IfOk result (λ found. IfSome found (λ f. f.front.events ≡ J.database_row)) }
+        ensures front { IfOk result (λ found. IfSome found (λ f. f.front.events ≡ J.database_history)) }
         ensures shown { IfOk result (λ found. IfSome found (λ f. IsPrefix f.front.history pass.new.history)) }
         ensures left { IfErr result (IsPassLeft (J.node_histories pass.old.settings.number) pass.old pass.new) }
     {
@@ -219,7 +223,7 @@ impl<A: App, J: Naming> Held<A, J> {
         entry: Entry,
         front: &HistoryFront,
     ) -> Result<Insertion, NodeError>
-        requires row { front.now.events ≡ J.database_row }
+        requires row { front.now.events ≡ J.database_history }
         requires is_true { IsTrueIn A.next front.now.history entry }
         ensures named { self.old.name ≡ J.node_histories self.old.settings.number }
         ensures after { OnOk result
@@ -247,13 +251,14 @@ impl<A: App, J: Naming> Held<A, J> {
     /// Takes the next event that the feed, the pass or the node has seen.
     pub(crate) fn advance(
         &mut self,
+        rt: &impl Wait,
         alloc: Global,
         pass: &mut NodePass<J>,
     ) -> Result<Advanced, NodeError>
         ensures named { self.old.name ≡ J.node_histories self.old.settings.number }
         ensures after { IfOk result (HasAdvanced (seeing self.old self.new.seen) pass.old.pass self.new) }
         ensures unchanged { IfErr result (IsNodeLeft self.old self.new) }
-        ensures refused { IfErr result (IsRefusedThrough IsStepRefused self.old pass.old) }
+        ensures refused { IfErr result (IsRefusedThrough IsTakingRefused self.old pass.old) }
         ensures longer { HasGrown pass.old pass.new }
         ensures taken { IfOk result (HasTaken pass.old pass.new) }
         ensures left { IfErr result (IsPassLeft (J.node_histories pass.old.settings.number) pass.old pass.new) }
@@ -263,8 +268,12 @@ impl<A: App, J: Naming> Held<A, J> {
         self.admit(pass)?;
         self.feed.longer(&pass.events);
         self.feed.longer(self.node.seen());
-        self.feed.look();
-        match self.node.advance(alloc, pass.pass, self.feed.front()) {
+        self.feed.look(rt);
+        let tags = self.feed.next_tags();
+        match self
+            .node
+            .advance_by(alloc, pass.pass, self.feed.front(), tags)
+        {
             Ok(advanced) => {
                 self.node.is_sound();
                 let Advanced::Taken { .. } = advanced else {

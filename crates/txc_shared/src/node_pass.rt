@@ -51,7 +51,7 @@ impl<J: Naming> Model for NodePass<J> {
 
     ghost invariant = { λ p.
         (p.records.name ≡ J.node_histories p.settings.number)
-        × (p.events.events ≡ J.database_row)
+        × (p.events.events ≡ J.database_history)
         × (p.turn ≡ records_of p.pass p.own.list)
         × IsPrefix p.own.list p.records.records
         × IsLegal p.events.history (start_of p.settings) p.records.records };
@@ -67,7 +67,7 @@ impl<J: Naming> NodePass<J> {
     ) -> NodePass<J>
         requires name { records.name ≡ J.node_histories settings.number }
         requires none { records.records ≡ [] }
-        requires events { events.events ≡ J.database_row }
+        requires events { events.events ≡ J.database_history }
         ensures { result
             ≡ record { settings = settings; pass = pass; own = []; records = []; history = events.history } }
     {
@@ -118,7 +118,7 @@ impl<J: Naming> NodePass<J> {
 
     /// What it has seen of the database's history.
     pub fn events(&self) -> &HistoryFront
-        ensures events { result.now.events ≡ J.database_row }
+        ensures events { result.now.events ≡ J.database_history }
         ensures history { result.now.history ≡ self.now.history }
     {
         &self.events
@@ -128,7 +128,7 @@ impl<J: Naming> NodePass<J> {
     /// what the other front shows of the database's history beyond what it has seen itself.
     pub(crate) fn see(&mut self, records: &NodeFront, events: &HistoryFront, turn: usize)
         requires name { records.now.name ≡ J.node_histories self.old.settings.number }
-        requires row { events.now.events ≡ J.database_row }
+        requires row { events.now.events ≡ J.database_history }
         requires records { IsPrefix self.old.records records.now.records }
         requires turn { turn ≡ records_of self.old.pass records.now.records }
         requires legal { IsLegal events.now.history (start_of self.old.settings) records.now.records }

@@ -10,7 +10,7 @@ ghost use Rattle.txc_app.specs.Claims.{IsTrueIn};
 ghost use Rattle.txc_shared.specs.Histories.{IsLegal};
 ghost use Rattle.txc_shared.specs.Nodes.{start_of};
 ghost use Rattle.txc_shared.specs.Passes.{HasGrown, GrowsByOthers, HasFound, HasMade, HasInserted, HasTaken, IsPassLeft};
-ghost use Rattle.txc_shared.specs.Refusals.{IsLookupRefused, IsStepRefused, IsCountRefused, IsRefusedThrough, IsNewPassRefused, NodeMayRefuse};
+ghost use Rattle.txc_shared.specs.Refusals.{IsLookupRefused, IsStepRefused, IsTakingRefused, IsCountRefused, IsRefusedThrough, IsNewPassRefused, NodeMayRefuse};
 
 use crate::advanced::Advanced;
 use crate::error::NodeError;
@@ -61,6 +61,7 @@ impl<A: App, J: Naming> SharedNode<A, J> {
     /// An empty node, which will take the events of the database. Its row is the one named at its number.
     /// Where memory is refused, the row is dropped.
     pub fn new(
+        rt: &impl Wait,
         alloc: Global,
         settings: NodeSettings,
         row: EventRow<Record>,
@@ -72,12 +73,13 @@ impl<A: App, J: Naming> SharedNode<A, J> {
         ensures { IfOk result (λ node. node ≡ settings) }
     {
         let node = StoredNode::new(alloc, settings, row, database.reader()?)?;
-        SharedNode::of(node, database)
+        SharedNode::of(rt, node, database)
     }
 
     /// An empty node, which will take the events of the database. Its history exists in the proofs alone, and
     /// its pen is that of the one named at its number.
     pub fn unstored(
+        rt: &impl Wait,
         alloc: Global,
         settings: NodeSettings,
         pen: Pen<Record>,
@@ -90,19 +92,23 @@ impl<A: App, J: Naming> SharedNode<A, J> {
         ensures { IfOk result (λ node. node ≡ settings) }
     {
         let node = StoredNode::unstored(alloc, settings, pen, database.reader()?)?;
-        SharedNode::of(node, database)
+        SharedNode::of(rt, node, database)
     }
 
     // The node under its lock.
-    fn of(node: StoredNode<A>, database: &Database<J>) -> Result<SharedNode<A, J>, AllocError>
+    fn of(
+        rt: &impl Wait,
+        node: StoredNode<A>,
+        database: &Database<J>,
+    ) -> Result<SharedNode<A, J>, AllocError>
         requires name { node.name ≡ J.node_histories node.settings.number }
-        requires events { node.seen.events ≡ J.database_row }
+        requires events { node.seen.events ≡ J.database_history }
         requires none { node.cache.processed ≡ 0 }
         ensures { IfOk result (λ shared. shared ≡ node.settings) }
     {
         let settings = node.settings();
         let start = node.start()?;
-        let held = Held::new(node, database.feed()?);
+        let held = Held::new(node, database.feed(rt)?);
         Ok(SharedNode {
             settings,
             start,
@@ -168,7 +174,7 @@ impl<J: Naming> NodePass<J> {
         ensures found { IfOk result (λ found.
             HasFound self.old self.new (Lookup key.now lo hi) (option_map (λ f. f.entry) found)) }
         ensures key { IfOk result (λ found. IfSome found (λ f. f.entry.key ≡ key.now)) }
-        ensures front { IfOk result (λ found. IfSome found (λ f. f.front.events ≡ J.database_row)) }
+        ensures front { IfOk result (λ found. IfSome found (λ f. f.front.events ≡ J.database_history)) }
         ensures shown { IfOk result (λ found. IfSome found (λ f. IsPrefix f.front.history self.new.history)) }
         ensures left { IfErr result (IsPassLeft (J.node_histories self.old.settings.number) self.old self.new) }
         ensures refused { IfErr result
@@ -188,7 +194,7 @@ impl<J: Naming> NodePass<J> {
         entry: Entry,
         front: &HistoryFront,
     ) -> Result<Insertion, NodeError>
-        requires row { front.now.events ≡ J.database_row }
+        requires row { front.now.events ≡ J.database_history }
         requires is_true { IsTrueIn A.next front.now.history entry }
         ensures longer { HasGrown self.old self.new }
         ensures legal { IsLegal self.new.history (start_of self.new.settings) self.new.records }
@@ -216,9 +222,9 @@ impl<J: Naming> NodePass<J> {
         ensures taken { IfOk result (HasTaken self.old self.new) }
         ensures left { IfErr result (IsPassLeft (J.node_histories self.old.settings.number) self.old self.new) }
         ensures refused { IfErr result
-            (NodeMayRefuse J.node_histories (λ n. IsRefusedThrough IsStepRefused n self.old)) }
+            (NodeMayRefuse J.node_histories (λ n. IsRefusedThrough IsTakingRefused n self.old)) }
     {
-        let advanced = lock_soon(rt, &node.lock).advance(alloc, self);
+        let advanced = lock_soon(rt, &node.lock).advance(rt, alloc, self);
         self.is_legal();
         advanced
     }

@@ -1,16 +1,16 @@
 //! The node for one thread, which its lock holds too.
-ghost use Rattle.std.specs.Prelude.{◌≡◌, ◌+◌, ◌<◌, ◌≤◌, ◌⊎◌, ◌↔◌, ◌++◌, ◌∷◌, [], true, false, length, Some, None, Ok, Err, IsOk, IfOk, OnOk, OnErr, IfErr, IfSome, IsTrue, MatchOption};
-ghost use Rattle.txc_stream.specs.Names.{stored, unstored};
+ghost use Rattle.std.specs.Prelude.{◌≡◌, ◌+◌, ◌<◌, ◌≤◌, ◌⊎◌, ◌↔◌, ◌++◌, ◌∷◌, [], true, false, length, Some, None, Ok, Err, IsOk, IfOk, OnOk, OnErr, IfErr, IfSome, IfNone, IsTrue, MatchOption};
+ghost use Rattle.txc_stream.specs.Names.{stored, unstored, HasRow};
 ghost use Rattle.std.specs.Option.{option_map};
 ghost use Rattle.txc_node.specs.Cache.{lookup_answer, outcome, swept_count};
 ghost use Rattle.txc_node.specs.Indexed.{IsSearchOf};
 ghost use Rattle.txc_node.specs.Counts.{AreCountsOf};
 ghost use Rattle.txc_node.specs.declared.op.Op.TheVariants.{Insert, Lookup, Sweep};
 ghost use Rattle.txc_app.specs.Claims.{IsTrueIn, entry_shown};
-ghost use Rattle.txc_shared.specs.Nodes.{NodeValue, start_of, after_call, seeing, IsLonger, HasTags, insertion_of, HasAdvanced, HasTakenAll};
+ghost use Rattle.txc_shared.specs.Nodes.{NodeValue, start_of, after_call, seeing, next_stamp, IsLonger, HasTags, insertion_of, HasAdvanced, HasTakenAll};
 ghost use Rattle.txc_shared.specs.Histories.{records_of};
 ghost use Rattle.txc_shared.specs.Runs.{IsNode};
-ghost use Rattle.txc_shared.specs.Refusals.{CanRecord, IsStepRefused, IsLookupRefused, IsPassRefused, IsNodeLeft};
+ghost use Rattle.txc_shared.specs.Refusals.{CanRecord, IsStepRefused, IsTakingRefused, IsLookupRefused, IsPassRefused, IsNodeLeft};
 ghost use Rattle.txc_shared.specs.Locked.{IsRoomRefused, CanGrow};
 
 use crate::advanced::Advanced;
@@ -27,7 +27,7 @@ use std::alloc::{AllocError, Global};
 use std::marker::{Model, PhantomData};
 use txc_app::App;
 use txc_app::laws::true_entries_stay;
-use txc_db::{HistoryFront, states_stay};
+use txc_db::{Event, HistoryFront, states_stay};
 use txc_node::{Counts, Entry, MAX_CAPACITY, MAX_RECENT, NodeCore, Op, Record, Reply, Search};
 use txc_stamp::Stamp;
 use txc_stream::{EventRow, Pen};
@@ -397,22 +397,30 @@ impl<A: App> StoredNode<A> {
         Ok(insertion)
     }
 
-    // The tags of an event that the node has seen, or the front shows.
+    // The tags of an event that the node has seen, or the front shows: those that were posted, or those that stand
+    // beside it in its row. None where it stands in no row.
     fn tags_of(
         &self,
         alloc: Global,
         front: &HistoryFront,
         number: usize,
-    ) -> Result<TagSet, AllocError>
+        posted: Option<&TagSet>,
+    ) -> Result<Option<TagSet>, AllocError>
         requires first { 1 ≤ number }
+        requires named { front.now.events ≡ self.now.seen.events }
         requires seen { (number ≤ length self.now.seen.history) ⊎ (number ≤ length front.now.history) }
-        ensures { IfOk result (λ tags.
-            HasTags self.now.seen.history number tags ⊎ HasTags front.now.history number tags) }
+        requires posted { IfSome posted (λ tags. HasTags front.now.history number tags.now) }
+        ensures tags { IfOk result (λ tags. IfSome tags (λ tags.
+            HasTags self.now.seen.history number tags ⊎ HasTags front.now.history number tags)) }
+        ensures none { IfOk result (λ tags. IfNone tags (¬ (HasRow self.now.seen.events))) }
     {
-        if number <= self.seen.len() {
-            return self.seen.event_at(number).tags.copy(alloc);
+        if let Some(tags) = posted {
+            return Ok(Some(tags.copy(alloc)?));
         }
-        front.event_at(number).tags.copy(alloc)
+        if number <= self.seen.len() {
+            return copied(alloc, self.seen.event_at(number));
+        }
+        copied(alloc, front.event_at(number))
     }
 
     /// Takes the next event of the database's history that the node or the front has seen, and says how
@@ -429,7 +437,29 @@ impl<A: App> StoredNode<A> {
         ensures after { IfOk result (HasAdvanced (seeing self.old self.new.seen) pass self.new) }
         ensures only_if { OnOk result (self.old.broken ≡ false) }
         ensures left { IfErr result (IsNodeLeft self.old self.new) }
-        ensures refused { IfErr result (IsStepRefused self.old) }
+        ensures refused { IfErr result (IsTakingRefused self.old) }
+        ensures idle { self.old.broken ≡ false → HasTakenAll self.old front.now.history
+            → result ≡ Ok Advanced.Idle }
+    {
+        self.advance_by(alloc, pass, front, None)
+    }
+
+    /// The same, where the tags of the next event that the front shows may have been posted.
+    pub fn advance_by(
+        &mut self,
+        alloc: Global,
+        pass: usize,
+        front: &HistoryFront,
+        posted: Option<&TagSet>,
+    ) -> Result<Advanced, NodeError>
+        requires own { pass < self.old.passes }
+        requires front { front.now.events ≡ self.old.seen.events }
+        requires posted { IfSome posted (λ tags. HasTags front.now.history (next_stamp self.old) tags.now) }
+        ensures seen { OnOk result (IsLonger self.old.seen front.now self.new.seen) }
+        ensures after { IfOk result (HasAdvanced (seeing self.old self.new.seen) pass self.new) }
+        ensures only_if { OnOk result (self.old.broken ≡ false) }
+        ensures left { IfErr result (IsNodeLeft self.old self.new) }
+        ensures refused { IfErr result (IsTakingRefused self.old) }
         ensures idle { self.old.broken ≡ false → HasTakenAll self.old front.now.history
             → result ≡ Ok Advanced.Idle }
     {
@@ -443,7 +473,11 @@ impl<A: App> StoredNode<A> {
         }
         self.check_room()?;
         let stamp = Stamp::after(number);
-        let tags = self.tags_of(alloc, front, number)?;
+        let known = self.tags_of(alloc, front, number, posted)?;
+        let Some(tags) = known else {
+            self.broken = true;
+            return Err(NodeError::Broken);
+        };
         let prepared = self
             .log
             .prepare_event(alloc, pass, stamp, &tags, &self.core)?;
@@ -484,5 +518,16 @@ impl<A: App> StoredNode<A> {
             return Err(NodeError::Broken);
         }
         Ok(dropped)
+    }
+}
+
+// The tags of an event, where there is one.
+fn copied(alloc: Global, event: Option<&Event>) -> Result<Option<TagSet>, AllocError>
+    ensures { IfOk result (λ tags.
+        MatchOption event.entry (tags ≡ None) (λ event. tags ≡ Some event.now.tags)) }
+{
+    match event {
+        Some(event) => Ok(Some(event.tags.copy(alloc)?)),
+        None => Ok(None),
     }
 }

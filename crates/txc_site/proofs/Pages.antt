@@ -29,7 +29,7 @@ use Rattle.txc_site.specs.Pages.{answer_of, answers_of, exchanges_of, last_bound
 settings_stay : (a b c : CoreValue) → KeepsSettings a b → KeepsSettings b c → KeepsSettings a c
 settings_stay a b c h k = record { bounds = k.bounds ∙ h.bounds; renew_after = k.renew_after ∙ h.renew_after; nodes = k.nodes ∙ h.nodes }
 
-module _ (next : Next) (row : List ℕ) (histories : ℕ → Name) where
+module _ (next : Next) (row : Name) (histories : ℕ → Name) where
   module _ (client : ClientValue) (bounds : Bounds) where
     -- no call was made
     pub none_called : (t : RoTxnValue) (c : ClientValue) (b : Bounds) → client_of t ≡ c → c ≡ client → t.txn.core.bounds ≡ b → b ≡ bounds

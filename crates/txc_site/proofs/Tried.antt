@@ -1,5 +1,6 @@
 -- What one run of a change came to, by its kind.
 use Rattle.std.proofs.Common.{◌≡◌, ℕ, List, subst}
+use Rattle.txc_stream.specs.Names.{Name}
 use Rattle.txc_app.specs.Eval.{Next}
 use Rattle.txc_db.specs.declared.answered.Answered.{Answered}
 use Rattle.txc_db.specs.declared.answered.CommitError.TheVariants as commits
@@ -11,7 +12,7 @@ use Rattle.txc_site.specs.declared.writing.Attempt.TheVariants as attempts
 use Rattle.txc_site.specs.Attempts.{CountsAttempt, IsAttempted}
 use Rattle.txc_site.specs.Writes.{IsRefusedCommit, IsSiteWriteRefused}
 
-module _ {T : Type 0} (next : Next) (row : List ℕ) (makes : RwValue → T → Type 0) (refuses : RunError → Type 0) (attempt : Attempt T) where
+module _ {T : Type 0} (next : Next) (row : Name) (makes : RwValue → T → Type 0) (refuses : RunError → Type 0) (attempt : Attempt T) where
   pub conflict_so : (conflict : Answered ℕ) → IsAttempted next row makes refuses attempt → attempt ≡ attempts.Conflict conflict
       → IsRefusedCommit row makes (commits.Conflict conflict)
   conflict_so conflict did is = subst (IsAttempted next row makes refuses) is did

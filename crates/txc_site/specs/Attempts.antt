@@ -1,5 +1,6 @@
 -- Only private functions need this file: what one run of a change came to.
 use Rattle.std.specs.Prelude.{◌≡◌, ℕ, List}
+use Rattle.txc_stream.specs.Names.{Name}
 use Rattle.txc_app.specs.Eval.{Next}
 use Rattle.txc_db.specs.declared.answered.CommitError.TheVariants as commits
 use Rattle.txc_site.specs.declared.run_error.RunError.{RunError}
@@ -18,7 +19,7 @@ IsOfRun writes.Memory = ⊥
 IsOfRun error = Unit {0}
 
 -- it was committed, or is a conflict, or was refused for another reason
-abbrev pub IsAttempted : {T : Type 0} → Next → List ℕ → (RwValue → T → Type 0) → (RunError → Type 0) → Attempt T → Type 0
+abbrev pub IsAttempted : {T : Type 0} → Next → Name → (RwValue → T → Type 0) → (RunError → Type 0) → Attempt T → Type 0
 IsAttempted next row makes refuses (attempts.Done output committed) = IsWritten next row makes output committed
 IsAttempted next row makes refuses (attempts.Conflict conflict) = IsRefusedCommit row makes (commits.Conflict conflict)
 IsAttempted next row makes refuses (attempts.Refused error) =

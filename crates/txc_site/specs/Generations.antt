@@ -1,6 +1,8 @@
 -- The generations of a site, one after the other.
 use Rattle.std.specs.Prelude.{◌≡◌, ◌⊎◌, ℕ, ◌+◌, Bool, true, false, List, [], ◌∷◌, ◌++◌, All, Result, Ok, Err, Vec, length, map, vec_len}
 use Rattle.std.specs.declared.alloc.Global.{Global}
+use Rattle.txc_stream.specs.Names.{Name}
+use Rattle.txc_db.specs.Room.{HasCapacity}
 use mathlib.Core.List.{IsPrefix}
 use Rattle.txc_app.specs.Eval.{Next}
 use Rattle.txc_carry.specs.Carried.{IsCarryRefused}
@@ -25,8 +27,8 @@ last_state front = state_at front.history (length front.history)
 
 -- A generation over a database whose row has room for as many events as the plan says. Its history at the end goes on from that at the beginning.
 -- There are so many outputs, each of which is what the thread of its number comes to there.
-pub record IsGeneration {T : Type 0} (plan : Plan) (count : ℕ) (gives : Plan → List ℕ → ℕ → T → Type 0) (g : Generation T) : Type 0 where
-  pub room : length g.begun.events ≡ plan.events
+pub record IsGeneration {T : Type 0} (plan : Plan) (count : ℕ) (gives : Plan → Name → ℕ → T → Type 0) (g : Generation T) : Type 0 where
+  pub room : HasCapacity g.begun.events plan.events
   pub row : g.ended.events ≡ g.begun.events
   pub goes_on : IsPrefix g.begun.history g.ended.history
   pub each : vec_len g.outputs ≡ count
@@ -80,7 +82,7 @@ GenerationsHaveEnded goes room numbers all (Err error) = All (λ g. goes g true)
 
 -- The generations came in turn, from what the opening left on, each over a database of its own with the plan's room. What they came to stands in
 -- their order.
-pub record HaveServed {T U : Type 0} (plan : Plan) (count : ℕ) (numbers : List ℕ) (gives : Plan → List ℕ → ℕ → T → Type 0)
+pub record HaveServed {T U : Type 0} (plan : Plan) (count : ℕ) (numbers : List ℕ) (gives : Plan → Name → ℕ → T → Type 0)
     (goes : Generation T → Bool → Type 0) (opened : FrontValue) (came : List (Vec T Global)) (end : Result U GenerationError) : Type 0 where
   pub generations : List (Generation T)
   pub outputs : came ≡ map (λ g. g.outputs) generations
@@ -90,8 +92,8 @@ pub record HaveServed {T U : Type 0} (plan : Plan) (count : ℕ) (numbers : List
 
 -- Over a database whose row has room for as many events as the plan says, the opening was written in its first run. The generations came after it.
 pub record IsServed {O T : Type 0} (next : Next) (plan : Plan) (count : ℕ) (numbers : List ℕ) (makes : RwValue → O → Type 0)
-    (gives : Plan → List ℕ → ℕ → T → Type 0) (goes : Generation T → Bool → Type 0) (served : Served O T) : Type 0 where
-  pub room : length served.opening.committed.front.events ≡ plan.events
+    (gives : Plan → Name → ℕ → T → Type 0) (goes : Generation T → Bool → Type 0) (served : Served O T) : Type 0 where
+  pub room : HasCapacity served.opening.committed.front.events plan.events
   pub opened : IsWritten next served.opening.committed.front.events makes served.opening.output served.opening.committed
   pub once : vec_len served.opening.conflicts ≡ 0
   pub came : HaveServed plan count numbers gives goes served.opening.committed.front served.generations.items served.end

@@ -7,6 +7,7 @@ use Rattle.txc_shared.specs.declared.advanced.Advanced.TheVariants as advances
 use Rattle.txc_shared.specs.declared.error.NodeError.{NodeError}
 use Rattle.txc_shared.specs.Passes.{HasMade, HasTaken}
 use Rattle.txc_site.specs.Histories.{IsRoomLeft}
+use Rattle.txc_shared.specs.Refusals.{IsStepRefused, IsTakingRefused}
 use Rattle.txc_site.specs.Stations.{StationValue, HasNotRefused, HasBeenRefused, IsSamePass}
 use Rattle.txc_site.specs.declared.keeper.Ended.{Ended}
 use Rattle.txc_site.specs.declared.keeper.Ended.TheVariants.{Idle, Paused, Refused}
@@ -24,7 +25,7 @@ HasTakenEach old (stamp ∷ earlier) new = (before : StationValue) × (closed : 
 abbrev pub HasStoppedTaking : (ℕ → Name) → StationValue → ℕ → Ended → StationValue → Type 0
 HasStoppedTaking histories old taken Idle new = HasTaken old.pass new.pass advances.Idle × HasNotRefused old new
 HasStoppedTaking histories old taken Paused new = (new ≡ old) × (taken ≡ MAX_TAKEN)
-HasStoppedTaking histories old taken (Refused error) new = HasBeenRefused histories old error new
+HasStoppedTaking histories old taken (Refused error) new = HasBeenRefused histories IsTakingRefused old error new
 
 -- so many events were taken, and it ended so
 pub record HasTakenEvents (histories : ℕ → Name) (old : StationValue) (taken : ℕ) (ended : Ended) (new : StationValue) : Type 0 where
@@ -38,7 +39,7 @@ pub record HasTakenEvents (histories : ℕ → Name) (old : StationValue) (taken
 abbrev pub HasSwept : (ℕ → Name) → StationValue → Option ℕ → Option (Result ℕ NodeError) → StationValue → Type 0
 HasSwept histories old (Some horizon) (Some result) new =
     IfOk result (λ count. HasMade old.pass new.pass (Sweep horizon) (Swept count) × HasNotRefused old new)
-    × IfErr result (λ error. HasBeenRefused histories old error new)
+    × IfErr result (λ error. HasBeenRefused histories IsStepRefused old error new)
 HasSwept histories old None None new = new ≡ old
 HasSwept histories old horizon swept new = ⊥
 

@@ -1,5 +1,7 @@
 -- What a site that is opened comes to.
 use Rattle.std.specs.Prelude.{◌≡◌, ℕ, List, length, vec_len}
+use Rattle.txc_stream.specs.Names.{Name}
+use Rattle.txc_db.specs.Room.{HasCapacity}
 use Rattle.txc_app.specs.Eval.{Next}
 use Rattle.txc_site.specs.declared.run_error.RunError.{RunError}
 use Rattle.txc_rw.specs.Core.{RwValue}
@@ -15,9 +17,9 @@ use Rattle.txc_site.specs.Writes.{IsWritten, IsSiteWriteRefused}
 -- Over a database whose row has room for as many events as the plan says, the opening was written in its first run.
 -- There are so many outputs, each of which is what the thread of its number comes to there. What is left is of that row.
 pub record IsVisited {O T : Type 0} (next : Next) (plan : Plan) (count : ℕ) (makes : RwValue → O → Type 0)
-    (gives : Plan → List ℕ → ℕ → T → Type 0) (visited : Visited O T) : Type 0 where
-  pub row : List ℕ
-  pub room : length row ≡ plan.events
+    (gives : Plan → Name → ℕ → T → Type 0) (visited : Visited O T) : Type 0 where
+  pub row : Name
+  pub room : HasCapacity row plan.events
   pub opened : IsWritten next row makes visited.opening.output visited.opening.committed
   pub once : vec_len visited.opening.conflicts ≡ 0
   pub each : vec_len visited.outputs ≡ count
@@ -27,8 +29,8 @@ pub record IsVisited {O T : Type 0} (next : Next) (plan : Plan) (count : ℕ) (m
 -- a database with room for so many events refused the opening, in one try
 pub record IsUnopened {T : Type 0} (events : ℕ) (makes : RwValue → T → Type 0) (refuses : RunError → Type 0) (error : WriteError)
     : Type 0 where
-  pub row : List ℕ
-  pub room : length row ≡ events
+  pub row : Name
+  pub room : HasCapacity row events
   pub refused : IsSiteWriteRefused row makes refuses 1 error
 
 -- of a site: it was not made; or its opening was refused; or there was no memory for the threads
@@ -40,7 +42,7 @@ IsOpenRefused plan numbers makes refuses opens.Threads = IsPlan plan
 -- ---- by its parts
 
 -- of the opening: as a registry is; or as a change is, in one try
-abbrev pub IsOpeningRefused : {T : Type 0} → List ℕ → List ℕ → (RwValue → T → Type 0) → (RunError → Type 0) → OpenError → Type 0
+abbrev pub IsOpeningRefused : {T : Type 0} → List ℕ → Name → (RwValue → T → Type 0) → (RunError → Type 0) → OpenError → Type 0
 IsOpeningRefused numbers row makes refuses (opens.Site error) = IsRegistryRefused numbers error
 IsOpeningRefused numbers row makes refuses (opens.Opening error) = IsSiteWriteRefused row makes refuses 1 error
 IsOpeningRefused numbers row makes refuses opens.Threads = ⊥

@@ -38,14 +38,14 @@ answers_of (call ∷ earlier) = answers_of earlier ++ answer_of call
 
 -- These calls of the transaction were made, one after the other, the latest first. Each ran from what the one before it
 -- left, and no pass has seen less of its node since.
-abbrev pub HaveCalled : Next → List ℕ → (ℕ → Name) → RoTxnValue → List MadeCall → RoTxnValue → Type 0
+abbrev pub HaveCalled : Next → Name → (ℕ → Name) → RoTxnValue → List MadeCall → RoTxnValue → Type 0
 HaveCalled next row histories old [] new = new ≡ old
 HaveCalled next row histories old (call ∷ earlier) new = (before : RoTxnValue) × HaveCalled next row histories old earlier before
     × HasRun next row histories before call.0 new call.1 × HaveGrown before.passes new.passes
 
 -- A transaction of the client as it was began with these bounds and no answer. Since then it has made these calls and
 -- no others, and those that were answered are its answers.
-pub record HasCalled (next : Next) (row : List ℕ) (histories : ℕ → Name) (client : ClientValue) (bounds : Bounds) (t : RoTxnValue) : Type 0 where
+pub record HasCalled (next : Next) (row : Name) (histories : ℕ → Name) (client : ClientValue) (bounds : Bounds) (t : RoTxnValue) : Type 0 where
   pub first : RoTxnValue
   pub calls : List MadeCall
   pub began : client_of first ≡ client
@@ -57,7 +57,7 @@ pub record HasCalled (next : Next) (row : List ℕ) (histories : ℕ → Name) (
   pub functions : t.txn.objects ≡ first.txn.objects
 
 -- such a transaction, which has these answers, was ended, and left the client so
-pub record IsPageRun (next : Next) (row : List ℕ) (histories : ℕ → Name) (client : ClientValue) (bounds : Bounds) (answers : List Recorded)
+pub record IsPageRun (next : Next) (row : Name) (histories : ℕ → Name) (client : ClientValue) (bounds : Bounds) (answers : List Recorded)
     (left : ClientValue) : Type 0 where
   pub last : RoTxnValue
   pub called : HasCalled next row histories client bounds last
@@ -65,13 +65,13 @@ pub record IsPageRun (next : Next) (row : List ℕ) (histories : ℕ → Name) (
   pub ended : left ≡ client_of last
 
 -- what a page that was refused left of the client: where it was not run, all; else what its transaction did
-abbrev pub IsLeftByRefused : Next → List ℕ → (ℕ → Name) → ClientValue → Bounds → ReadError → ClientValue → Type 0
+abbrev pub IsLeftByRefused : Next → Name → (ℕ → Name) → ClientValue → Bounds → ReadError → ClientValue → Type 0
 IsLeftByRefused next row histories client bounds reads.Memory left = left ≡ client
 IsLeftByRefused next row histories client bounds (reads.Page cause) left =
     (answers : List Recorded) × IsPageRun next row histories client bounds answers left
 
 -- what these calls asked and were replied, in order
-abbrev pub exchanges_of : (next : Next) (row : List ℕ) (histories : ℕ → Name) (old : RoTxnValue) (calls : List MadeCall) (new : RoTxnValue)
+abbrev pub exchanges_of : (next : Next) (row : Name) (histories : ℕ → Name) (old : RoTxnValue) (calls : List MadeCall) (new : RoTxnValue)
     → HaveCalled next row histories old calls new → List Exchange
 exchanges_of next row histories old [] new h = []
 exchanges_of next row histories old (call ∷ earlier) new h = exchanges_of next row histories old earlier h.0 h.1 ++ h.2.exchanges
@@ -80,7 +80,7 @@ exchanges_of next row histories old (call ∷ earlier) new h = exchanges_of next
 -- calls' exchanges with the node, in their order. They are one of each hit, at most one of each miss and of each insertion,
 -- and no others.
 abbrev pub PagesStandOnce : Type 0
-PagesStandOnce = (next : Next) (row : List ℕ) (histories : ℕ → Name) (old : RoTxnValue) (calls : List MadeCall) (new : RoTxnValue)
+PagesStandOnce = (next : Next) (row : Name) (histories : ℕ → Name) (old : RoTxnValue) (calls : List MadeCall) (new : RoTxnValue)
     (made : HaveCalled next row histories old calls new) (node : ℕ) (before after : PassValue)
     → slice_get old.passes node ≡ Some before → slice_get new.passes node ≡ Some after
     → HasAdded (filter (asks node) (exchanges_of next row histories old calls new made)) before after

@@ -99,11 +99,11 @@ impl<'a, A: App, D: Definition, J: Naming> SiteClient<'a, A, D, J> {
         ensures explained { IfOk result.0 (λ shown. Explains A.next shown.receipt.seen.history bounds
             shown.receipt.pin shown.receipt.answers.items) }
         ensures not_before { IfOk result.0 (λ shown. IsAtLeast bounds.at_least shown.receipt.pin) }
-        ensures row { IfOk result.0 (λ shown. shown.receipt.seen.events ≡ J.database_row) }
-        ensures ran { IfOk result.0 (λ shown. IsPageRun A.next J.database_row J.node_histories self.entry.reader bounds
+        ensures row { IfOk result.0 (λ shown. shown.receipt.seen.events ≡ J.database_history) }
+        ensures ran { IfOk result.0 (λ shown. IsPageRun A.next J.database_history J.node_histories self.entry.reader bounds
             shown.receipt.answers.items result.1.reader) }
         ensures refused { IfErr result.0 (IsPageRefused (P.refuses page.now)) }
-        ensures left { IfErr result.0 (λ error. IsLeftByRefused A.next J.database_row J.node_histories
+        ensures left { IfErr result.0 (λ error. IsLeftByRefused A.next J.database_history J.node_histories
             self.entry.reader bounds error result.1.reader) }
         ensures passes { HaveGrown self.entry.reader.passes result.1.reader.passes }
         ensures functions { result.1.reader.objects ≡ self.entry.reader.objects }
@@ -142,12 +142,12 @@ impl<'a, A: App, D: Definition, J: Naming> SiteClient<'a, A, D, J> {
         change: &C,
     ) -> (Result<Written<C::Output>, WriteError>, Self)
         ensures written { IfOk result.0 (λ written.
-            IsWritten A.next J.database_row (C.makes change.now) written.output written.committed) }
+            IsWritten A.next J.database_history (C.makes change.now) written.output written.committed) }
         ensures before { IfOk result.0 (λ written.
-            AreConflicts J.database_row (C.makes change.now) written.conflicts.items) }
+            AreConflicts J.database_history (C.makes change.now) written.conflicts.items) }
         ensures few { IfOk result.0 (λ written. vec_len written.conflicts + 1 ≤ tries) }
         ensures refused { IfErr result.0
-            (IsSiteWriteRefused J.database_row (C.makes change.now) (C.refuses change.now) tries) }
+            (IsSiteWriteRefused J.database_history (C.makes change.now) (C.refuses change.now) tries) }
         ensures committed { OnOk result.0
             (result.1 ≡ record self.entry { commits = counted_again self.entry.commits }) }
         ensures not_committed { OnErr result.0 (result.1 ≡ self.entry) }

@@ -30,6 +30,7 @@ pub(crate) struct Foundation<A: App, J: Naming> {
 
 /// The nodes of the histories, by their numbers.
 fn nodes<A: App, J: Naming>(
+    rt: &impl Wait,
     alloc: Global,
     plan: Plan,
     histories: Vec<NodeHistory>,
@@ -48,7 +49,7 @@ fn nodes<A: App, J: Naming>(
             capacity: plan.capacity,
             recent: plan.recent,
         };
-        nodes.push(ledger.node(alloc, settings, history)?)?;
+        nodes.push(ledger.node(rt, alloc, settings, history)?)?;
     }
     Ok(nodes)
 }
@@ -57,6 +58,7 @@ impl<A: App, J: Naming> Foundation<A, J> {
     /// Puts the database and the nodes of these histories under their locks, for so many clients. Whoever is to
     /// commit gets a committer.
     pub(crate) fn new(
+        rt: &impl Wait,
         alloc: Global,
         plan: Plan,
         core: DbCore,
@@ -64,14 +66,14 @@ impl<A: App, J: Naming> Foundation<A, J> {
         count: usize,
     ) -> Result<(Foundation<A, J>, Committers<J>), AllocError>
         requires plan { IsPlan plan }
-        requires database { core.events ≡ J.database_row }
+        requires database { core.events ≡ J.database_history }
         requires each { vec_len histories ≡ plan.nodes }
         requires histories { AreHistoriesOf J.node_histories 0 histories.items }
         ensures plan { IfOk result (λ made. made.0.plan ≡ plan) }
         ensures tallies { IfOk result (λ made. vec_len made.0.tallies ≡ count) }
     {
         let (ledger, committers) = Ledger::<J>::new(alloc, core)?;
-        let nodes = nodes(alloc, plan, histories, &ledger)?;
+        let nodes = nodes(rt, alloc, plan, histories, &ledger)?;
         let foundation = Foundation {
             ledger,
             nodes,
@@ -84,7 +86,7 @@ impl<A: App, J: Naming> Foundation<A, J> {
 
     /// The database without its lock, once no thread has it any more. No pin is held but one that is lost.
     pub(crate) fn into_core(self, rt: &impl Wait, alloc: Global) -> DbCore
-        ensures { IsDatabaseOf J.database_row result }
+        ensures { IsDatabaseOf J.database_history result }
     {
         let Foundation {
             ledger,

@@ -1,6 +1,7 @@
 //! A site that goes on: one generation after the other.
 ghost use Rattle.std.specs.Prelude.{◌≡◌, ◌⊎◌, [], Err, IfErr, IfOk, length};
 ghost use mathlib.Core.List.{IsPrefix};
+ghost use Rattle.txc_db.specs.Room.{HasCapacity};
 ghost use Rattle.txc_db.specs.DatabaseValue.{front_of};
 ghost use Rattle.txc_site.specs.Generations.{HaveServed, IsGeneration, IsGenerationRefused, IsNextRefused, IsServed, last_state};
 ghost use Rattle.txc_site.specs.Opened.{IsOpenRefused};
@@ -74,7 +75,7 @@ where
     R: Threads + Wait + Sync,
     requires plan { IsPlan plan }
     requires row { begun.core.events ≡ begun.front.events }
-    requires room { length begun.front.events ≡ plan.events }
+    requires room { HasCapacity begun.front.events plan.events }
     ensures generation { IfOk result (λ ended. IsGeneration plan count (V.gives visitors.now) ended.0) }
     ensures number { IfOk result (λ ended. ended.0.number ≡ number) }
     ensures begun { IfOk result (λ ended. ended.0.begun ≡ begun.front) }
@@ -107,7 +108,7 @@ where
 fn next(alloc: Global, plan: Plan, mut core: DbCore) -> Result<Begun, GenerationError>
     requires { IsPlan plan }
     ensures row { IfOk result (λ begun. begun.core.events ≡ begun.front.events) }
-    ensures room { IfOk result (λ begun. length begun.front.events ≡ plan.events) }
+    ensures room { IfOk result (λ begun. HasCapacity begun.front.events plan.events) }
     ensures state { IfOk result (λ begun. last_state begun.front ≡ last_state (front_of core)) }
     ensures refused { IfErr result (IsNextRefused plan.events (front_of core)) }
 {
@@ -217,7 +218,7 @@ where
     R: Threads + Wait + Sync,
     requires plan { IsPlan plan }
     requires row { begun.core.events ≡ begun.front.events }
-    requires room { length begun.front.events ≡ plan.events }
+    requires room { HasCapacity begun.front.events plan.events }
     requires none { generations.old.items ≡ [] }
     ensures { HaveServed plan count A.numbers (V.gives visitors.now) (V.goes visitors.now) begun.front
         generations.new.items result }

@@ -83,19 +83,19 @@ where
     C: Clock + Sync,
     R: Threads + Wait + Sync,
     requires plan { IsPlan plan }
-    requires database { core.events ≡ J.database_row }
+    requires database { core.events ≡ J.database_history }
     requires each { vec_len histories ≡ plan.nodes }
     requires histories { AreHistoriesOf J.node_histories 0 histories.items }
     requires stored_so { HaveHistoriesBy plan J.node_histories }
     ensures each { IfOk result (λ visited. vec_len visited.outputs ≡ count) }
     ensures gives { IfOk result (λ visited.
-        HaveCome (V.gives visitors.now plan J.database_row) visited.outputs.items) }
+        HaveCome (V.gives visitors.now plan J.database_history) visited.outputs.items) }
     ensures tended { IfOk result (λ visited.
-        IsTendedAsPlanned plan (C.tells clock.now) J.database_row visited.tended) }
-    ensures database { IfOk result (λ visited. IsDatabaseOf J.database_row visited.core) }
+        IsTendedAsPlanned plan (C.tells clock.now) J.database_history visited.tended) }
+    ensures database { IfOk result (λ visited. IsDatabaseOf J.database_history visited.core) }
     ensures refused { IfErr result (IsVisitRefused A.numbers) }
 {
-    let (foundation, committers) = Foundation::<A, J>::new(alloc, plan, core, histories, count)?;
+    let (foundation, committers) = Foundation::<A, J>::new(rt, alloc, plan, core, histories, count)?;
     let mut pool = PermitPool::new(alloc, plan.permits)?;
     let came = visit::<A, D, V, J, C, R>(
         rt,

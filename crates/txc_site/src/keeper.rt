@@ -160,13 +160,13 @@ fn pin<J: Naming>(
     ledger: &Ledger<J>,
     now: u64,
 ) -> Result<(HistoryFront, Result<Stamp, DbError>), DbError>
-    ensures row { IfOk result (λ seen. seen.0.events ≡ J.database_row) }
+    ensures row { IfOk result (λ seen. seen.0.events ≡ J.database_history) }
     ensures pinned { IfOk result (λ seen. IfOk seen.1 (λ stamp.
         event_at seen.0.history stamp ≡ Some (pin_event now))) }
     ensures refused { IfOk result (λ seen. IfErr seen.1
-        (MayRefuse J.database_row (λ d. IsPinRefused d 0))) }
+        (MayRefuse J.database_history (λ d. IsPinRefused d 0))) }
     ensures unseen { IfErr result (λ error. (error ≡ DbError.Memory)
-        ⊎ MayRefuse J.database_row IsHoldRefused error) }
+        ⊎ MayRefuse J.database_history IsHoldRefused error) }
 {
     let pin = match ledger.pin(rt, alloc, now) {
         Ok(pin) => pin,
@@ -194,7 +194,7 @@ pub(crate) fn retire<J: Naming>(
     now: u64,
     age: u64,
 ) -> Result<Vec<Stamp>, AllocError>
-    ensures { IfOk result (CushionMayAnswer J.database_row (λ c stamps. stamps.items ≡ retired c now age)) }
+    ensures { IfOk result (CushionMayAnswer J.database_history (λ c stamps. stamps.items ≡ retired c now age)) }
 {
     let mut pins = ledger.retire(rt, alloc, now, age)?;
     let count = pins.len();
@@ -267,23 +267,23 @@ impl<'a, A: App, J: Naming> Keeper<'a, A, J> {
         now: u64,
         age: u64,
     ) -> (Result<Kept<J>, DbError>, Self)
-        ensures row { IfOk result.0 (λ kept. kept.seen.events ≡ J.database_row) }
+        ensures row { IfOk result.0 (λ kept. kept.seen.events ≡ J.database_history) }
         ensures events_left { IfOk result.0 (λ kept.
-            kept.events_left + length kept.seen.history ≡ length J.database_row) }
+            kept.events_left + length kept.seen.history ≡ length J.database_history) }
         ensures pinned { IfOk result.0 (λ kept. IfOk kept.pinned (λ stamp.
             event_at kept.seen.history stamp ≡ Some (pin_event now))) }
         ensures not_pinned { IfOk result.0 (λ kept. IfErr kept.pinned
-            (MayRefuse J.database_row (λ d. IsPinRefused d 0))) }
+            (MayRefuse J.database_history (λ d. IsPinRefused d 0))) }
         ensures retired { IfOk result.0 (λ kept. IfOk kept.retired
-            (CushionMayAnswer J.database_row (λ c stamps. stamps.items ≡ retired c now age))) }
+            (CushionMayAnswer J.database_history (λ c stamps. stamps.items ≡ retired c now age))) }
         ensures horizon { IfOk result.0 (λ kept. IfOk kept.horizon
-            (MayAnswer J.database_row (λ d horizon. horizon ≡ next_horizon d))) }
+            (MayAnswer J.database_history (λ d horizon. horizon ≡ next_horizon d))) }
         ensures no_horizon { IfOk result.0 (λ kept. IfErr kept.horizon
-            (MayRefuse J.database_row IsVacuumRefused)) }
+            (MayRefuse J.database_history IsVacuumRefused)) }
         ensures nodes { IfOk result.0 (λ kept.
             HaveKept J.node_histories (ok_of kept.horizon) self.entry kept.nodes.items result.1) }
         ensures refused { IfErr result.0 (λ error. (error ≡ DbError.Memory)
-            ⊎ MayRefuse J.database_row IsHoldRefused error) }
+            ⊎ MayRefuse J.database_history IsHoldRefused error) }
         ensures unchanged { OnErr result.0 (result.1 ≡ self.entry) }
     {
         let Keeper {

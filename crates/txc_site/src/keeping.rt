@@ -67,7 +67,7 @@ impl<'a, A: App, J: Naming> OwnKeeper<'a, A, J> {
 
     /// Keeps the site, and counts that.
     fn keep(self, rt: &impl Wait, alloc: Global, now: u64, age: u64) -> Self
-        ensures { HasTended J.database_row J.node_histories now age self.entry result }
+        ensures { HasTended J.database_history J.node_histories now age self.entry result }
     {
         let OwnKeeper { keeper, tended } = self;
         let keeps = tended.keeps.wrapping_add(1);
@@ -99,7 +99,7 @@ pub(crate) fn keep_until_ended<A: App, J: Naming, C: Clock, R: Wait>(
     ended: &Signal,
 ) -> Result<Tended, SiteError>
     ensures tended { IfOk result
-        (IsTendedBy J.database_row (nodes_of foundation.now.plan) (C.tells clock.now) keeping.age) }
+        (IsTendedBy J.database_history (nodes_of foundation.now.plan) (C.tells clock.now) keeping.age) }
     ensures refused { IfErr result IsKeeperRefused }
 {
     let mut own = OwnKeeper::new(rt, alloc, foundation)?;

@@ -98,7 +98,7 @@ where
     J: Naming,
     R: Wait,
     requires plan { IsPlan plan }
-    requires database { core.events ≡ J.database_row }
+    requires database { core.events ≡ J.database_history }
     requires each { vec_len histories ≡ plan.nodes }
     requires histories { AreHistoriesOf J.node_histories 0 histories.items }
     requires stored_so { HaveHistoriesBy plan J.node_histories }
@@ -106,10 +106,10 @@ where
     ensures explained { IfOk result (λ shown. Explains A.next shown.receipt.seen.history
         (last_bounds newest) shown.receipt.pin shown.receipt.answers.items) }
     ensures newest { IfOk result (λ shown. IsAtLeast newest shown.receipt.pin) }
-    ensures row { IfOk result (λ shown. shown.receipt.seen.events ≡ J.database_row) }
+    ensures row { IfOk result (λ shown. shown.receipt.seen.events ≡ J.database_history) }
     ensures refused { IfErr result (IsLastRefused A.numbers (P.refuses page.now)) }
 {
-    let (foundation, committers) = Foundation::<A, J>::new(alloc, plan, core, histories, 1)?;
+    let (foundation, committers) = Foundation::<A, J>::new(rt, alloc, plan, core, histories, 1)?;
     let mut pool = PermitPool::new(alloc, plan.permits)?;
     let client = client::<A, D, J>(rt, alloc, &foundation, 0, &committers, &mut pool)?;
     let bounds = Bounds::fresh_since(u64::MAX, u64::MAX, newest);

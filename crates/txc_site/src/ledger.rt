@@ -75,7 +75,7 @@ impl<J: Naming> Committer<J> {
 impl<J: Naming> Ledger<J> {
     /// Puts the database, whose row is the named one, under its lock.
     pub(crate) fn new(alloc: Global, core: DbCore) -> Result<(Ledger<J>, Committers<J>), AllocError>
-        requires { core.events ≡ J.database_row }
+        requires { core.events ≡ J.database_history }
     {
         let database = Database::<J>::new(alloc, core)?;
         let cushion = Pincushion::new(alloc, &database)?;
@@ -84,7 +84,7 @@ impl<J: Naming> Ledger<J> {
 
     /// The database without its lock, once no thread has it any more.
     pub(crate) fn into_core(self) -> DbCore
-        ensures { IsDatabaseOf J.database_row result }
+        ensures { IsDatabaseOf J.database_history result }
     {
         let Ledger {
             database,
@@ -95,9 +95,9 @@ impl<J: Naming> Ledger<J> {
 
     /// The history, as a hold shows it that is given up at once.
     pub(crate) fn seen(&self, rt: &impl Wait, alloc: Global) -> Result<HistoryFront, DbError>
-        ensures row { IfOk result (λ front. front.events ≡ J.database_row) }
+        ensures row { IfOk result (λ front. front.events ≡ J.database_history) }
         ensures refused { IfErr result (λ error. (error ≡ DbError.Memory)
-            ⊎ MayRefuse J.database_row IsHoldRefused error) }
+            ⊎ MayRefuse J.database_history IsHoldRefused error) }
     {
         let held = self.database.hold(rt, alloc)?;
         let front = held.front().again();
@@ -108,6 +108,7 @@ impl<J: Naming> Ledger<J> {
     /// A node of the history, which will take the database's events.
     pub(crate) fn node<A: App>(
         &self,
+        rt: &impl Wait,
         alloc: Global,
         settings: NodeSettings,
         history: NodeHistory,
@@ -119,9 +120,11 @@ impl<J: Naming> Ledger<J> {
         ensures { IfOk result (λ node. node ≡ settings) }
     {
         match history {
-            NodeHistory::Stored(row) => SharedNode::new(alloc, settings, row, &self.database),
+            NodeHistory::Stored(row) => {
+                SharedNode::new(rt, alloc, settings, row, &self.database)
+            }
             NodeHistory::Unstored(pen) => {
-                SharedNode::unstored(alloc, settings, pen, &self.database)
+                SharedNode::unstored(rt, alloc, settings, pen, &self.database)
             }
         }
     }

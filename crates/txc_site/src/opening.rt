@@ -1,5 +1,6 @@
 //! The opening of a site.
 ghost use Rattle.std.specs.Prelude.{◌≡◌, Err, IfErr, IfOk, length, vec_len};
+ghost use Rattle.txc_db.specs.Room.{HasCapacity};
 ghost use Rattle.txc_db.specs.Shared.{IsDatabaseOf};
 ghost use Rattle.txc_site.specs.Opened.{IsOpeningRefused, IsOpenRefused, IsVisited};
 ghost use Rattle.txc_site.specs.Plans.{IsPlan};
@@ -45,7 +46,7 @@ pub struct Visited<O, T> {
 /// A new database, as the plan says.
 fn new_core(alloc: Global, plan: Plan) -> Result<DbCore, SiteError>
     requires { IsPlan plan }
-    ensures room { IfOk result (λ core. length core.events ≡ plan.events) }
+    ensures room { IfOk result (λ core. HasCapacity core.events plan.events) }
     ensures refused { IfErr result IsDatabaseRefused }
 {
     Ok(DbCore::new(alloc, plan.events)?)
@@ -147,7 +148,7 @@ where
     requires { IsPlan plan }
     ensures opened { IfOk result (λ opened. IsWritten A.next opened.1.events (O.makes opening.now)
         opened.0.output opened.0.committed) }
-    ensures room { IfOk result (λ opened. length opened.1.events ≡ plan.events) }
+    ensures room { IfOk result (λ opened. HasCapacity opened.1.events plan.events) }
     ensures once { IfOk result (λ opened. vec_len opened.0.conflicts ≡ 0) }
     ensures refused { IfErr result
         (IsOpenRefused plan A.numbers (O.makes opening.now) (O.refuses opening.now)) }
@@ -171,13 +172,13 @@ where
     J: Naming,
     R: Wait,
     requires plan { IsPlan plan }
-    requires database { core.events ≡ J.database_row }
-    ensures opened { IfOk result (λ opened. IsWritten A.next J.database_row (O.makes opening.now)
+    requires database { core.events ≡ J.database_history }
+    ensures opened { IfOk result (λ opened. IsWritten A.next J.database_history (O.makes opening.now)
         opened.0.output opened.0.committed) }
     ensures once { IfOk result (λ opened. vec_len opened.0.conflicts ≡ 0) }
-    ensures database { IfOk result (λ opened. IsDatabaseOf J.database_row opened.1) }
+    ensures database { IfOk result (λ opened. IsDatabaseOf J.database_history opened.1) }
     ensures refused { IfErr result
-        (IsOpeningRefused A.numbers J.database_row (O.makes opening.now) (O.refuses opening.now)) }
+        (IsOpeningRefused A.numbers J.database_history (O.makes opening.now) (O.refuses opening.now)) }
 {
     let (ledger, committers) = Ledger::<J>::new(alloc, core)?;
     let mut committer = committers.committer();

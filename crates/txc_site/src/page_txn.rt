@@ -56,7 +56,7 @@ impl<'a, A: App, D: Definition, J: Naming, B: Begun> Model for PageTxn<'a, A, D,
 
     ghost view = { λ t. t.txn };
 
-    ghost invariant = { λ t. HasCalled A.next J.database_row J.node_histories B.client B.bounds t.txn };
+    ghost invariant = { λ t. HasCalled A.next J.database_history J.node_histories B.client B.bounds t.txn };
 }
 
 impl<'a, A: App, D: Definition, J: Naming, B: Begun> PageTxn<'a, A, D, J, B> {
@@ -90,7 +90,7 @@ impl<'a, A: App, D: Definition, J: Naming, B: Begun> PageTxn<'a, A, D, J, B> {
         ensures recorded { IfOk result (λ value. self.new.txn.core.recorded
             ≡ self.old.txn.core.recorded ++ record { key = key; value = value } ∷ []) }
         ensures unchanged { OnErr result (self.new.txn.core.recorded ≡ self.old.txn.core.recorded) }
-        ensures run { HasRun A.next J.database_row J.node_histories self.old key self.new (turn_of_result result) }
+        ensures run { HasRun A.next J.database_history J.node_histories self.old key self.new (turn_of_result result) }
         ensures missing { self.old.txn.core.pins.members ≢ []
             → IsNone (activity_of self.old.txn.objects key.function)
             → result ≡ Err (TxnError.Call (NoFunction key.function)) }
@@ -122,7 +122,7 @@ impl<'a, A: App, D: Definition, J: Naming, B: Begun> PageTxn<'a, A, D, J, B> {
     /// What it has seen of the history.
     pub fn seen(&self) -> &HistoryFront
         ensures answer { result.now ≡ self.now.txn.core.seen }
-        ensures row { result.now.events ≡ J.database_row }
+        ensures row { result.now.events ≡ J.database_history }
     {
         self.txn.seen()
     }
@@ -141,8 +141,8 @@ impl<'a, A: App, D: Definition, J: Naming, B: Begun> PageTxn<'a, A, D, J, B> {
         ensures answers { result.0.answers.items ≡ self.entry.txn.core.recorded }
         ensures explained { Explains A.next result.0.seen.history B.bounds result.0.pin result.0.answers.items }
         ensures not_before { IsAtLeast B.bounds.at_least result.0.pin }
-        ensures row { result.0.seen.events ≡ J.database_row }
-        ensures ran { IsPageRun A.next J.database_row J.node_histories B.client B.bounds
+        ensures row { result.0.seen.events ≡ J.database_history }
+        ensures ran { IsPageRun A.next J.database_history J.node_histories B.client B.bounds
             result.0.answers.items result.1 }
         ensures passes { HaveGrown B.client.passes result.1.passes }
         ensures functions { result.1.objects ≡ B.client.objects }
@@ -155,7 +155,7 @@ impl<'a, A: App, D: Definition, J: Naming, B: Begun> PageTxn<'a, A, D, J, B> {
     /// Gives the transaction up, and returns the client.
     #[tactic(auto, using(crate::proofs::Pages::page_ran, crate::proofs::Pages::functions_left, crate::proofs::Pages::renew_after_left))]
     pub(crate) fn abort(self, rt: &impl Wait) -> Client<'a, A, Function<D>, J>
-        ensures ran { IsPageRun A.next J.database_row J.node_histories B.client B.bounds
+        ensures ran { IsPageRun A.next J.database_history J.node_histories B.client B.bounds
             self.entry.txn.core.recorded result }
         ensures passes { HaveGrown B.client.passes result.passes }
         ensures functions { result.objects ≡ B.client.objects }

@@ -42,12 +42,12 @@ pub(crate) fn read_page<'a, A: App, D: Definition, J: Naming, P: Page<A, D>, R: 
     ensures explained { IfOk result.0 (λ shown. Explains A.next shown.receipt.seen.history bounds
         shown.receipt.pin shown.receipt.answers.items) }
     ensures not_before { IfOk result.0 (λ shown. IsAtLeast bounds.at_least shown.receipt.pin) }
-    ensures row { IfOk result.0 (λ shown. shown.receipt.seen.events ≡ J.database_row) }
-    ensures ran { IfOk result.0 (λ shown. IsPageRun A.next J.database_row J.node_histories client.entry bounds
+    ensures row { IfOk result.0 (λ shown. shown.receipt.seen.events ≡ J.database_history) }
+    ensures ran { IfOk result.0 (λ shown. IsPageRun A.next J.database_history J.node_histories client.entry bounds
         shown.receipt.answers.items result.1) }
     ensures refused { IfErr result.0 (IsPageRefused (P.refuses page.now)) }
     ensures left { IfErr result.0 (λ error.
-        IsLeftByRefused A.next J.database_row J.node_histories client.entry bounds error result.1) }
+        IsLeftByRefused A.next J.database_history J.node_histories client.entry bounds error result.1) }
     ensures passes { HaveGrown client.entry.passes result.1.passes }
     ensures functions { result.1.objects ≡ client.entry.objects }
     ensures renew_after { result.1.renew_after ≡ client.entry.renew_after }
@@ -74,12 +74,12 @@ fn read_begun<'a, A: App, D: Definition, J: Naming, P: Page<A, D>, B: Begun, R: 
     ensures explained { IfOk result.0 (λ shown. Explains A.next shown.receipt.seen.history B.bounds
         shown.receipt.pin shown.receipt.answers.items) }
     ensures not_before { IfOk result.0 (λ shown. IsAtLeast B.bounds.at_least shown.receipt.pin) }
-    ensures row { IfOk result.0 (λ shown. shown.receipt.seen.events ≡ J.database_row) }
-    ensures ran { IfOk result.0 (λ shown. IsPageRun A.next J.database_row J.node_histories B.client B.bounds
+    ensures row { IfOk result.0 (λ shown. shown.receipt.seen.events ≡ J.database_history) }
+    ensures ran { IfOk result.0 (λ shown. IsPageRun A.next J.database_history J.node_histories B.client B.bounds
         shown.receipt.answers.items result.1) }
     ensures refused { IfErr result.0 (IsPageRefused (P.refuses page.now)) }
     ensures left { IfErr result.0 (λ error.
-        IsLeftByRefused A.next J.database_row J.node_histories B.client B.bounds error result.1) }
+        IsLeftByRefused A.next J.database_history J.node_histories B.client B.bounds error result.1) }
     ensures passes { HaveGrown B.client.passes result.1.passes }
     ensures functions { result.1.objects ≡ B.client.objects }
     ensures renew_after { result.1.renew_after ≡ B.client.renew_after }

@@ -1,5 +1,6 @@
 //! How much room is left in the histories.
 ghost use Rattle.std.specs.Prelude.{◌≡◌, ◌+◌, length};
+ghost use Rattle.txc_db.specs.Room.{events_room};
 ghost use Rattle.txc_site.specs.Histories.{IsRoomLeft};
 
 use txc_db::{HistoryFront, Naming};
@@ -7,9 +8,9 @@ use txc_shared::NodePass;
 
 /// How many events there is room for after those that the front shows.
 pub fn events_left(front: &HistoryFront) -> usize
-    ensures { result + length front.now.history ≡ length front.now.events }
+    ensures { result + length front.now.history ≡ events_room front.now.events }
 {
-    front.events().capacity() - front.len()
+    front.room() - front.len()
 }
 
 /// How many records there is room for after those that the pass has seen, where they are stored. A history that

@@ -3,7 +3,7 @@ ghost use Rattle.std.specs.Prelude.{◌≡◌, [], IfErr, IfOk};
 ghost use Rattle.txc_node.specs.declared.op.Op.TheVariants.{Sweep};
 ghost use Rattle.txc_node.specs.declared.reply.Reply.TheVariants.{Swept};
 ghost use Rattle.txc_shared.specs.Passes.{HasMade, HasTaken};
-ghost use Rattle.txc_shared.specs.Refusals.{IsNewPassRefused, NodeMayRefuse};
+ghost use Rattle.txc_shared.specs.Refusals.{IsNewPassRefused, IsStepRefused, IsTakingRefused, NodeMayRefuse};
 ghost use Rattle.txc_site.specs.Stations.{HasNotRefused, HasBeenRefused, IsSamePass};
 
 use crate::ledger::Horizon;
@@ -61,7 +61,7 @@ impl<'a, A: App, J: Naming> Station<'a, A, J> {
         ensures same { IsSamePass self.old self.new }
         ensures taken { IfOk result (λ advanced. HasTaken self.old.pass self.new.pass advanced) }
         ensures answered { IfOk result (λ advanced. HasNotRefused self.old self.new) }
-        ensures refused { IfErr result (λ error. HasBeenRefused J.node_histories self.old error self.new) }
+        ensures refused { IfErr result (λ error. HasBeenRefused J.node_histories IsTakingRefused self.old error self.new) }
     {
         match self.pass.advance(rt, alloc, self.node) {
             Ok(advanced) => Ok(advanced),
@@ -84,7 +84,7 @@ impl<'a, A: App, J: Naming> Station<'a, A, J> {
         ensures made { IfOk result (λ count.
             HasMade self.old.pass self.new.pass (Sweep horizon.now) (Swept count)) }
         ensures answered { IfOk result (λ count. HasNotRefused self.old self.new) }
-        ensures refused { IfErr result (λ error. HasBeenRefused J.node_histories self.old error self.new) }
+        ensures refused { IfErr result (λ error. HasBeenRefused J.node_histories IsStepRefused self.old error self.new) }
     {
         match self.pass.sweep(rt, alloc, self.node, horizon.stamp()) {
             Ok(count) => Ok(count),

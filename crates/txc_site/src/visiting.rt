@@ -111,7 +111,7 @@ where
     requires { AreGuests J.node_histories plan guests.items }
     ensures each { IfOk result (λ outputs. vec_len outputs ≡ vec_len guests.entry) }
     ensures gives { IfOk result (λ outputs.
-        HaveCome (V.gives visitors.now plan J.database_row) outputs.items) }
+        HaveCome (V.gives visitors.now plan J.database_history) outputs.items) }
     ensures refused { IfErr result (λ error. error ≡ OpenError.Threads) }
 {
     let visited = thread::map_vec(
@@ -119,7 +119,7 @@ where
         guests,
         &|guest: Guest<SiteClient<'_, A, D, J>>| -> V::Output
             requires { IsNewClient J.node_histories guest.client }
-            ensures { V.gives visitors.entry.now guest.entry.client.plan J.database_row
+            ensures { V.gives visitors.entry.now guest.entry.client.plan J.database_history
                 guest.entry.number result }
         {
             let Guest { number, client } = guest;
@@ -158,11 +158,11 @@ where
     R: Threads + Wait + Sync,
     requires { AreGuests J.node_histories foundation.now.plan guests.items }
     ensures tended { IfOk result.0
-        (IsTendedBy J.database_row (nodes_of foundation.now.plan) (C.tells clock.now) keeping.age) }
+        (IsTendedBy J.database_history (nodes_of foundation.now.plan) (C.tells clock.now) keeping.age) }
     ensures no_keeper { IfErr result.0 IsKeeperRefused }
     ensures each { IfOk result.1 (λ outputs. vec_len outputs ≡ vec_len guests.entry) }
     ensures gives { IfOk result.1 (λ outputs.
-        HaveCome (V.gives visitors.now foundation.now.plan J.database_row) outputs.items) }
+        HaveCome (V.gives visitors.now foundation.now.plan J.database_history) outputs.items) }
     ensures refused { IfErr result.1 (λ error. error ≡ OpenError.Threads) }
 {
     let ended = Signal::new();
@@ -172,13 +172,13 @@ where
         rt,
         || -> Result<Tended, SiteError>
             ensures { IfOk result
-                (IsTendedBy J.database_row (nodes_of foundation.entry.now.plan) (C.tells clock.entry.now) keeping.age)
+                (IsTendedBy J.database_history (nodes_of foundation.entry.now.plan) (C.tells clock.entry.now) keeping.age)
                 × IfErr result IsKeeperRefused }
         { keep_until_ended(rt, alloc, foundation, keeping, clock, &ended) },
         || -> Result<Vec<V::Output>, OpenError>
             requires { AreGuests J.node_histories plan guests.items }
             ensures { IfOk result (λ outputs. (vec_len outputs ≡ vec_len guests.entry)
-                × HaveCome (V.gives visitors.entry.now plan J.database_row) outputs.items)
+                × HaveCome (V.gives visitors.entry.now plan J.database_history) outputs.items)
                 × IfErr result (λ error. error ≡ OpenError.Threads) }
         {
             let visited = visit_each(rt, alloc, plan, guests, visitors);
@@ -213,9 +213,9 @@ where
     requires tallies { vec_len foundation.now.tallies ≡ count }
     ensures each { IfOk result (λ came. vec_len came.outputs ≡ count) }
     ensures gives { IfOk result (λ came.
-        HaveCome (V.gives visitors.now foundation.now.plan J.database_row) came.outputs.items) }
+        HaveCome (V.gives visitors.now foundation.now.plan J.database_history) came.outputs.items) }
     ensures tended { IfOk result (λ came.
-        IsTendedAsPlanned foundation.now.plan (C.tells clock.now) J.database_row came.tended) }
+        IsTendedAsPlanned foundation.now.plan (C.tells clock.now) J.database_history came.tended) }
     ensures refused { IfErr result (IsVisitRefused A.numbers) }
 {
     let guests = guests::<A, D, J>(rt, alloc, foundation, committers, pool, count)?;

@@ -42,7 +42,7 @@ fn run_once<A: App, D: Definition, J: Naming, C: Change<A, D>, R: Wait>(
     change: &C,
 ) -> (Attempt<C::Output>, Registry<A, Function<D>>)
     requires { AllIdle registry }
-    ensures attempted { IsAttempted A.next J.database_row (C.makes change.now) (C.refuses change.now) result.0 }
+    ensures attempted { IsAttempted A.next J.database_history (C.makes change.now) (C.refuses change.now) result.0 }
     ensures registry { result.1 ≡ registry }
     ensures counted { CountsAttempt result.0 committer.old committer.new }
 {
@@ -84,12 +84,12 @@ pub(crate) fn write_change<A: App, D: Definition, J: Naming, C: Change<A, D>, R:
 )
     requires { AllIdle registry }
     ensures written { IfOk result.0 (λ written.
-        IsWritten A.next J.database_row (C.makes change.now) written.output written.committed) }
+        IsWritten A.next J.database_history (C.makes change.now) written.output written.committed) }
     ensures before { IfOk result.0 (λ written.
-        AreConflicts J.database_row (C.makes change.now) written.conflicts.items) }
+        AreConflicts J.database_history (C.makes change.now) written.conflicts.items) }
     ensures few { IfOk result.0 (λ written. vec_len written.conflicts < tries) }
     ensures refused { IfErr result.0
-        (IsSiteWriteRefused J.database_row (C.makes change.now) (C.refuses change.now) tries) }
+        (IsSiteWriteRefused J.database_history (C.makes change.now) (C.refuses change.now) tries) }
     ensures registry { result.1 ≡ registry }
     ensures counted { OnOk result.0 (committer.new ≡ counted_again committer.old) }
     ensures uncounted { OnErr result.0 (committer.new ≡ committer.old) }

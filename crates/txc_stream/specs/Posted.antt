@@ -33,6 +33,7 @@ pub record IsPoster {T : Type 0} (cells : List ℕ) (shown : Shown (Option (List
 -- there is room for one record more: in the same segment, or in the one after it, in which nothing was posted
 pub record HasRoomMade {T : Type 0} (old new : PosterValue T) : Type 0 where
   pub room : length new.posted < SEGMENT_LEN
+  pub counted : new.from + length new.posted ≡ old.from + length old.posted
   pub either : (new ≡ old) ⊎ (new ≡ record { from = old.from + SEGMENT_LEN; posted = [] })
 
 -- ---- walkers

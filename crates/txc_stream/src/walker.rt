@@ -64,6 +64,13 @@ impl<T, N, P: Posts<T, N>> Walker<T, N, P> {
         }
     }
 
+    /// Whether it has found a record that it has not taken.
+    pub fn is_found(&self) -> bool
+        ensures { result ≡ self.now.found }
+    {
+        self.found
+    }
+
     /// The note of what it has seen.
     pub fn note(&self) -> &N
         requires { self.now.found ≡ true }

@@ -3,26 +3,29 @@ use anyhow::Result;
 use std::alloc::Global;
 use std::sync::Wait;
 use txc_cushion::{CushionCore, Pincushion};
-use txc_db::{Database, Mark, Naming};
+use txc_db::{Database, Naming};
 use txc_rows::Query;
 use txc_site::events_left;
 use txc_stamp::Stamp;
 use txc_tags::{Table, TagSet};
 
 /// An event that is taken.
-pub fn feed<J: Naming>(database: &Database<J>) -> Result<usize> {
-    let mut feed = database.feed()?;
+pub fn feed<J: Naming>(rt: &impl Wait, database: &Database<J>) -> Result<usize> {
+    let mut feed = database.feed(rt)?;
     let front = database.reader()?;
     front.is_tagged();
     feed.longer(&front);
     let left = events_left(&front);
-    let _mark = Mark::<J>::new(front);
-    if !feed.look() {
+    if !feed.look(rt) {
         return Ok(feed.front().len().max(left));
     }
-    let net = feed.next_event().net().len();
+    let net = match feed.next_event() {
+        Some(event) => event.net().len(),
+        None => 0,
+    };
+    let is_tagged = feed.next_tags().is_some();
     feed.take();
-    Ok(net)
+    Ok(net.max(usize::from(is_tagged)))
 }
 
 /// A query at a stamp that is held.
@@ -42,8 +45,11 @@ pub fn commit<J: Naming>(rt: &impl Wait, alloc: Global, database: &Database<J>) 
     let pinned = database.pin(rt, alloc, 2000, committed.answer)?;
     database.unpin(rt, pinned.stamp)?;
     let kept = database.vacuum(rt)?.number() as usize;
-    let marks = database.marks().capacity();
-    Ok(kept.max(marks).max(database.events().capacity()))
+    let room = match database.events() {
+        Some(row) => row.capacity(),
+        None => database.reader()?.room(),
+    };
+    Ok(kept.max(room))
 }
 
 /// A pin that is added to a pincushion, handed out, and given back.

@@ -44,12 +44,13 @@ fn by_calls<J: Naming>(
 ) -> Result<usize> {
     let asked = ask(rt, alloc, database)?.max(commit(rt, alloc, database)?);
     let stuck = stick(rt, alloc, database, cushion)?.max(retire(rt, alloc, database)?);
-    let fed = feed(database)?.max(update(rt, alloc, database)?);
+    let fed = feed(rt, database)?.max(update(rt, alloc, database)?);
     Ok(asked.max(stuck).max(fed))
 }
 
 /// A node of the row, and one of the pen.
 fn nodes<J: Naming>(
+    rt: &impl Wait,
     alloc: Global,
     database: &Database<J>,
     row: EventRow<Record>,
@@ -61,8 +62,8 @@ fn nodes<J: Naming>(
     ensures { IfOk result (λ nodes. vec_len nodes ≡ 2) }
 {
     let mut nodes = Vec::new(alloc);
-    nodes.push(SharedNode::new(alloc, SETTINGS, row, database)?)?;
-    nodes.push(SharedNode::unstored(alloc, OTHERS, pen, database)?)?;
+    nodes.push(SharedNode::new(rt, alloc, SETTINGS, row, database)?)?;
+    nodes.push(SharedNode::unstored(rt, alloc, OTHERS, pen, database)?)?;
     Ok(nodes)
 }
 
@@ -78,7 +79,7 @@ fn over_database<J: Naming, R: Wait>(
     requires other { unstored pen.number ≡ J.node_histories 1 }
     requires none { pen.list ≡ [] }
 {
-    let nodes = nodes(alloc, database, row, pen)?;
+    let nodes = nodes(rt, alloc, database, row, pen)?;
     let cushion = Pincushion::new(alloc, database)?;
     let called = by_calls(rt, alloc, database, &cushion)?;
     let stepped = step(rt, alloc, &nodes[0])?.max(step(rt, alloc, &nodes[1])?);
@@ -94,7 +95,7 @@ fn over_histories<J: Naming, R: Wait>(
     row: EventRow<Record>,
     pen: Pen<Record>,
 ) -> Result<(DbCore, usize)>
-    requires database { core.events ≡ J.database_row }
+    requires database { core.events ≡ J.database_history }
     requires one { stored row ≡ J.node_histories 0 }
     requires other { unstored pen.number ≡ J.node_histories 1 }
     requires none { pen.list ≡ [] }

@@ -4,6 +4,7 @@ use Rattle.std.proofs.Common.{◌≡◌, ℕ, ◌+◌, ◌<◌, ◌≤◌, Bool,
 use Rattle.std.proofs.lemmas.Nat.{mod_below}
 use Rattle.std.specs.Prelude.{◌&&◌, sum}
 use Rattle.std.specs.Option.{ForSome}
+use Rattle.txc_stream.specs.Names.{Name}
 use Rattle.txc_stamp.specs.Interval.{Interval, Holds}
 use Rattle.txc_tags.specs.Keys.{Call, node_of}
 use Rattle.txc_db.specs.History.{moment_at}
@@ -64,7 +65,7 @@ module _ (P : FrontValue → Type 0) where
 
 -- ---- what is asked may be asked
 
-module _ (next : Next) (row : List ℕ) (t : TxnValue) (kept : IsTxn next t) where
+module _ (next : Next) (row : Name) (t : TxnValue) (kept : IsTxn next t) where
   node_there : (key : Call) (node nodes : ℕ) → node ≡ node_of t.core.nodes key → t.core.nodes ≡ nodes → node < nodes
   node_there key node nodes is same =
       subst (λ (n : ℕ). node < n) same (subst (λ (n : ℕ). n < t.core.nodes) (sym is) (mod_below (key.function + sum key.args) t.core.nodes kept.fits.nodes))

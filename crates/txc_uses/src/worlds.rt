@@ -44,6 +44,6 @@ pub fn steps(alloc: Global) -> Result<usize> {
     let replies = world.run(alloc, &[Step::Keeper(Keep::Vacuum)])?;
     let is_reading = world.pins(0).is_ok();
     let (database, _) = world.into_parts();
-    let room = database.events().capacity();
+    let room = database.front()?.room();
     Ok(room.max(replies.len()).max(usize::from(is_reading)))
 }

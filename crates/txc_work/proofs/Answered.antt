@@ -24,7 +24,7 @@ of_same_batch jobs others meets also same shared results all =
     all
 
 -- an outcome that meets its job where clients have some functions does so where they have the same
-pub with_functions : (next : Next) (row : List ℕ) (node_histories : ℕ → Name) (given functions : List ℕ) (job : Job) (outcome : Outcome)
+pub with_functions : (next : Next) (row : Name) (node_histories : ℕ → Name) (given functions : List ℕ) (job : Job) (outcome : Outcome)
     → given ≡ functions → Meets next row node_histories given job outcome → Meets next row node_histories functions job outcome
 with_functions next row node_histories given functions job outcome same met =
     subst (λ (fs : List ℕ). Meets next row node_histories fs job outcome) same met

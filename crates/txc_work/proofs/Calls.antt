@@ -19,7 +19,7 @@ passed_on (Ok x) e P h k = absurd h
 passed_on (Err x) e P h k = subst P (sym h) k
 
 -- where the keys before this one were answered, its call is the first that was refused
-pub refused_at : (next : Next) (row : List ℕ) (node_histories : ℕ → Name) (objects : Objects) (bounds : Bounds) (keys : List Call) (i : ℕ) (key copy : Call)
+pub refused_at : (next : Next) (row : Name) (node_histories : ℕ → Name) (objects : Objects) (bounds : Bounds) (keys : List Call) (i : ℕ) (key copy : Call)
     (old new : RoTxnValue) (result : Result (List ℕ) TxnError) (error : TxnError)
     → IsTxn next old.txn → AllIdle old.txn.objects → old.txn.objects ≡ objects
     → i < length keys → key ≡ get_or keys i key → copy ≡ key → keys_of old.txn.core.recorded ≡ take i keys

@@ -28,14 +28,14 @@ abbrev pub keys_of : List Recorded → List Call
 keys_of answers = map (λ r. r.key) answers
 
 -- the receipt answers the job's keys, in order, and is explained in a history of the row by the job's bounds
-pub record IsReceiptOfJob (next : Next) (row : List ℕ) (job : Job) (receipt : Receipt) : Type 0 where
+pub record IsReceiptOfJob (next : Next) (row : Name) (job : Job) (receipt : Receipt) : Type 0 where
   pub keys : keys_of receipt.answers.items ≡ job.keys.items
   pub explained : Explains next receipt.seen.history job.bounds receipt.pin receipt.answers.items
   pub events : receipt.seen.events ≡ row
 
 -- In a transaction with these bounds, whose pin set means what it says and whose objects are those of these
 -- functions, all idle, the keys before this one were answered; and the call of this one came to the refusal.
-pub record IsRefusedAt (next : Next) (row : List ℕ) (node_histories : ℕ → Name) (functions : List ℕ)
+pub record IsRefusedAt (next : Next) (row : Name) (node_histories : ℕ → Name) (functions : List ℕ)
     (bounds : Bounds) (keys : List Call) (error : TxnError) : Type 0 where
   pub before : List Call
   pub key : Call
@@ -52,7 +52,7 @@ pub record IsRefusedAt (next : Next) (row : List ℕ) (node_histories : ℕ → 
 
 -- A receipt is the job's. A refusal is out of memory, or that of the first of the job's calls that was
 -- refused, in a transaction of these functions.
-abbrev pub Meets : Next → List ℕ → (ℕ → Name) → List ℕ → Job → Outcome → Type 0
+abbrev pub Meets : Next → Name → (ℕ → Name) → List ℕ → Job → Outcome → Type 0
 Meets next row node_histories functions job (outcomes.Receipt receipt) = IsReceiptOfJob next row job receipt
 Meets next row node_histories functions job (outcomes.Refused error) =
     (error ≡ refusals.Memory) ⊎ IsRefusedAt next row node_histories functions job.bounds job.keys.items error

@@ -53,7 +53,7 @@ where
         IsPermutation (job_numbers jobs.items) (result_numbers results.items)) }
     ensures in_order { IfOk result (λ results. IsStrictlyIncreasing (result_numbers results.items)) }
     ensures met { IfOk result (λ results.
-        All (IsResultOf jobs.items (Meets A.next J.database_row J.node_histories functions)) results.items) }
+        All (IsResultOf jobs.items (Meets A.next J.database_history J.node_histories functions)) results.items) }
     ensures none { jobs.items ≡ [] → IsOk result }
     ensures twice { (number : ℕ) → IsLeastTwice (job_numbers jobs.items) number
         → result ≡ Err (BatchError.Twice number) }
@@ -87,10 +87,10 @@ where
     requires some { 0 < vec_len jobs }
     requires jobs { B.jobs ≡ jobs.items }
     requires functions { All (λ client. numbers_of client.objects ≡ B.functions) clients.items }
-    requires given { Implies (Meets A.next J.database_row J.node_histories B.functions) B.meets }
-    requires taken { Implies B.meets (Meets A.next J.database_row J.node_histories B.functions) }
+    requires given { Implies (Meets A.next J.database_history J.node_histories B.functions) B.meets }
+    requires taken { Implies B.meets (Meets A.next J.database_history J.node_histories B.functions) }
     ensures { IfOk result (λ results.
-        All (IsResultOf jobs.items (Meets A.next J.database_row J.node_histories B.functions)) results.items) }
+        All (IsResultOf jobs.items (Meets A.next J.database_history J.node_histories B.functions)) results.items) }
 {
     let count = jobs.len();
     let mut results = Vec::with_capacity(alloc, count)?;
@@ -127,7 +127,7 @@ where
     G: Gate + Sync,
     R: Threads + Wait + Sync,
     requires workers { All (IsWorkerOf jobs.now results.now B.functions) workers.items }
-    requires meets { Implies (Meets A.next J.database_row J.node_histories B.functions) B.meets }
+    requires meets { Implies (Meets A.next J.database_history J.node_histories B.functions) B.meets }
 {
     let Some(last) = workers.pop() else {
         return;
@@ -141,13 +141,13 @@ where
             requires functions { IsSend C.row }
             requires workers { All (IsWorkerOf jobs.now results.now B.functions) workers.items }
             requires last { IsWorkerOf jobs.now results.now B.functions last }
-            requires meets { Implies (Meets A.next J.database_row J.node_histories B.functions) B.meets }
+            requires meets { Implies (Meets A.next J.database_history J.node_histories B.functions) B.meets }
         {
             for worker in workers {
                 let _ = scope.spawn(
                     move ||
                         requires { IsWorkerOf jobs.now results.now B.functions worker
-                            × Implies (Meets A.next J.database_row J.node_histories B.functions) B.meets }
+                            × Implies (Meets A.next J.database_history J.node_histories B.functions) B.meets }
                     { work(rt, alloc, jobs, results, gate, worker) },
                 );
             }

@@ -23,7 +23,7 @@ pub(crate) fn run_job<'a, A: App, C: Cacheable, J: Naming, G: Gate>(
     job: Job,
 ) -> (Receipted, Client<'a, A, C, J>)
     ensures number { result.0.number ≡ job.number }
-    ensures met { Meets A.next J.database_row J.node_histories (numbers_of client.entry.objects)
+    ensures met { Meets A.next J.database_history J.node_histories (numbers_of client.entry.objects)
         job result.0.outcome }
     ensures functions { result.1.objects ≡ client.entry.objects }
 {
@@ -44,7 +44,7 @@ fn transact<'a, A: App, C: Cacheable, J: Naming>(
     client: Client<'a, A, C, J>,
     job: &Job,
 ) -> (Outcome, Client<'a, A, C, J>)
-    ensures met { Meets A.next J.database_row J.node_histories (numbers_of client.entry.objects) job.now result.0 }
+    ensures met { Meets A.next J.database_history J.node_histories (numbers_of client.entry.objects) job.now result.0 }
     ensures functions { result.1.objects ≡ client.entry.objects }
 {
     let mut txn = match client.begin_ro(rt, alloc, job.bounds) {
@@ -71,7 +71,7 @@ fn call_each<A: App, C: Cacheable, J: Naming>(
     ensures bounds { txn.new.txn.core.bounds ≡ txn.old.txn.core.bounds }
     ensures functions { txn.new.txn.objects ≡ txn.old.txn.objects }
     ensures answered { OnOk result (keys_of txn.new.txn.core.recorded ≡ keys.now) }
-    ensures refused { IfErr result (IsRefusedAt A.next J.database_row J.node_histories
+    ensures refused { IfErr result (IsRefusedAt A.next J.database_history J.node_histories
         (numbers_of txn.old.txn.objects) txn.old.txn.core.bounds keys.now) }
 {
     for key in keys {

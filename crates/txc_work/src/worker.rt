@@ -66,7 +66,7 @@ pub(crate) fn work<B: Batch, A: App, C: Cacheable, J: Naming, G: Gate, R: Wait>(
     worker: Worker<Client<'_, A, C, J>>,
 )
     requires worker { IsWorkerOf jobs.now results.now B.functions worker }
-    requires meets { Implies (Meets A.next J.database_row J.node_histories B.functions) B.meets }
+    requires meets { Implies (Meets A.next J.database_history J.node_histories B.functions) B.meets }
 {
     let Worker {
         mut client,

@@ -4,6 +4,7 @@ use Rattle.txc_stream.specs.Names.{stored}
 use Rattle.txc_db.specs.Seen.{FrontValue}
 use Rattle.txc_shared.specs.declared.settings.NodeSettings.{NodeSettings}
 use Rattle.txc_shared.specs.Nodes.{NodeValue, start_of}
+use Rattle.txc_db.specs.Room.{HasCapacity}
 use Rattle.txc_world.specs.declared.settings.WorldSettings.{WorldSettings}
 use Rattle.txc_world.specs.Ports.{PortsValue, whole_of}
 
@@ -33,7 +34,7 @@ AreNewNodes settings passes seen nodes = (number : ℕ) (n : NodeValue) → slic
 -- the ports of a new world: nothing happened, and the nodes are new
 pub record AreNewPorts (settings : WorldSettings) (actors : ℕ) (p : PortsValue) : Type 0 where
   pub history : p.database.history ≡ []
-  pub events : length p.database.events ≡ settings.row_cap
+  pub events : HasCapacity p.database.events settings.row_cap
   pub holds : p.database.holds ≡ []
   pub horizon : p.database.horizon ≡ 0
   pub entries : p.cushion.entries ≡ []

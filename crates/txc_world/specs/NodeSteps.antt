@@ -11,7 +11,7 @@ use Rattle.txc_shared.specs.declared.error.NodeError.{NodeError}
 use Rattle.txc_shared.specs.declared.error.NodeError.TheVariants.{Memory}
 use Rattle.txc_shared.specs.declared.insertion.Insertion.{Insertion}
 use Rattle.txc_shared.specs.Nodes.{NodeValue, after_call, seeing, insertion_of, HasAdvanced, IsLonger}
-use Rattle.txc_shared.specs.Refusals.{CanRecord, IsLookupRefused, IsNodeLeft, IsStepRefused}
+use Rattle.txc_shared.specs.Refusals.{CanRecord, IsLookupRefused, IsNodeLeft, IsStepRefused, IsTakingRefused}
 
 -- the node refused the lookup
 abbrev pub HasRefusedLookup : NodeValue → ℕ → ℕ → NodeValue → Type 0
@@ -44,11 +44,11 @@ InsertLeads pass seen entry old new None = HasRefusedStep old new
 
 -- ---- steps of the keeper
 
--- of an advance: as of any other step; but out of memory may come before a full history, as the front of
+-- of an advance: as of any event that is taken; but out of memory may come before a full history, as the front of
 -- the whole is made first
 abbrev pub IsAdvanceRefused : NodeValue → NodeError → Type 0
 IsAdvanceRefused n Memory = n.broken ≡ false
-IsAdvanceRefused n e = IsStepRefused n e
+IsAdvanceRefused n e = IsTakingRefused n e
 
 -- of an advance: the node has seen the whole, and took the next event, or has taken all; or it refused
 abbrev pub AdvanceLeads : ℕ → FrontValue → NodeValue → NodeValue → Result Advanced NodeError → Type 0

@@ -28,7 +28,7 @@ impl<J: Naming> Model for PresentPin<J> {
 
     ghost view = { λ p. p.pinned };
 
-    ghost invariant = { λ p. p.pinned.front.events ≡ J.database_row };
+    ghost invariant = { λ p. p.pinned.front.events ≡ J.database_history };
 }
 
 /// A pin that the pincushion has, with a user. It cannot be let go: [`Ledger::give_back`] takes it.
@@ -45,7 +45,7 @@ impl<J: Naming> Model for UsedPin<J> {
 
     ghost view = { λ p. p.pinned };
 
-    ghost invariant = { λ p. p.pinned.front.events ≡ J.database_row };
+    ghost invariant = { λ p. p.pinned.front.events ≡ J.database_history };
 }
 
 /// Pins that the pincushion has no more, and how many of them were taken. They cannot be let go: each is taken
@@ -137,9 +137,9 @@ impl<J: Naming> Ledger<J> {
         alloc: Global,
         now: u64,
     ) -> Result<PresentPin<J>, DbError>
-        ensures row { IfOk result (λ pin. pin.front.events ≡ J.database_row) }
+        ensures row { IfOk result (λ pin. pin.front.events ≡ J.database_history) }
         ensures event { IfOk result (λ pin. event_at pin.front.history pin.stamp ≡ Some (pin_event now)) }
-        ensures refused { IfErr result (MayRefuse J.database_row (λ d. IsPinRefused d 0)) }
+        ensures refused { IfErr result (MayRefuse J.database_history (λ d. IsPinRefused d 0)) }
     {
         let pinned = self.database.pin(rt, alloc, now, Stamp::ZERO)?;
         Ok(PresentPin {
@@ -173,7 +173,7 @@ impl<J: Naming> Ledger<J> {
     /// Takes the user of the pin away, which stays in the pincushion.
     pub(crate) fn give_back(&self, rt: &impl Wait, used: UsedPin<J>) -> Pinned
         ensures pin { result ≡ used }
-        ensures row { result.front.events ≡ J.database_row }
+        ensures row { result.front.events ≡ J.database_history }
     {
         let UsedPin { pinned, of: _ } = used;
         let _ = self.cushion.give_back(rt, &[pinned.stamp]);
@@ -183,7 +183,7 @@ impl<J: Naming> Ledger<J> {
     /// Takes the hold of the pin away.
     pub(crate) fn unpin(&self, rt: &impl Wait, pin: PresentPin<J>) -> Pinned
         ensures pin { result ≡ pin }
-        ensures row { result.front.events ≡ J.database_row }
+        ensures row { result.front.events ≡ J.database_history }
     {
         let PresentPin { pinned, of: _ } = pin;
         let _ = self.database.unpin(rt, pinned.stamp);
@@ -198,7 +198,7 @@ impl<J: Naming> Ledger<J> {
         now: u64,
         age: u64,
     ) -> Result<RetiredPins<J>, AllocError>
-        ensures answer { IfOk result (CushionMayAnswer J.database_row (λ c pins.
+        ensures answer { IfOk result (CushionMayAnswer J.database_history (λ c pins.
             pins.stamps ≡ retired c now age)) }
         ensures untaken { IfOk result (λ pins. pins.taken ≡ 0) }
     {
@@ -218,8 +218,8 @@ impl<J: Naming> Ledger<J> {
 
     /// Makes the horizon the least held stamp, or the newest where none is held.
     pub(crate) fn vacuum(&self, rt: &impl Wait) -> Result<Horizon<J>, DbError>
-        ensures answer { IfOk result (MayAnswer J.database_row (λ d horizon. horizon ≡ next_horizon d)) }
-        ensures refused { IfErr result (MayRefuse J.database_row IsVacuumRefused) }
+        ensures answer { IfOk result (MayAnswer J.database_history (λ d horizon. horizon ≡ next_horizon d)) }
+        ensures refused { IfErr result (MayRefuse J.database_history IsVacuumRefused) }
     {
         let stamp = self.database.vacuum(rt)?;
         Ok(Horizon {

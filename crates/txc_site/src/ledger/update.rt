@@ -45,7 +45,7 @@ impl<J: Naming> Ledger<J> {
         requires { AllIdle registry }
         ensures begun { IfOk result (λ update. IsBegun (length update.history) update.core) }
         ensures objects { IfOk result (λ update. update.objects ≡ registry) }
-        ensures refused { IfErr result (λ e. MayRefuse J.database_row IsHoldRefused e.0) }
+        ensures refused { IfErr result (λ e. MayRefuse J.database_history IsHoldRefused e.0) }
         ensures handed_back { IfErr result (λ e. e.1 ≡ registry) }
     {
         let txn = RwTxn::begin(rt, alloc, &self.database, registry)?;
@@ -76,7 +76,7 @@ impl<'a, J: Naming, A: App, D: Definition> Update<'a, J, A, D> {
         alloc: Global,
         committer: &mut Committer<J>,
     ) -> Result<(Committed, Registry<A, Function<D>>), (Update<'a, J, A, D>, CommitError)>
-        ensures named { IfOk result (λ done. done.0.front.events ≡ J.database_row) }
+        ensures named { IfOk result (λ done. done.0.front.events ≡ J.database_history) }
         ensures answer { IfOk result (λ done.
             IsCommitted A.next done.0.front.history self.entry.core done.0.stamp) }
         ensures at_base { IfOk result (λ done.
@@ -87,7 +87,7 @@ impl<'a, J: Naming, A: App, D: Definition> Update<'a, J, A, D> {
         ensures answers { IfOk result (λ done. done.0.answers.items ≡ self.entry.core.answers) }
         ensures registry { IfOk result (λ done. done.1 ≡ self.entry.objects) }
         ensures idle { IfOk result (λ done. AllIdle done.1) }
-        ensures refused { IfErr result (λ e. MayRefuse J.database_row (λ d. let c = self.entry.core in
+        ensures refused { IfErr result (λ e. MayRefuse J.database_history (λ d. let c = self.entry.core in
             IsSharedCommitRefused d c.base (tags_read c) c.changes) e.1) }
         ensures handed_back { IfErr result (λ e. e.0 ≡ self.entry) }
         ensures counted { OnOk result (committer.new ≡ counted_again committer.old) }

@@ -5,7 +5,7 @@ use Rattle.txc_batch.proofs.running.run_jobs.Given as goal
 -- the row of the database as it stood, and those that were just made
 abbrev pub ghosts-run_over : goal.ghosts-run_over
 ghosts-run_over g a = record {
-  database_row = a.batch.source.database.events;
+  database_history = a.batch.source.database.events;
   node_histories = λ n. stored (get_or a.rows.items n []);
 }
 

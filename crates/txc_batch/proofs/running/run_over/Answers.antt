@@ -74,10 +74,10 @@ pub results_agree-requires : goal.results_agree-requires
 results_agree-requires g c =
     let asked = c.requires.1.1.1.1.1.1.1.1.1.1 in
     let jobs = c.batch.inside.jobs.items in
-    let meets = IsResultOf jobs (Meets g.A.App.next g.J.Naming.database_row g.J.Naming.node_histories g.functions) in
-    let row : c.in-Ok.told.events ≡ g.J.Naming.database_row = ap (λ (f : FrontValue). f.events) c.in-Ok.ensures ∙ ap (λ (d : DatabaseValue). d.events) c.into_parts-database.ensures.database
+    let meets = IsResultOf jobs (Meets g.A.App.next g.J.Naming.database_history g.J.Naming.node_histories g.functions) in
+    let row : c.in-Ok.told.events ≡ g.J.Naming.database_history = ap (λ (f : FrontValue). f.events) c.in-Ok.ensures ∙ ap (λ (d : DatabaseValue). d.events) c.into_parts-database.ensures.database
     ∙ ap (λ (b : BatchState). b.source.database.events) c.batch.view_is ∙ asked.0 in
-    all_of_row g.A.App.next g.J.Naming.database_row c.in-Ok.told.events g.J.Naming.node_histories g.functions jobs c.results.result.now row (subst (All meets) (sym c.results.ensures) c.in_ok-ran.ensures.met)
+    all_of_row g.A.App.next g.J.Naming.database_history c.in-Ok.told.events g.J.Naming.node_histories g.functions jobs c.results.result.now row (subst (All meets) (sym c.results.ensures) c.in_ok-ran.ensures.met)
 
 pub returns-clause-ran : goal.returns-clause-ran
 returns-clause-ran g c =
@@ -90,7 +90,7 @@ returns-clause-ran g c =
     let history = c.in-Ok.told.history in
     let ran = c.in_ok-ran in
     subst (λ (b : BatchState). HaveRun g.A.App.next b ran.ran) same
-    (have_run g.A.App.next s ran.ran g.J.Naming.database_row g.J.Naming.node_histories g.functions history (ap (λ (b : BatchState). b.source.database.events) same ∙ asked.0)
+    (have_run g.A.App.next s ran.ran g.J.Naming.database_history g.J.Naming.node_histories g.functions history (ap (λ (b : BatchState). b.source.database.events) same ∙ asked.0)
     (ap (λ (b : BatchState). b.functions) same ∙ asked.1.1.1.1) (rooms_by inside.settings c.args.rows.items g.J.Naming.node_histories asked.1.0 rooms (omega (arith, count, c.args.rows.ok.0))) ran.ensures.settings
     ran.ensures.once ran.ensures.in_order ran.ensures.met (ap (λ (f : FrontValue). f.history) c.in-Ok.ensures ∙ ap (λ (d : DatabaseValue). d.history) c.into_parts-database.ensures.database)
     (subst (All (λ (told : Receipted). AgreesWith history told.outcome)) c.results.ensures c.results_agree.ensures))

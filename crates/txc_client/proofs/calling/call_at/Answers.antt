@@ -30,14 +30,14 @@ loop-turn-init g c =
     record {
       passes = have_grown_self c.args.ports.now;
       turn = c.start-turn.ensures.turn_fits;
-      adds = adds_none (λ front. front.events ≡ g.J.Naming.database_row) c.start-turn.result c.start-turn.ensures.no_add;
+      adds = adds_none (λ front. front.events ≡ g.J.Naming.database_history) c.start-turn.result c.start-turn.ensures.no_add;
       events = row_stays old new same ∙ c.requires.events;
       begins = c.start-turn.ensures.begins;
       recorded = recorded_stays old new same ∙ sym (none_recorded old.recorded c.start-turn.result _ c.start-turn.ensures.no_value);
       settings = settings_stay old new same;
       longer = history_stays old new same;
       functions = c.start-turn.ensures.functions;
-      run = run_begun g.A.App.next g.J.Naming.database_row g.J.Naming.node_histories before c.args.key after c.start-turn.result begun;
+      run = run_begun g.A.App.next g.J.Naming.database_history g.J.Naming.node_histories before c.args.key after c.start-turn.result begun;
       missing = λ members none. ((c.start-turn.ensures.leads.begins members).absent none).1;
     }
 
@@ -52,14 +52,14 @@ loop-turn-preserved g c =
     record {
       passes = have_grown_then c.args.ports.now c.loop-turn.ports c.ask-reply.new.self inv.passes c.ask-reply.ensures.passes;
       turn = on.turn_fits;
-      adds = adds_next (λ front. front.events ≡ g.J.Naming.database_row) g.A.App.next c.loop-turn.txn c.next-turn.new.self c.next-turn.result c.ask-reply.result c.ask-reply.ensures.row on.adds on.leads;
+      adds = adds_next (λ front. front.events ≡ g.J.Naming.database_history) g.A.App.next c.loop-turn.txn c.next-turn.new.self c.next-turn.result c.ask-reply.result c.ask-reply.ensures.row on.adds on.leads;
       events = on.events ∙ inv.events;
       begins = λ more. on.goes_on more ∙ inv.begins asks;
       recorded = on.recorded ∙ recorded_on c.args.txn.now.core.recorded c.loop-turn.txn.core.recorded c.in-Ask.request c.loop-turn.turn c.next-turn.result c.args.key _ c.in-Ask.is inv.recorded (inv.begins asks);
       settings = settings_then c.args.txn.now.core c.loop-turn.txn.core c.next-turn.new.self.core inv.settings on.settings;
       longer = prefix_then c.args.txn.now.core.seen.history c.loop-turn.txn.core.seen.history c.next-turn.new.self.core.seen.history inv.longer on.longer;
       functions = on.functions ∙ inv.functions;
-      run = run_asked g.A.App.next g.J.Naming.database_row g.J.Naming.node_histories began c.args.key before after c.loop-turn.turn c.next-turn.result c.in-Ask.request c.ask-reply.result
+      run = run_asked g.A.App.next g.J.Naming.database_history g.J.Naming.node_histories began c.args.key before after c.loop-turn.turn c.next-turn.result c.in-Ask.request c.ask-reply.result
           c.in-Ask.is c.ask-reply.ensures.answer c.ask-reply.ensures.row c.ask-reply.ensures.told c.ask-reply.ensures.left on inv.run;
       missing = λ members none. absurd (cc (inv.missing members none, c.in-Ask.is));
     }
@@ -80,9 +80,9 @@ ask-reply-requires g c =
     let nodes : txn.core.nodes ≡ length c.loop-turn.ports = inv.settings.nodes ∙ c.requires.nodes ∙ sym (as_many c.args.ports.now c.loop-turn.ports inv.passes) in
     record {
       row = ap (λ (f : FrontValue). f.events) same ∙ inv.events;
-      may = subst (λ (f : FrontValue). MayAsk g.A.App.next g.J.Naming.database_row (length c.loop-turn.ports) f.history c.in-Ask.request) (sym same)
-          (may_ask g.A.App.next g.J.Naming.database_row txn c.is_kept.ensures (length c.loop-turn.ports) nodes c.in-Ask.request
-          (subst (IsTurn txn.core) c.in-Ask.is inv.turn) (subst (AddsSuch (λ front. front.events ≡ g.J.Naming.database_row)) c.in-Ask.is inv.adds));
+      may = subst (λ (f : FrontValue). MayAsk g.A.App.next g.J.Naming.database_history (length c.loop-turn.ports) f.history c.in-Ask.request) (sym same)
+          (may_ask g.A.App.next g.J.Naming.database_history txn c.is_kept.ensures (length c.loop-turn.ports) nodes c.in-Ask.request
+          (subst (IsTurn txn.core) c.in-Ask.is inv.turn) (subst (AddsSuch (λ front. front.events ≡ g.J.Naming.database_history)) c.in-Ask.is inv.adds));
     }
 
 pub next-turn-requires : goal.next-turn-requires

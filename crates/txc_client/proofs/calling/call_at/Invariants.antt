@@ -16,14 +16,14 @@ abbrev pub invariant-loop-turn : goal.invariant-loop-turn
 invariant-loop-turn g l = record {
   passes : HaveGrown l.fn.ports l.ports;
   turn : IsTurn l.txn.core l.turn;
-  adds : AddsSuch (λ front. front.events ≡ g.J.Naming.database_row) l.turn;
-  events : l.txn.core.seen.events ≡ g.J.Naming.database_row;
+  adds : AddsSuch (λ front. front.events ≡ g.J.Naming.database_history) l.turn;
+  events : l.txn.core.seen.events ≡ g.J.Naming.database_history;
   begins : IsAsk l.turn → open_call l.txn.core ≡ Some l.fn.key;
   recorded : l.txn.core.recorded ≡ recorded_after l.fn.txn.core.recorded l.turn (Some l.fn.key);
   settings : KeepsSettings l.fn.txn.core l.txn.core;
   longer : IsPrefix l.fn.txn.core.seen.history l.txn.core.seen.history;
   functions : numbers_of l.txn.objects ≡ numbers_of l.fn.txn.objects;
-  run : HasRun g.A.App.next g.J.Naming.database_row g.J.Naming.node_histories (record { txn = l.fn.txn; passes = l.fn.ports }) l.fn.key
+  run : HasRun g.A.App.next g.J.Naming.database_history g.J.Naming.node_histories (record { txn = l.fn.txn; passes = l.fn.ports }) l.fn.key
       (record { txn = l.txn; passes = l.ports }) l.turn;
   missing : l.fn.txn.core.pins.members ≢ [] → IsNone (activity_of l.fn.txn.objects l.fn.key.function)
       → l.turn ≡ Refused (errors.Call (NoFunction l.fn.key.function));

@@ -21,7 +21,7 @@ loop-query-preserved g c =
     let kind = kind_of_call c.loop-query.core.call.need c.reply-turn.result (inv.open_call three.2) c.reply-turn.ensures.kind in
     let need = need_of_call c.loop-query.core.reading c.loop-query.core.call.need c.in-Some.query inv.fits.reading three.0 (some_then c.loop-query.core.call.need (inv.open_call three.2)) in
     let at_base : c.in-Some.stamp ≡ c.args.core.now.base = three.1 ∙ inv.base in
-    let refused = subst (λ (n : ℕ). IfErr c.find-found.result (MayRefuse g.J.Naming.database_row (λ d. IsQueryRefused d c.in-Some.query n))) at_base c.find-found.ensures.refused in
+    let refused = subst (λ (n : ℕ). IfErr c.find-found.result (MayRefuse g.J.Naming.database_history (λ d. IsQueryRefused d c.in-Some.query n))) at_base c.find-found.ensures.refused in
     record {
       fits = c.reply-turn.ensures.fits;
       turn = c.reply-turn.ensures.turn;
@@ -37,7 +37,7 @@ loop-query-preserved g c =
       open_call = c.reply-turn.ensures.open;
       begins = λ asks. c.reply-turn.ensures.goes_on asks ∙ inv.begins three.2;
       run = λ there.
-          run_goes_on g.A.App.next g.J.Naming.database_row (state_at c.args.seen.now.history c.args.core.now.base) (standing_of (started c.args.key) c.args.registry.now)
+          run_goes_on g.A.App.next g.J.Naming.database_history (state_at c.args.seen.now.history c.args.core.now.base) (standing_of (started c.args.key) c.args.registry.now)
           c.args.core.now c.loop-query.core c.reply-turn.new.self c.loop-query.registry c.reply-turn.new.registry c.loop-query.turn c.reply-turn.result c.find-found.result c.in-Some.query
           (inv.run there) three.2 three.0 need c.reply-turn.ensures.queried refused c.reply-turn.ensures.refused
           (λ f is.
@@ -62,7 +62,7 @@ loop-query-init g c = record {
   open_call = c.start-turn.ensures.open;
   begins = c.start-turn.ensures.begins;
   run = λ there.
-      run_begins g.A.App.next g.J.Naming.database_row (state_at c.args.seen.now.history c.args.core.now.base) (standing_of (started c.args.key) c.args.registry.now)
+      run_begins g.A.App.next g.J.Naming.database_history (state_at c.args.seen.now.history c.args.core.now.base) (standing_of (started c.args.key) c.args.registry.now)
       c.args.core.now c.start-turn.new.self c.start-turn.new.registry c.start-turn.result (ap (λ (w : RwValue). w.queried) c.start-turn.ensures.same)
       (c.start-turn.ensures.leads there (state_at c.args.seen.now.history c.args.core.now.base));
   base = ap (λ (w : RwValue). w.base) c.start-turn.ensures.same;
@@ -75,5 +75,5 @@ loop-query-init g c = record {
 
 pub returns-clause-run : goal.returns-clause-run
 returns-clause-run g c = λ there.
-    run_over g.A.App.next g.J.Naming.database_row (state_at c.args.seen.now.history c.args.core.now.base) (standing_of (started c.args.key) c.args.registry.now)
+    run_over g.A.App.next g.J.Naming.database_history (state_at c.args.seen.now.history c.args.core.now.base) (standing_of (started c.args.key) c.args.registry.now)
     c.args.core.now c.loop-query.core c.loop-query.registry c.loop-query.turn c.value_of.result c.value_of.ensures.answer c.value_of.ensures.refused (c.loop-query.invariant.run there)

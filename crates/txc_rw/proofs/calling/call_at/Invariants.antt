@@ -22,7 +22,7 @@ invariant-loop-query g l = record {
   open_call : IsAsk l.turn → IsSome l.core.call.need;
   begins : IsAsk l.turn → l.core.call.top ≡ l.fn.key;
   run : IsSome (activity_of l.fn.registry l.fn.key.function)
-      → IsRunSo g.A.App.next g.J.Naming.database_row (state_at l.seen.history l.fn.core.base) (standing_of (started l.fn.key) l.fn.registry) l.fn.core l.core l.registry l.turn;
+      → IsRunSo g.A.App.next g.J.Naming.database_history (state_at l.seen.history l.fn.core.base) (standing_of (started l.fn.key) l.fn.registry) l.fn.core l.core l.registry l.turn;
   base : l.core.base ≡ l.fn.core.base;
   changes : l.core.changes ≡ l.fn.core.changes;
   missing : IsNone (activity_of l.fn.registry l.fn.key.function) → l.turn ≡ Refused (errors.Call (NoFunction l.fn.key.function));

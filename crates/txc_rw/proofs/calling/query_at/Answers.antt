@@ -47,10 +47,10 @@ returns-clause-refused g c =
     let at_base : c.in-Some.stamp ≡ c.args.core.now.base = three.1 ∙ ap (λ (w : RwValue). w.base) asking in
     let same : c.in-Some.query ≡ c.args.query = one_value (sym three.0 ∙ ap (λ (w : RwValue). w.reading) asking) in
     let refused =
-    subst (λ (q : Query). IfErr c.find-found.result (MayRefuse g.J.Naming.database_row (λ d. IsQueryRefused d q c.args.core.now.base))) same
-    (subst (λ (n : ℕ). IfErr c.find-found.result (MayRefuse g.J.Naming.database_row (λ d. IsQueryRefused d c.in-Some.query n))) at_base c.find-found.ensures.refused) in
+    subst (λ (q : Query). IfErr c.find-found.result (MayRefuse g.J.Naming.database_history (λ d. IsQueryRefused d q c.args.core.now.base))) same
+    (subst (λ (n : ℕ). IfErr c.find-found.result (MayRefuse g.J.Naming.database_history (λ d. IsQueryRefused d c.in-Some.query n))) at_base c.find-found.ensures.refused) in
     let none = ap (λ (w : RwValue). w.call.need) asking ∙ c.requires.idle.0 in
-    if_err (λ (e : TxnError). c.reply.result ≡ Refused e) (IsQueryRefusal g.J.Naming.database_row c.args.core.now.base c.args.query) c.rows_of-2.result
+    if_err (λ (e : TxnError). c.reply.result ≡ Refused e) (IsQueryRefusal g.J.Naming.database_history c.args.core.now.base c.args.query) c.rows_of-2.result
     (λ e turned.
-    query_refused g.J.Naming.database_row c.args.core.now.base c.args.query c.find-found.result c.reply.result e refused (λ f is. c.reply.ensures.rows f none is) c.reply.ensures.refused turned)
+    query_refused g.J.Naming.database_history c.args.core.now.base c.args.query c.find-found.result c.reply.result e refused (λ f is. c.reply.ensures.rows f none is) c.reply.ensures.refused turned)
     c.rows_of-2.ensures.refused

@@ -8,12 +8,12 @@ use Rattle.txc_site.proofs.histories.over_histories.Goals as goal
 -- the foundation has this plan
 pub returns-clause-gives : goal.returns-clause-gives
 returns-clause-gives g c =
-    subst (λ (plan : Plan). HaveCome (g.V.Visitor.gives c.args.visitors.now plan g.J.Naming.database_row) c.in_ok-came.came.outputs.items) c.in_ok-foundation.ensures.plan
+    subst (λ (plan : Plan). HaveCome (g.V.Visitor.gives c.args.visitors.now plan g.J.Naming.database_history) c.in_ok-came.came.outputs.items) c.in_ok-foundation.ensures.plan
     c.in_ok-came.ensures.gives
 
 pub returns-clause-tended : goal.returns-clause-tended
 returns-clause-tended g c =
-    subst (λ (plan : Plan). IsTendedAsPlanned plan (g.C.Clock.tells c.args.clock.now) g.J.Naming.database_row c.in_ok-came.came.tended) c.in_ok-foundation.ensures.plan
+    subst (λ (plan : Plan). IsTendedAsPlanned plan (g.C.Clock.tells c.args.clock.now) g.J.Naming.database_history c.in_ok-came.came.tended) c.in_ok-foundation.ensures.plan
     c.in_ok-came.ensures.tended
 
 pub visit-requires-clause-stored_so : goal.visit-requires-clause-stored_so

@@ -6,6 +6,6 @@ use Rattle.txc_site.proofs.histories.over_new_histories.Given as goal
 -- the database's row, and the histories that were just made
 abbrev pub ghosts-over_histories : goal.ghosts-over_histories
 ghosts-over_histories g a = record {
-  database_row = a.core.events;
+  database_history = a.core.events;
   node_histories = λ n. get_or (map history_name a.histories.items) n (stored []);
 }

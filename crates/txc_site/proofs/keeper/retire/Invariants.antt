@@ -8,5 +8,5 @@ abbrev pub invariant-loop : goal.invariant-loop
 invariant-loop g l = record {
   taken : l.pins.taken ≡ l.counter;
   count : length l.pins.stamps ≡ l.count;
-  stamps : CushionMayAnswer g.J.Naming.database_row (λ c stamps. stamps ≡ retired c l.now l.age) l.pins.stamps;
+  stamps : CushionMayAnswer g.J.Naming.database_history (λ c stamps. stamps ≡ retired c l.now l.age) l.pins.stamps;
 }

@@ -5,6 +5,6 @@ use Rattle.txc_site.proofs.opening.opened.Given as goal
 -- the database's row; there is no node yet
 abbrev pub ghosts-open : goal.ghosts-open
 ghosts-open g a = record {
-  database_row = a.core.events;
+  database_history = a.core.events;
   node_histories = λ n. stored [];
 }

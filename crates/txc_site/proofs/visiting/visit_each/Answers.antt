@@ -22,5 +22,5 @@ returns-in-Ok-clause-gives g c = λ number d short.
     let came = (c.in-Ok.ensures.each number d within).1 in
     let its = ap (λ guest. guest.number) came.job_read ∙ number_at (λ guest. guest.number) guests.items (length guests.items) number came.job c.requires.numbers within within in
     let planned = ap (λ guest. guest.client.plan) came.job_read ∙ c.requires.plans number came.job within in
-    subst (λ plan. g.V.Visitor.gives c.args.visitors.now plan g.J.Naming.database_row number (slice_index_or visited.items number d)) planned
-    (subst (λ (k : ℕ). g.V.Visitor.gives c.args.visitors.now came.job.client.plan g.J.Naming.database_row k (slice_index_or visited.items number d)) its came.call.met)
+    subst (λ plan. g.V.Visitor.gives c.args.visitors.now plan g.J.Naming.database_history number (slice_index_or visited.items number d)) planned
+    (subst (λ (k : ℕ). g.V.Visitor.gives c.args.visitors.now came.job.client.plan g.J.Naming.database_history k (slice_index_or visited.items number d)) its came.call.met)

@@ -8,14 +8,14 @@ use Rattle.txc_site.proofs.writing.write_change.Goals as goal
 
 pub returns-in-Refused-clause-refused : goal.returns-in-Refused-clause-refused
 returns-in-Refused-clause-refused g c =
-    refused_so g.A.App.next g.J.Naming.database_row (g.C.Change.makes c.args.change.now) (g.C.Change.refuses c.args.change.now) c.run_once-outcome.result.0 c.in-Refused.error
+    refused_so g.A.App.next g.J.Naming.database_history (g.C.Change.makes c.args.change.now) (g.C.Change.refuses c.args.change.now) c.run_once-outcome.result.0 c.in-Refused.error
     c.run_once-outcome.ensures.attempted c.in-Refused.is c.args.tries
 
 pub loop-preserved : goal.loop-preserved
 loop-preserved g c =
     let before = c.loop.invariant in
     let makes = g.C.Change.makes c.args.change.now in
-    let row = g.J.Naming.database_row in
+    let row = g.J.Naming.database_history in
     let conflict = conflict_so g.A.App.next row makes (g.C.Change.refuses c.args.change.now) c.run_once-outcome.result.0 c.in-Conflict.conflict c.run_once-outcome.ensures.attempted c.in-Conflict.is in
     let pushed = c.push_reserved.ensures in
     record {

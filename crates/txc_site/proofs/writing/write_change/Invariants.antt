@@ -8,7 +8,7 @@ invariant-loop g l = record {
   registry : l.registry ≡ l.fn.registry;
   idle : AllIdle l.registry;
   uncounted : l.committer ≡ l.fn.committer;
-  conflicts : AreConflicts g.J.Naming.database_row (g.C.Change.makes l.change) l.conflicts.items;
+  conflicts : AreConflicts g.J.Naming.database_history (g.C.Change.makes l.change) l.conflicts.items;
   each : vec_len l.conflicts ≡ l.counter;
   room : l.tries ≤ vec_capacity l.conflicts;
 }

@@ -8,5 +8,5 @@ put_jobs-requires-clause-of_batch g c = rw c.requires.jobs (All-contains_itself 
 
 pub returns : goal.returns
 returns g c =
-    of_same_batch _ _ g.B.Batch.meets (Meets g.A.App.next g.J.Naming.database_row g.J.Naming.node_histories g.B.Batch.functions) c.requires.jobs
+    of_same_batch _ _ g.B.Batch.meets (Meets g.A.App.next g.J.Naming.database_history g.J.Naming.node_histories g.B.Batch.functions) c.requires.jobs
     c.requires.taken _ c.take_results.ensures.of_batch

@@ -21,12 +21,12 @@ pub in_order-requires : goal.in_order-requires
 in_order-requires g c =
     let numbers = c.in_ok-numbers.numbers.items in
     let same = subst (λ js. IsPermutation (job_numbers js) numbers) c.deref.ensures.value c.in_ok-numbers.ensures.same in
-    numbers_are_known c.args.jobs.items (Meets g.A.App.next g.J.Naming.database_row g.J.Naming.node_histories g.functions) numbers c.deref-2.result.now _
+    numbers_are_known c.args.jobs.items (Meets g.A.App.next g.J.Naming.database_history g.J.Naming.node_histories g.functions) numbers c.deref-2.result.now _
     same c.deref-2.ensures.value c.in-Ok.ensures
 
 pub returns-clause-met : goal.returns-clause-met
 returns-clause-met g c =
-    let met = IsResultOf c.args.jobs.items (Meets g.A.App.next g.J.Naming.database_row g.J.Naming.node_histories g.functions) in
+    let met = IsResultOf c.args.jobs.items (Meets g.A.App.next g.J.Naming.database_history g.J.Naming.node_histories g.functions) in
     IfOk-weaker c.in_order.result _ _ (λ results h. All-permutation met _ results.items h.0 c.in-Ok.ensures) c.in_order.ensures.ok
 
 pub returns-clause-twice : goal.returns-clause-twice

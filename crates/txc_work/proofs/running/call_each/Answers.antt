@@ -6,7 +6,7 @@ use Rattle.txc_work.proofs.running.call_each.Goals as goal
 pub returns-in_err-call-clause-refused : goal.returns-in_err-call-clause-refused
 returns-in_err-call-clause-refused g c =
     let next = g.A.App.next in
-    let row = g.J.Naming.database_row in
+    let row = g.J.Naming.database_history in
     let node_histories = g.J.Naming.node_histories in
     let objects = c.args.txn.now.txn.objects in
     let bounds = c.args.txn.now.txn.core.bounds in

@@ -35,8 +35,8 @@ pub returns-clause-run : goal.returns-clause-run
 returns-clause-run g c =
     let after : RoTxnValue = record { txn = c.call_at-turn.new.txn; passes = c.call_at-turn.new.ports } in
     let before : RoTxnValue = record { txn = c.self.inside.txn; passes = c.self.inside.ports } in
-    let ran = λ (t : Turn). HasRun g.A.App.next g.J.Naming.database_row g.J.Naming.node_histories before c.args.key after t in
-    subst (λ (v : RoTxnValue). HasRun g.A.App.next g.J.Naming.database_row g.J.Naming.node_histories v c.args.key after (turn_of_result c.match-turn.result)) c.self.view_is
+    let ran = λ (t : Turn). HasRun g.A.App.next g.J.Naming.database_history g.J.Naming.node_histories before c.args.key after t in
+    subst (λ (v : RoTxnValue). HasRun g.A.App.next g.J.Naming.database_history g.J.Naming.node_histories v c.args.key after (turn_of_result c.match-turn.result)) c.self.view_is
     (elim c.match-turn.branch [
       | in-Value w ↦ subst (λ r. ran (turn_of_result r)) (sym w.result-is) (subst ran w.in-Value.is c.call_at-turn.ensures.run)
       | in-Refused w ↦ subst (λ r. ran (turn_of_result r)) (sym w.result-is) (subst ran w.in-Refused.is c.call_at-turn.ensures.run)

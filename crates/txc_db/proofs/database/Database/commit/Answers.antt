@@ -10,4 +10,4 @@ returns-clause-answer g c =
 
 pub returns-clause-refused : goal.returns-clause-refused
 returns-clause-refused g c =
-    may_refuse c.deref_mut.result.now g.J.Naming.database_row (λ d. IsSharedCommitRefused d c.args.base c.args.read.now c.args.changes.now) c.commit.result c.commit.ensures.database c.commit.ensures.refused
+    may_refuse c.deref_mut.result.now g.J.Naming.database_history (λ d. IsSharedCommitRefused d c.args.base c.args.read.now c.args.changes.now) c.commit.result c.commit.ensures.database c.commit.ensures.refused

@@ -8,10 +8,10 @@ use Rattle.txc_db.specs.declared.error.DbError.TheVariants.{Broken}
 use Rattle.txc_db.proofs.Committed.{some_net, commit_begins}
 use Rattle.txc_db.proofs.Refusing.{mark_refused}
 use Rattle.txc_db.proofs.locked.Locked.commit.Goals as goal
-use Rattle.txc_db.proofs.locked.Locked.commit.Goals.{else-lt-via-then-lt+else-not-leave_mark, else-lt-via-else-lt}
+use Rattle.txc_db.proofs.locked.Locked.commit.Goals.{else-lt-via-then-lt+else-not-post, else-lt-via-else-lt}
 
-pub returns-then-not-leave_mark-clause-refused : goal.returns-then-not-leave_mark-clause-refused
-returns-then-not-leave_mark-clause-refused g c =
+pub returns-then-not-post-clause-refused : goal.returns-then-not-post-clause-refused
+returns-then-not-post-clause-refused g c =
     let d = c.self.inside.core in
     let more : c.in_ok-newest.newest < c.in-Ok.answer = search rules in
     let some = some_net d c.args.changes.now c.in_ok-newest.newest c.in-Ok.answer c.in_ok-newest.ensures.answer (c.in-Ok.ensures.answer ∙ ap newest c.in-Ok.ensures.after) (λ e. absurd (omega (arith, more, e))) in
@@ -30,6 +30,6 @@ pub returns-else-lt-clause-after : goal.returns-else-lt-clause-after
 returns-else-lt-clause-after g c =
     let done = c.in-Ok.ensures.after ∙ ap (λ (v : DatabaseValue). after_commit v c.args.changes.now) c.self.view_is in
     elim c.else-lt.branch [
-      | else-lt-via-then-lt+else-not-leave_mark w ↦ w.self-is ∙ done
+      | else-lt-via-then-lt+else-not-post w ↦ w.self-is ∙ done
       | else-lt-via-else-lt w ↦ w.self-is ∙ done
     ]

@@ -6,6 +6,6 @@ use Rattle.txc_site.proofs.last_state.LastState.read.Given as goal
 -- the database's row, and the histories that were just made
 abbrev pub ghosts-read_last : goal.ghosts-read_last
 ghosts-read_last g a = record {
-  database_row = a.core.events;
+  database_history = a.core.events;
   node_histories = λ n. get_or (map history_name a.histories.items) n (stored []);
 }

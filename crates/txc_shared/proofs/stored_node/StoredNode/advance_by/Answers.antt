@@ -1,4 +1,6 @@
-use Rattle.std.proofs.Common.{◌≡◌, inl, inr, ◌+◌, ℕ, Option, None, List, length, refl, ap, sym, subst, ◌∙◌, false, true≢false, arith}
+use Rattle.std.specs.Prelude.{IfSome}
+use Rattle.txc_tags.specs.declared.tag.Tag.{Tag}
+use Rattle.std.proofs.Common.{◌≡◌, ◌⊎◌, inl, inr, ◌+◌, ℕ, Option, None, List, length, refl, ap, sym, subst, ◌∙◌, false, true≢false, arith}
 use Rattle.txc_db.specs.History.{tags_at}
 use Rattle.txc_node.specs.declared.op.Op.{Op}
 use Rattle.txc_node.specs.declared.op.Op.TheVariants.{Event}
@@ -14,7 +16,7 @@ use Rattle.txc_shared.specs.Nodes.{start_of, NodeValue, LogValue, HasTags, after
 use Rattle.txc_shared.specs.Locked.{record_in}
 use Rattle.txc_shared.proofs.Alike.{counts_alike}
 use Rattle.txc_shared.proofs.Nodes.{stepped, broke, may_take, tags_in_longer, called}
-use Rattle.txc_shared.proofs.stored_node.StoredNode.advance.Goals as goal
+use Rattle.txc_shared.proofs.stored_node.StoredNode.advance_by.Goals as goal
 
 pub count_step-requires-clause-room : goal.count_step-requires-clause-room
 count_step-requires-clause-room g c =
@@ -28,10 +30,10 @@ pub invariant_of-self-then-not-append : goal.invariant_of-self-then-not-append
 invariant_of-self-then-not-append g c =
     let core = c.self.inside.core in
     let stamp = c.after-stamp.result in
-    let tags = c.in_ok-tags.tags in
+    let tags = c.in-Some.tags in
     let seen = c.longer-2.new.self.history in
     let number = c.number.result + 1 in
-    let has : HasTags seen number tags = elim c.in_ok-tags.ensures [
+    let has : HasTags seen number tags = elim (subst (λ (o : Option (List Tag)). IfSome o (λ ts. HasTags c.args.self.now.seen.history number ts ⊎ HasTags c.args.front.now.history number ts)) c.in-Some.is c.in_ok-known.ensures.tags) [
       | inl own ↦ tags_in_longer c.states_stay.ensures.tags c.self.inside.seen.history seen number tags c.longer-2.ensures.this (subst (λ (n : NodeValue). HasTags n.seen.history number tags) (sym c.self.view_is) own)
       | inr other ↦ tags_in_longer c.states_stay.ensures.tags c.args.front.now.history seen number tags c.longer-2.ensures.that other
     ] in
@@ -48,10 +50,10 @@ invariant_of-self-else-not-append g c =
     let core = c.self.inside.core in
     let rs = c.self.inside.log.records in
     let stamp = c.after-stamp.result in
-    let tags = c.in_ok-tags.tags in
+    let tags = c.in-Some.tags in
     let seen = c.longer-2.new.self.history in
     let number = c.number.result + 1 in
-    let has : HasTags seen number tags = elim c.in_ok-tags.ensures [
+    let has : HasTags seen number tags = elim (subst (λ (o : Option (List Tag)). IfSome o (λ ts. HasTags c.args.self.now.seen.history number ts ⊎ HasTags c.args.front.now.history number ts)) c.in-Some.is c.in_ok-known.ensures.tags) [
       | inl own ↦ tags_in_longer c.states_stay.ensures.tags c.self.inside.seen.history seen number tags c.longer-2.ensures.this (subst (λ (n : NodeValue). HasTags n.seen.history number tags) (sym c.self.view_is) own)
       | inr other ↦ tags_in_longer c.states_stay.ensures.tags c.args.front.now.history seen number tags c.longer-2.ensures.that other
     ] in
@@ -76,10 +78,10 @@ returns-clause-after g c =
     let inside = c.self.inside in
     let n : NodeValue = record { settings = inside.settings; name = inside.log.name; records = inside.log.records; passes = inside.log.passes; cache = inside.core; seen = inside.seen; broken = inside.broken } in
     let stamp = c.after-stamp.result in
-    let tags = c.in_ok-tags.tags in
+    let tags = c.in-Some.tags in
     let seen = c.longer-2.new.self.history in
     let number = c.number.result + 1 in
-    let has : HasTags seen number tags = elim c.in_ok-tags.ensures [
+    let has : HasTags seen number tags = elim (subst (λ (o : Option (List Tag)). IfSome o (λ ts. HasTags c.args.self.now.seen.history number ts ⊎ HasTags c.args.front.now.history number ts)) c.in-Some.is c.in_ok-known.ensures.tags) [
       | inl own ↦ tags_in_longer c.states_stay.ensures.tags inside.seen.history seen number tags c.longer-2.ensures.this (subst (λ (m : NodeValue). HasTags m.seen.history number tags) (sym c.self.view_is) own)
       | inr other ↦ tags_in_longer c.states_stay.ensures.tags c.args.front.now.history seen number tags c.longer-2.ensures.that other
     ] in
@@ -97,7 +99,7 @@ returns-clause-after g c =
 pub append-requires-clause-by : goal.append-requires-clause-by
 append-requires-clause-by g c =
     let stamp = c.after-stamp.result in
-    let tags = c.in_ok-tags.tags in
+    let tags = c.in-Some.tags in
     ap (λ (r : Record). r.pass) (c.answered-next.ensures.answered (next_record c.args.pass c.self.inside.log.records (Event stamp tags) (replies.Closed (closed_count c.self.inside.core stamp tags)))
     c.in_ok-prepared.ensures.awaits (ap replies.Closed c.in-Ok.ensures.answer))
 

@@ -1,0 +1,285 @@
+//! The history of a database, and who lengthens it.
+ghost use Rattle.std.specs.Prelude.{◌≡◌, ◌+◌, ◌<◌, ◌≤◌, ◌++◌, ◌∷◌, [], true, false, length, max, IfOk, IfSome, OnOk, OnErr};
+ghost use Rattle.std.specs.Arc.{arc_value};
+ghost use Rattle.txc_stamp.specs.declared.stamp.TheConstants.{LAST_STAMP};
+ghost use Rattle.txc_stream.specs.Names.{stored, unstored, HasRow};
+ghost use Rattle.txc_rows.specs.RowTags.{tags_between};
+ghost use Rattle.txc_db.specs.Facts.{commit, net_of};
+ghost use Rattle.txc_db.specs.History.{pin_event, state_at, state_after_event, tags_at};
+ghost use Rattle.txc_db.specs.Room.{events_room, AreTagsKept, AreTagsGone};
+ghost use Rattle.txc_db.specs.Held.{HistoryValue, front_in, event_in, IsPrepared};
+
+use crate::event::{Event, EventTags, What};
+use crate::history_front::HistoryFront;
+use crate::net::Net;
+use crate::prepared::{AsCommit, AsPin, Loose, Prepared};
+use std::alloc::{AllocError, Global};
+use std::marker::Model;
+use std::sync::Arc;
+use txc_stamp::Stamp;
+use txc_stream::{Draft, EventRow, Pen, Window};
+use txc_tags::TagSet;
+
+/// The history of a database: a front that shows the whole of it, and, where it is not stored, the window of its
+/// tags.
+#[derive(Drop)]
+pub(crate) struct History {
+    front: HistoryFront,
+    // Shows nothing, as a new reader does.
+    start: HistoryFront,
+    window: Option<Window<Event, Arc<TagSet>, EventTags>>,
+}
+
+impl Model for History {
+    ghost use Rattle.std.specs.Prelude.{◌≡◌, []};
+    ghost use Rattle.txc_db.specs.Held.{HistoryValue, HasWindow, first_kept, room_in};
+
+    ghost Value = { HistoryValue };
+
+    ghost view = { λ h. record {
+      events = h.front.events;
+      history = h.front.history;
+      first = first_kept h.window;
+      room = room_in h.window;
+    } };
+
+    ghost invariant = { λ h. (h.start.events ≡ h.front.events) × (h.start.history ≡ []) × HasWindow h.window h.front };
+}
+
+impl History {
+    /// In a row, of which nothing was seen.
+    pub(crate) fn stored(row: Arc<EventRow<Event>>) -> Result<History, AllocError>
+        ensures { IfOk result (λ h. (h.events ≡ stored (arc_value row)) × (h.history ≡ []) × (h.first ≡ 0)) }
+    {
+        let start = HistoryFront::stored(Arc::try_clone(&row)?);
+        let front = HistoryFront::stored(row);
+        Ok(History {
+            front,
+            start,
+            window: None,
+        })
+    }
+
+    /// In the proofs alone, without events.
+    pub(crate) fn unstored(alloc: Global, pen: Pen<Event>) -> History
+        requires { pen.list ≡ [] }
+        ensures { (result.events ≡ unstored pen.number) × (result.history ≡ []) × (result.first ≡ 0) }
+    {
+        let window = Window::new(alloc, pen);
+        History {
+            front: HistoryFront::unstored(window.front().again()),
+            start: HistoryFront::unstored(window.front().again()),
+            window: Some(window),
+        }
+    }
+
+    /// A front that shows the whole of it.
+    pub(crate) fn front(&self) -> &HistoryFront
+        ensures { result.now ≡ front_in self.now }
+    {
+        &self.front
+    }
+
+    /// How many events it has.
+    pub(crate) fn len(&self) -> usize
+        ensures shown { result ≡ length self.now.history }
+        ensures most { result ≤ LAST_STAMP }
+    {
+        self.front.len()
+    }
+
+    /// The stamp after its events.
+    pub(crate) fn newest(&self) -> Stamp
+        ensures { result ≡ length self.now.history }
+    {
+        self.front.newest()
+    }
+
+    /// Whether there is no room for one event more.
+    pub(crate) fn is_full(&self) -> bool
+        ensures full { result ≡ true → length self.now.history ≡ events_room self.now.events }
+        ensures room { result ≡ false → length self.now.history < events_room self.now.events }
+        ensures next { result ≡ false → length self.now.history < LAST_STAMP }
+    {
+        self.front.is_full()
+    }
+
+    /// Whether the tags of each event after the base are kept, where those after the horizon are.
+    pub(crate) fn keeps_tags(&self, horizon: Stamp, base: Stamp) -> bool
+        ensures kept { result ≡ true → AreTagsKept self.now.events horizon base }
+        ensures gone { result ≡ false → AreTagsGone self.now.events horizon base }
+    {
+        self.front.is_stored() || base >= horizon
+    }
+
+    /// One that shows nothing yet.
+    pub(crate) fn start(&self) -> &HistoryFront
+        ensures { result.now ≡ record { events = self.now.events; history = [] } }
+    {
+        &self.start
+    }
+
+    // The tags that are kept of one of its events, by its number, from 1 on.
+    fn kept_tags(&self, number: usize) -> &Arc<TagSet>
+        requires unstored { ¬ (HasRow self.now.events) }
+        requires kept { self.now.first < number }
+        requires last { number ≤ length self.now.history }
+        ensures { arc_value result.now ≡ tags_at self.now.history number }
+    {
+        self.front.is_tagged();
+        let Some(window) = &self.window else {
+            unreachable!();
+        };
+        window.get(number - 1)
+    }
+
+    /// The tags of one of its events, by its number, from 1 on, where they are kept.
+    pub(crate) fn tags_of(&self, number: usize) -> &TagSet
+        requires first { 1 ≤ number }
+        requires kept { ¬ (HasRow self.now.events) → self.now.first < number }
+        requires last { number ≤ length self.now.history }
+        ensures { result.now ≡ tags_at self.now.history number }
+    {
+        if let Some(event) = self.front.event_at(number) {
+            return &event.tags;
+        }
+        self.kept_tags(number)
+    }
+
+    /// A handle of the tags of its last event, where they are kept and not stored.
+    pub(crate) fn last_tags(&self) -> Option<Arc<TagSet>>
+        ensures { IfSome result (λ tags.
+            arc_value tags ≡ tags_at self.now.history (length self.now.history)) }
+    {
+        let Some(window) = &self.window else {
+            return None;
+        };
+        let events = self.front.len();
+        if window.first() >= events {
+            return None;
+        }
+        match Arc::try_clone(self.kept_tags(events)) {
+            Ok(tags) => Some(tags),
+            Err(_) => None,
+        }
+    }
+
+    // Makes room for the tags of one event more, where they are kept.
+    fn reserve(&mut self) -> Result<(), AllocError>
+        ensures same { self.new ≡ record self.old { room = self.new.room } }
+        ensures room { OnOk result (¬ (HasRow self.old.events) → 0 < self.new.room) }
+    {
+        match &mut self.window {
+            Some(window) => window.reserve(),
+            None => Ok(()),
+        }
+    }
+
+    /// A commit of these net changes.
+    pub(crate) fn prepare_commit(&mut self, alloc: Global, net: Net) -> Result<Prepared, AllocError>
+        ensures same { self.new ≡ record self.old { room = self.new.room } }
+        ensures event { IfOk result (λ next.
+            event_in next ≡ record { fact = commit net.changes.items; tags = net.tags }) }
+        ensures prepared { IfOk result (IsPrepared self.new) }
+    {
+        self.reserve()?;
+        if self.front.is_stored() {
+            let Net { changes, tags } = net;
+            let event = Event {
+                what: What::Commit(changes),
+                tags,
+            };
+            return Ok(Prepared::Stored(Box::new(alloc, event)?));
+        }
+        let draft = Draft::of::<Net, AsCommit>(&net);
+        let Net { changes, tags } = net;
+        let tags = Arc::new(alloc, tags)?;
+        Ok(Prepared::Unstored(Loose {
+            changes,
+            tags,
+            draft,
+        }))
+    }
+
+    /// A pin of the moment.
+    pub(crate) fn prepare_pin(&mut self, alloc: Global, moment: u64) -> Result<Prepared, AllocError>
+        ensures same { self.new ≡ record self.old { room = self.new.room } }
+        ensures event { IfOk result (λ next. event_in next ≡ pin_event moment) }
+        ensures prepared { IfOk result (IsPrepared self.new) }
+    {
+        self.reserve()?;
+        let tags = TagSet::new(alloc);
+        if self.front.is_stored() {
+            let event = Event {
+                what: What::Pin(moment),
+                tags,
+            };
+            return Ok(Prepared::Stored(Box::new(alloc, event)?));
+        }
+        let draft = Draft::of::<u64, AsPin>(&moment);
+        let tags = Arc::new(alloc, tags)?;
+        Ok(Prepared::Unstored(Loose {
+            changes: Vec::new(alloc),
+            tags,
+            draft,
+        }))
+    }
+
+    /// Appends an event that was prepared and stands beside its tags. `false` where another record stands in its
+    /// cell; then nothing has changed.
+    pub(crate) fn append(&mut self, next: Prepared) -> bool
+        requires prepared { IsPrepared self.old next }
+        requires room { length self.old.history < events_room self.old.events }
+        requires tagged { let before = state_at self.old.history (length self.old.history)
+            in (event_in next).tags ≡ tags_between before (state_after_event before (event_in next)) }
+        ensures after { result ≡ true → self.new ≡ record self.old {
+          history = self.old.history ++ event_in next ∷ [];
+          room = self.new.room;
+        } }
+        ensures unchanged { result ≡ false → self.new ≡ self.old }
+    {
+        match next {
+            Prepared::Stored(event) => self.front.append(event).is_ok(),
+            Prepared::Unstored(next) => {
+                self.write(next);
+                true
+            }
+        }
+    }
+
+    // Appends an event that is not stored.
+    fn write(&mut self, next: Loose)
+        requires unstored { ¬ (HasRow self.old.events) }
+        requires kept { 0 < self.old.room }
+        requires room { length self.old.history < events_room self.old.events }
+        requires tagged { let before = state_at self.old.history (length self.old.history)
+            in next.draft.value.tags ≡ tags_between before (state_after_event before next.draft.value) }
+        ensures { self.new ≡ record self.old {
+          history = self.old.history ++ next.draft.value ∷ [];
+          room = self.new.room;
+        } }
+    {
+        self.front.is_tagged();
+        let Some(window) = &mut self.window else {
+            unreachable!();
+        };
+        let Loose {
+            changes: _,
+            tags,
+            draft,
+        } = next;
+        window.append(tags, draft);
+        self.front = HistoryFront::unstored(window.front().again());
+    }
+
+    /// Drops the tags of the events up to the stamp, where they are not stored. It takes no memory.
+    pub(crate) fn forget(&mut self, upto: usize)
+        requires { upto ≤ length self.old.history }
+        ensures same { self.new ≡ record self.old { first = self.new.first; room = self.new.room } }
+        ensures kept { self.new.first ≤ max self.old.first upto }
+    {
+        if let Some(window) = &mut self.window {
+            window.forget(upto);
+        }
+    }
+}

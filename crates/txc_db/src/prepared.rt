@@ -1,0 +1,60 @@
+//! Events that are ready to be appended.
+ghost use Rattle.std.specs.Prelude.{◌≡◌};
+ghost use Rattle.std.specs.Arc.{arc_value};
+ghost use Rattle.txc_db.specs.Facts.{net_of};
+
+use crate::event::Event;
+use crate::net::Net;
+use std::sync::Arc;
+use txc_rows::Change;
+use txc_stream::{Draft, Drafts};
+use txc_tags::TagSet;
+
+/// The event of a commit, by its net changes.
+pub(crate) struct AsCommit;
+
+impl Drafts<Net, Event> for AsCommit {
+    ghost use Rattle.txc_db.specs.Facts.{commit};
+
+    ghost record_of = { λ net. record { fact = commit net.changes.items; tags = net.tags } };
+}
+
+/// The event of a pin, by its moment.
+pub(crate) struct AsPin;
+
+impl Drafts<u64, Event> for AsPin {
+    ghost use Rattle.txc_db.specs.History.{pin_event};
+
+    ghost record_of = { λ moment. pin_event moment };
+}
+
+/// An event that is not stored: what the database and its readers need of it, and the event in the proofs.
+#[derive(Drop)]
+pub(crate) struct Loose {
+    pub(crate) changes: Vec<Change>,
+    pub(crate) tags: Arc<TagSet>,
+    pub(crate) draft: Draft<Event>,
+    ghost made: { changes.items ≡ net_of draft.value.fact },
+    ghost noted: { arc_value tags ≡ draft.value.tags },
+}
+
+/// An event for which all memory is there.
+#[derive(Drop)]
+pub(crate) enum Prepared {
+    Stored(Box<Event>),
+    Unstored(Loose),
+}
+
+impl Prepared {
+    ghost use Rattle.txc_db.specs.Held.{event_in};
+
+    /// The changes that it makes: a pin makes none.
+    pub(crate) fn net(&self) -> &[Change]
+        ensures { result.now ≡ net_of (event_in self.now).fact }
+    {
+        match self {
+            Prepared::Stored(event) => event.net(),
+            Prepared::Unstored(next) => &next.changes,
+        }
+    }
+}
