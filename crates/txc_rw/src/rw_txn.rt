@@ -179,7 +179,6 @@ impl<'a, J: Naming, A: App, C: Cacheable> RwTxn<'a, J, A, C> {
             alloc,
             self.database,
             self.held.front(),
-            &mut self.registry,
             &mut self.core,
             query,
         )
