@@ -1,29 +1,55 @@
 use Rattle.std.proofs.Common.{sym, subst}
 use Rattle.txc_ports.specs.declared.request.PortRequest.{PortRequest}
-use Rattle.txc_world.specs.Asks.{PortRequestLeads}
+use Rattle.txc_ports.specs.declared.reply.PortReply.TheVariants as replies
+use Rattle.txc_world.specs.Asks.{IsAsked}
+use Rattle.txc_world.specs.Parts.{IsPartOf}
+use Rattle.txc_world.specs.Ports.{PortsValue, whole_of}
+use Rattle.txc_world.proofs.AskLemmas.{asked_add, asked_insert, asked_lookup, asked_pin, asked_query, asked_unpin}
+use Rattle.txc_world.proofs.NodeLemmas.{stays_inserted, stays_looked_up}
+use Rattle.txc_world.proofs.PortsLemmas.{keeps_node_from, keeps_same, led_from, ports_node_from}
 use Rattle.txc_world.proofs.ports.Ports.ask.Goals as goal
 
-pub returns-in-Pin-clause-leads : goal.returns-in-Pin-clause-leads
-returns-in-Pin-clause-leads g c =
-    subst (λ (r : PortRequest). PortRequestLeads c.args.pass c.args.seen.now r c.args.self.now c.ask_pin.new.self c.ask_pin.result.did c.ask_pin.result.reply) (sym c.in-Pin.is)
-    (c.ask_pin.ensures.leads c.args.seen.now)
+pub returns-in-Pin : goal.returns-in-Pin
+returns-in-Pin g c =
+    subst (λ (r : PortRequest). IsAsked g.A.App.next c.args.pass c.args.seen.now r c.args.self.now c.pin.new.self (replies.Pin c.pin.result)) (sym c.in-Pin.is)
+    (asked_pin g.A.App.next c.args.pass c.args.seen.now c.args.self.now c.pin.new.self c.pin.ensures.keeps c.count_right.ensures c.in-Pin.now c.in-Pin.at_least c.pin.result c.pin.ensures.leads)
 
-pub returns-in-AddPin-clause-leads : goal.returns-in-AddPin-clause-leads
-returns-in-AddPin-clause-leads g c =
-    subst (λ (r : PortRequest). PortRequestLeads c.args.pass c.args.seen.now r c.args.self.now c.ask_add.new.self c.ask_add.result.did c.ask_add.result.reply) (sym c.in-AddPin.is)
-    (c.ask_add.ensures.leads c.args.seen.now)
+pub returns-in-AddPin : goal.returns-in-AddPin
+returns-in-AddPin g c =
+    subst (λ (r : PortRequest). IsAsked g.A.App.next c.args.pass c.args.seen.now r c.args.self.now c.add-added.new.self (replies.AddPin c.in-AddPin.field-0 c.add-added.result)) (sym c.in-AddPin.is)
+    (asked_add g.A.App.next c.args.pass c.args.seen.now c.args.self.now c.add-added.new.self c.add-added.ensures.keeps c.count_right.ensures c.in-AddPin.pinned c.add-added.result c.add-requires c.add-added.ensures.leads)
 
-pub returns-in-Unpin-clause-leads : goal.returns-in-Unpin-clause-leads
-returns-in-Unpin-clause-leads g c =
-    subst (λ (r : PortRequest). PortRequestLeads c.args.pass c.args.seen.now r c.args.self.now c.ask_unpin.new.self c.ask_unpin.result.did c.ask_unpin.result.reply) (sym c.in-Unpin.is)
-    (c.ask_unpin.ensures.leads c.args.seen.now)
+pub returns-in-Unpin : goal.returns-in-Unpin
+returns-in-Unpin g c =
+    subst (λ (r : PortRequest). IsAsked g.A.App.next c.args.pass c.args.seen.now r c.args.self.now c.unpin.new.self (replies.Unpin c.unpin.result)) (sym c.in-Unpin.is)
+    (asked_unpin g.A.App.next c.args.pass c.args.seen.now c.args.self.now c.unpin.new.self c.unpin.ensures.keeps c.count_right.ensures c.in-Unpin.stamp c.unpin.result c.unpin.ensures.leads)
 
-pub returns-in-Lookup-clause-leads : goal.returns-in-Lookup-clause-leads
-returns-in-Lookup-clause-leads g c =
-    subst (λ (r : PortRequest). PortRequestLeads c.args.pass c.args.seen.now r c.args.self.now c.ask_lookup.new.self c.ask_lookup.result.did c.ask_lookup.result.reply) (sym c.in-Lookup.is)
-    (c.ask_lookup.ensures.leads c.args.seen.now)
+pub returns-in-Query : goal.returns-in-Query
+returns-in-Query g c =
+    subst (λ (r : PortRequest). IsAsked g.A.App.next c.args.pass c.args.seen.now r c.args.self.now c.find.new.self (replies.Query c.find.result)) (sym c.in-Query.is)
+    (asked_query g.A.App.next c.args.pass c.args.seen.now c.args.self.now c.find.new.self (keeps_same c.args.self.now c.find.new.self c.find.ensures.same) c.count_right.ensures c.in-Query.query c.in-Query.stamp c.find.result c.find.ensures.same c.find.ensures.leads)
 
-pub returns-in-Query-clause-leads : goal.returns-in-Query-clause-leads
-returns-in-Query-clause-leads g c =
-    subst (λ (r : PortRequest). PortRequestLeads c.args.pass c.args.seen.now r c.args.self.now c.ask_query.new.self c.ask_query.result.did c.ask_query.result.reply) (sym c.in-Query.is)
-    (c.ask_query.ensures.leads c.args.seen.now)
+-- ---- at a node
+
+pub invariant_of-self-in-Lookup : goal.invariant_of-self-in-Lookup
+invariant_of-self-in-Lookup g c =
+    let p : PortsValue = record { database = c.self.inside.database; cushion = c.self.inside.cushion; nodes = c.self.inside.nodes.items; spare = c.self.inside.spare.items; actors = c.self.inside.actors } in (
+      c.self.invariant.0,
+      ports_node_from p c.args.self.now c.self.view_is c.in-Lookup.node c.index_mut-at.result.now c.look_up.new.node c.self.invariant.1
+          c.index_mut-requires c.index_mut-at.ensures.value (stays_looked_up _ _ _ _ _ _ _ _ c.look_up.ensures.leads),
+    )
+
+pub returns-in-Lookup : goal.returns-in-Lookup
+returns-in-Lookup g c = ?
+
+pub invariant_of-self-in-Insert : goal.invariant_of-self-in-Insert
+invariant_of-self-in-Insert g c =
+    let p : PortsValue = record { database = c.self.inside.database; cushion = c.self.inside.cushion; nodes = c.self.inside.nodes.items; spare = c.self.inside.spare.items; actors = c.self.inside.actors } in
+    let part : IsPartOf (whole_of p) c.args.seen.now = subst (λ (v : PortsValue). IsPartOf (whole_of v) c.args.seen.now) (sym c.self.view_is) c.requires.seen in (
+      c.self.invariant.0,
+      ports_node_from p c.args.self.now c.self.view_is c.in-Insert.node c.index_mut-at-2.result.now c.insert-made.new.node c.self.invariant.1
+          c.index_mut-requires c.index_mut-at-2.ensures.value (stays_inserted _ _ _ _ _ _ _ part c.insert-made.ensures),
+    )
+
+pub returns-in-Insert : goal.returns-in-Insert
+returns-in-Insert g c = ?
