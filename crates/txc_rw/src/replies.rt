@@ -125,14 +125,14 @@ impl RwCore {
         ensures leads { (query : Query) → self.old.reading ≡ Some query
             → RowsLead self.old query reply self.new result }
     {
-        let Some(Reading { query, tags }) = mem::replace(&mut self.reading, None) else {
+        let Some(Reading { query, tags: read }) = mem::replace(&mut self.reading, None) else {
             unreachable!()
         };
         let found = match reply {
             Ok(found) => found,
             Err(error) => return Err(error.into()),
         };
-        self.tags = tags;
+        self.tags = read;
         let asked = &query;
         self.queried.push_reserved(*asked);
         let Ok(copy) = copy_rows(alloc, &found.rows) else {
