@@ -9,7 +9,6 @@ use crate::txn_core::TxnCore;
 use std::alloc::Global;
 use std::marker::Model;
 use txc_app::App;
-use txc_db::states_stay;
 use txc_node::Value;
 use txc_ports::{PortReply, PortRequest, Turn};
 use txc_registry::{Cacheable, Registry};
@@ -76,7 +75,6 @@ impl<A: App, C: Cacheable> RunningTxn<A, C> {
         requires right { IsShownRight A.next self.old reply }
         ensures { HasGoneOn A.next self.old reply self.new result }
     {
-        states_stay();
         self.core.next(alloc, &mut self.registry, reply)
     }
 

@@ -23,7 +23,6 @@ use txc_call::{Need, Outcome, Reply};
 use txc_cushion::pin_of;
 use txc_db::{DbError, Pinned};
 use txc_node::Value;
-use txc_pinset::laws::{a_pin_set_is_never_empty, narrowing_keeps_exactly_the_held};
 use txc_pinset::{Choice, WouldEmpty};
 use txc_ports::{PortRequest, Recorded, Turn, TxnError};
 use txc_registry::{Cacheable, Registry};
@@ -290,8 +289,6 @@ impl TxnCore {
         ensures no_present { OnOk result (self.new.pins.has_present ≡ false) }
         ensures same { value_of self.new ≡ record (value_of self.old) { pins = self.new.pins } }
     {
-        narrowing_keeps_exactly_the_held();
-        a_pin_set_is_never_empty();
         self.pins.narrow(reach)?;
         Ok(())
     }
@@ -311,7 +308,6 @@ impl TxnCore {
           taken = self.old.taken.items ++ pinned.now.stamp ∷ [];
         } }
     {
-        a_pin_set_is_never_empty();
         self.pins.take_present(pinned);
         self.taken.push_reserved(pinned.stamp);
     }

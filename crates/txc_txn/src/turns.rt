@@ -15,7 +15,7 @@ use std::alloc::{AllocError, Global};
 use txc_app::App;
 use txc_call::CallMachine;
 use txc_cushion::{Pin, Pins};
-use txc_db::{HistoryFront, states_stay};
+use txc_db::HistoryFront;
 use txc_node::Value;
 use txc_pinset::PinSet;
 use txc_ports::{Bounds, PortReply, PortRequest, Recorded, Turn};
@@ -127,7 +127,6 @@ impl TxnCore {
         ensures gone_on { HasGoneOn A.next (txn_value (value_of self.old) registry.old) reply
             (txn_value (value_of self.new) registry.new) result }
     {
-        states_stay();
         self.see(&reply);
         self.answer(alloc, registry, reply)
     }

@@ -25,7 +25,6 @@ use crate::writing::{act_writing, begin_rw};
 use std::alloc::{AllocError, Global};
 use txc_app::App;
 use txc_cushion::Pin;
-use txc_cushion::laws::give_back_counts_users;
 use txc_node::Value;
 use txc_ports::{Bounds, PortRequest, Turn, TxnError};
 use txc_registry::{Cacheable, Registry};
@@ -244,7 +243,6 @@ fn commit<A: App, C: Cacheable>(
     ensures leads { (next : Next) (pass : ℕ) → ReadingLeads next pass Act.Commit ports.old ports.new
         (reading_value current) (actor_value result.0) result.1 }
 {
-    give_back_counts_users();
     let OpenTxn { txn, call: _ } = current;
     let (receipt, pins, registry) = txn.finish();
     let _ = ports.give_back(&pins);
@@ -257,7 +255,6 @@ fn abort<A: App, C: Cacheable>(ports: &mut Ports<A>, current: OpenTxn<A, C>) -> 
     ensures leads { (next : Next) (pass : ℕ) → ReadingLeads next pass Act.Abort ports.old ports.new
         (reading_value current) (actor_value result.0) result.1 }
 {
-    give_back_counts_users();
     let (left, registry) = current.txn.cancel();
     let _ = ports.give_back(&left.give_back);
     match left.unpin {

@@ -6,7 +6,6 @@ use std::alloc::{AllocError, Global};
 use std::marker::Model;
 use txc_app::App;
 use txc_app::laws::found_rows_give_true_entries;
-use txc_cushion::laws::give_back_counts_users;
 use txc_cushion::{AddError, CushionCore, Pins};
 use txc_db::{Answered, DbCore, DbError, Pinned};
 use txc_rows::Query;
@@ -190,7 +189,6 @@ impl<A: App> Ports<A> {
         ensures users { GivesBack self.old self.new pins.now.pins.items }
         ensures pins { KeepsPins self.old self.new }
     {
-        give_back_counts_users();
         for pin in &pins.pins {
             let _ = self.give_back(&[pin.stamp]);
         }

@@ -33,7 +33,6 @@ use txc_db::{DbCore, DbError};
 use txc_node::Counts;
 use txc_ports::Bounds;
 use txc_registry::{Cacheable, Registry};
-use txc_rw::laws::transactions_stay_right;
 use txc_shared::StoredNode;
 use txc_shared::laws::nodes_go_on;
 use txc_txn::Session;
@@ -205,7 +204,6 @@ impl<A: App, C: Cacheable> World<A, C> {
             self.ports.are_true();
             return Reply::Refused(Refusal::NoActor);
         }
-        transactions_stay_right();
         self.ports.count_right();
         let renew_after = self.settings.renew_after;
         let reply = act_at(
@@ -238,7 +236,6 @@ impl<A: App, C: Cacheable> World<A, C> {
     pub fn step(&mut self, alloc: Global, step: &Step) -> Reply
         ensures { IsStep A.next self.old step.now result self.new }
     {
-        transactions_stay_right();
         match step {
             Step::Actor(place, doing) => self.act(alloc, *place, doing),
             Step::BeginIn {

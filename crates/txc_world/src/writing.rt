@@ -22,12 +22,11 @@ use crate::reply::{Refusal, Reply};
 use crate::step::Act;
 use std::alloc::Global;
 use txc_app::App;
-use txc_db::states_stay;
 use txc_node::Value;
 use txc_ports::{Turn, TxnError};
 use txc_registry::{Cacheable, Registry};
 use txc_rows::{Change, Query, Row};
-use txc_rw::laws::{answers_are_right, transactions_stay_right};
+use txc_rw::laws::answers_are_right;
 use txc_rw::{MAX_CHANGES, RwCore};
 use txc_tags::Key;
 
@@ -42,7 +41,6 @@ pub(crate) fn begin_rw<A: App, C: Cacheable>(
     ensures leads { (renew_after : ℕ) → RestingLeads renew_after Act.BeginRw ports.old ports.new registry
         (actor_value result.0) result.1 }
 {
-    transactions_stay_right();
     match ports.hold(alloc) {
         Ok(base) => {
             let core = RwCore::begin(alloc, base);
@@ -269,8 +267,6 @@ fn commit<A: App, C: Cacheable>(
         (actor_value result.0) result.1 }
 {
     answers_are_right();
-    transactions_stay_right();
-    states_stay();
     let mut current = current;
     let base = current.core.base();
     let read = current.core.tags();

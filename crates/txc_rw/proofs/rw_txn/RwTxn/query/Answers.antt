@@ -9,6 +9,7 @@ use Rattle.txc_rw.specs.Txn.{RwTxnValue}
 use Rattle.txc_rows.specs.States.{answer}
 use Rattle.txc_db.specs.History.{state_at}
 use Rattle.txc_rw.proofs.Resting.{holds_by, if_ok, last_right, queried_or_left}
+use Rattle.txc_rw.proofs.Holding.{right_at_base}
 use Rattle.txc_rw.proofs.rw_txn.RwTxn.query.Goals as goal
 
 pub query_at-requires-clause-shown : goal.query_at-requires-clause-shown
@@ -30,7 +31,7 @@ returns-clause-answer g c =
     let core : RwValue = c.self.inside.core in
     let core' : RwValue = c.query_at.new.core in
     let L : History = c.self.inside.held in
-    let right = c.answers_are_right.ensures.base g.A.App.next L [] core' (holds_by g.A.App.next c.front.result.now.history L [] [] core core' c.front.ensures.history
+    let right = right_at_base g.A.App.next L [] core' (holds_by g.A.App.next c.front.result.now.history L [] [] core core' c.front.ensures.history
     (c.query_at.ensures.holds g.A.App.next []) (c.self.invariant.1.holds [])) in
     subst (λ (t : RwTxnValue). IfOk c.query_at.result (λ v. v.items ≡ answer c.args.query (state_at t.history t.core.base))) c.self.view_is
     (if_ok (λ (v : Vec RowValue Global). core' ≡ record core { queried = core.queried ++ c.args.query ∷ []; answers = core.answers ++ given.Rows c.args.query v.items ∷ [] })

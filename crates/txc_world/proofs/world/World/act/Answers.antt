@@ -4,12 +4,14 @@ use Rattle.txc_world.specs.Worlds.{WorldValue}
 use Rattle.txc_world.proofs.Balancing.{world_balanced}
 use Rattle.txc_world.proofs.Leading.{world_led}
 use Rattle.txc_world.proofs.Stepping.{due_act, explained_act, told_act, world_acts}
+use Rattle.txc_rw.proofs.Holding.{holds_in_longer}
+use Rattle.txc_db.proofs.Histories.{states_stay}
 use Rattle.txc_world.proofs.world.World.act.Goals as goal
 
 pub invariant_of-self : goal.invariant_of-self
 invariant_of-self g c =
     rw (c.note.ensures, c.act_at-reply.ensures.others)
-    (world_acts c.transactions_stay_right.ensures.longer g.A.App.next c.self.inside.settings c.self.inside.ports c.act_at-reply.new.ports
+    (world_acts (holds_in_longer states_stay) g.A.App.next c.self.inside.settings c.self.inside.ports c.act_at-reply.new.ports
     c.self.inside.sessions.items c.self.inside.actors.items c.args.place _ c.act_at-reply.ensures.is c.self.invariant c.act_at-reply.ensures.acted.keeps c.act_at-reply.ensures.acted.fits)
 
 pub returns : goal.returns
