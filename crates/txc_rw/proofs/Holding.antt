@@ -12,6 +12,8 @@ use Rattle.txc_rows.specs.RowTags.{query_tag}
 use Rattle.txc_validity.specs.declared.answer.Found.{Found}
 use Rattle.txc_db.specs.declared.error.DbError.{DbError}
 use Rattle.txc_ports.specs.declared.error.TxnError.{TxnError}
+use Rattle.txc_ports.specs.declared.error.TxnError.TheVariants.{Memory}
+use Rattle.txc_ports.specs.Refusals.{refused_request}
 use Rattle.txc_rows.specs.declared.query.Query.{Query}
 use Rattle.txc_rows.specs.declared.query.Change.{Change}
 use Rattle.txc_rows.specs.States.{RowValue, State, answer}
@@ -125,6 +127,36 @@ module _ (next : Next) (L : History) (objects : Objects) (c : RwValue) (q : Quer
   rows_lead c' (Ok found) (Err error) asked right leads = subst (RwHolds next L objects) (sym leads.1) counted_read
   rows_lead c' (Err cause) result asked right leads =
       subst (RwHolds next L objects) (sym leads.1) (holds_moved next L objects c h objects c.call None (λ M hold. hold))
+
+-- what the core does with the answer to a query of its own
+module _ (c : RwValue) (q : Query) (reply : Result Found DbError) (queried : List Query) (answers : List Given) (reading : Option Query) (none : reading ≡ None) where
+  pub rows_refused : (cause : DbError) → reply ≡ Err cause → RowsLead c q reply (record c { reading = reading }) (Err (refused_request cause))
+  rows_refused cause is =
+      let same : record c { reading = reading } ≡ record c { reading = None } = λ i. record c { reading = none i } in
+      subst (λ (r : Result Found DbError). RowsLead c q r (record c { reading = reading }) (Err (refused_request cause))) (sym is) (refl, same)
+
+  pub rows_dropped : (found : Found) → reply ≡ Ok found → queried ≡ c.queried ++ q ∷ []
+      → RowsLead c q reply (record c { queried = queried; reading = reading }) (Err Memory)
+  rows_dropped found is more =
+      let same : record c { queried = queried; reading = reading } ≡ record c { queried = c.queried ++ q ∷ []; reading = None } = λ i. record c { queried = more i; reading = none i } in
+      subst (λ (r : Result Found DbError). RowsLead c q r (record c { queried = queried; reading = reading }) (Err Memory)) (sym is) (refl, same)
+
+  pub rows_kept : (found : Found) (copy : Vec RowValue Global) → reply ≡ Ok found → queried ≡ c.queried ++ q ∷ [] → copy.items ≡ found.rows.items
+      → answers ≡ c.answers ++ given.Rows q found.rows.items ∷ []
+      → RowsLead c q reply (record c { queried = queried; answers = answers; reading = reading }) (Ok copy)
+  rows_kept found copy is more copied kept =
+      let one_more : answers ≡ c.answers ++ given.Rows q copy.items ∷ [] = kept ∙ ap (λ (rows : List RowValue). c.answers ++ given.Rows q rows ∷ []) (sym copied) in
+      let same : record c { queried = queried; answers = answers; reading = reading } ≡ record c { queried = c.queried ++ q ∷ []; answers = c.answers ++ given.Rows q copy.items ∷ []; reading = None } =
+          λ i. record c { queried = more i; answers = one_more i; reading = none i } in
+      subst (λ (r : Result Found DbError). RowsLead c q r (record c { queried = queried; answers = answers; reading = reading }) (Ok copy)) (sym is) (copied, same)
+
+-- and so for the query that is waited for, whatever it is called
+pub rows_led_for : (old was new : RwValue) (q p : Query) (reply : Result Found DbError) (result : Result (Vec RowValue Global) TxnError) → was ≡ old → was.reading ≡ Some q → old.reading ≡ Some p
+    → RowsLead was q reply new result → RowsLead old p reply new result
+rows_led_for old was new q p reply result same asked is leads =
+    let two : Some q ≡ Some p = sym asked ∙ (ap (λ (w : RwValue). w.reading) same ∙ is) in
+    let one : q ≡ p = cc in
+    subst (λ (x : Query). RowsLead old x reply new result) one (subst (λ (w : RwValue). RowsLead w q reply new result) same leads)
 
 -- ---- rows
 
