@@ -92,10 +92,7 @@ fn write_found<W: fmt::Write>(f: &mut fmt::Formatter<W>, found: &RowsFound) -> f
 // ---- replies
 
 /// Writes how a call ended.
-fn write_end<W: fmt::Write>(
-    f: &mut fmt::Formatter<W>,
-    end: &Result<Value, TxnError>,
-) -> fmt::Result
+fn write_end<W: fmt::Write>(f: &mut fmt::Formatter<W>, end: &Result<Value, TxnError>) -> fmt::Result
     ensures { WritesOnOk W.write_str_gives f.old result (end_text end.now) f.new }
 {
     match end {

@@ -147,7 +147,7 @@ module _ (c : RwValue) (q : Query) (reply : Result Found DbError) (queried : Lis
   rows_kept found copy is more copied kept =
       let one_more : answers ≡ c.answers ++ given.Rows q copy.items ∷ [] = kept ∙ ap (λ (rows : List RowValue). c.answers ++ given.Rows q rows ∷ []) (sym copied) in
       let same : record c { queried = queried; answers = answers; reading = reading } ≡ record c { queried = c.queried ++ q ∷ []; answers = c.answers ++ given.Rows q copy.items ∷ []; reading = None } =
-          λ i. record c { queried = more i; answers = one_more i; reading = none i } in
+      λ i. record c { queried = more i; answers = one_more i; reading = none i } in
       subst (λ (r : Result Found DbError). RowsLead c q r (record c { queried = queried; answers = answers; reading = reading }) (Ok copy)) (sym is) (copied, same)
 
 -- and so for the query that is waited for, whatever it is called

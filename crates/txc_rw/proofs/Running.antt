@@ -198,8 +198,8 @@ module _ (old asking new : RwValue) (q : Query) (same : asking ≡ record old { 
         ∙ ap (λ (r : Option Query). record old { queried = old.queried ++ q ∷ []; reading = r }) (sym none),
   )
   query_left (Err cause) (Err error) leads = inl (
-    leads.1 ∙ ap (λ (c : RwValue). record c { reading = None }) same ∙ ap (λ (r : Option Query). record old { reading = r }) (sym none)
-  )
+      leads.1 ∙ ap (λ (c : RwValue). record c { reading = None }) same ∙ ap (λ (r : Option Query). record old { reading = r }) (sym none)
+      )
 
   pub query_refused : (row : List ℕ) (reply : Result Found DbError) (result : Result (Vec RowValue Global) TxnError) → IfErr reply (MayRefuse row (λ d. IsQueryRefused d q old.base))
       → RowsLead asking q reply new result → IfErr result (IsQueryRefusal row old.base q)

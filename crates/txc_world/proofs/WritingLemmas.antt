@@ -127,17 +127,17 @@ module _ (query : Query) (p : PortsValue) (old asking new : RwValue) (same : ask
       on.1
       ∙ ap (λ (qs : List Query). record asking { queried = qs; answers = asking.answers ++ given.Rows query rows.items ∷ []; reading = None }) (sym (ap (λ (c : RwValue). c.queried) on.1))
       ∙ ap (λ (xs : List Given). record asking { queried = new.queried; answers = xs; reading = None }) (sym (ap (λ (c : RwValue). c.answers) on.1))
-  )
+      )
   own_same (Ok f) (Err e) on = kept_so (
       on.1
       ∙ ap (λ (qs : List Query). record asking { queried = qs; reading = None }) (sym (ap (λ (c : RwValue). c.queried) on.1))
       ∙ ap (λ (xs : List Given). record asking { queried = new.queried; answers = xs; reading = None }) (sym (ap (λ (c : RwValue). c.answers) on.1))
-  )
+      )
   own_same (Err cause) result on = kept_so (
       on.1
       ∙ ap (λ (qs : List Query). record asking { queried = qs; reading = None }) (sym (ap (λ (c : RwValue). c.queried) on.1))
       ∙ ap (λ (xs : List Given). record asking { queried = new.queried; answers = xs; reading = None }) (sym (ap (λ (c : RwValue). c.answers) on.1))
-  )
+      )
 
 -- a core that asked its query is right as before
 pub holds_asking : (next : Next) (L : History) (os : Objects) (c c' : RwValue) (query : Query) → c' ≡ record c { reading = Some query } → RwHolds next L os c → RwHolds next L os c'

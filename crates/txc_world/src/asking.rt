@@ -119,9 +119,9 @@ impl<A: App> Ports<A> {
                 let at = &mut self.nodes[node];
                 PortReply::Lookup(nodes::look_up(alloc, at, pass, &key, lo, hi))
             }
-            PortRequest::Query { query, stamp } => PortReply::Query(
-                self.find(alloc, &query, stamp),
-            ),
+            PortRequest::Query { query, stamp } => PortReply::Query(self.find(
+                alloc, &query, stamp,
+            )),
             PortRequest::Insert { node, entry } => {
                 let at = &mut self.nodes[node];
                 let made = nodes::insert(alloc, at, pass, entry, seen);

@@ -50,9 +50,9 @@ returns-in-Lookup g c =
     let within : c.in-Lookup.node < length q.nodes = subst (MayAsk g.A.App.next q.database.events (length q.nodes) c.args.seen.now.history) c.in-Lookup.is c.requires.may in
     let new : PortsValue = record p { nodes = set p.nodes c.in-Lookup.node c.look_up.new.node } in
     let keeps : KeepsRow q new = keeps_node_from p q c.self.view_is c.in-Lookup.node c.index_mut-at.result.now c.look_up.new.node c.index_mut-at.ensures.value
-        (stays_looked_up _ _ _ _ _ _ _ _ c.look_up.ensures.leads) in
+    (stays_looked_up _ _ _ _ _ _ _ _ c.look_up.ensures.leads) in
     let node : IsNodeOf (whole_of q) q.actors c.index_mut-at.result.now =
-        node_from p q c.self.view_is c.in-Lookup.node c.index_mut-at.result.now c.self.invariant.1 within c.index_mut-at.ensures.value in
+    node_from p q c.self.view_is c.in-Lookup.node c.index_mut-at.result.now c.self.invariant.1 within c.index_mut-at.ensures.value in
     subst (λ (r : PortRequest). IsAsked g.A.App.next c.args.pass c.args.seen.now r q new (replies.Lookup c.look_up.result)) (sym c.in-Lookup.is)
     (asked_lookup g.A.App.next c.args.pass c.args.seen.now q new keeps c.count_right.ensures c.in-Lookup.node c.in-Lookup.key c.in-Lookup.lo c.in-Lookup.hi c.look_up.result
     (led_from p q c.self.view_is c.in-Lookup.node _ c.index_mut-at.result.now c.look_up.new.node within c.index_mut-at.ensures.value c.look_up.ensures.leads)
@@ -64,7 +64,7 @@ invariant_of-self-in-Insert g c =
     let p : PortsValue = record { database = c.self.inside.database; cushion = c.self.inside.cushion; nodes = c.self.inside.nodes.items; spare = c.self.inside.spare.items; actors = c.self.inside.actors } in
     let q : PortsValue = c.args.self.now in
     let may : MayAsk g.A.App.next q.database.events (length q.nodes) c.args.seen.now.history (requests.Insert c.in-Insert.node c.in-Insert.entry) =
-        subst (MayAsk g.A.App.next q.database.events (length q.nodes) c.args.seen.now.history) c.in-Insert.is c.requires.may in
+    subst (MayAsk g.A.App.next q.database.events (length q.nodes) c.args.seen.now.history) c.in-Insert.is c.requires.may in
     let part : IsPartOf (whole_of p) c.args.seen.now = subst (λ (v : PortsValue). IsPartOf (whole_of v) c.args.seen.now) (sym c.self.view_is) c.requires.seen in (
       c.self.invariant.0,
       ports_node_from p q c.self.view_is c.in-Insert.node c.index_mut-at-2.result.now c.insert-made.new.node c.self.invariant.1
@@ -76,11 +76,11 @@ returns-in-Insert g c =
     let p : PortsValue = record { database = c.self.inside.database; cushion = c.self.inside.cushion; nodes = c.self.inside.nodes.items; spare = c.self.inside.spare.items; actors = c.self.inside.actors } in
     let q : PortsValue = c.args.self.now in
     let may : MayAsk g.A.App.next q.database.events (length q.nodes) c.args.seen.now.history (requests.Insert c.in-Insert.node c.in-Insert.entry) =
-        subst (MayAsk g.A.App.next q.database.events (length q.nodes) c.args.seen.now.history) c.in-Insert.is c.requires.may in
+    subst (MayAsk g.A.App.next q.database.events (length q.nodes) c.args.seen.now.history) c.in-Insert.is c.requires.may in
     let part : IsPartOf (whole_of p) c.args.seen.now = subst (λ (v : PortsValue). IsPartOf (whole_of v) c.args.seen.now) (sym c.self.view_is) c.requires.seen in
     let new : PortsValue = record p { nodes = set p.nodes c.in-Insert.node c.insert-made.new.node } in
     let keeps : KeepsRow q new = keeps_node_from p q c.self.view_is c.in-Insert.node c.index_mut-at-2.result.now c.insert-made.new.node c.index_mut-at-2.ensures.value
-        (stays_inserted _ _ _ _ _ _ _ part c.insert-made.ensures) in
+    (stays_inserted _ _ _ _ _ _ _ part c.insert-made.ensures) in
     subst (λ (r : PortRequest). IsAsked g.A.App.next c.args.pass c.args.seen.now r q new (replies.Insert c.kept_of.result)) (sym c.in-Insert.is)
     (asked_insert g.A.App.next c.args.pass c.args.seen.now q new keeps c.count_right.ensures c.in-Insert.node c.in-Insert.entry c.insert-made.result c.kept_of.result c.kept_of.ensures
     (led_from p q c.self.view_is c.in-Insert.node _ c.index_mut-at-2.result.now c.insert-made.new.node may.0 c.index_mut-at-2.ensures.value c.insert-made.ensures))
