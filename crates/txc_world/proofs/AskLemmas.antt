@@ -28,7 +28,7 @@ use Rattle.txc_world.specs.declared.did.Did.{Did}
 use Rattle.txc_world.specs.declared.did.Did.TheVariants as dids
 use Rattle.txc_world.specs.Parts.{IsPartOf}
 use Rattle.txc_world.specs.Ports.{PortsValue, whole_of, KeepsRow, HasLedNode}
-use Rattle.txc_world.specs.Asks.{kept_of, AddLeads, AnswersRows, DoesTell, FindLeads, IsAsked, IsAskedAt, IsTold, PinLeads, PortRequestLeads, UnpinLeads}
+use Rattle.txc_world.specs.Asks.{kept_after, AddLeads, AnswersRows, DoesTell, FindLeads, IsAsked, IsAskedAt, IsTold, PinLeads, PortRequestLeads, UnpinLeads}
 use Rattle.txc_world.specs.Books.{CountRight}
 use Rattle.txc_world.specs.NodeSteps.{InsertLeads, LookupLeads}
 use Rattle.txc_world.proofs.Fairness.{counts_add, counts_pin, counts_query, counts_unpin, fair_led}
@@ -130,7 +130,7 @@ module _ (next : Next) (pass : ℕ) (seen : FrontValue) (old new : PortsValue) (
     counts = record { fair = fair_led old new node _ led; gone = tt };
   }
 
-  pub asked_insert : (node : ℕ) (entry : Entry) (made : Option Insertion) (kept : Option Kept) → kept ≡ kept_of made
+  pub asked_insert : (node : ℕ) (entry : Entry) (made : Option Insertion) (kept : Option Kept) → kept ≡ kept_after made
       → HasLedNode node (λ was is. InsertLeads pass seen entry was is made) old new
       → IsAsked next pass seen (requests.Insert node entry) old new (replies.Insert kept)
   asked_insert node entry made kept is led = record {

@@ -124,9 +124,9 @@ pub record HasStepped (next : Next) (old : WorldValue) (step : Step) (reply : Re
   pub leads : StepLeads next old step reply new
   pub world : IsTrueWorld next new
 
--- A step was made: it leads so, is replied what is due, and explains what was told before it; and where each had
--- what is its own and the step is tidy, each has so after it, and no snapshot is lost.
-pub record IsStep (next : Next) (old : WorldValue) (step : Step) (reply : Reply) (new : WorldValue) : Type 0 where
+-- A step was made: it leads so, is replied what is due, and explains what was told before it. Where each had what is
+-- its own and the step is tidy, each has so after it, and no snapshot is lost.
+pub record IsWholeStep (next : Next) (old : WorldValue) (step : Step) (reply : Reply) (new : WorldValue) : Type 0 where
   pub told : new.told ≡ after old.told step reply
   pub leads : StepLeads next old step reply new
   pub world : IsTrueWorld next new

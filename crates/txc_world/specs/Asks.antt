@@ -116,10 +116,10 @@ DoesTellFound (Err e) did = did ≡ dids.Refused e
 -- ---- requests
 
 -- what a node keeps that made the insertion; nothing where it refused
-abbrev pub kept_of : Option Insertion → Option Kept
-kept_of (Some (insertions.Stored reach)) = Some (kepts.Stored reach)
-kept_of (Some insertions.Kept) = Some kepts.Earlier
-kept_of None = None
+abbrev pub kept_after : Option Insertion → Option Kept
+kept_after (Some (insertions.Stored reach)) = Some (kepts.Stored reach)
+kept_after (Some insertions.Kept) = Some kepts.Earlier
+kept_after None = None
 
 -- what is told of a port is its reply to the transaction; of rows found, their ids with their reach and tags
 abbrev pub DoesTell : PortReply → Did → Type 0
@@ -168,7 +168,7 @@ PortRequestLeads pass seen (requests.Lookup node key lo hi) old new (replies.Loo
 PortRequestLeads pass seen (requests.Query query stamp) old new (replies.Query found) =
     (new ≡ old) × FindLeads query stamp old found
 PortRequestLeads pass seen (requests.Insert node entry) old new (replies.Insert kept) = (made : Option Insertion)
-    × (kept ≡ kept_of made)
+    × (kept ≡ kept_after made)
     × HasLedNode node (λ was is. InsertLeads pass seen entry was is made) old new
 PortRequestLeads pass seen request old new reply = ⊥
 

@@ -1,6 +1,6 @@
 //! What a transaction asks, put to the plain ports, and what is told of it.
 ghost use Rattle.std.specs.Prelude.{◌≡◌, ◌<◌, length, map, IfOk, OnErr};
-ghost use Rattle.txc_world.specs.Asks.{kept_of, AnswersRows, DoesTell, IsTold, IsToldOf};
+ghost use Rattle.txc_world.specs.Asks.{kept_after, AnswersRows, DoesTell, IsTold, IsToldOf};
 
 use crate::did::{Did, RowsFound};
 use crate::nodes;
@@ -75,8 +75,8 @@ pub(crate) fn told(alloc: Global, reply: PortReply) -> (Did, PortReply)
 }
 
 // What a node keeps that made the insertion; nothing where it refused.
-fn kept_of(made: Option<Insertion>) -> Option<Kept>
-    ensures { result ≡ kept_of made }
+fn kept_after(made: Option<Insertion>) -> Option<Kept>
+    ensures { result ≡ kept_after made }
 {
     match made {
         Some(Insertion::Stored(reach)) => Some(Kept::Stored(reach)),
@@ -125,7 +125,7 @@ impl<A: App> Ports<A> {
             PortRequest::Insert { node, entry } => {
                 let at = &mut self.nodes[node];
                 let made = nodes::insert(alloc, at, pass, entry, seen);
-                PortReply::Insert(kept_of(made))
+                PortReply::Insert(kept_after(made))
             }
         }
     }

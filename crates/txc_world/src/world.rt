@@ -7,7 +7,7 @@ ghost use Rattle.txc_shared.specs.declared.log.TheConstants.{MAX_PASSES};
 ghost use Rattle.txc_shared.specs.Nodes.{start_of};
 ghost use Rattle.txc_shared.specs.Runs.{IsNode};
 ghost use Rattle.txc_registry.specs.Objects.{AllIdle};
-ghost use Rattle.txc_world.specs.Acts.{AreLed, IsStep};
+ghost use Rattle.txc_world.specs.Acts.{AreLed, IsWholeStep};
 ghost use Rattle.txc_world.specs.Worlds.{due_of_pins, AreMembersOf, IsBalanced, IsTrueWorld};
 ghost use Rattle.txc_world.specs.Cast.{reads, resting, ReadingValue};
 ghost use Rattle.txc_world.specs.Making.{AreNewPorts};
@@ -198,7 +198,7 @@ impl<A: App, C: Cacheable> World<A, C> {
 
     // One step of an actor.
     fn act(&mut self, alloc: Global, place: usize, doing: &Act) -> Reply
-        ensures { IsStep A.next self.old (Step.Actor place doing.now) result self.new }
+        ensures { IsWholeStep A.next self.old (Step.Actor place doing.now) result self.new }
     {
         if place >= self.actors.len() {
             self.ports.are_true();
@@ -221,7 +221,7 @@ impl<A: App, C: Cacheable> World<A, C> {
 
     // The actor begins a transaction in its session.
     fn begin_in(&mut self, alloc: Global, place: usize, now: u64, staleness: u64) -> Reply
-        ensures { IsStep A.next self.old (Step.BeginIn place now staleness) result self.new }
+        ensures { IsWholeStep A.next self.old (Step.BeginIn place now staleness) result self.new }
     {
         let at_least = floor_at(&self.sessions, place);
         let bounds = Bounds {
@@ -234,7 +234,7 @@ impl<A: App, C: Cacheable> World<A, C> {
 
     /// Takes one step, as `run` does, and returns what it was replied.
     pub fn step(&mut self, alloc: Global, step: &Step) -> Reply
-        ensures { IsStep A.next self.old step.now result self.new }
+        ensures { IsWholeStep A.next self.old step.now result self.new }
     {
         match step {
             Step::Actor(place, doing) => self.act(alloc, *place, doing),

@@ -81,6 +81,6 @@ returns-in-Insert g c =
     let new : PortsValue = record p { nodes = set p.nodes c.in-Insert.node c.insert-made.new.node } in
     let keeps : KeepsRow q new = keeps_node_from p q c.self.view_is c.in-Insert.node c.index_mut-at-2.result.now c.insert-made.new.node c.index_mut-at-2.ensures.value
     (stays_inserted _ _ _ _ _ _ _ part c.insert-made.ensures) in
-    subst (λ (r : PortRequest). IsAsked g.A.App.next c.args.pass c.args.seen.now r q new (replies.Insert c.kept_of.result)) (sym c.in-Insert.is)
-    (asked_insert g.A.App.next c.args.pass c.args.seen.now q new keeps c.count_right.ensures c.in-Insert.node c.in-Insert.entry c.insert-made.result c.kept_of.result c.kept_of.ensures
+    subst (λ (r : PortRequest). IsAsked g.A.App.next c.args.pass c.args.seen.now r q new (replies.Insert c.kept_after.result)) (sym c.in-Insert.is)
+    (asked_insert g.A.App.next c.args.pass c.args.seen.now q new keeps c.count_right.ensures c.in-Insert.node c.in-Insert.entry c.insert-made.result c.kept_after.result c.kept_after.ensures
     (led_from p q c.self.view_is c.in-Insert.node _ c.index_mut-at-2.result.now c.insert-made.new.node may.0 c.index_mut-at-2.ensures.value c.insert-made.ensures))
