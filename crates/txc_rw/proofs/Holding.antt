@@ -130,16 +130,19 @@ module _ (next : Next) (L : History) (objects : Objects) (c : RwValue) (q : Quer
 
 -- what the core does with the answer to a query of its own
 module _ (c : RwValue) (q : Query) (reply : Result Found DbError) (queried : List Query) (answers : List Given) (reading : Option Query) (none : reading ≡ None) where
-  pub rows_refused : (cause : DbError) → reply ≡ Err cause → RowsLead c q reply (record c { reading = reading }) (Err (refused_request cause))
-  rows_refused cause is =
+  pub rows_refused : (cause : DbError) (error : TxnError) → reply ≡ Err cause → error ≡ refused_request cause
+      → RowsLead c q reply (record c { reading = reading }) (Err error)
+  rows_refused cause error is so =
       let same : record c { reading = reading } ≡ record c { reading = None } = λ i. record c { reading = none i } in
-      subst (λ (r : Result Found DbError). RowsLead c q r (record c { reading = reading }) (Err (refused_request cause))) (sym is) (refl, same)
+      let both : Err error ≡ Err (refused_request cause) = ap Err so in
+      subst (λ (r : Result Found DbError). RowsLead c q r (record c { reading = reading }) (Err error)) (sym is) (both, same)
 
-  pub rows_dropped : (found : Found) → reply ≡ Ok found → queried ≡ c.queried ++ q ∷ []
-      → RowsLead c q reply (record c { queried = queried; reading = reading }) (Err Memory)
-  rows_dropped found is more =
-      let same : record c { queried = queried; reading = reading } ≡ record c { queried = c.queried ++ q ∷ []; reading = None } = λ i. record c { queried = more i; reading = none i } in
-      subst (λ (r : Result Found DbError). RowsLead c q r (record c { queried = queried; reading = reading }) (Err Memory)) (sym is) (refl, same)
+  pub rows_dropped : (found : Found) → reply ≡ Ok found → queried ≡ c.queried ++ q ∷ [] → answers ≡ c.answers
+      → RowsLead c q reply (record c { queried = queried; answers = answers; reading = reading }) (Err Memory)
+  rows_dropped found is more left =
+      let same : record c { queried = queried; answers = answers; reading = reading } ≡ record c { queried = c.queried ++ q ∷ []; reading = None } =
+      λ i. record c { queried = more i; answers = left i; reading = none i } in
+      subst (λ (r : Result Found DbError). RowsLead c q r (record c { queried = queried; answers = answers; reading = reading }) (Err Memory)) (sym is) (refl, same)
 
   pub rows_kept : (found : Found) (copy : Vec RowValue Global) → reply ≡ Ok found → queried ≡ c.queried ++ q ∷ [] → copy.items ≡ found.rows.items
       → answers ≡ c.answers ++ given.Rows q found.rows.items ∷ []

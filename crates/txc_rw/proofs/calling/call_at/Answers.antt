@@ -7,6 +7,7 @@ use Rattle.txc_db.specs.Calls.{IsQueryRefused}
 use Rattle.txc_db.specs.History.{state_at}
 use Rattle.txc_db.specs.Shared.{MayRefuse}
 use Rattle.txc_call.specs.Calling.{started}
+use Rattle.txc_ports.specs.declared.turn.Turn.TheVariants.{Ask}
 use Rattle.txc_ports.specs.Turns.{IsAsk}
 use Rattle.txc_rw.specs.Core.{QueryTurn, RwValue, answers_after, IsFoundAt, IsRwTurn}
 use Rattle.txc_rw.specs.Leading.{standing_of}
@@ -20,7 +21,7 @@ loop-turn-preserved g c =
     let core = c.loop-turn.core in
     let q = c.in-Ask.query in
     let L = c.args.seen.now.history in
-    let asking : IsRwTurn core (c.in-Ask.turn) = subst (IsRwTurn core) c.in-Ask.is inv.turn in
+    let asking : IsRwTurn core (Ask q) = subst (IsRwTurn core) c.in-Ask.is inv.turn in
     let begins = inv.begins (subst IsAsk (sym c.in-Ask.is) tt) in
     let found = subst (λ (n : ℕ). IfOk c.find-found.result (IsFoundAt L n q)) c.base.ensures c.find-found.ensures.answer in
     let at_base : c.base.result ≡ c.args.core.now.base = c.base.ensures ∙ inv.base in

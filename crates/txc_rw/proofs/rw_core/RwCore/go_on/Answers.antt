@@ -1,8 +1,9 @@
-use Rattle.std.proofs.Common.{◌≡◌, ◌≤◌, Err, ap, sym, subst}
+use Rattle.std.proofs.Common.{◌≡◌, ◌≤◌, Option, Err, ap, sym, subst}
+use Rattle.txc_rows.specs.declared.query.Query.{Query}
 use Rattle.txc_ports.specs.declared.turn.Turn.TheVariants.{Ended}
 use Rattle.txc_rw.specs.Leading.{standing_of}
 use Rattle.txc_rw.proofs.Counting.{counted_query}
-use Rattle.txc_rw.specs.Core.{IsDone, query_of_reading, RwHolds, RwValue}
+use Rattle.txc_rw.specs.Core.{IsDone, NeedsOnly, query_of_reading, RwHolds, RwValue}
 use Rattle.txc_rw.proofs.Holding.{given_up, holds_moved}
 use Rattle.txc_rw.proofs.rw_core.RwCore.go_on.Goals as goal
 
@@ -28,7 +29,8 @@ returns-in-Ok-None-clause-holds g c = λ L h.
 
 pub returns-in-Ok-Some-clause-counted : goal.returns-in-Ok-Some-clause-counted
 returns-in-Ok-Some-clause-counted g c = λ asks.
-    let both = counted_query c.self.inside.machine c.go_on_uncached.new.machine c.in-Ok-Some.query c.in-Ok-Some.ensures.needs c.in-Ok-Some.ensures.counted in
+    let needs = subst (λ (q : Option Query). NeedsOnly q c.go_on_uncached.new.machine.need) c.in-Ok-Some.field-0-is c.in-Ok-Some.ensures.needs in
+    let both = counted_query c.self.inside.machine c.go_on_uncached.new.machine c.in-Ok-Some.query needs c.in-Ok-Some.ensures.counted in
     rw (c.ask_of_call.ensures.after asks) (subst (λ (w : RwValue). (¬ (IsDone w.call.need)) × (w.call.asked ≤ c.go_on_uncached.new.machine.asked)) c.self.view_is both)
 
 pub returns-in-Err-clause-leads : goal.returns-in-Err-clause-leads

@@ -39,6 +39,13 @@ reply-requires-clause-common g c = (
   subst (λ (w : RwValue). InCall 1 w.call) (sym c.self.view_is) c.requires.fits.at_one,
 )
 
+pub reply-requires-clause-reply : goal.reply-requires-clause-reply
+reply-requires-clause-reply g c = (
+  needs.Query c.requires.asks.0,
+  subst (λ (w : RwValue). w.call.need ≡ Some (needs.Query c.requires.asks.0)) (sym c.self.view_is) c.requires.asks.1.1,
+  tt,
+)
+
 pub go_on-requires-clause-at_one : goal.go_on-requires-clause-at_one
 go_on-requires-clause-at_one g c =
     c.in-Ok-reply.ensures.within 1 (subst (λ (i : Interval). Holds i 1) (sym c.at_one.ensures.reach) (omega arith, omega arith))
@@ -53,7 +60,7 @@ returns-in-Ok-reply-clause-holds g c = λ L right h.
     let h' : RwHolds g.A.App.next L c.args.registry.now was = subst (λ (w : RwValue). RwHolds g.A.App.next L c.args.registry.now w) same h in
     let none : query_of_reading c.replace.new.dest ≡ None = ap (λ (r : Option Reading). query_of_reading r) c.replace.ensures.after in
     let found : IsFoundAt L was.base q c.in-Ok.found = reply_found L was c.args.reply c.in-Ok.found q c.in-Ok.is asked (subst (λ (w : RwValue). IsRightReply L w c.args.reply) same right) in
-    let is = need_of_asked was q c.requires.asks.0 asked (subst (λ (w : RwValue). w.reading ≡ Some c.requires.asks.0) same c.requires.asks.1) (subst (λ (w : RwValue). w.call.need ≡ Some (needs.Query c.requires.asks.0)) same c.requires.asks.2) in
+    let is = need_of_asked was q c.requires.asks.0 asked (subst (λ (w : RwValue). w.reading ≡ Some c.requires.asks.0) same c.requires.asks.1.0) (subst (λ (w : RwValue). w.call.need ≡ Some (needs.Query c.requires.asks.0)) same c.requires.asks.1.1) in
     c.go_on.ensures.holds L
     (holds_queried g.A.App.next L c.args.registry.now was h' q c.reply.new.registry c.reply.new.self c.push_reserved.new.self.items (query_of_reading c.replace.new.dest) c.push_reserved.ensures.items none
     (λ changes agree hold.
