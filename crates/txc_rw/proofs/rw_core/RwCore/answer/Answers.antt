@@ -88,7 +88,7 @@ returns-clause-holds c = λ next objects L right h.
     let reading : Option Query = query_of_reading c.replace.new.dest in
     let none : reading ≡ None = ap query_of_reading c.replace.ensures.after in
     rows_lead next L objects was q (subst (RwHolds next L objects) (sym c.self.view_is) h) _ c.args.reply _ asked (subst (λ (w : RwValue). IsRightReply L w c.args.reply) (sym c.self.view_is) right)
-    (rows_kept was q c.args.reply c.push_reserved.new.self.items c.push.new.self.items reading none c.in-Ok.found c.in-Ok-copy_rows.copy c.in-Ok.is c.push_reserved.ensures.items c.in-Ok-copy_rows.ensures c.in-Ok-push.ensures.items)
+    (rows_kept was q c.args.reply c.push_reserved.new.self.items c.push.new.self.items reading none c.in-Ok.found c.in-Ok-copy_rows.copy c.in-Ok.is c.push_reserved.ensures.items (c.in-Ok-copy_rows.ensures ∙ c.deref.ensures.value) c.in-Ok-push.ensures.items)
 
 pub returns-clause-leads : goal.returns-clause-leads
 returns-clause-leads c = λ query is.
@@ -98,4 +98,4 @@ returns-clause-leads c = λ query is.
     let reading : Option Query = query_of_reading c.replace.new.dest in
     let none : reading ≡ None = ap query_of_reading c.replace.ensures.after in
     rows_led_for c.args.self.now was _ q query c.args.reply _ c.self.view_is asked is
-    (rows_kept was q c.args.reply c.push_reserved.new.self.items c.push.new.self.items reading none c.in-Ok.found c.in-Ok-copy_rows.copy c.in-Ok.is c.push_reserved.ensures.items c.in-Ok-copy_rows.ensures c.in-Ok-push.ensures.items)
+    (rows_kept was q c.args.reply c.push_reserved.new.self.items c.push.new.self.items reading none c.in-Ok.found c.in-Ok-copy_rows.copy c.in-Ok.is c.push_reserved.ensures.items (c.in-Ok-copy_rows.ensures ∙ c.deref.ensures.value) c.in-Ok-push.ensures.items)
