@@ -1,5 +1,7 @@
-use Rattle.std.proofs.Common.{◌≡◌, Option, Some, None, refl, sym, ap, subst, ◌∙◌}
+use Rattle.std.proofs.Common.{◌≡◌, List, [], ◌∷◌, ◌++◌, Option, Some, None, refl, sym, ap, subst, ◌∙◌}
 use Rattle.txc_rows.specs.declared.query.Query.{Query}
+use Rattle.txc_rows.specs.States.{RowValue}
+use Rattle.txc_rw.specs.declared.given.Given.TheVariants as given
 use Rattle.txc_rw.specs.declared.reading.Reading.{Reading}
 use Rattle.txc_rw.specs.Core.{query_of_reading, IsRightReply, RwHolds, RwValue}
 use Rattle.txc_rw.proofs.Holding.{kept_more, rows_dropped, rows_kept, rows_lead, rows_led_for, rows_refused}
@@ -88,7 +90,8 @@ returns-clause-holds c = λ next objects L right h.
     let reading : Option Query = query_of_reading c.replace.new.dest in
     let none : reading ≡ None = ap query_of_reading c.replace.ensures.after in
     rows_lead next L objects was q (subst (RwHolds next L objects) (sym c.self.view_is) h) _ c.args.reply _ asked (subst (λ (w : RwValue). IsRightReply L w c.args.reply) (sym c.self.view_is) right)
-    (rows_kept was q c.args.reply c.push_reserved.new.self.items c.push.new.self.items reading none c.in-Ok.found c.in-Ok-copy_rows.copy c.in-Ok.is c.push_reserved.ensures.items (c.in-Ok-copy_rows.ensures ∙ c.deref.ensures.value) c.in-Ok-push.ensures.items)
+    (rows_kept was q c.args.reply c.push_reserved.new.self.items c.push.new.self.items reading none c.in-Ok.found c.in-Ok-copy_rows.copy c.in-Ok.is c.push_reserved.ensures.items (c.in-Ok-copy_rows.ensures ∙ c.deref.ensures.value)
+    (c.in-Ok-push.ensures.items ∙ ap (λ (rows : List RowValue). was.answers ++ given.Rows q rows ∷ []) c.new.ensures))
 
 pub returns-clause-leads : goal.returns-clause-leads
 returns-clause-leads c = λ query is.
@@ -98,4 +101,5 @@ returns-clause-leads c = λ query is.
     let reading : Option Query = query_of_reading c.replace.new.dest in
     let none : reading ≡ None = ap query_of_reading c.replace.ensures.after in
     rows_led_for c.args.self.now was _ q query c.args.reply _ c.self.view_is asked is
-    (rows_kept was q c.args.reply c.push_reserved.new.self.items c.push.new.self.items reading none c.in-Ok.found c.in-Ok-copy_rows.copy c.in-Ok.is c.push_reserved.ensures.items (c.in-Ok-copy_rows.ensures ∙ c.deref.ensures.value) c.in-Ok-push.ensures.items)
+    (rows_kept was q c.args.reply c.push_reserved.new.self.items c.push.new.self.items reading none c.in-Ok.found c.in-Ok-copy_rows.copy c.in-Ok.is c.push_reserved.ensures.items (c.in-Ok-copy_rows.ensures ∙ c.deref.ensures.value)
+    (c.in-Ok-push.ensures.items ∙ ap (λ (rows : List RowValue). was.answers ++ given.Rows q rows ∷ []) c.new.ensures))

@@ -1,4 +1,4 @@
-use Rattle.std.proofs.Common.{◌≡◌, ◌≤◌, Option, Err, ap, sym, subst}
+use Rattle.std.proofs.Common.{◌≤◌, Option, Err, ap, sym, subst}
 use Rattle.txc_rows.specs.declared.query.Query.{Query}
 use Rattle.txc_ports.specs.declared.turn.Turn.TheVariants.{Ended}
 use Rattle.txc_rw.specs.Leading.{standing_of}
