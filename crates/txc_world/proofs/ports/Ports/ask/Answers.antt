@@ -2,7 +2,7 @@ use Rattle.std.proofs.Common.{◌<◌, length, set, sym, subst}
 use Rattle.txc_ports.specs.declared.request.PortRequest.{PortRequest}
 use Rattle.txc_ports.specs.declared.request.PortRequest.TheVariants as requests
 use Rattle.txc_ports.specs.declared.reply.PortReply.TheVariants as replies
-use Rattle.txc_ports.specs.Asking.{MayAsk}
+use Rattle.txc_ports.specs.Asking.{AddsSuch, MayAsk}
 use Rattle.txc_world.specs.Asks.{IsAsked}
 use Rattle.txc_world.specs.Parts.{IsPartOf}
 use Rattle.txc_world.specs.Ports.{IsNodeOf, KeepsRow, PortsValue, whole_of}
@@ -18,8 +18,8 @@ returns-in-Pin g c =
 
 pub returns-in-AddPin : goal.returns-in-AddPin
 returns-in-AddPin g c =
-    subst (λ (r : PortRequest). IsAsked g.A.App.next c.args.pass c.args.seen.now r c.args.self.now c.add-added.new.self (replies.AddPin c.in-AddPin.field-0 c.add-added.result)) (sym c.in-AddPin.is)
-    (asked_add g.A.App.next c.args.pass c.args.seen.now c.args.self.now c.add-added.new.self c.add-added.ensures.keeps c.count_right.ensures c.in-AddPin.pinned c.add-added.result c.add-requires c.add-added.ensures.leads)
+    subst (λ (r : PortRequest). IsAsked g.A.App.next c.args.pass c.args.seen.now r c.args.self.now c.add-added.new.self (replies.AddPin c.in-AddPin.pinned c.add-added.result)) (sym c.in-AddPin.is)
+    (asked_add g.A.App.next c.args.pass c.args.seen.now c.args.self.now c.add-added.new.self c.add-added.ensures.keeps c.count_right.ensures c.in-AddPin.pinned c.add-added.result (subst (AddsSuch (IsPartOf (whole_of c.args.self.now))) c.in-AddPin.is c.requires.shown) c.add-added.ensures.leads)
 
 pub returns-in-Unpin : goal.returns-in-Unpin
 returns-in-Unpin g c =
