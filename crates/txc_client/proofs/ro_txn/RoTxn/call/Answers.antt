@@ -1,4 +1,4 @@
-use Rattle.std.proofs.Common.{◌≡◌, ◌∙◌, List, Some, Result, Ok, Err, IfOk, sym, subst}
+use Rattle.std.proofs.Common.{◌≡◌, ◌∙◌, sym, subst}
 use Rattle.txc_client.specs.Run.{HasRun}
 use Rattle.txc_client.specs.Txn.{RoTxnValue}
 use Rattle.txc_client.proofs.Grown.{as_many}
