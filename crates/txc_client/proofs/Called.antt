@@ -14,12 +14,18 @@ use Rattle.txc_shared.specs.declared.error.NodeError.{NodeError}
 use Rattle.txc_shared.specs.declared.insertion.Insertion.{Insertion}
 use Rattle.txc_shared.specs.Passes.{PassValue, shown_of_entry, GrowsByOthers, HasFound, HasGrown, HasInserted, HasMade, IsPassLeft}
 use Rattle.txc_shared.specs.Refusals.{IsCountRefused, IsLookupRefused, IsRefusedThrough, IsStepRefused, NodeMayRefuse}
-use Rattle.txc_client.specs.Ports.{CountsLeave, InsertLeaves, IsCallAt, LookupLeaves}
+use Rattle.txc_ports.specs.declared.kept.Kept.{Kept}
+use Rattle.txc_client.specs.Ports.{kept_by, CountsLeave, InsertLeaves, IsCallAt, LookupLeaves}
 
 pub called_at : (ps : List PassValue) (node : ℕ) (call : PassValue → PassValue → Type 0) (old new : PassValue) → node < length ps → old ≡ get_or ps node old
     → HasGrown old new → call old new → IsCallAt node call ps (set ps node new)
 called_at ps node call old new within at grown called =
     record { old = old; new = new; pass = slice_get_read ps (length ps) node old refl within at; grown = grown; called = called; others = refl }
+
+-- what is kept, by what an insertion returns
+abbrev pub kept_of : Result Insertion NodeError → Option Kept
+kept_of (Ok insertion) = Some (kept_by insertion)
+kept_of (Err e) = None
 
 module _ (node_histories : ℕ → Name) (old new : PassValue) where
   -- a lookup, by what it returns
@@ -47,9 +53,10 @@ module _ (node_histories : ℕ → Name) (old new : PassValue) where
 
   -- an insertion, by what it returns
   pub inserted : (entry : Entry) (r : Result Insertion NodeError) → IfOk r (HasInserted old new entry) → IfErr r (IsPassLeft (node_histories old.settings.number) old new)
-      → IfErr r (NodeMayRefuse node_histories (λ n. IsRefusedThrough IsStepRefused n old)) → InsertLeaves node_histories entry old new
-  inserted entry (Ok insertion) made left refused = inl (insertion, made)
-  inserted entry (Err e) made left refused = inr (record { error = e; reason = refused; left = left })
+      → IfErr r (NodeMayRefuse node_histories (λ n. IsRefusedThrough IsStepRefused n old))
+      → (keeps : Option Kept) → keeps ≡ kept_of r → InsertLeaves node_histories entry keeps old new
+  inserted entry (Ok insertion) made left refused keeps is = rw is (insertion, made, refl)
+  inserted entry (Err e) made left refused keeps is = rw is (record { error = e; reason = refused; left = left })
 
   -- counts, by what they return
   pub counted : (r : Result Totals NodeError) (counts : Totals) → r ≡ Ok counts → OnOk r (GrowsByOthers old.pass old.records new.records)

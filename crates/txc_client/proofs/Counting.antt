@@ -33,7 +33,7 @@ use Rattle.txc_ports.specs.declared.request.PortRequest.{PortRequest}
 use Rattle.txc_ports.specs.declared.request.PortRequest.TheVariants as requests
 use Rattle.txc_ports.specs.declared.reply.PortReply.{PortReply}
 use Rattle.txc_ports.specs.declared.reply.PortReply.TheVariants as ports
-use Rattle.txc_ports.specs.declared.turn.Turn.{Turn}
+use Rattle.txc_ports.specs.Turns.{PortTurn}
 use Rattle.txc_ports.specs.declared.turn.Turn.TheVariants as turns
 use Rattle.txc_txn.specs.declared.pinning.Pinning.{Pinning}
 use Rattle.txc_txn.specs.declared.pinning.PinStep.{PinStep}
@@ -140,11 +140,9 @@ abbrev pub left_of : CoreValue → ℕ
 left_of c = left c.pins.has_present c.pinning c.call.asked
 
 -- none where the call has ended
-abbrev pub requests_left : Turn → CoreValue → ℕ
+abbrev pub requests_left : PortTurn → CoreValue → ℕ
 requests_left (turns.Ask request) c = suc (left_of c)
-requests_left (turns.Value value) c = 0
-requests_left (turns.Rows rows) c = 0
-requests_left (turns.Refused error) c = 0
+requests_left (turns.Ended result) c = 0
 
 steps_few : (step : PinStep) → steps_of step ≤ 3
 steps_few Asked = omega arith
@@ -246,8 +244,8 @@ module _ (next : Next) (old new : TxnValue) (was : IsTxn next old) (now : IsTxn 
       let before = pinning_left old.core was.fits.pinning (Adding (pin_of pinned)) answered in
       let after = pinning_left new.core now.fits.pinning (Dropping pinned.stamp (refused_pin error)) leads.1 in
       omega (arith, before, after)
-  asks_less ports.Unpin answered leads pins =
-      let no : turns.Ask request ≡ turns.Refused answered.1 = leads answered.0 answered.1 answered.2 in absurd (cc no)
+  asks_less (ports.Unpin unpinned) answered leads pins =
+      let no : turns.Ask request ≡ turns.Ended (Err answered.1) = leads answered.0 answered.1 answered.2 in absurd (cc no)
   asks_less (ports.Lookup None) answered leads pins =
       call_leads_less (needs.Lookup answered.0) replies.Miss answered.1.0 (kept_present old.core.pins new.core.pins pins) (leads answered.0 answered.1.1)
   asks_less (ports.Lookup (Some hit)) answered leads pins = hit_less answered.0 hit.answer answered.1.0 pins (leads answered.0 answered.1.1)
@@ -255,7 +253,7 @@ module _ (next : Next) (old new : TxnValue) (was : IsTxn next old) (now : IsTxn 
       call_leads_less (needs.Query answered.0) (replies.Found found.answer) answered.1.0
       (lost_present found.answer.reach old.core.pins new.core.pins pins) (leads answered.0 answered.1.1)
   asks_less (ports.Query (Err error)) answered leads pins = absurd (cc leads)
-  asks_less ports.Insert answered leads pins =
+  asks_less (ports.Insert keeps) answered leads pins =
       call_leads_less (needs.Insert answered.0) replies.Inserted answered.1.0 (kept_present old.core.pins new.core.pins pins) (leads answered.0 answered.1.1)
 
 sucs_less : (a b : ℕ) → a < b → suc a < suc b
@@ -265,12 +263,10 @@ none_less : (b : ℕ) → 0 < suc b
 none_less b = omega arith
 
 -- each reply leaves fewer requests to come
-pub goes_down : (next : Next) (old new : TxnValue) (reply : PortReply) (turn : Turn) → IsTxn next old → IsTxn next new → IsAnswered old.core reply
+pub goes_down : (next : Next) (old new : TxnValue) (reply : PortReply) (turn : PortTurn) → IsTxn next old → IsTxn next new → IsAnswered old.core reply
     → HasGoneOn next old reply new turn → requests_left turn new.core < suc (left_of old.core)
 goes_down next old new reply turn was now answered on = go turn on.turn_fits on.leads
   where
-    go : (turn : Turn) → IsTurn new.core turn → ReplyLeads next old.core old.objects reply new.core new.objects turn → requests_left turn new.core < suc (left_of old.core)
+    go : (turn : PortTurn) → IsTurn new.core turn → ReplyLeads next old.core old.objects reply new.core new.objects turn → requests_left turn new.core < suc (left_of old.core)
     go (turns.Ask request) fits leads = sucs_less (left_of new.core) (left_of old.core) (asks_less next old new was now request fits reply answered leads on.pins)
-    go (turns.Value value) fits leads = none_less (left_of old.core)
-    go (turns.Rows rows) fits leads = none_less (left_of old.core)
-    go (turns.Refused error) fits leads = none_less (left_of old.core)
+    go (turns.Ended result) fits leads = none_less (left_of old.core)

@@ -21,7 +21,9 @@ use Rattle.txc_shared.specs.declared.error.NodeError.{NodeError}
 use Rattle.txc_shared.specs.declared.error.NodeError.TheVariants.{Broken, EmptyRange, HistoryFull, PassesFull, Memory}
 use Rattle.txc_shared.specs.Histories.{records_of, next_record}
 use Rattle.txc_shared.specs.Passes.{PassValue, HasNextRecord, GrowsByOthers, HasGrown, HasMade, IsPassLeft}
-use Rattle.txc_ports.specs.declared.turn.Turn.{Turn}
+use Rattle.txc_ports.specs.declared.turn.Turn.TheVariants.{Ended}
+use Rattle.txc_ports.specs.declared.kept.Kept.{Kept}
+use Rattle.txc_ports.specs.Turns.{PortTurn}
 use Rattle.txc_ports.specs.Exchanges.{Exchange}
 use Rattle.txc_ports.specs.Exchanges as exchanges
 use Rattle.txc_client.specs.Laws.{asks, own_records, IsOne, AreOne, Leaves, AreLeftBy, HasAdded, CallsStandOnce}
@@ -176,29 +178,34 @@ module _ (node_histories : ℕ → Name) (olds news : List PassValue) (node : �
         | inr refused ↦ added_no old new grown (exchanges.Lookup at key lo hi None) (inl refl) (node_histories old.settings.number) refused.1.error refused.1.left
       ]) h is
 
-  insert_adds : (at : ℕ) (entry : Entry) → IsCallAt at (InsertLeaves node_histories entry) olds news
-      → slice_get olds node ≡ Some p → AddedAt node (one_if (at == node) (exchanges.Insert at entry)) p news
-  insert_adds at entry h is =
-      added_at at node (exchanges.Insert at entry) (InsertLeaves node_histories entry) olds news p
-      (λ old new grown called. elim called [
-        | inl made ↦
-            added_one old new grown (exchanges.Insert at entry) (ops.Insert entry) (replies.Inserted made.1.inserted) made.1.made (λ one. inr one) (refl, (made.1.inserted, refl))
-        | inr refused ↦ added_no old new grown (exchanges.Insert at entry) (inl refl) (node_histories old.settings.number) refused.error refused.left
-      ]) h is
+  kept_adds : (at : ℕ) (entry : Entry) (keeps : Kept) → IsCallAt at (InsertLeaves node_histories entry (Some keeps)) olds news
+      → slice_get olds node ≡ Some p → AddedAt node (one_if (at == node) (exchanges.Insert at entry (Some keeps))) p news
+  kept_adds at entry keeps h is =
+      added_at at node (exchanges.Insert at entry (Some keeps)) (InsertLeaves node_histories entry (Some keeps)) olds news p
+      (λ old new grown made.
+      added_one old new grown (exchanges.Insert at entry (Some keeps)) (ops.Insert entry) (replies.Inserted made.1.inserted) made.1.made (λ one. one) (refl, (made.1.inserted, refl))) h is
+
+  refused_adds : (at : ℕ) (entry : Entry) → IsCallAt at (InsertLeaves node_histories entry None) olds news
+      → slice_get olds node ≡ Some p → AddedAt node (one_if (at == node) (exchanges.Insert at entry None)) p news
+  refused_adds at entry h is =
+      added_at at node (exchanges.Insert at entry None) (InsertLeaves node_histories entry None) olds news p
+      (λ old new grown refused.
+      added_no old new grown (exchanges.Insert at entry None) (inl refl) (node_histories old.settings.number) refused.error refused.left) h is
 
   exchange_adds : (x : Exchange) → PassesAfter node_histories olds x news → slice_get olds node ≡ Some p → AddedAt node (filter (asks node) (x ∷ [])) p news
   exchange_adds (exchanges.Pin now at_least pinned) h is = stays_at node p olds news h is
   exchange_adds (exchanges.AddPin pinned given added) h is = stays_at node p olds news h is
-  exchange_adds (exchanges.Unpin stamp) h is = stays_at node p olds news h is
+  exchange_adds (exchanges.Unpin stamp unpinned) h is = stays_at node p olds news h is
   exchange_adds (exchanges.Lookup at key lo hi None) h is = miss_adds at key lo hi h is
   exchange_adds (exchanges.Lookup at key lo hi (Some hit)) h is = hit_adds at key lo hi hit h is
   exchange_adds (exchanges.Query query stamp found) h is = stays_at node p olds news h is
-  exchange_adds (exchanges.Insert at entry) h is = insert_adds at entry h is
+  exchange_adds (exchanges.Insert at entry (Some keeps)) h is = kept_adds at entry keeps h is
+  exchange_adds (exchanges.Insert at entry None) h is = refused_adds at entry h is
 
 -- ---- a run
 
 module _ (next : Next) (row : Name) (node_histories : ℕ → Name) (node : ℕ) where
-  led_adds : (xs : List Exchange) (old new : RoTxnValue) (asking turn : Turn) (p : PassValue) → ExchangesLead next row node_histories old asking xs new turn
+  led_adds : (xs : List Exchange) (old new : RoTxnValue) (asking turn : PortTurn) (p : PassValue) → ExchangesLead next row node_histories old asking xs new turn
       → slice_get old.passes node ≡ Some p → AddedAt node (filter (asks node) xs) p new.passes
   led_adds [] old new asking turn p led is = stays_at node p old.passes new.passes (ap (λ (v : RoTxnValue). v.passes) led.0) is
   led_adds (x ∷ xs) old new asking turn p led is =
@@ -211,9 +218,9 @@ module _ (next : Next) (row : Name) (node_histories : ℕ → Name) (node : ℕ)
       )
 
 pub calls_stand_once : CallsStandOnce
-calls_stand_once next row node_histories old new k turn run node before after was is =
+calls_stand_once next row node_histories old new k result run node before after was is =
     let began = ap (λ (l : List PassValue). slice_get l node) run.begun.passes ∙ was in
-    let adds = led_adds next row node_histories node run.exchanges run.first new run.first_turn turn before run.led began in
+    let adds = led_adds next row node_histories node run.exchanges run.first new run.first_turn (Ended result) before run.led began in
     let both : Some adds.0 ≡ Some after = sym adds.1 ∙ is in
     let same : adds.0 ≡ after = cc both in
     subst (λ (q : PassValue). HasAdded (filter (asks node) run.exchanges) before q) same adds.2

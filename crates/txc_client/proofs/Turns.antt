@@ -1,35 +1,26 @@
 -- The turns of a call.
-use Rattle.std.proofs.Common.{◌≡◌, ◌≢◌, List, Option, Some, refl, sym, ap, subst, ◌∙◌}
+use Rattle.std.proofs.Common.{◌≡◌, List, Option, Some, Ok, Err, refl, sym, ap, subst, ◌∙◌}
 use mathlib.Core.List.{IsPrefix}
 use Rattle.txc_tags.specs.Keys.{Call}
 use Rattle.txc_db.specs.History.{History}
 use Rattle.txc_ports.specs.declared.recorded.Recorded.{Recorded}
 use Rattle.txc_ports.specs.declared.request.PortRequest.{PortRequest}
-use Rattle.txc_ports.specs.declared.turn.Turn.{Turn}
-use Rattle.txc_ports.specs.declared.turn.Turn.TheVariants.{Ask, Value, Rows, Refused}
-use Rattle.txc_txn.specs.Core.{CoreValue, recorded_after, IsIdle, IsNoValue, IsTurn, KeepsSettings}
-use Rattle.txc_ports.specs.Turns.{IsCallEnd}
+use Rattle.txc_ports.specs.declared.turn.Turn.TheVariants.{Ask, Ended}
+use Rattle.txc_ports.specs.Turns.{PortTurn}
+use Rattle.txc_txn.specs.Core.{CoreValue, recorded_after, IsNoValue, KeepsSettings}
 use Rattle.txc_client.proofs.Grown.{prefix_self}
 
--- a turn that asks nothing has ended the call
-pub turn_ends : (c : CoreValue) (turn : Turn) → IsTurn c turn → ((request : PortRequest) → turn ≢ Ask request) → IsCallEnd turn × IsIdle c
-turn_ends c (Ask request) fits none = absurd (none request refl)
-turn_ends c (Value value) fits none = (tt, fits)
-turn_ends c (Rows rows) fits none = absurd fits
-turn_ends c (Refused error) fits none = (tt, fits)
-
 -- only a value is recorded
-pub none_recorded : (recorded : List Recorded) (turn : Turn) (k : Option Call) → IsNoValue turn → recorded_after recorded turn k ≡ recorded
+pub none_recorded : (recorded : List Recorded) (turn : PortTurn) (k : Option Call) → IsNoValue turn → recorded_after recorded turn k ≡ recorded
 none_recorded recorded (Ask request) k none = refl
-none_recorded recorded (Value value) k none = absurd none
-none_recorded recorded (Rows rows) k none = refl
-none_recorded recorded (Refused error) k none = refl
+none_recorded recorded (Ended (Ok value)) k none = absurd none
+none_recorded recorded (Ended (Err error)) k none = refl
 
 -- a turn after one that asks
-pub recorded_on : (first now : List Recorded) (request : PortRequest) (old new : Turn) (k : Call) (called : Option Call) → old ≡ Ask request
+pub recorded_on : (first now : List Recorded) (request : PortRequest) (old new : PortTurn) (k : Call) (called : Option Call) → old ≡ Ask request
     → now ≡ recorded_after first old (Some k) → called ≡ Some k → recorded_after now new called ≡ recorded_after first new (Some k)
 recorded_on first now request old new k called asks is same =
-    let stays : now ≡ first = is ∙ ap (λ (t : Turn). recorded_after first t (Some k)) asks in
+    let stays : now ≡ first = is ∙ ap (λ (t : PortTurn). recorded_after first t (Some k)) asks in
     ap (λ (rs : List Recorded). recorded_after rs new called) stays ∙ ap (λ (o : Option Call). recorded_after first new o) same
 
 -- the settings stay twice

@@ -1,5 +1,5 @@
 -- What a transaction's answers and its pins say, one by one.
-use Rattle.std.proofs.Common.{◌≡◌, ℕ, List, [], ◌∷◌, ◌++◌, length, get_or, Some, All, refl, subst, arith, length-append}
+use Rattle.std.proofs.Common.{◌≡◌, ℕ, List, [], ◌∷◌, ◌++◌, length, get_or, Some, Result, Ok, Err, IfOk, All, refl, subst, arith, length-append}
 use Rattle.std.proofs.lemmas.List.{get_or_push}
 use Rattle.txc_tags.specs.Keys.{Call}
 use Rattle.txc_db.specs.History.{History, moment_at, state_at, IsAllowed}
@@ -8,7 +8,9 @@ use Rattle.txc_app.specs.Eval.{Next, eval}
 use Rattle.txc_ports.specs.Answers.{IsFresh, AreConsistent}
 use Rattle.txc_ports.specs.declared.bounds.Bounds.{Bounds}
 use Rattle.txc_ports.specs.declared.recorded.Recorded.{Recorded}
-use Rattle.txc_txn.specs.Core.{CoreValue}
+use Rattle.txc_ports.specs.declared.error.TxnError.{TxnError}
+use Rattle.txc_ports.specs.declared.turn.Turn.TheVariants.{Ended}
+use Rattle.txc_txn.specs.Core.{CoreValue, recorded_after}
 use Rattle.txc_client.specs.Txn.{IsValueAtMembers}
 
 -- what holds of each item holds of the last one
@@ -23,6 +25,13 @@ value_of_last next c old k bytes all is = λ i d below.
     of_last (λ (r : Recorded). eval next r.key (state_at c.seen.history (get_or c.pins.members i d).stamp) ≡ Some r.value) old
     (record { key = k; value = bytes })
     (subst (λ (rs : List Recorded). AreConsistent next rs (state_at c.seen.history (get_or c.pins.members i d).stamp)) is (all i d below))
+
+-- the value of a call that ended so
+pub value_of_result : (next : Next) (c : CoreValue) (old : List Recorded) (k : Call) (result : Result (List ℕ) TxnError)
+    → All (λ p. AreConsistent next c.recorded (state_at c.seen.history p.stamp)) c.pins.members
+    → c.recorded ≡ recorded_after old (Ended result) (Some k) → IfOk result (IsValueAtMembers next c k)
+value_of_result next c old k (Ok bytes) all is = value_of_last next c old k bytes all is
+value_of_result next c old k (Err error) all is = tt
 
 -- pins that a history shows, and that the bounds allow, are fresh
 pub fresh_pins : (L : History) (bounds : Bounds) (pins : List Pin) → All (λ p. moment_at L p.stamp ≡ Some p.moment) pins

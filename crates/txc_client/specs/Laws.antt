@@ -1,6 +1,6 @@
 -- What the histories of the nodes show of a client's calls.
 use Rattle.txc_stream.specs.Names.{Name}
-use Rattle.std.specs.Prelude.{◌≡◌, ◌⊎◌, ◌==◌, ℕ, Bool, false, List, [], ◌∷◌, ◌++◌, slice_get, Some}
+use Rattle.std.specs.Prelude.{◌≡◌, ◌⊎◌, ◌==◌, ℕ, Bool, false, List, [], ◌∷◌, ◌++◌, slice_get, Some, Result}
 use Rattle.std.specs.List.{filter}
 use Rattle.txc_tags.specs.Keys.{Call}
 use Rattle.txc_node.specs.declared.node.Inserted.{Inserted}
@@ -11,7 +11,7 @@ use Rattle.txc_app.specs.Eval.{Next}
 use Rattle.txc_shared.specs.Passes.{PassValue}
 use Rattle.txc_ports.specs.Exchanges.{Exchange}
 use Rattle.txc_ports.specs.Exchanges as exchanges
-use Rattle.txc_ports.specs.declared.turn.Turn.{Turn}
+use Rattle.txc_ports.specs.declared.error.TxnError.{TxnError}
 use Rattle.txc_client.specs.Ports.{reply_to_lookup}
 use Rattle.txc_client.specs.Run.{HasRun}
 use Rattle.txc_client.specs.Txn.{RoTxnValue}
@@ -23,13 +23,13 @@ own_records p = filter (λ (r : Record). r.pass == p.pass) p.records
 -- the exchange is with this node
 abbrev pub asks : ℕ → Exchange → Bool
 asks node (exchanges.Lookup at key lo hi found) = at == node
-asks node (exchanges.Insert at entry) = at == node
+asks node (exchanges.Insert at entry keeps) = at == node
 asks node exchange = false
 
 -- the record is of the step that was asked, and shows the reply
 abbrev pub IsOne : Exchange → Record → Type 0
 IsOne (exchanges.Lookup at key lo hi found) r = (r.op ≡ ops.Lookup key lo hi) × (r.reply ≡ reply_to_lookup found)
-IsOne (exchanges.Insert at entry) r = (r.op ≡ ops.Insert entry)
+IsOne (exchanges.Insert at entry keeps) r = (r.op ≡ ops.Insert entry)
     × ((inserted : Inserted) × (r.reply ≡ replies.Inserted inserted))
 IsOne exchange r = ⊥
 
@@ -37,10 +37,11 @@ IsOne exchange r = ⊥
 abbrev pub AreOne : Exchange → List Record → Type 0
 AreOne exchange made = (r : Record) × (made ≡ r ∷ []) × IsOne exchange r
 
--- What an exchange leaves of records at its node: a hit, one; a miss or an insertion, at most one, as the node may
--- have refused; and anything else, none.
+-- What an exchange leaves of records at its node: a hit, or an entry that is kept, one; a miss, or an entry that is
+-- not kept, at most one, as the node may have refused; and anything else, none.
 abbrev pub Leaves : Exchange → List Record → Type 0
 Leaves (exchanges.Lookup at key lo hi (Some hit)) made = AreOne (exchanges.Lookup at key lo hi (Some hit)) made
+Leaves (exchanges.Insert at entry (Some keeps)) made = AreOne (exchanges.Insert at entry (Some keeps)) made
 Leaves exchange made = (made ≡ []) ⊎ AreOne exchange made
 
 -- these are what the exchanges left, one after the other
@@ -57,10 +58,10 @@ pub record HasAdded (xs : List Exchange) (before after : PassValue) : Type 0 whe
   pub own : own_records after ≡ own_records before ++ made
 
 -- The client's own records in the history of a node are, after a call of a transaction, those before it, and then
--- those of the call's exchanges with the node, in their order. They are one of each hit, at most one of each miss and
--- of each insertion, and no others.
+-- those of the call's exchanges with the node, in their order. They are one of each hit and of each entry that the
+-- node keeps, at most one of each miss and of each other insertion, and no others.
 abbrev pub CallsStandOnce : Type 0
 CallsStandOnce = (next : Next) (row : Name) (node_histories : ℕ → Name) (old new : RoTxnValue) (k : Call)
-    (turn : Turn) (run : HasRun next row node_histories old k new turn) (node : ℕ) (before after : PassValue)
+    (result : Result (List ℕ) TxnError) (run : HasRun next row node_histories old k new result) (node : ℕ) (before after : PassValue)
     → slice_get old.passes node ≡ Some before → slice_get new.passes node ≡ Some after
     → HasAdded (filter (asks node) run.exchanges) before after

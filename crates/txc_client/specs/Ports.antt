@@ -11,9 +11,12 @@ use Rattle.txc_node.specs.declared.reply.Reply.TheVariants.{Hit, Miss}
 use Rattle.txc_node.specs.Counts.{Totals, AreCountsOf}
 use Rattle.txc_shared.specs.declared.error.NodeError.{NodeError}
 use Rattle.txc_shared.specs.declared.insertion.Insertion.{Insertion}
+use Rattle.txc_shared.specs.declared.insertion.Insertion.TheVariants as insertions
 use Rattle.txc_shared.specs.Nodes.{NodeValue}
 use Rattle.txc_shared.specs.Passes.{PassValue, GrowsByOthers, HasGrown, HasInserted, HasMade, IsPassLeft}
 use Rattle.txc_shared.specs.Refusals.{IsCountRefused, IsLookupRefused, IsRefusedThrough, IsStepRefused, NodeMayRefuse}
+use Rattle.txc_ports.specs.declared.kept.Kept.{Kept}
+use Rattle.txc_ports.specs.declared.kept.Kept.TheVariants as kept
 use Rattle.txc_ports.specs.Exchanges.{Exchange}
 use Rattle.txc_ports.specs.Exchanges as exchanges
 
@@ -49,10 +52,16 @@ abbrev pub LookupLeaves : (ℕ → Name) → Call → ℕ → ℕ → Option (An
 LookupLeaves node_histories key lo hi found old new = HasMade old new (Lookup key lo hi) (reply_to_lookup found)
     ⊎ ((found ≡ None) × IsCallRefused node_histories (λ n. IsLookupRefused n lo hi) old new)
 
--- one insertion of the entry; or it was refused
-abbrev pub InsertLeaves : (ℕ → Name) → Entry → PassValue → PassValue → Type 0
-InsertLeaves node_histories entry old new = ((insertion : Insertion) × HasInserted old new entry insertion)
-    ⊎ IsCallRefused node_histories IsStepRefused old new
+-- what a node keeps that made the insertion
+abbrev pub kept_by : Insertion → Kept
+kept_by (insertions.Stored reach) = kept.Stored reach
+kept_by insertions.Kept = kept.Earlier
+
+-- one insertion of the entry, which is kept so; or it was refused, and nothing is kept
+abbrev pub InsertLeaves : (ℕ → Name) → Entry → Option Kept → PassValue → PassValue → Type 0
+InsertLeaves node_histories entry (Some keeps) old new =
+    (insertion : Insertion) × HasInserted old new entry insertion × (keeps ≡ kept_by insertion)
+InsertLeaves node_histories entry None old new = IsCallRefused node_histories IsStepRefused old new
 
 -- the counts of all records of the node, which the pass was shown; or it was refused, and nothing was counted
 abbrev pub CountsLeave : (ℕ → Name) → Option Totals → PassValue → PassValue → Type 0
@@ -65,6 +74,6 @@ CountsLeave node_histories None old new = IsCallRefused node_histories IsCountRe
 abbrev pub PassesAfter : (ℕ → Name) → List PassValue → Exchange → List PassValue → Type 0
 PassesAfter node_histories olds (exchanges.Lookup node key lo hi found) news =
     IsCallAt node (LookupLeaves node_histories key lo hi found) olds news
-PassesAfter node_histories olds (exchanges.Insert node entry) news =
-    IsCallAt node (InsertLeaves node_histories entry) olds news
+PassesAfter node_histories olds (exchanges.Insert node entry keeps) news =
+    IsCallAt node (InsertLeaves node_histories entry keeps) olds news
 PassesAfter node_histories olds exchange news = news ≡ olds

@@ -4,20 +4,19 @@ use Rattle.txc_stream.specs.Names.{Name}
 use Rattle.std.specs.Prelude.{◌≡◌, ℕ, List, [], ◌∷◌, length, Some, Result, Ok, Err}
 use Rattle.txc_rows.specs.RowTags.{query_tag}
 use Rattle.txc_tags.specs.Keys.{Call}
-use Rattle.txc_db.specs.Calls.{IsPinRefused, IsQueryRefused}
+use Rattle.txc_db.specs.Calls.{IsPinRefused, IsQueryRefused, IsUnpinRefused}
 use Rattle.txc_db.specs.Shared.{IsQueryAnswer, MayAnswer, MayRefuse}
 use Rattle.txc_cushion.specs.Refusals.{IsAddRefused}
 use Rattle.txc_cushion.specs.Shared.{CushionMayAnswer}
 use Rattle.txc_app.specs.Eval.{Next}
 use Rattle.txc_registry.specs.Objects.{numbers_of}
 use Rattle.txc_ports.specs.declared.error.TxnError.{TxnError}
-use Rattle.txc_ports.specs.declared.turn.Turn.{Turn}
-use Rattle.txc_ports.specs.declared.turn.Turn.TheVariants.{Ask, Value, Refused}
+use Rattle.txc_ports.specs.declared.turn.Turn.TheVariants.{Ask, Ended}
 use Rattle.txc_ports.specs.Exchanges.{Exchange, reply_of, request_of}
 use Rattle.txc_ports.specs.Exchanges as exchanges
 use Rattle.txc_ports.specs.Asking.{IsAnsweredRight, IsOfRow}
 use Rattle.txc_txn.specs.Core.{open_call, IsTurn}
-use Rattle.txc_ports.specs.Turns.{IsAsk}
+use Rattle.txc_ports.specs.Turns.{PortTurn, IsAsk}
 use Rattle.txc_txn.specs.Kept.{HasGoneOn}
 use Rattle.txc_txn.specs.Leading.{StartLeads}
 use Rattle.txc_client.specs.Ports.{PassesAfter}
@@ -31,6 +30,7 @@ IsToldSo row (exchanges.Pin now at_least (Ok pinned)) = pinned.stamp ≡ length 
 IsToldSo row (exchanges.Pin now at_least (Err error)) = MayRefuse row (λ d. IsPinRefused d at_least) error
 IsToldSo row (exchanges.AddPin pinned given (Err error)) =
     CushionMayAnswer row (λ c. IsAddRefused c pinned.stamp) error
+IsToldSo row (exchanges.Unpin stamp (Err error)) = MayRefuse row (λ d. IsUnpinRefused d stamp) error
 IsToldSo row (exchanges.Query query stamp (Ok found)) =
     MayAnswer row (λ d. IsQueryAnswer d query stamp) found × (found.answer.tags ≡ query_tag query ∷ [])
 IsToldSo row (exchanges.Query query stamp (Err error)) =
@@ -44,7 +44,7 @@ pub record IsGiven (next : Next) (row : Name) (x : Exchange) : Type 0 where
   pub told : IsToldSo row x
 
 -- the call has begun, with this turn, and no pass was used
-pub record HasBegun (old : RoTxnValue) (k : Call) (new : RoTxnValue) (turn : Turn) : Type 0 where
+pub record HasBegun (old : RoTxnValue) (k : Call) (new : RoTxnValue) (turn : PortTurn) : Type 0 where
   pub turn_fits : IsTurn new.txn.core turn
   pub leads : StartLeads old.txn.core old.txn.objects k new.txn.core new.txn.objects turn
   pub begins : IsAsk turn → open_call new.txn.core ≡ Some k
@@ -53,29 +53,24 @@ pub record HasBegun (old : RoTxnValue) (k : Call) (new : RoTxnValue) (turn : Tur
   pub passes : new.passes ≡ old.passes
 
 -- the turn asks, the request leaves the passes so, and the reply to it leads on to the next turn
-pub record ExchangeLeads (next : Next) (row : Name) (node_histories : ℕ → Name) (old : RoTxnValue) (asking : Turn)
-    (x : Exchange) (new : RoTxnValue) (turn : Turn) : Type 0 where
+pub record ExchangeLeads (next : Next) (row : Name) (node_histories : ℕ → Name) (old : RoTxnValue) (asking : PortTurn)
+    (x : Exchange) (new : RoTxnValue) (turn : PortTurn) : Type 0 where
   pub asks : asking ≡ Ask (request_of x)
   pub given : IsGiven next row x
   pub passes : PassesAfter node_histories old.passes x new.passes
   pub goes_on : HasGoneOn next old.txn (reply_of x) new.txn turn
 
 -- the exchanges lead on, one after the other, to the last turn
-abbrev pub ExchangesLead : Next → Name → (ℕ → Name) → RoTxnValue → Turn → List Exchange → RoTxnValue → Turn → Type 0
+abbrev pub ExchangesLead : Next → Name → (ℕ → Name) → RoTxnValue → PortTurn → List Exchange → RoTxnValue → PortTurn → Type 0
 ExchangesLead next row node_histories old asking [] new turn = (new ≡ old) × (turn ≡ asking)
-ExchangesLead next row node_histories old asking (x ∷ exchanges) new turn = (after : RoTxnValue) × (then : Turn)
+ExchangesLead next row node_histories old asking (x ∷ exchanges) new turn = (after : RoTxnValue) × (then : PortTurn)
     × ExchangeLeads next row node_histories old asking x after then × ExchangesLead next row node_histories after then exchanges new turn
 
--- the call of a transaction ran from its beginning, by such exchanges, to this turn
+-- the call of a transaction ran from its beginning, by such exchanges, until it ended with this
 pub record HasRun (next : Next) (row : Name) (node_histories : ℕ → Name) (old : RoTxnValue) (k : Call)
-    (new : RoTxnValue) (turn : Turn) : Type 0 where
+    (new : RoTxnValue) (result : Result (List ℕ) TxnError) : Type 0 where
   pub first : RoTxnValue
-  pub first_turn : Turn
+  pub first_turn : PortTurn
   pub exchanges : List Exchange
   pub begun : HasBegun old k first first_turn
-  pub led : ExchangesLead next row node_histories first first_turn exchanges new turn
-
--- the turn that ends a call with this result
-abbrev pub turn_of_result : Result (List ℕ) TxnError → Turn
-turn_of_result (Ok value) = Value value
-turn_of_result (Err error) = Refused error
+  pub led : ExchangesLead next row node_histories first first_turn exchanges new (Ended result)

@@ -1,9 +1,12 @@
 -- What callers see of clients and of their transactions.
-use Rattle.std.specs.Prelude.{◌≡◌, ℕ, List, Some, All, length}
+use Rattle.std.specs.Prelude.{◌≡◌, ℕ, List, [], Some, All, length, map, true}
 use Rattle.txc_stream.specs.Names.{Name}
 use Rattle.txc_tags.specs.Keys.{Call}
 use Rattle.txc_db.specs.History.{state_at}
+use Rattle.txc_cushion.specs.Cushion.{cushion_front, handed_out}
+use Rattle.txc_cushion.specs.Shared.{CushionMayAnswer}
 use Rattle.txc_app.specs.Eval.{Next, eval}
+use Rattle.txc_ports.specs.declared.bounds.Bounds.{Bounds}
 use Rattle.txc_shared.specs.Passes.{PassValue}
 use Rattle.txc_registry.specs.Objects.{Objects}
 use Rattle.txc_txn.specs.Core.{CoreValue, IsIdle}
@@ -26,6 +29,17 @@ pub record IsResting (row : Name) (t : RoTxnValue) : Type 0 where
   pub idle : IsIdle t.txn.core
   pub events : t.txn.core.seen.events ≡ row
   pub nodes : t.txn.core.nodes ≡ length t.passes
+
+-- A core has begun within these bounds, over a database of the row, with the pins that some pincushion of the row
+-- hands out for them. It uses each of them, has the present, and has no answer.
+pub record HasBegunCore (events : Name) (asked : Bounds) (c : CoreValue) : Type 0 where
+  pub bounds : c.bounds ≡ asked
+  pub recorded : c.recorded ≡ []
+  pub members : CushionMayAnswer events (λ cushion (core : CoreValue). (core.seen ≡ cushion_front cushion)
+      × (core.pins.members ≡ handed_out cushion asked.now asked.staleness asked.at_least)) c
+  pub taken : c.taken ≡ map (λ pin. pin.stamp) c.pins.members
+  pub present : c.pins.has_present ≡ true
+  pub row : c.seen.events ≡ events
 
 -- the client of a transaction
 abbrev pub client_of : RoTxnValue → ClientValue

@@ -1,10 +1,9 @@
 //! A call of a transaction, led to its end at the locked ports.
-ghost use Rattle.std.specs.Prelude.{◌≡◌, ◌≢◌, [], IsNone, Some, length};
+ghost use Rattle.std.specs.Prelude.{◌≡◌, ◌≢◌, [], Err, IsNone, Some, length};
 ghost use mathlib.Core.List.{IsPrefix};
 ghost use Rattle.txc_registry.specs.Objects.{activity_of, numbers_of};
 ghost use Rattle.txc_call.specs.declared.error.CallError.TheVariants.{NoFunction};
 ghost use Rattle.txc_txn.specs.Core.{recorded_after, IsIdle, KeepsSettings};
-ghost use Rattle.txc_ports.specs.Turns.{IsCallEnd};
 ghost use Rattle.txc_client.specs.Ports.{HaveGrown};
 ghost use Rattle.txc_client.specs.Run.{HasRun};
 
@@ -13,6 +12,7 @@ use std::alloc::Global;
 use std::sync::Wait;
 use txc_app::App;
 use txc_db::Naming;
+use txc_node::Value;
 use txc_ports::{Turn, TxnError};
 use txc_registry::Cacheable;
 use txc_tags::Key;
@@ -26,14 +26,13 @@ pub(crate) fn call_at<A: App, C: Cacheable, J: Naming>(
     ports: &mut Ports<'_, A, J>,
     txn: &mut RunningTxn<A, C>,
     key: Key,
-) -> Turn
+) -> Result<Value, TxnError>
     requires idle { IsIdle txn.old.core }
     requires events { txn.old.core.seen.events ≡ J.database_history }
     requires nodes { txn.old.core.nodes ≡ length ports.old }
     ensures passes { HaveGrown ports.old ports.new }
-    ensures ended { IsCallEnd result }
     ensures idle { IsIdle txn.new.core }
-    ensures recorded { txn.new.core.recorded ≡ recorded_after txn.old.core.recorded result (Some key) }
+    ensures recorded { txn.new.core.recorded ≡ recorded_after txn.old.core.recorded (Turn.Ended result) (Some key) }
     ensures settings { KeepsSettings txn.old.core txn.new.core }
     ensures events { txn.new.core.seen.events ≡ J.database_history }
     ensures longer { IsPrefix txn.old.core.seen.history txn.new.core.seen.history }
@@ -42,7 +41,7 @@ pub(crate) fn call_at<A: App, C: Cacheable, J: Naming>(
         (record { txn = txn.old; passes = ports.old }) key
         (record { txn = txn.new; passes = ports.new }) result }
     ensures missing { txn.old.core.pins.members ≢ [] → IsNone (activity_of txn.old.objects key.function)
-        → result ≡ Turn.Refused (TxnError.Call (NoFunction key.function)) }
+        → result ≡ Err (TxnError.Call (NoFunction key.function)) }
 {
     let mut turn = txn.start(alloc, key);
     loop {
@@ -53,7 +52,7 @@ pub(crate) fn call_at<A: App, C: Cacheable, J: Naming>(
                 turn = txn.next(alloc, reply);
                 txn.is_kept();
             }
-            ended => return ended,
+            Turn::Ended(result) => return result,
         }
     }
 }

@@ -1,9 +1,7 @@
 //! Clients, and the beginning of their transactions.
-ghost use Rattle.std.specs.Prelude.{◌≡◌, ◌≤◌, ◌<◌, ◌⊎◌, [], get_or, slice_get, true, All, Any, IfErr, IfOk, MatchOption, None, length, map};
+ghost use Rattle.std.specs.Prelude.{◌≡◌, ◌≤◌, ◌<◌, ◌⊎◌, [], get_or, slice_get, All, Any, IfErr, IfOk, MatchOption, None, length, map};
 ghost use Rattle.txc_stream.specs.Names.{HasRow};
 ghost use Rattle.txc_node.specs.Counts.{AreCountsOf};
-ghost use Rattle.txc_cushion.specs.Cushion.{cushion_front, handed_out};
-ghost use Rattle.txc_cushion.specs.Shared.{CushionMayAnswer};
 ghost use Rattle.txc_registry.specs.Objects.{AllIdle};
 ghost use Rattle.txc_app.specs.Eval.{Next};
 ghost use Rattle.txc_shared.specs.Refusals.{IsNewPassRefused, NodeMayRefuse};
@@ -11,7 +9,7 @@ ghost use Rattle.txc_registry.specs.Objects.{Objects};
 ghost use Rattle.txc_txn.specs.Core.{value_of, CoreHolds, IsCore, IsIdle};
 ghost use Rattle.txc_txn.specs.Kept.{IsTxn};
 ghost use Rattle.txc_client.specs.Ports.{CountsLeave, HaveGrown, IsCallAt};
-ghost use Rattle.txc_client.specs.Txn.{client_of};
+ghost use Rattle.txc_client.specs.Txn.{client_of, HasBegunCore};
 
 use crate::ports::Ports;
 use crate::ro_txn::RoTxn;
@@ -92,15 +90,8 @@ impl<'a, A: App, C: Cacheable, J: Naming> Client<'a, A, C, J> {
         alloc: Global,
         bounds: Bounds,
     ) -> Result<RoTxn<'a, A, C, J>, (AllocError, Client<'a, A, C, J>)>
-        ensures bounds { IfOk result (λ txn. txn.txn.core.bounds ≡ bounds) }
-        ensures recorded { IfOk result (λ txn. txn.txn.core.recorded ≡ []) }
+        ensures begun { IfOk result (λ txn. HasBegunCore J.database_history bounds txn.txn.core) }
         ensures meant { IfOk result (λ txn. IsTxn A.next txn.txn) }
-        ensures members { IfOk result (CushionMayAnswer J.database_history (λ c txn. (txn.txn.core.seen ≡ cushion_front c)
-            × (txn.txn.core.pins.members ≡ handed_out c bounds.now bounds.staleness bounds.at_least))) }
-        ensures taken { IfOk result (λ txn. txn.txn.core.taken
-            ≡ map (λ pin. pin.stamp) txn.txn.core.pins.members) }
-        ensures present { IfOk result (λ txn. txn.txn.core.pins.has_present ≡ true) }
-        ensures row { IfOk result (λ txn. txn.txn.core.seen.events ≡ J.database_history) }
         ensures client { IfOk result (λ txn. client_of txn ≡ self.entry) }
         ensures handed_back { IfErr result (λ e. e.1 ≡ self.entry) }
     {
@@ -138,16 +129,9 @@ impl<'a, A: App, C: Cacheable, J: Naming> Client<'a, A, C, J> {
         now: u64,
         staleness: u64,
     ) -> Result<RoTxn<'a, A, C, J>, (AllocError, Client<'a, A, C, J>)>
-        ensures bounds { IfOk result (λ txn. txn.txn.core.bounds
-            ≡ record { now = now; staleness = staleness; at_least = session.now }) }
-        ensures recorded { IfOk result (λ txn. txn.txn.core.recorded ≡ []) }
+        ensures begun { IfOk result (λ txn. HasBegunCore J.database_history
+            (record { now = now; staleness = staleness; at_least = session.now }) txn.txn.core) }
         ensures meant { IfOk result (λ txn. IsTxn A.next txn.txn) }
-        ensures members { IfOk result (CushionMayAnswer J.database_history (λ c txn. (txn.txn.core.seen ≡ cushion_front c)
-            × (txn.txn.core.pins.members ≡ handed_out c now staleness session.now))) }
-        ensures taken { IfOk result (λ txn. txn.txn.core.taken
-            ≡ map (λ pin. pin.stamp) txn.txn.core.pins.members) }
-        ensures present { IfOk result (λ txn. txn.txn.core.pins.has_present ≡ true) }
-        ensures row { IfOk result (λ txn. txn.txn.core.seen.events ≡ J.database_history) }
         ensures client { IfOk result (λ txn. client_of txn ≡ self.entry) }
         ensures handed_back { IfErr result (λ e. e.1 ≡ self.entry) }
     {
@@ -221,16 +205,9 @@ fn begun<J: Naming>(
     ensures holds { IfOk result (λ core. (next : Next) (objects : Objects)
         → CoreHolds next (value_of core).seen.history objects (value_of core)) }
     ensures idle { IfOk result (λ core. IsIdle (value_of core)) }
-    ensures row { IfOk result (λ core. (value_of core).seen.events ≡ J.database_history) }
-    ensures bounds { IfOk result (λ core. (value_of core).bounds ≡ bounds) }
     ensures renew_after { IfOk result (λ core. (value_of core).renew_after ≡ renew_after) }
     ensures nodes { IfOk result (λ core. (value_of core).nodes ≡ nodes) }
-    ensures recorded { IfOk result (λ core. (value_of core).recorded ≡ []) }
-    ensures members { IfOk result (CushionMayAnswer J.database_history (λ c core. ((value_of core).seen ≡ cushion_front c)
-        × ((value_of core).pins.members ≡ handed_out c bounds.now bounds.staleness bounds.at_least))) }
-    ensures taken { IfOk result (λ core. (value_of core).taken
-        ≡ map (λ pin. pin.stamp) (value_of core).pins.members) }
-    ensures present { IfOk result (λ core. (value_of core).pins.has_present ≡ true) }
+    ensures begun { IfOk result (λ core. HasBegunCore J.database_history bounds (value_of core)) }
 {
     let Bounds {
         now,

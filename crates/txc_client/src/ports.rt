@@ -10,8 +10,8 @@ use txc_app::App;
 use txc_cushion::Pincushion;
 use txc_db::{Answered, Database, HistoryFront, Naming};
 use txc_node::{Counts, Entry, Shown};
-use txc_ports::{PortReply, PortRequest};
-use txc_shared::{Finding, NodeError, NodePass, SharedNode};
+use txc_ports::{Kept, PortReply, PortRequest};
+use txc_shared::{Finding, Insertion, NodeError, NodePass, SharedNode};
 use txc_stamp::Stamp;
 use txc_tags::Key;
 
@@ -132,16 +132,19 @@ impl<'a, A: App, J: Naming> Ports<'a, A, J> {
         node: usize,
         entry: Entry,
         seen: &HistoryFront,
-    )
+    ) -> Option<Kept>
         requires node { node < length self.old }
         requires row { seen.now.events ≡ J.database_history }
         requires is_true { IsTrueIn A.next seen.now.history entry }
         ensures passes { HaveGrown self.old self.new }
-        ensures left { IsCallAt node (InsertLeaves J.node_histories entry) self.old self.new }
+        ensures left { IsCallAt node (InsertLeaves J.node_histories entry result) self.old self.new }
     {
         let nodes = self.nodes;
         let pass = &mut self.passes[node];
-        let _ = pass.insert(rt, alloc, &nodes[node], entry, seen);
+        match pass.insert(rt, alloc, &nodes[node], entry, seen) {
+            Ok(insertion) => Some(kept_by(insertion)),
+            Err(_) => None,
+        }
     }
 
     /// Asks what the transaction asks, in one call. It has seen that much of the history.
@@ -168,10 +171,7 @@ impl<'a, A: App, J: Naming> Ports<'a, A, J> {
                 let added = self.cushion.add(rt, &pinned);
                 PortReply::AddPin(pinned, added)
             }
-            PortRequest::Unpin(stamp) => {
-                let _ = self.database.unpin(rt, stamp);
-                PortReply::Unpin
-            }
+            PortRequest::Unpin(stamp) => PortReply::Unpin(self.database.unpin(rt, stamp)),
             PortRequest::Lookup { node, key, lo, hi } => {
                 PortReply::Lookup(self.look_up(rt, alloc, node, &key, lo, hi))
             }
@@ -179,8 +179,7 @@ impl<'a, A: App, J: Naming> Ports<'a, A, J> {
                 PortReply::Query(find(rt, alloc, self.database, &query, stamp))
             }
             PortRequest::Insert { node, entry } => {
-                self.insert(rt, alloc, node, entry, seen);
-                PortReply::Insert
+                PortReply::Insert(self.insert(rt, alloc, node, entry, seen))
             }
         }
     }
@@ -188,6 +187,7 @@ impl<'a, A: App, J: Naming> Ports<'a, A, J> {
 
 ghost use Rattle.txc_app.specs.Claims.{IsTrueIn};
 ghost use Rattle.txc_shared.specs.Passes.{shown_of_entry};
+ghost use Rattle.txc_client.specs.Ports.{kept_by};
 
 // A pass through each of the nodes, in order.
 fn draw_passes<A: App, J: Naming>(
@@ -205,6 +205,16 @@ fn draw_passes<A: App, J: Naming>(
         passes.push(node.pass(rt)?)?;
     }
     Ok(passes)
+}
+
+// What a node keeps that made this insertion.
+fn kept_by(insertion: Insertion) -> Kept
+    ensures { result ≡ kept_by insertion }
+{
+    match insertion {
+        Insertion::Stored(reach) => Kept::Stored(reach),
+        Insertion::Kept => Kept::Earlier,
+    }
 }
 
 // What a finding shows of its call, with the history in which it is true.

@@ -7,7 +7,7 @@ ghost use Rattle.txc_txn.specs.Core.{receipt_pin, Explains, KeepsSettings};
 ghost use Rattle.txc_txn.specs.Kept.{IsTxn};
 ghost use Rattle.txc_txn.specs.Sessions.{IsAtLeast};
 ghost use Rattle.txc_client.specs.Ports.{HaveGrown};
-ghost use Rattle.txc_client.specs.Run.{turn_of_result, HasRun};
+ghost use Rattle.txc_client.specs.Run.{HasRun};
 ghost use Rattle.txc_client.specs.Txn.{client_of, IsValueAtMembers};
 
 use crate::calling::call_at;
@@ -20,7 +20,7 @@ use txc_app::App;
 use txc_cushion::Pin;
 use txc_db::{HistoryFront, Naming};
 use txc_node::Value;
-use txc_ports::{Recorded, Turn, TxnError};
+use txc_ports::{Recorded, TxnError};
 use txc_registry::Cacheable;
 use txc_tags::Key;
 use txc_txn::{Receipt, RunningTxn};
@@ -61,7 +61,7 @@ impl<'a, A: App, C: Cacheable, J: Naming> RoTxn<'a, A, C, J> {
         ensures meant { IsTxn A.next self.new.txn }
         ensures idle { AllIdle self.new.txn.objects }
         ensures functions { self.new.txn.objects ≡ self.old.txn.objects }
-        ensures run { HasRun A.next J.database_history J.node_histories self.old key self.new (turn_of_result result) }
+        ensures run { HasRun A.next J.database_history J.node_histories self.old key self.new result }
         ensures settings { KeepsSettings self.old.txn.core self.new.txn.core }
         ensures longer { IsPrefix self.old.txn.core.seen.history self.new.txn.core.seen.history }
         ensures missing { self.old.txn.core.pins.members ≢ []
@@ -69,13 +69,9 @@ impl<'a, A: App, C: Cacheable, J: Naming> RoTxn<'a, A, C, J> {
             → result ≡ Err (TxnError.Call (NoFunction key.function)) }
     {
         self.txn.is_kept();
-        let turn = call_at(rt, alloc, &mut self.ports, &mut self.txn, key);
+        let result = call_at(rt, alloc, &mut self.ports, &mut self.txn, key);
         self.txn.is_kept();
-        match turn {
-            Turn::Value(value) => Ok(value),
-            Turn::Refused(error) => Err(error),
-            _ => unreachable!(),
-        }
+        result
     }
 
     /// The pins where it may still be serialised, the newest first.

@@ -1,10 +1,11 @@
 -- What is written of what lines of a world's script are answered.
-use Rattle.std.specs.Prelude.{ℕ, Bool, true, false, ◌||◌, List, [], ◌∷◌, ◌++◌, Option, Some, None, codes, length, map, if◌then◌else◌}
+use Rattle.std.specs.Prelude.{ℕ, Bool, true, false, ◌||◌, List, [], ◌∷◌, ◌++◌, Option, Some, None, Result, Ok, Err, is_err, codes, length, map, if◌then◌else◌}
 use Rattle.std.specs.Fmt.{decimal}
 use Rattle.std.specs.List.{flat_map, join_with_byte}
 use Rattle.txc_stamp.specs.Texts.{reach_text}
 use Rattle.txc_tags.specs.TextSet.{tags_text}
 use Rattle.txc_node.specs.Texts.{hex_text}
+use Rattle.txc_ports.specs.declared.error.TxnError.{TxnError}
 use Rattle.txc_shared.specs.declared.error.NodeError.{NodeError}
 use Rattle.txc_shared.specs.declared.error.NodeError.TheVariants as nodes
 use Rattle.txc_shared.specs.declared.advanced.Advanced.{Advanced}
@@ -13,8 +14,6 @@ use Rattle.txc_script.specs.FunctionLines.{function_line}
 use Rattle.txc_world.specs.declared.did.Did.{Did}
 use Rattle.txc_world.specs.declared.did.Did.TheVariants as dids
 use Rattle.txc_world.specs.declared.did.RowsFound.{RowsFound}
-use Rattle.txc_world.specs.declared.reply.End.{End}
-use Rattle.txc_world.specs.declared.reply.End.TheVariants as ends
 use Rattle.txc_world.specs.declared.reply.Refusal.{Refusal}
 use Rattle.txc_world.specs.declared.reply.Refusal.TheVariants as refusals
 use Rattle.txc_world.specs.declared.reply.Reply.{Reply}
@@ -60,9 +59,9 @@ found_text found =
 
 -- ---- replies
 
-abbrev pub end_text : End → List ℕ
-end_text (ends.Value value) = codes "value " ++ hex_text value
-end_text (ends.Refused error) = codes "refused " ++ transaction_text error
+abbrev pub end_text : Result (List ℕ) TxnError → List ℕ
+end_text (Ok value) = codes "value " ++ hex_text value
+end_text (Err error) = codes "refused " ++ transaction_text error
 
 abbrev pub did_text : Did → List ℕ
 did_text (dids.Pinned stamp) = codes "pinned " ++ decimal stamp
@@ -79,7 +78,7 @@ did_text (dids.Refused error) = codes "refused " ++ database_text error
 
 -- what a port did, and behind it how the call ended, if it did; of a request that was refused and ended its
 -- call the call's refusal alone
-abbrev pub asked_text : Did → Option End → List ℕ
+abbrev pub asked_text : Did → Option (Result (List ℕ) TxnError) → List ℕ
 asked_text did None = did_text did
 asked_text (dids.Refused error) (Some end) = end_text end
 asked_text did (Some end) = did_text did ++ (codes " " ++ end_text end)
@@ -128,9 +127,8 @@ printed_text (Counted line) = function_line line.function line.counts
 
 -- ---- whether it holds a refusal
 
-abbrev pub is_refused_end : End → Bool
-is_refused_end (ends.Value value) = false
-is_refused_end (ends.Refused error) = true
+abbrev pub is_refused_end : Result (List ℕ) TxnError → Bool
+is_refused_end result = is_err result
 
 abbrev pub is_refused_did : Did → Bool
 is_refused_did (dids.NotAdded error) = true

@@ -3,15 +3,14 @@ ghost use Rattle.std.specs.Prelude.{◌≡◌};
 ghost use Rattle.txc_play.specs.TaskTexts.{is_refused_did, is_refused_end, is_refused_line, is_refused_reply};
 
 use crate::printed::Printed;
-use txc_world::{Did, End, Reply};
+use txc_node::Value;
+use txc_ports::TxnError;
+use txc_world::{Did, Reply};
 
-fn is_refused_end(end: &End) -> bool
+fn is_refused_end(end: &Result<Value, TxnError>) -> bool
     ensures { result ≡ is_refused_end end.now }
 {
-    match end {
-        End::Value(_) => false,
-        End::Refused(_) => true,
-    }
+    end.is_err()
 }
 
 fn is_refused_did(did: &Did) -> bool

@@ -6,11 +6,13 @@ ghost use Rattle.txc_play.specs.TaskTexts.{asked_text, did_text, end_text, found
 use crate::printed::Printed;
 use std::fmt;
 use txc_cushion::{Pin, UnknownPin};
+use txc_node::Value;
+use txc_ports::TxnError;
 use txc_rows::Row;
 use txc_shared::{Advanced, NodeError};
 use txc_stamp::Stamp;
 use txc_words::{write_add, write_database, write_transaction};
-use txc_world::{Did, End, Refusal, Reply, RowsFound};
+use txc_world::{Did, Refusal, Reply, RowsFound};
 
 // ---- refusals: a code, and the numbers that go with it
 
@@ -90,12 +92,12 @@ fn write_found<W: fmt::Write>(f: &mut fmt::Formatter<W>, found: &RowsFound) -> f
 // ---- replies
 
 /// Writes how a call ended.
-fn write_end<W: fmt::Write>(f: &mut fmt::Formatter<W>, end: &End) -> fmt::Result
+fn write_end<W: fmt::Write>(f: &mut fmt::Formatter<W>, end: &Result<Value, TxnError>) -> fmt::Result
     ensures { WritesOnOk W.write_str_gives f.old result (end_text end.now) f.new }
 {
     match end {
-        End::Value(value) => write!(f, "value {value}"),
-        End::Refused(error) => {
+        Ok(value) => write!(f, "value {value}"),
+        Err(error) => {
             write!(f, "refused ")?;
             write_transaction(f, error)
         }
@@ -132,7 +134,7 @@ fn write_did<W: fmt::Write>(f: &mut fmt::Formatter<W>, did: &Did) -> fmt::Result
 fn write_asked<W: fmt::Write>(
     f: &mut fmt::Formatter<W>,
     did: &Did,
-    end: &Option<End>,
+    end: &Option<Result<Value, TxnError>>,
 ) -> fmt::Result
     ensures { WritesOnOk W.write_str_gives f.old result (asked_text did.now end.now) f.new }
 {

@@ -13,10 +13,10 @@ module _ (P : Exchange → Type 0) (Q : PortRequest → PortReply → Type 0) (e
   pub by_exchange : (request : PortRequest) (reply : PortReply) → IsExchange P request reply → Q request reply
   by_exchange (requests.Pin now at_least) (replies.Pin pinned) h = each (exchanges.Pin now at_least pinned) h
   by_exchange (requests.AddPin pinned) (replies.AddPin given added) h = each (exchanges.AddPin pinned given added) h
-  by_exchange (requests.Unpin stamp) replies.Unpin h = each (exchanges.Unpin stamp) h
+  by_exchange (requests.Unpin stamp) (replies.Unpin unpinned) h = each (exchanges.Unpin stamp unpinned) h
   by_exchange (requests.Lookup node key lo hi) (replies.Lookup hit) h = each (exchanges.Lookup node key lo hi hit) h
   by_exchange (requests.Query query stamp) (replies.Query found) h = each (exchanges.Query query stamp found) h
-  by_exchange (requests.Insert node entry) replies.Insert h = each (exchanges.Insert node entry) h
+  by_exchange (requests.Insert node entry) (replies.Insert kept) h = each (exchanges.Insert node entry kept) h
   by_exchange request reply h = absurd h
 
 -- two things that are true of one exchange

@@ -12,11 +12,11 @@ use Rattle.txc_app.specs.Claims.{IsTrueIn, RowsHold, entry_shown}
 use Rattle.txc_ports.specs.declared.request.PortRequest.{PortRequest}
 use Rattle.txc_ports.specs.declared.request.PortRequest.TheVariants as requests
 use Rattle.txc_ports.specs.declared.reply.PortReply.{PortReply}
-use Rattle.txc_ports.specs.declared.turn.Turn.{Turn}
-use Rattle.txc_ports.specs.declared.turn.Turn.TheVariants as turns
+use Rattle.txc_ports.specs.declared.turn.Turn.TheVariants.{Ask}
 use Rattle.txc_ports.specs.Exchanges.{Exchange, IsExchange}
 use Rattle.txc_ports.specs.Exchanges as exchanges
 use Rattle.txc_ports.specs.Fronts.{front_of_reply}
+use Rattle.txc_ports.specs.Turns.{PortTurn}
 
 -- what may be asked of ports with so many nodes: to add a pin of the row, what a node that there is has, and to
 -- keep only an entry that is true in the history
@@ -49,10 +49,15 @@ IsAnsweredRight next exchange = Unit {0}
 abbrev pub IsReplyTo : Next → PortRequest → PortReply → Type 0
 IsReplyTo next request reply = IsExchange (IsAnsweredRight next) request reply
 
--- a pin that the turn asks to add comes with such a front
-abbrev pub AddsSuch : (FrontValue → Type 0) → Turn → Type 0
-AddsSuch P (turns.Ask (requests.AddPin pinned)) = P pinned.front
-AddsSuch P turn = Unit {0}
+-- a pin that is to be added comes with such a front
+abbrev pub AddsSuch : (FrontValue → Type 0) → PortRequest → Type 0
+AddsSuch P (requests.AddPin pinned) = P pinned.front
+AddsSuch P request = Unit {0}
+
+-- the same of a pin that the turn asks to add
+abbrev pub TurnAddsSuch : (FrontValue → Type 0) → PortTurn → Type 0
+TurnAddsSuch P (Ask request) = AddsSuch P request
+TurnAddsSuch P turn = Unit {0}
 
 -- what the reply shows is of the row
 abbrev pub IsOfRow : Name → PortReply → Type 0

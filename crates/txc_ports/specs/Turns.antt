@@ -1,14 +1,14 @@
--- What a transaction's turn says of its call.
+-- What a transaction does next.
+use Rattle.std.specs.Prelude.{ℕ, List}
+use Rattle.txc_ports.specs.declared.request.PortRequest.{PortRequest}
 use Rattle.txc_ports.specs.declared.turn.Turn.{Turn}
-use Rattle.txc_ports.specs.declared.turn.Turn.TheVariants.{Ask, Value, Refused}
+use Rattle.txc_ports.specs.declared.turn.Turn.TheVariants.{Ask}
 
--- the turn asks a port
-abbrev pub IsAsk : Turn → Type 0
+-- of a call that asks ports
+abbrev pub PortTurn : Type 0
+PortTurn = Turn PortRequest (List ℕ)
+
+-- the turn asks
+abbrev pub IsAsk : {R T : Type 0} → Turn R T → Type 0
 IsAsk (Ask request) = Unit {0}
 IsAsk turn = ⊥
-
--- a call has its value, or is refused
-abbrev pub IsCallEnd : Turn → Type 0
-IsCallEnd (Value value) = Unit {0}
-IsCallEnd (Refused error) = Unit {0}
-IsCallEnd turn = ⊥

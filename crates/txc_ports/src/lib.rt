@@ -6,6 +6,7 @@
 
 mod bounds;
 mod error;
+mod kept;
 mod recorded;
 mod reply;
 mod request;
@@ -13,6 +14,7 @@ mod turn;
 
 pub use bounds::Bounds;
 pub use error::TxnError;
+pub use kept::Kept;
 pub use recorded::Recorded;
 pub use reply::PortReply;
 pub use request::PortRequest;

@@ -1,5 +1,6 @@
 ghost use Rattle.std.specs.Prelude.{◌≡◌, MatchOption, None, Some};
 
+use crate::kept::Kept;
 use txc_cushion::AddError;
 use txc_db::{Answered, DbError, HistoryFront, Pinned};
 use txc_node::Shown;
@@ -12,14 +13,14 @@ pub enum PortReply {
     Pin(Result<Pinned, DbError>),
     /// Added, or why not; with the pin that was to be added.
     AddPin(Pinned, Result<(), AddError>),
-    /// The hold was taken away, or there was none.
-    Unpin,
+    /// The hold was taken away, or why not.
+    Unpin(Result<(), DbError>),
     /// What the node has of the call, with the history in which it is true. A node that refuses has nothing.
     Lookup(Option<Answered<Shown>>),
     /// What the database found, with the history in which it holds, or why it was refused.
     Query(Result<Answered<Found>, DbError>),
-    /// The entry was kept, or not.
-    Insert,
+    /// What the node keeps. A node that refuses keeps nothing.
+    Insert(Option<Kept>),
 }
 
 impl PortReply {

@@ -1,17 +1,10 @@
 use crate::error::TxnError;
-use crate::request::PortRequest;
-use txc_node::Value;
-use txc_rows::Row;
 
-/// What a transaction does next.
+/// What a transaction does next, for a caller who waits for a `T`. It asks one `R` at a time.
 #[derive(Drop)]
-pub enum Turn {
+pub enum Turn<R, T> {
     /// It asks this, and goes on with the reply.
-    Ask(PortRequest),
-    /// Its call is answered.
-    Value(Value),
-    /// Its query is answered.
-    Rows(Vec<Row>),
-    /// What it did was refused. It is open as before.
-    Refused(TxnError),
+    Ask(R),
+    /// What it did has ended with this, or was refused. It is open as before.
+    Ended(Result<T, TxnError>),
 }

@@ -1,6 +1,6 @@
 -- What is true of a transaction, step by step.
-use Rattle.std.proofs.Common.{◌≡◌, ◌≢◌, ⊎_elim, ℕ, ◌≤◌, true, List, [], ◌∷◌, ◌++◌, length, length-append, take, Option, Some, None, refl, sym, ap, subst, ◌∙◌, arith, Contains}
-use Rattle.std.specs.Prelude.{is_some, MatchOption, Vec, vec_len, vec_capacity, Result, Ok}
+use Rattle.std.proofs.Common.{◌≡◌, ⊎_elim, ℕ, ◌≤◌, List, [], ◌∷◌, ◌++◌, length, length-append, take, Option, Some, None, refl, sym, ap, subst, ◌∙◌, arith, Contains}
+use Rattle.std.specs.Prelude.{Vec, vec_len, vec_capacity, Result, Ok, Err}
 use Rattle.std.specs.declared.alloc.Global.{Global}
 use Rattle.std.proofs.lemmas.List.Elements.{All-nil, All-push, Contains-append_left, Contains-push}
 use mathlib.Core.List.{IsPrefix}
@@ -11,6 +11,9 @@ use Rattle.txc_tags.specs.Tags.{with_tag}
 use Rattle.txc_rows.specs.RowTags.{query_tag}
 use Rattle.txc_validity.specs.declared.answer.Found.{Found}
 use Rattle.txc_db.specs.declared.error.DbError.{DbError}
+use Rattle.txc_ports.specs.declared.error.TxnError.{TxnError}
+use Rattle.txc_ports.specs.declared.error.TxnError.TheVariants.{Memory}
+use Rattle.txc_ports.specs.Refusals.{refused_request}
 use Rattle.txc_rows.specs.declared.query.Query.{Query}
 use Rattle.txc_rows.specs.declared.query.Change.{Change}
 use Rattle.txc_rows.specs.States.{RowValue, State, answer}
@@ -33,8 +36,9 @@ use Rattle.txc_call.specs.Needs.{reach_of, reply_reach, NeedFits, NeedHolds, Rep
 use Rattle.txc_call.specs.Calling.{Calling, CallHolds, InCall, IsCalling}
 use Rattle.txc_rw.specs.declared.given.Given.{Given}
 use Rattle.txc_rw.specs.declared.given.Given.TheVariants as given
+use Rattle.txc_rw.specs.Leading.{RowsLead}
 use Rattle.txc_rw.specs.Answers.{AgreeOn, AreRightIn, IsRightIn, committed, state_of}
-use Rattle.txc_rw.specs.Core.{RwValue, RwHolds, IsBegun, IsFoundAt, IsRwState, IsOneMore, IsReady, IsRightReply, IsRw, ReadingFits, only_one, tags_of}
+use Rattle.txc_rw.specs.Core.{RwValue, RwHolds, IsBegun, IsFoundAt, IsRwState, IsReady, IsRightReply, IsRw, only_one, tags_of}
 use Rattle.txc_rw.specs.declared.reading.Reading.{Reading}
 use Rattle.txc_rw.proofs.Lists.{tags_push}
 use Rattle.txc_rw.proofs.Reached.{changes_of, reached}
@@ -109,17 +113,53 @@ pub given_up : (next : Next) (L : History) (objects : Objects) (c : RwValue) →
 given_up next L objects c h objects' call reading empty none =
     holds_moved next L objects c h objects' call reading (λ M hold. at_rest_holds next M objects' call empty none)
 
--- rows that are right at the base are one answer more, or were dropped
-pub rows_given : (next : Next) (L : History) (objects : Objects) (c c' : RwValue) (q : Query) (rows : List RowValue) → Contains c.queried q → rows ≡ answer q (state_at L c.base)
-    → IsOneMore (given.Rows q rows) c.answers c'.answers → c' ≡ record c { answers = c'.answers } → RwHolds next L objects c → RwHolds next L objects c'
-rows_given next L objects c c' q rows there is more same h =
-    subst (λ (w : RwValue). RwHolds next L objects w) (sym same)
-    (⊎_elim
-    (λ (one : c'.answers ≡ c.answers ++ given.Rows q rows ∷ []).
-    subst (λ (xs : List Given). RwHolds next L objects (record c { answers = xs })) (sym one)
-    (holds_more next L objects c h objects c.call (given.Rows q rows) (λ changes agree. is ∙ sym (agree q there)) (λ M hold. hold)))
-    (λ (none : c'.answers ≡ c.answers). subst (λ (xs : List Given). RwHolds next L objects (record c { answers = xs })) (sym none) h)
-    more)
+-- a query of its own was answered, and its rows are one answer more, or were dropped
+module _ (next : Next) (L : History) (objects : Objects) (c : RwValue) (q : Query) (h : RwHolds next L objects c) where
+  counted_read : RwHolds next L objects (record c { queried = c.queried ++ q ∷ []; reading = None })
+  counted_read = holds_queried next L objects c h q objects c.call (c.queried ++ q ∷ []) None refl refl (λ changes agree hold. hold)
+
+  pub rows_lead : (c' : RwValue) (reply : Result Found DbError) (result : Result (Vec RowValue Global) TxnError) → c.reading ≡ Some q → IsRightReply L c reply → RowsLead c q reply c' result
+      → RwHolds next L objects c'
+  rows_lead c' (Ok found) (Ok rows) asked right leads =
+      subst (RwHolds next L objects) (sym leads.1)
+      (holds_more next L objects (record c { queried = c.queried ++ q ∷ []; reading = None }) counted_read objects c.call (given.Rows q rows.items)
+      (λ changes agree. leads.0 ∙ (right q asked).rows ∙ sym (agree_last c.queried q (state_at L c.base) (state_of changes) agree)) (λ M hold. hold))
+  rows_lead c' (Ok found) (Err error) asked right leads = subst (RwHolds next L objects) (sym leads.1) counted_read
+  rows_lead c' (Err cause) result asked right leads =
+      subst (RwHolds next L objects) (sym leads.1) (holds_moved next L objects c h objects c.call None (λ M hold. hold))
+
+-- what the core does with the answer to a query of its own
+module _ (c : RwValue) (q : Query) (reply : Result Found DbError) (queried : List Query) (answers : List Given) (reading : Option Query) (none : reading ≡ None) where
+  pub rows_refused : (cause : DbError) (error : TxnError) → reply ≡ Err cause → error ≡ refused_request cause
+      → RowsLead c q reply (record c { reading = reading }) (Err error)
+  rows_refused cause error is so =
+      let same : record c { reading = reading } ≡ record c { reading = None } = λ i. record c { reading = none i } in
+      let both : Err error ≡ Err (refused_request cause) = ap Err so in
+      subst (λ (r : Result Found DbError). RowsLead c q r (record c { reading = reading }) (Err error)) (sym is) (both, same)
+
+  pub rows_dropped : (found : Found) → reply ≡ Ok found → queried ≡ c.queried ++ q ∷ [] → answers ≡ c.answers
+      → RowsLead c q reply (record c { queried = queried; answers = answers; reading = reading }) (Err Memory)
+  rows_dropped found is more left =
+      let same : record c { queried = queried; answers = answers; reading = reading } ≡ record c { queried = c.queried ++ q ∷ []; reading = None } =
+      λ i. record c { queried = more i; answers = left i; reading = none i } in
+      subst (λ (r : Result Found DbError). RowsLead c q r (record c { queried = queried; answers = answers; reading = reading }) (Err Memory)) (sym is) (refl, same)
+
+  pub rows_kept : (found : Found) (copy : Vec RowValue Global) → reply ≡ Ok found → queried ≡ c.queried ++ q ∷ [] → copy.items ≡ found.rows.items
+      → answers ≡ c.answers ++ given.Rows q found.rows.items ∷ []
+      → RowsLead c q reply (record c { queried = queried; answers = answers; reading = reading }) (Ok copy)
+  rows_kept found copy is more copied kept =
+      let one_more : answers ≡ c.answers ++ given.Rows q copy.items ∷ [] = kept ∙ ap (λ (rows : List RowValue). c.answers ++ given.Rows q rows ∷ []) (sym copied) in
+      let same : record c { queried = queried; answers = answers; reading = reading } ≡ record c { queried = c.queried ++ q ∷ []; answers = c.answers ++ given.Rows q copy.items ∷ []; reading = None } =
+      λ i. record c { queried = more i; answers = one_more i; reading = none i } in
+      subst (λ (r : Result Found DbError). RowsLead c q r (record c { queried = queried; answers = answers; reading = reading }) (Ok copy)) (sym is) (copied, same)
+
+-- and so for the query that is waited for, whatever it is called
+pub rows_led_for : (old was new : RwValue) (q p : Query) (reply : Result Found DbError) (result : Result (Vec RowValue Global) TxnError) → was ≡ old → was.reading ≡ Some q → old.reading ≡ Some p
+    → RowsLead was q reply new result → RowsLead old p reply new result
+rows_led_for old was new q p reply result same asked is leads =
+    let two : Some q ≡ Some p = sym asked ∙ (ap (λ (w : RwValue). w.reading) same ∙ is) in
+    let one : q ≡ p = cc in
+    subst (λ (x : Query). RowsLead old x reply new result) one (subst (λ (w : RwValue). RowsLead w q reply new result) same leads)
 
 -- ---- rows
 
@@ -148,13 +188,12 @@ found_at_one L base changes q found told rows reach right agree =
     subst (λ (i : Interval). RowsHold (committed changes) q told.rows.items (Some i) told.tags) (sym reach)
     (rows_at_one changes q told.rows.items told.tags (ap (λ (v : Vec RowValue Global). v.items) rows ∙ right.rows ∙ sym agree))
 
--- the query of an open call is what that needs
-pub need_of_call : (reading : Option Query) (need : Option Need) (q : Query) → ReadingFits reading need → reading ≡ Some q → need ≢ None → need ≡ Some (needs.Query q)
-need_of_call None need q fits is some = absurd (cc is)
-need_of_call (Some p) None q fits is some = absurd (some refl)
-need_of_call (Some p) (Some need) q fits is some =
-    let same : p ≡ q = cc is in
-    ap (λ (n : Need). Some n) (fits ∙ ap (λ (x : Query). needs.Query x) same)
+-- the query that was asked is what the call needs
+pub need_of_asked : (c : RwValue) (q p : Query) → c.reading ≡ Some q → c.reading ≡ Some p → c.call.need ≡ Some (needs.Query p) → c.call.need ≡ Some (needs.Query q)
+need_of_asked c q p asked is need =
+    let two : Some p ≡ Some q = sym is ∙ asked in
+    let same : p ≡ q = cc in
+    need ∙ ap (λ (x : Query). Some (needs.Query x)) same
 
 -- the query that was answered is kept
 pub kept_more : (tags : List Tag) (old new : Vec Query Global) (changes : List Change) (reading after : Option Reading) (x : Reading) → IsRwState tags old changes reading
@@ -166,11 +205,6 @@ kept_more tags old new changes reading after x h is none items =
       few = h.few;
       ready = rw none tt;
     }
-
--- there is one, by a test
-pub some_by_test : {X : Type 0} (r : Option X) (N : Type 0) (P : X → Type 0) → MatchOption r N P → is_some r ≡ true → (x : X) × P x
-some_by_test None N P h is = absurd (cc is)
-some_by_test (Some x) N P h is = (x, h)
 
 -- ---- values
 

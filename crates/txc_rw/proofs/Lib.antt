@@ -1,8 +1,8 @@
-mod Commits
+pub mod Commits
 mod Counting
-mod Holding
-mod Lists
-mod Reached
+pub mod Holding
+pub mod Lists
+pub mod Reached
 mod Turns
 mod Resting
 mod Running

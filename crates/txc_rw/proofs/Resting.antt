@@ -1,16 +1,21 @@
 -- A transaction between two calls.
-use Rattle.std.proofs.Common.{◌≡◌, List, [], ◌∷◌, ◌++◌, Option, None, Ok, Err, sym, ap, subst, Contains}
-use Rattle.std.specs.Prelude.{Result, IfErr, IfOk, OnErr, OnOk}
+use Rattle.std.proofs.Common.{◌≡◌, ⊎_elim, List, [], ◌∷◌, ◌++◌, Option, None, Ok, Err, sym, ap, subst, ◌∙◌, Contains}
+use Rattle.std.specs.Prelude.{Result, Vec, IfErr, IfOk, OnErr, OnOk}
+use Rattle.std.specs.declared.alloc.Global.{Global}
 use Rattle.std.proofs.lemmas.List.Elements.{All-contains, Contains-push}
 use Rattle.txc_rows.specs.declared.query.Change.{Change}
 use Rattle.txc_rows.specs.declared.query.Query.{Query}
-use Rattle.txc_rows.specs.States.{State}
+use Rattle.txc_rows.specs.States.{RowValue, State}
 use Rattle.txc_db.specs.History.{History}
 use Rattle.txc_app.specs.Eval.{Next}
 use Rattle.txc_registry.specs.Objects.{Objects, AllIdle}
 use Rattle.txc_call.specs.declared.need.Need.{Need}
 use Rattle.txc_call.specs.Needs.{NeedFits}
+use Rattle.txc_ports.specs.declared.error.TxnError.{TxnError}
+use Rattle.txc_ports.specs.declared.error.TxnError.TheVariants.{Memory}
 use Rattle.txc_rw.specs.declared.given.Given.{Given}
+use Rattle.txc_rw.specs.declared.given.Given.TheVariants as given
+use Rattle.txc_rw.specs.Leading.{IsQueryLeft}
 use Rattle.txc_rw.specs.Answers.{AreRightIn, IsRightIn}
 use Rattle.txc_rw.specs.Core.{RwValue, RwHolds, IsRwIdle, IsRw}
 use Rattle.txc_rw.specs.Txn.{IsRwResting, RwTxnValue}
@@ -65,9 +70,26 @@ pub if_ok : {T E : Type 0} (P Q : T → Type 0) (r : Result T E) → ((v : T) �
 if_ok P Q (Ok v) step h = step v h
 if_ok P Q (Err e) step h = tt
 
-pub if_err : {T E : Type 0} (P Q : E → Type 0) (r : Result T E) → ((e : E) → P e → Q e) → IfErr r P → IfErr r Q
-if_err P Q (Ok v) step h = tt
-if_err P Q (Err e) step h = step e h
+-- a query of its own leaves it at rest
+module _ (next : Next) (L : History) (c c' : RwValue) (q : Query) where
+  pub queried_or_left : (r : Result (Vec RowValue Global) TxnError) → IfOk r (λ rows. c' ≡ record c { queried = c.queried ++ q ∷ []; answers = c.answers ++ given.Rows q rows.items ∷ [] })
+      → IfErr r (IsQueryLeft c q c') → ((os : Objects) → RwHolds next L os c') → IsRwResting next L c → IsRwResting next L c'
+  queried_or_left (Ok rows) after left holds h = record {
+    frames = ap (λ (w : RwValue). w.call.frames) after ∙ h.frames;
+    need = ap (λ (w : RwValue). w.call.need) after ∙ h.need;
+    reading = ap (λ (w : RwValue). w.reading) after ∙ h.reading;
+    holds = holds;
+  }
+  queried_or_left (Err error) after left holds h =
+      ⊎_elim
+      (λ (same : c' ≡ c). subst (IsRwResting next L) (sym same) h)
+      (λ (read : (error ≡ Memory) × (c' ≡ record c { queried = c.queried ++ q ∷ [] })). record {
+        frames = ap (λ (w : RwValue). w.call.frames) read.1 ∙ h.frames;
+        need = ap (λ (w : RwValue). w.call.need) read.1 ∙ h.need;
+        reading = ap (λ (w : RwValue). w.reading) read.1 ∙ h.reading;
+        holds = holds;
+      })
+      left
 
 pub written_or_not : {T E : Type 0} (r : Result T E) (next : Next) (L : History) (c c' : RwValue) (changes : List Change)
     → OnOk r (c' ≡ record c { changes = changes }) → OnErr r (c' ≡ c) → IsRwResting next L c → IsRwResting next L c'

@@ -1,6 +1,6 @@
 -- How a call was led, step by step.
 use Rattle.std.proofs.Common.{◌≡◌, ◌⊎◌, inl, inr, ℕ, List, [], ◌∷◌, ◌++◌, Some, None, Ok, Err, refl, sym, ap, subst, ◌∙◌, append-nil, append_assoc, Option}
-use Rattle.std.specs.Prelude.{Result, Vec, IfOk, IfErr}
+use Rattle.std.specs.Prelude.{Result, Vec, IfErr, IfOk}
 use Rattle.std.specs.declared.alloc.Global.{Global}
 use Rattle.std.proofs.lemmas.Grind.{flat_map-append}
 use Rattle.txc_stream.specs.Names.{Name}
@@ -20,14 +20,11 @@ use Rattle.txc_registry.specs.Objects.{Objects}
 use Rattle.txc_call.specs.Calling.{Calling}
 use Rattle.txc_call.specs.Turns.{Turn as CallTurn, AfterReply}
 use Rattle.txc_ports.specs.declared.error.TxnError.{TxnError}
-use Rattle.txc_ports.specs.declared.turn.Turn.{Turn}
-use Rattle.txc_ports.specs.declared.turn.Turn.TheVariants.{Ask, Value, Rows, Refused}
+use Rattle.txc_ports.specs.declared.turn.Turn.TheVariants.{Ask, Ended}
 use Rattle.txc_ports.specs.Refusals.{refused_call, refused_request}
-use Rattle.txc_rw.specs.declared.given.Given.{Given}
 use Rattle.txc_rw.specs.declared.given.Given.TheVariants as given
-use Rattle.txc_rw.specs.Core.{RwValue, answers_after, queried_after, IsRwIdle, IsRwTurn}
-use Rattle.txc_ports.specs.Turns.{IsAsk}
-use Rattle.txc_rw.specs.Leading.{query_in, queries_in, standing_of, RwCallLeads, EndsCall, IsLedAt, IsLedTo, IsQueryRefusedAt, IsQueryRefusal, IsUncachedRun, IsStepAt, IsUncached, RowsLead, RwStandingLeads, Step}
+use Rattle.txc_rw.specs.Core.{QueryTurn, RwValue, queried_after}
+use Rattle.txc_rw.specs.Leading.{query_in, queries_in, standing_of, RwCallLeads, EndsCall, IsLedAt, IsLedTo, IsQueryRefusedAt, IsQueryLeft, IsQueryRefusal, IsUncachedRun, IsStepAt, IsUncached, RowsLead, RwStandingLeads, Step}
 
 module _ (next : Next) (s : State) where
   led_more : (from mid end : CallTurn) (steps : List Step) (x : Step) → IsLedAt next s from steps mid → IsStepAt next s mid x end → IsLedAt next s from (steps ++ x ∷ []) end
@@ -100,12 +97,12 @@ same_found reply one other is is' =
 -- ---- runs
 
 -- the database refused what the call needs
-abbrev pub IsAskRefused : List ℕ → ℕ → CallTurn → Turn → Type 0
-IsAskRefused row base (Ok standing) (Refused error) = (q : Query) × (standing.need ≡ Some (needs.Query q)) × IsQueryRefusedAt row base q error
+abbrev pub IsAskRefused : List ℕ → ℕ → CallTurn → QueryTurn → Type 0
+IsAskRefused row base (Ok standing) (Ended (Err error)) = (q : Query) × (standing.need ≡ Some (needs.Query q)) × IsQueryRefusedAt row base q error
 IsAskRefused row base stands turn = ⊥
 
 -- a call came so far, and the core did this last
-pub record IsRunSo (next : Next) (row : Name) (s : State) (from : CallTurn) (old new : RwValue) (objects : Objects) (turn : Turn) : Type 0 where
+pub record IsRunSo (next : Next) (row : Name) (s : State) (from : CallTurn) (old new : RwValue) (objects : Objects) (turn : QueryTurn) : Type 0 where
   pub queries : List Query
   pub stands : CallTurn
   pub led : IsLedTo next s from queries stands
@@ -113,7 +110,7 @@ pub record IsRunSo (next : Next) (row : Name) (s : State) (from : CallTurn) (old
   pub does : RwStandingLeads stands new objects turn ⊎ IsAskRefused row old.base stands turn
 
 -- as the core begins
-pub run_begins : (next : Next) (row : Name) (s : State) (from : CallTurn) (old new : RwValue) (objects : Objects) (turn : Turn) → new.queried ≡ old.queried
+pub run_begins : (next : Next) (row : Name) (s : State) (from : CallTurn) (old new : RwValue) (objects : Objects) (turn : QueryTurn) → new.queried ≡ old.queried
     → RwCallLeads next s from [] new objects turn → IsRunSo next row s from old new objects turn
 run_begins next row s from old new objects turn same leads = record {
   queries = [];
@@ -124,99 +121,89 @@ run_begins next row s from old new objects turn same leads = record {
 }
 
 -- as it ends, with its value or a refusal
-run_ends : (next : Next) (row : Name) (s : State) (from : CallTurn) (old new : RwValue) (objects : Objects) (turn : Turn) (result : Result (List ℕ) TxnError)
-    → ((stands : CallTurn) → RwStandingLeads stands new objects turn ⊎ IsAskRefused row old.base stands turn → EndsCall row old.base stands objects result)
-    → IsRunSo next row s from old new objects turn → IsUncachedRun next row s from old new objects result
-run_ends next row s from old new objects turn result ends h = record {
+ends : (row : Name) (base : ℕ) (stands : CallTurn) (new : RwValue) (objects : Objects) (result : Result (List ℕ) TxnError)
+    → RwStandingLeads stands new objects (Ended result) ⊎ IsAskRefused row base stands (Ended result) → EndsCall row base stands objects result
+ends row base (Ok standing) new objects (Ok v) (inl h) = h
+ends row base (Ok standing) new objects (Ok v) (inr h) = absurd h
+ends row base (Ok standing) new objects (Err e) (inl h) = inl h
+ends row base (Ok standing) new objects (Err e) (inr h) = inr h
+ends row base (Err cause) new objects result (inl h) = cc h
+ends row base (Err cause) new objects result (inr h) = absurd h
+
+pub run_over : (next : Next) (row : Name) (s : State) (from : CallTurn) (old new : RwValue) (objects : Objects) (result : Result (List ℕ) TxnError)
+    → IsRunSo next row s from old new objects (Ended result) → IsUncachedRun next row s from old new objects result
+run_over next row s from old new objects result h = record {
   queries = h.queries;
   stands = h.stands;
   led = h.led;
   queried = h.queried;
-  ended = ends h.stands h.does;
+  ended = ends row old.base h.stands new objects result h.does;
 }
 
-value_ends : (row : Name) (base : ℕ) (stands : CallTurn) (new : RwValue) (objects : Objects) (v : List ℕ) → RwStandingLeads stands new objects (Value v) ⊎ IsAskRefused row base stands (Value v)
-    → EndsCall row base stands objects (Ok v)
-value_ends row base (Ok standing) new objects v (inl h) = h
-value_ends row base (Ok standing) new objects v (inr h) = absurd h
-value_ends row base (Err e) new objects v (inl h) = absurd (cc h)
-value_ends row base (Err e) new objects v (inr h) = absurd h
-
-refusal_ends : (row : Name) (base : ℕ) (stands : CallTurn) (new : RwValue) (objects : Objects) (e : TxnError) → RwStandingLeads stands new objects (Refused e) ⊎ IsAskRefused row base stands (Refused e)
-    → EndsCall row base stands objects (Err e)
-refusal_ends row base (Ok standing) new objects e (inl h) = inl h
-refusal_ends row base (Ok standing) new objects e (inr h) = inr h
-refusal_ends row base (Err cause) new objects e (inl h) = let same : e ≡ refused_call cause = cc h in ap Err same
-refusal_ends row base (Err cause) new objects e (inr h) = absurd h
-
-pub run_over : (next : Next) (row : Name) (s : State) (from : CallTurn) (old new : RwValue) (objects : Objects) (turn : Turn) (result : Result (List ℕ) TxnError)
-    → IfOk result (λ v. turn ≡ Value v) → IfErr result (λ e. turn ≡ Refused e) → IsRunSo next row s from old new objects turn → IsUncachedRun next row s from old new objects result
-run_over next row s from old new objects turn (Ok v) is there h =
-    run_ends next row s from old new objects (Value v) (Ok v) (λ stands. value_ends row old.base stands new objects v) (subst (λ (t : Turn). IsRunSo next row s from old new objects t) is h)
-run_over next row s from old new objects turn (Err e) there is h =
-    run_ends next row s from old new objects (Refused e) (Err e) (λ stands. refusal_ends row old.base stands new objects e) (subst (λ (t : Turn). IsRunSo next row s from old new objects t) is h)
-
 -- a core that asks: its call stands as it came so far
-run_asks : (next : Next) (row : Name) (s : State) (from : CallTurn) (old core : RwValue) (objects : Objects) (turn : Turn) (queries : List Query) (stands : CallTurn)
-    → IsLedTo next s from queries stands → RwStandingLeads stands core objects turn ⊎ IsAskRefused row old.base stands turn → IsAsk turn
+run_asks : (next : Next) (row : Name) (s : State) (from : CallTurn) (old core : RwValue) (objects : Objects) (asked : Query) (queries : List Query) (stands : CallTurn)
+    → IsLedTo next s from queries stands → RwStandingLeads stands core objects (Ask asked) ⊎ IsAskRefused row old.base stands (Ask asked)
     → IsLedTo next s from queries (standing_of core.call objects)
-run_asks next row s from old core objects (Ask r) queries (Ok standing) led (inl does) asks = subst (λ (t : CallTurn). IsLedTo next s from queries t) (sym does) led
-run_asks next row s from old core objects (Ask r) queries (Ok standing) led (inr does) asks = absurd does
-run_asks next row s from old core objects (Ask r) queries (Err e) led (inl does) asks = absurd (cc does)
-run_asks next row s from old core objects (Ask r) queries (Err e) led (inr does) asks = absurd does
-run_asks next row s from old core objects turn queries stands led does asks = absurd asks
+run_asks next row s from old core objects asked queries (Ok standing) led (inl does) = subst (λ (t : CallTurn). IsLedTo next s from queries t) (sym does) led
+run_asks next row s from old core objects asked queries (Ok standing) led (inr does) = absurd does
+run_asks next row s from old core objects asked queries (Err e) led (inl does) = absurd (cc does)
+run_asks next row s from old core objects asked queries (Err e) led (inr does) = absurd does
 
 -- and goes on with the database's answer
-pub run_goes_on : (next : Next) (row : Name) (s : State) (from : CallTurn) (old core new : RwValue) (objects objects' : Objects) (turn turn' : Turn) (reply : Result Found DbError) (q : Query)
-    → IsRunSo next row s from old core objects turn → IsAsk turn → core.reading ≡ Some q → core.call.need ≡ Some (needs.Query q)
+pub run_goes_on : (next : Next) (row : Name) (s : State) (from : CallTurn) (old core new : RwValue) (objects objects' : Objects) (turn : QueryTurn) (reply : Result Found DbError) (q : Query)
+    → IsRunSo next row s from old core objects (Ask q) → core.reading ≡ Some q → core.call.need ≡ Some (needs.Query q)
     → new.queried ≡ queried_after core.queried core.reading reply
     → IfErr reply (MayRefuse row (λ d. IsQueryRefused d q old.base))
-    → ((e : DbError) → reply ≡ Err e → turn' ≡ Refused (refused_request e))
-    → ((f : Found) → reply ≡ Ok f → RwCallLeads next s (standing_of core.call objects) (q ∷ []) new objects' turn')
-    → IsRunSo next row s from old new objects' turn'
-run_goes_on next row s from old core new objects objects' turn turn' (Ok f) q h asks reading need queried refused is leads =
+    → ((e : DbError) → reply ≡ Err e → turn ≡ Ended (Err (refused_request e)))
+    → ((f : Found) → reply ≡ Ok f → RwCallLeads next s (standing_of core.call objects) (q ∷ []) new objects' turn)
+    → IsRunSo next row s from old new objects' turn
+run_goes_on next row s from old core new objects objects' turn (Ok f) q h reading need queried refused is leads =
     let on = leads f refl in
     let all : new.queried ≡ core.queried ++ q ∷ [] = queried ∙ ap (λ (r : Option Query). queried_after core.queried r (Ok f)) reading in
     record {
       queries = h.queries ++ q ∷ [];
       stands = on.0;
-      led = led_both next s from (standing_of core.call objects) on.0 h.queries (q ∷ []) (run_asks next row s from old core objects turn h.queries h.stands h.led h.does asks) on.1;
+      led = led_both next s from (standing_of core.call objects) on.0 h.queries (q ∷ []) (run_asks next row s from old core objects q h.queries h.stands h.led h.does) on.1;
       queried = all ∙ ap (λ (qs : List Query). qs ++ q ∷ []) h.queried ∙ append_assoc old.queried h.queries (q ∷ []);
       does = inl on.2;
     }
-run_goes_on next row s from old core new objects objects' turn turn' (Err e) q h asks reading need queried refused is leads =
+run_goes_on next row s from old core new objects objects' turn (Err e) q h reading need queried refused is leads =
     let all : new.queried ≡ core.queried = queried ∙ ap (λ (r : Option Query). queried_after core.queried r (Err e)) reading in
     record {
       queries = h.queries;
       stands = standing_of core.call objects;
-      led = run_asks next row s from old core objects turn h.queries h.stands h.led h.does asks;
+      led = run_asks next row s from old core objects q h.queries h.stands h.led h.does;
       queried = all ∙ h.queried;
-      does = inr (subst (λ (t : Turn). IsAskRefused row old.base (standing_of core.call objects) t) (sym (is e refl)) (q, need, (e, refused, refl)));
+      does = inr (subst (λ (t : QueryTurn). IsAskRefused row old.base (standing_of core.call objects) t) (sym (is e refl)) (q, need, (e, refused, refl)));
     }
 
 -- ---- the transaction's own query
 
-pub query_refused : (row : Name) (base : ℕ) (q : Query) (reply : Result Found DbError) (turn : Turn) (e : TxnError)
-    → IfErr reply (MayRefuse row (λ d. IsQueryRefused d q base))
-    → ((f : Found) → reply ≡ Ok f → RowsLead f.rows.items turn) → ((d : DbError) → reply ≡ Err d → turn ≡ Refused (refused_request d)) → turn ≡ Refused e
-    → IsQueryRefusal row base q e
-query_refused row base q (Ok f) turn e refused rows is turned = inl (subst (λ (t : Turn). RowsLead f.rows.items t) turned (rows f refl))
-query_refused row base q (Err d) turn e refused rows is turned =
-    let both : Refused e ≡ Refused (refused_request d) = sym turned ∙ is d refl in
-    let same : e ≡ refused_request d = cc both in
-    inr (d, refused, same)
+-- from the core that was asked it, what comes of the database's answer, told of the core before
+module _ (old asking new : RwValue) (q : Query) (same : asking ≡ record old { reading = Some q }) (none : old.reading ≡ None) where
+  pub query_after : (reply : Result Found DbError) (result : Result (Vec RowValue Global) TxnError) → RowsLead asking q reply new result
+      → IfOk result (λ rows. new ≡ record old { queried = old.queried ++ q ∷ []; answers = old.answers ++ given.Rows q rows.items ∷ [] })
+  query_after (Ok found) (Ok rows) leads =
+      leads.1
+      ∙ ap (λ (c : RwValue). record c { queried = c.queried ++ q ∷ []; answers = c.answers ++ given.Rows q rows.items ∷ []; reading = None }) same
+      ∙ ap (λ (r : Option Query). record old { queried = old.queried ++ q ∷ []; answers = old.answers ++ given.Rows q rows.items ∷ []; reading = r }) (sym none)
+  query_after (Err cause) (Ok rows) leads = cc leads.0
+  query_after reply (Err error) leads = tt
 
-pub query_after : (old new : RwValue) (q : Query) (reply : Result Found DbError) (turn : Turn) (rows : Vec RowValue Global) → IsRwIdle old → turn ≡ Rows rows
-    → IsRwTurn new turn → new.queried ≡ queried_after old.queried (Some q) reply → new.answers ≡ answers_after old.answers old.call.top (Some q) turn
-    → new.call ≡ old.call → ((d : DbError) → reply ≡ Err d → turn ≡ Refused (refused_request d))
-    → new ≡ record old { queried = new.queried; answers = new.answers; call = new.call; reading = new.reading }
-    → new ≡ record old { queried = old.queried ++ q ∷ []; answers = old.answers ++ given.Rows q rows.items ∷ [] }
-query_after old new q (Err d) turn rows idle is fits queried answers call refused same = absurd (cc (sym is ∙ refused d refl))
-query_after old new q (Ok f) turn rows idle is fits queried answers call refused same =
-    let now : new.reading ≡ old.reading = (subst (λ (t : Turn). IsRwTurn new t) is fits).1 ∙ sym idle.1 in
-    let kept : new.answers ≡ old.answers ++ given.Rows q rows.items ∷ [] = answers ∙ ap (λ (t : Turn). answers_after old.answers old.call.top (Some q) t) is in
-    same
-    ∙ ap (λ (qs : List Query). record old { queried = qs; answers = new.answers; call = new.call; reading = new.reading }) queried
-    ∙ ap (λ (xs : List Given). record old { queried = old.queried ++ q ∷ []; answers = xs; call = new.call; reading = new.reading }) kept
-    ∙ ap (λ (w : Calling). record old { queried = old.queried ++ q ∷ []; answers = old.answers ++ given.Rows q rows.items ∷ []; call = w; reading = new.reading }) call
-    ∙ ap (λ (r : Option Query). record old { queried = old.queried ++ q ∷ []; answers = old.answers ++ given.Rows q rows.items ∷ []; reading = r }) now
+  pub query_left : (reply : Result Found DbError) (result : Result (Vec RowValue Global) TxnError) → RowsLead asking q reply new result → IfErr result (IsQueryLeft old q new)
+  query_left reply (Ok rows) leads = tt
+  query_left (Ok found) (Err error) leads = inr (
+    leads.0,
+    leads.1
+        ∙ ap (λ (c : RwValue). record c { queried = c.queried ++ q ∷ []; reading = None }) same
+        ∙ ap (λ (r : Option Query). record old { queried = old.queried ++ q ∷ []; reading = r }) (sym none),
+  )
+  query_left (Err cause) (Err error) leads = inl (
+      leads.1 ∙ ap (λ (c : RwValue). record c { reading = None }) same ∙ ap (λ (r : Option Query). record old { reading = r }) (sym none)
+      )
+
+  pub query_refused : (row : Name) (reply : Result Found DbError) (result : Result (Vec RowValue Global) TxnError) → IfErr reply (MayRefuse row (λ d. IsQueryRefused d q old.base))
+      → RowsLead asking q reply new result → IfErr result (IsQueryRefusal row old.base q)
+  query_refused row reply (Ok rows) refused leads = tt
+  query_refused row (Ok found) (Err error) refused leads = inl leads.0
+  query_refused row (Err cause) (Err error) refused leads = let is : error ≡ refused_request cause = cc leads.0 in inr (cause, refused, is)

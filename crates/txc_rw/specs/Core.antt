@@ -16,12 +16,12 @@ use Rattle.txc_app.specs.Eval.{Next}
 use Rattle.txc_registry.specs.Objects.{Objects}
 use Rattle.txc_call.specs.declared.need.Need.{Need}
 use Rattle.txc_call.specs.declared.need.Need.TheVariants as needs
+use Rattle.txc_call.specs.declared.need.Outcome.{Outcome}
 use Rattle.txc_call.specs.Calling.{Calling, CallHolds, InCall, IsCalling}
 use Rattle.txc_ports.specs.declared.error.TxnError.{TxnError}
 use Rattle.txc_ports.specs.declared.error.TxnError.TheVariants.{BufferFull, Memory}
-use Rattle.txc_ports.specs.declared.request.PortRequest.TheVariants as requests
 use Rattle.txc_ports.specs.declared.turn.Turn.{Turn}
-use Rattle.txc_ports.specs.declared.turn.Turn.TheVariants.{Ask, Value, Rows, Refused}
+use Rattle.txc_ports.specs.declared.turn.Turn.TheVariants.{Ask, Ended}
 use Rattle.txc_rw.specs.declared.given.Given.{Given}
 use Rattle.txc_rw.specs.declared.given.Given.TheVariants as given
 use Rattle.txc_rw.specs.declared.reading.Reading.{Reading}
@@ -117,6 +117,11 @@ needs_no_node (Some (needs.Query query)) = Unit {0}
 needs_no_node (Some (needs.Insert entry)) = ⊥
 needs_no_node (Some (needs.Value outcome)) = Unit {0}
 
+-- the call needs this query, or, where it is none, it has its value
+abbrev pub NeedsOnly : Option Query → Option Need → Type 0
+NeedsOnly (Some q) need = need ≡ Some (needs.Query q)
+NeedsOnly None need = (o : Outcome) × (need ≡ Some (needs.Value o))
+
 -- the call has its value
 abbrev pub IsDone : Option Need → Type 0
 IsDone None = ⊥
@@ -131,59 +136,19 @@ HasCounted old new = IsDone new.need ⊎ ((¬ (IsDone old.need)) × (old.asked �
 
 -- ---- turns
 
--- the core asks a query at its base, or what it did has ended
-abbrev pub IsRwTurn : RwValue → Turn → Type 0
-IsRwTurn c (Ask request) = (q : Query) × (c.reading ≡ Some q) × (request ≡ requests.Query q c.base)
-IsRwTurn c (Value value) = IsRwIdle c
-IsRwTurn c (Rows rows) = IsRwIdle c
-IsRwTurn c (Refused error) = IsRwIdle c
+-- of a call that asks queries
+abbrev pub QueryTurn : Type 0
+QueryTurn = Turn Query (List ℕ)
 
--- a call asks, has its value, or is refused; a query finds its rows, or is refused
-abbrev pub IsOfCall : Turn → Type 0
-IsOfCall (Ask request) = Unit {0}
-IsOfCall (Value value) = Unit {0}
-IsOfCall (Refused error) = Unit {0}
-IsOfCall turn = ⊥
+-- the database is asked the query that the call needs, or the call has ended
+abbrev pub IsRwTurn : RwValue → QueryTurn → Type 0
+IsRwTurn c (Ask q) = (c.reading ≡ Some q) × (c.call.need ≡ Some (needs.Query q))
+IsRwTurn c (Ended result) = IsRwIdle c
 
-abbrev pub IsOfQuery : Turn → Type 0
-IsOfQuery (Rows rows) = Unit {0}
-IsOfQuery (Refused error) = Unit {0}
-IsOfQuery turn = ⊥
-
-abbrev pub IsOfNeed : Option Need → Turn → Type 0
-IsOfNeed None turn = IsOfQuery turn
-IsOfNeed (Some need) turn = IsOfCall turn
-
--- it asks this query at the stamp, or is out of memory
-abbrev pub AsksQueryAt : Query → ℕ → Turn → Type 0
-AsksQueryAt q stamp (Ask request) = request ≡ requests.Query q stamp
-AsksQueryAt q stamp (Refused error) = error ≡ Memory
-AsksQueryAt q stamp turn = ⊥
-
--- the query that the turn asks, and the stamp, if it asks one
-abbrev pub asked_of : Turn → Option (Query × ℕ)
-asked_of (Ask (requests.Query q stamp)) = Some (q, stamp)
-asked_of turn = None
-
--- the turn is a refusal
-abbrev pub IsRefusal : Turn → Type 0
-IsRefusal (Refused error) = Unit {0}
-IsRefusal turn = ⊥
-
--- it is one answer more, or was dropped
-abbrev pub IsOneMore : Given → List Given → List Given → Type 0
-IsOneMore x old new = (new ≡ old ++ x ∷ []) ⊎ (new ≡ old)
-
--- the rows that were found for the query, if one was asked
-abbrev pub given_of_rows : Option Query → List RowValue → List Given
-given_of_rows None rows = []
-given_of_rows (Some q) rows = given.Rows q rows ∷ []
-
--- a value of the call, and the rows of the query, are one answer more
-abbrev pub answers_after : List Given → Call → Option Query → Turn → List Given
-answers_after answers k reading (Value value) = answers ++ given.Value k value ∷ []
-answers_after answers k reading (Rows rows) = answers ++ given_of_rows reading rows.items
-answers_after answers k reading turn = answers
+-- a value of the call is one answer more
+abbrev pub answers_after : List Given → Call → QueryTurn → List Given
+answers_after answers k (Ended (Ok value)) = answers ++ given.Value k value ∷ []
+answers_after answers k turn = answers
 
 -- ---- replies
 

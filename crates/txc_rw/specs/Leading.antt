@@ -1,10 +1,11 @@
 -- How a call of a transaction goes: by what it is answered, and what comes of it.
-use Rattle.std.specs.Prelude.{◌≡◌, ◌⊎◌, ℕ, List, [], ◌∷◌, ◌++◌, Some, Result, Ok, Err}
+use Rattle.std.specs.Prelude.{◌≡◌, ◌⊎◌, ℕ, List, [], ◌∷◌, ◌++◌, Vec, Some, None, Result, Ok, Err}
 use Rattle.std.specs.List.{flat_map}
-use Rattle.txc_stream.specs.Names.{Name}
+use Rattle.std.specs.declared.alloc.Global.{Global}
 use Rattle.txc_tags.specs.Keys.{Call}
 use Rattle.txc_rows.specs.declared.query.Query.{Query}
 use Rattle.txc_rows.specs.States.{RowValue, State, answer}
+use Rattle.txc_validity.specs.declared.answer.Found.{Found}
 use Rattle.txc_db.specs.declared.error.DbError.{DbError}
 use Rattle.txc_db.specs.Calls.{IsQueryRefused}
 use Rattle.txc_db.specs.History.{state_at}
@@ -20,10 +21,10 @@ use Rattle.txc_call.specs.Calling.{Calling, started}
 use Rattle.txc_call.specs.Turns.{Turn as CallTurn, AfterReply}
 use Rattle.txc_ports.specs.declared.error.TxnError.{TxnError}
 use Rattle.txc_ports.specs.declared.error.TxnError.TheVariants.{Memory}
-use Rattle.txc_ports.specs.declared.turn.Turn.{Turn}
-use Rattle.txc_ports.specs.declared.turn.Turn.TheVariants.{Ask, Value, Rows, Refused}
+use Rattle.txc_ports.specs.declared.turn.Turn.TheVariants.{Ask, Ended}
 use Rattle.txc_ports.specs.Refusals.{refused_call, refused_request}
-use Rattle.txc_rw.specs.Core.{RwValue}
+use Rattle.txc_rw.specs.declared.given.Given.TheVariants as given
+use Rattle.txc_rw.specs.Core.{QueryTurn, RwValue}
 use Rattle.txc_rw.specs.Txn.{RwTxnValue}
 
 -- ---- steps
@@ -80,24 +81,31 @@ standing_of call objects =
 
 -- What the core does once its call stands so. It asks what the call needs, and the call stands so still; or
 -- the call's value is that of the turn; or it is refused, as the call is, or as out of memory.
-abbrev pub RwStandingLeads : CallTurn → RwValue → Objects → Turn → Type 0
-RwStandingLeads (Ok standing) new objects (Ask request) = standing_of new.call objects ≡ Ok standing
-RwStandingLeads (Ok standing) new objects (Value value) = (o : Outcome) × (standing.need ≡ Some (needs.Value o))
-    × (value ≡ o.value) × (objects ≡ standing.objects)
-RwStandingLeads (Ok standing) new objects (Refused error) = error ≡ Memory
-RwStandingLeads (Ok standing) new objects turn = ⊥
-RwStandingLeads (Err error) new objects turn = turn ≡ Refused (refused_call error)
+abbrev pub RwStandingLeads : CallTurn → RwValue → Objects → QueryTurn → Type 0
+RwStandingLeads (Ok standing) new objects (Ask query) = standing_of new.call objects ≡ Ok standing
+RwStandingLeads (Ok standing) new objects (Ended (Ok value)) = (o : Outcome)
+    × (standing.need ≡ Some (needs.Value o)) × (value ≡ o.value) × (objects ≡ standing.objects)
+RwStandingLeads (Ok standing) new objects (Ended (Err error)) = error ≡ Memory
+RwStandingLeads (Err error) new objects turn = turn ≡ Ended (Err (refused_call error))
 
 -- where these queries are answered on the way, the call comes to stand so that the core does this
-abbrev pub RwCallLeads : Next → State → CallTurn → List Query → RwValue → Objects → Turn → Type 0
+abbrev pub RwCallLeads : Next → State → CallTurn → List Query → RwValue → Objects → QueryTurn → Type 0
 RwCallLeads next s from queries new objects turn =
     (stands : CallTurn) × IsLedTo next s from queries stands × RwStandingLeads stands new objects turn
 
--- what comes of the rows of the transaction's own query: they are those of the turn, or out of memory
-abbrev pub RowsLead : List RowValue → Turn → Type 0
-RowsLead rows (Rows answered) = answered.items ≡ rows
-RowsLead rows (Refused error) = error ≡ Memory
-RowsLead rows turn = ⊥
+-- What comes of the database's answer to the transaction's own query. It counts as read, and its rows are one
+-- answer more; or it counts as read, and is refused as out of memory; or it is refused as the database refuses it.
+abbrev pub RowsLead : RwValue → Query → Result Found DbError → RwValue → Result (Vec RowValue Global) TxnError
+    → Type 0
+RowsLead old q (Ok found) new (Ok rows) = (rows.items ≡ found.rows.items) × (new ≡ record old {
+  queried = old.queried ++ q ∷ [];
+  answers = old.answers ++ given.Rows q rows.items ∷ [];
+  reading = None;
+})
+RowsLead old q (Ok found) new (Err error) = (error ≡ Memory)
+    × (new ≡ record old { queried = old.queried ++ q ∷ []; reading = None })
+RowsLead old q (Err cause) new result = (result ≡ Err (refused_request cause))
+    × (new ≡ record old { reading = None })
 
 -- ---- the transaction
 

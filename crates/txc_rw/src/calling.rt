@@ -1,11 +1,11 @@
 //! Calls and queries of a transaction, led to their end at the locked database.
-ghost use Rattle.std.specs.Prelude.{◌≡◌, ◌≤◌, ◌++◌, ◌∷◌, [], length, IfErr, IfOk, IsNone, IsSome, None, Err, OnErr, Some};
+ghost use Rattle.std.specs.Prelude.{◌≡◌, ◌≤◌, ◌++◌, ◌∷◌, [], length, IfErr, IfOk, IsNone, IsSome, None, Err, OnErr};
 ghost use Rattle.txc_db.specs.History.{state_at};
-ghost use Rattle.txc_registry.specs.Objects.{activity_of, numbers_of};
+ghost use Rattle.txc_app.specs.Eval.{Next};
+ghost use Rattle.txc_registry.specs.Objects.{activity_of, numbers_of, Objects};
 ghost use Rattle.txc_call.specs.declared.error.CallError.TheVariants.{NoFunction};
 ghost use Rattle.txc_call.specs.Calling.{started};
-ghost use Rattle.txc_rw.specs.Core.{asked_of, IsOfQuery, IsRw, IsRwIdle, RwHolds};
-ghost use Rattle.txc_ports.specs.Turns.{IsCallEnd};
+ghost use Rattle.txc_rw.specs.Core.{IsRw, IsRwIdle, RwHolds};
 ghost use Rattle.txc_rw.specs.Leading.{standing_of, IsQueryLeft, IsQueryRefusal, IsUncachedRun};
 
 use crate::finding::find;
@@ -16,47 +16,10 @@ use std::sync::Wait;
 use txc_app::App;
 use txc_db::{Database, HistoryFront, Naming};
 use txc_node::Value;
-use txc_ports::{PortRequest, Turn, TxnError};
+use txc_ports::{Turn, TxnError};
 use txc_registry::{Cacheable, Registry};
 use txc_rows::{Query, Row};
-use txc_stamp::Stamp;
 use txc_tags::Key;
-
-// The query that the turn asks, and the stamp.
-fn asked(turn: &Turn) -> Option<(Query, Stamp)>
-    ensures { result ≡ asked_of turn.now }
-{
-    match turn {
-        Turn::Ask(PortRequest::Query { query, stamp }) => Some((*query, *stamp)),
-        _ => None,
-    }
-}
-
-// The value of a call that has ended.
-fn value_of(turn: Turn) -> Result<Value, TxnError>
-    requires { IsCallEnd turn }
-    ensures answer { IfOk result (λ value. turn ≡ Turn.Value value) }
-    ensures refused { IfErr result (λ error. turn ≡ Turn.Refused error) }
-{
-    match turn {
-        Turn::Value(value) => Ok(value),
-        Turn::Refused(error) => Err(error),
-        _ => unreachable!(),
-    }
-}
-
-// The rows of a query that has ended.
-fn rows_of(turn: Turn) -> Result<Vec<Row>, TxnError>
-    requires { IsOfQuery turn }
-    ensures answer { IfOk result (λ rows. turn ≡ Turn.Rows rows) }
-    ensures refused { IfErr result (λ error. turn ≡ Turn.Refused error) }
-{
-    match turn {
-        Turn::Rows(rows) => Ok(rows),
-        Turn::Refused(error) => Err(error),
-        _ => unreachable!(),
-    }
-}
 
 // Makes a call of the transaction: each query that it asks is asked at the database, until it has its value.
 pub(crate) fn call_at<J: Naming, A: App, C: Cacheable>(
@@ -95,32 +58,32 @@ pub(crate) fn call_at<J: Naming, A: App, C: Cacheable>(
     } }
 {
     let mut turn = core.start(alloc, registry, key);
-    while let Some((query, stamp)) = asked(&turn) {
-        let found = find(rt, alloc, database, seen, &query, stamp);
-        turn = core.reply(alloc, registry, found);
-        core.is_within_budget();
+    loop {
+        match turn {
+            Turn::Ask(query) => {
+                let found = find(rt, alloc, database, seen, &query, core.base());
+                turn = core.reply(alloc, registry, found);
+                core.is_within_budget();
+            }
+            Turn::Ended(result) => return result,
+        }
     }
-    value_of(turn)
 }
 
 // Makes a query of the transaction's own at the database.
-pub(crate) fn query_at<J: Naming, A: App, C: Cacheable>(
+pub(crate) fn query_at<J: Naming>(
     rt: &impl Wait,
     alloc: Global,
     database: &Database<J>,
     seen: &HistoryFront,
-    registry: &mut Registry<A, C>,
     core: &mut RwCore,
     query: Query,
 ) -> Result<Vec<Row>, TxnError>
     requires named { seen.now.events ≡ J.database_history }
-    requires fits { IsRw A.next registry.old core.old }
     requires idle { IsRwIdle core.old }
     requires shown { core.old.base ≤ length seen.now.history }
-    ensures fits { IsRw A.next registry.new core.new }
-    ensures idle { IsRwIdle core.new }
-    ensures holds { RwHolds A.next seen.now.history registry.old core.old
-        → RwHolds A.next seen.now.history registry.new core.new }
+    ensures holds { (next : Next) (objects : Objects) → RwHolds next seen.now.history objects core.old
+        → RwHolds next seen.now.history objects core.new }
     ensures after { IfOk result (λ rows. core.new
         ≡ record core.old {
           queried = core.old.queried ++ query ∷ [];
@@ -128,12 +91,8 @@ pub(crate) fn query_at<J: Naming, A: App, C: Cacheable>(
         }) }
     ensures refused { IfErr result (IsQueryRefusal J.database_history core.old.base query) }
     ensures left { IfErr result (IsQueryLeft core.old query core.new) }
-    ensures same_objects { registry.new ≡ registry.old }
 {
-    let turn = core.ask(alloc, registry, query);
-    let Some((query, stamp)) = asked(&turn) else {
-        return rows_of(turn);
-    };
-    let found = find(rt, alloc, database, seen, &query, stamp);
-    rows_of(core.reply(alloc, registry, found))
+    core.ask(alloc, &query)?;
+    let found = find(rt, alloc, database, seen, &query, core.base());
+    core.answer(alloc, found)
 }

@@ -1,15 +1,13 @@
 //! What the definitions come to. Each is a lemma: it has no code.
 ghost use Rattle.txc_rw.specs.Laws.{AnswersAreRight, CommitsAreRight, EventCommitsAreRight, HoldsAtFirst, HoldsInLonger, QuietCommitsAreRight, TagsCoverQueries};
 
-use txc_db::{states_stay, tags_are_sound};
+use txc_db::tags_are_sound;
 
 /// What is true of a transaction that has just begun, and stays true while the history grows.
 pub fn transactions_stay_right()
     ensures first { HoldsAtFirst }
     ensures longer { HoldsInLonger }
-{
-    states_stay();
-}
+{}
 
 /// The tags that a commit is checked with cover each query that was answered.
 pub fn tags_cover_queries()

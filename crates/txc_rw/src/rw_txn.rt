@@ -22,7 +22,7 @@ use std::alloc::Global;
 use std::marker::Model;
 use std::sync::Wait;
 use txc_app::App;
-use txc_db::{Answered, CommitError, Database, DbError, Held, HistoryFront, Naming, states_stay};
+use txc_db::{Answered, CommitError, Database, DbError, Held, HistoryFront, Naming};
 use txc_node::Value;
 use txc_ports::TxnError;
 use txc_registry::{Cacheable, Registry};
@@ -103,7 +103,6 @@ impl<'a, J: Naming, A: App, C: Cacheable> RwTxn<'a, J, A, C> {
             → AgreeOn self.now.core.queried (state_at self.now.history self.now.core.base) (state_of changes)
             → AreRightIn A.next (state_of changes) self.now.core.answers }
     {
-        answers_are_right();
         let _base = self.core.base();
     }
 
@@ -143,7 +142,6 @@ impl<'a, J: Naming, A: App, C: Cacheable> RwTxn<'a, J, A, C> {
         } }
         ensures idle { AllIdle self.new.objects }
     {
-        answers_are_right();
         call_at(
             rt,
             alloc,
@@ -173,13 +171,11 @@ impl<'a, J: Naming, A: App, C: Cacheable> RwTxn<'a, J, A, C> {
         ensures left { IfErr result (IsQueryLeft self.old.core query self.new.core) }
         ensures same { self.new ≡ record self.old { core = self.new.core } }
     {
-        answers_are_right();
         query_at(
             rt,
             alloc,
             self.database,
             self.held.front(),
-            &mut self.registry,
             &mut self.core,
             query,
         )
@@ -236,7 +232,6 @@ impl<'a, J: Naming, A: App, C: Cacheable> RwTxn<'a, J, A, C> {
             IsSharedCommitRefused d c.base (tags_read c) c.changes) e.1) }
         ensures handed_back { IfErr result (λ e. e.0 ≡ self.entry) }
     {
-        states_stay();
         answers_are_right();
         let base = self.core.base();
         let tags = self.core.tags();

@@ -1,18 +1,19 @@
 //! Calls that use no node.
-ghost use Rattle.std.specs.Prelude.{◌≡◌, [], IsSome, MatchOption, None, OnErr, OnOk, Some};
+ghost use Rattle.std.specs.Prelude.{◌≡◌, [], IfOk, IsSome, MatchOption, None, OnErr, OnOk, Some};
 ghost use Rattle.txc_rows.specs.States.{State};
 ghost use Rattle.txc_db.specs.History.{History};
 ghost use Rattle.txc_registry.specs.Objects.{numbers_of};
 ghost use Rattle.txc_call.specs.declared.need.Need.{Need};
 ghost use Rattle.txc_call.specs.Calling.{turn_after, CallHolds, InCall, IsAtRest, IsCalling};
 ghost use Rattle.txc_call.specs.Needs.{reply_reach, ReplyFits};
-ghost use Rattle.txc_rw.specs.Core.{needs_no_node, HasCounted};
+ghost use Rattle.txc_rw.specs.Core.{needs_no_node, HasCounted, NeedsOnly};
 ghost use Rattle.txc_rw.specs.Leading.{standing_of, IsLedTo};
 
 use std::alloc::Global;
 use txc_app::App;
 use txc_call::{CallError, CallMachine, Need, Reply};
 use txc_registry::{Cacheable, Registry};
+use txc_rows::Query;
 
 // The reply of a cache that has nothing and keeps nothing: none where the call needs no node.
 fn reply_of_no_cache(machine: &CallMachine) -> Option<Reply>
@@ -28,18 +29,30 @@ fn reply_of_no_cache(machine: &CallMachine) -> Option<Reply>
     }
 }
 
-// Answers every lookup by a miss and passes over every insertion, until the call needs a query or is done.
+// The query that the call needs; none where it is done.
+fn needed(machine: &CallMachine) -> Option<Query>
+    requires some { IsSome machine.now.need }
+    requires no_node { needs_no_node machine.now.need }
+    ensures { NeedsOnly result machine.now.need }
+{
+    match machine.need() {
+        Some(Need::Query(query)) => Some(*query),
+        _ => None,
+    }
+}
+
+// Answers every lookup by a miss and passes over every insertion, until the call needs a query, which it returns,
+// or is done.
 pub(crate) fn go_on_uncached<A: App, C: Cacheable>(
     machine: &mut CallMachine,
     registry: &mut Registry<A, C>,
     alloc: Global,
-) -> Result<(), CallError>
+) -> Result<Option<Query>, CallError>
     requires fits { IsCalling A.next registry.old machine.old }
     requires some { IsSome machine.old.need }
     requires at_one { InCall 1 machine.old }
     ensures fits { IsCalling A.next registry.new machine.new }
-    ensures some { OnOk result (IsSome machine.new.need) }
-    ensures no_node { OnOk result (needs_no_node machine.new.need) }
+    ensures needs { IfOk result (λ query. NeedsOnly query machine.new.need) }
     ensures rest { OnErr result ((machine.new.need ≡ None) × IsAtRest registry.new machine.new) }
     ensures at_one { OnOk result (InCall 1 machine.new) }
     ensures holds { OnOk result ((L : History) → CallHolds A.next L registry.old machine.old
@@ -54,5 +67,5 @@ pub(crate) fn go_on_uncached<A: App, C: Cacheable>(
         machine.reply(registry, alloc, reply)?;
         machine.is_within_budget();
     }
-    Ok(())
+    Ok(needed(machine))
 }

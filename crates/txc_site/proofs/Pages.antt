@@ -18,7 +18,7 @@ use Rattle.txc_txn.specs.Core.{CoreValue, Explains, KeepsSettings}
 use Rattle.txc_txn.specs.Sessions.{IsAtLeast}
 use Rattle.txc_client.specs.Laws.{asks, own_records, AreLeftBy, HasAdded}
 use Rattle.txc_client.specs.Ports.{HaveGrown}
-use Rattle.txc_client.specs.Run.{HasRun, turn_of_result}
+use Rattle.txc_client.specs.Run.{HasRun}
 use Rattle.txc_client.specs.Txn.{ClientValue, RoTxnValue, client_of}
 pub use Rattle.txc_client.proofs.Grown.{have_grown_self, have_grown_then}
 use Rattle.txc_client.proofs.Standing.{calls_stand_once}
@@ -50,20 +50,20 @@ module _ (next : Next) (row : Name) (histories : ℕ → Name) where
       one_answered_more : (calls : List MadeCall) (result : Result (List ℕ) TxnError) → old.txn.core.recorded ≡ answers_of calls
           → IfOk result (λ value. new.txn.core.recorded ≡ old.txn.core.recorded ++ record { key = key; value = value } ∷ [])
           → OnErr result (new.txn.core.recorded ≡ old.txn.core.recorded)
-          → new.txn.core.recorded ≡ answers_of calls ++ answer_of (key, turn_of_result result)
+          → new.txn.core.recorded ≡ answers_of calls ++ answer_of (key, result)
       one_answered_more calls (Ok value) before is same =
           let one : Recorded = record { key = key; value = value } in
           is ∙ ap (λ (l : List Recorded). l ++ one ∷ []) before
       one_answered_more calls (Err error) before is same = same ∙ before ∙ sym (append-nil (answers_of calls))
 
       pub one_called_more : (result : Result (List ℕ) TxnError) → HasCalled next row histories client bounds old
-          → HasRun next row histories old key new (turn_of_result result) → HaveGrown old.passes new.passes
+          → HasRun next row histories old key new result → HaveGrown old.passes new.passes
           → IfOk result (λ value. new.txn.core.recorded ≡ old.txn.core.recorded ++ record { key = key; value = value } ∷ [])
           → OnErr result (new.txn.core.recorded ≡ old.txn.core.recorded) → KeepsSettings old.txn.core new.txn.core
           → new.txn.objects ≡ old.txn.objects → HasCalled next row histories client bounds new
       one_called_more result before run grown is same settings functions = record {
         first = before.first;
-        calls = (key, turn_of_result result) ∷ before.calls;
+        calls = (key, result) ∷ before.calls;
         began = before.began;
         bounded = before.bounded;
         none = before.none;

@@ -1,5 +1,5 @@
 -- What pages call, and what that leaves of a client.
-use Rattle.std.specs.Prelude.{◌≡◌, ℕ, ◌-◌, ◌^◌, List, [], ◌∷◌, ◌++◌, slice_get, Some}
+use Rattle.std.specs.Prelude.{◌≡◌, ℕ, ◌-◌, ◌^◌, List, [], ◌∷◌, ◌++◌, slice_get, Some, Result, Ok, Err}
 use Rattle.std.specs.List.{filter}
 use Rattle.txc_stream.specs.Names.{Name}
 use Rattle.txc_tags.specs.Keys.{Call}
@@ -7,8 +7,7 @@ use Rattle.txc_app.specs.Eval.{Next}
 use Rattle.txc_shared.specs.Passes.{PassValue}
 use Rattle.txc_ports.specs.declared.bounds.Bounds.{Bounds}
 use Rattle.txc_ports.specs.declared.recorded.Recorded.{Recorded}
-use Rattle.txc_ports.specs.declared.turn.Turn.{Turn}
-use Rattle.txc_ports.specs.declared.turn.Turn.TheVariants.{Ask, Value, Rows, Refused}
+use Rattle.txc_ports.specs.declared.error.TxnError.{TxnError}
 use Rattle.txc_ports.specs.Exchanges.{Exchange}
 use Rattle.txc_txn.specs.Core.{KeepsSettings}
 use Rattle.txc_client.specs.Laws.{asks, HasAdded}
@@ -20,16 +19,14 @@ use Rattle.txc_site.specs.declared.error.ReadError.TheVariants as reads
 use Rattle.txc_site.specs.declared.run_error.RunError.{RunError}
 use Rattle.txc_site.specs.declared.run_error.RunError.TheVariants as runs
 
--- a call that was made, and the turn that ended it: its value, or a refusal
+-- a call that was made, and how it ended: with its value, or a refusal
 abbrev pub MadeCall : Type 0
-MadeCall = Call × Turn
+MadeCall = Call × Result (List ℕ) TxnError
 
 -- the value of a call, if it was answered
 abbrev pub answer_of : MadeCall → List Recorded
-answer_of (key, Value value) = record { key = key; value = value } ∷ []
-answer_of (key, Ask request) = []
-answer_of (key, Rows rows) = []
-answer_of (key, Refused error) = []
+answer_of (key, Ok value) = record { key = key; value = value } ∷ []
+answer_of (key, Err error) = []
 
 -- of these calls, the latest first, those that were answered, in the order in which they were made
 abbrev pub answers_of : List MadeCall → List Recorded

@@ -1,7 +1,7 @@
 //! The transactions of pages.
 ghost use Rattle.std.specs.Prelude.{◌≡◌, ◌≢◌, ◌++◌, ◌∷◌, [], Err, IfErr, IfOk, IsNone, OnErr};
 ghost use Rattle.txc_call.specs.declared.error.CallError.TheVariants.{NoFunction};
-ghost use Rattle.txc_client.specs.Run.{turn_of_result, HasRun};
+ghost use Rattle.txc_client.specs.Run.{HasRun};
 ghost use Rattle.txc_client.specs.Txn.{IsValueAtMembers};
 ghost use Rattle.txc_registry.specs.Objects.{activity_of, AllIdle};
 ghost use Rattle.txc_client.specs.Ports.{HaveGrown};
@@ -90,7 +90,7 @@ impl<'a, A: App, D: Definition, J: Naming, B: Begun> PageTxn<'a, A, D, J, B> {
         ensures recorded { IfOk result (λ value. self.new.txn.core.recorded
             ≡ self.old.txn.core.recorded ++ record { key = key; value = value } ∷ []) }
         ensures unchanged { OnErr result (self.new.txn.core.recorded ≡ self.old.txn.core.recorded) }
-        ensures run { HasRun A.next J.database_history J.node_histories self.old key self.new (turn_of_result result) }
+        ensures run { HasRun A.next J.database_history J.node_histories self.old key self.new result }
         ensures missing { self.old.txn.core.pins.members ≢ []
             → IsNone (activity_of self.old.txn.objects key.function)
             → result ≡ Err (TxnError.Call (NoFunction key.function)) }

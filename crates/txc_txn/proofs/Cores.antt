@@ -26,7 +26,7 @@ use Rattle.txc_call.specs.Calling.{Calling, CallHolds, CallIsUnreached, InCall, 
 use Rattle.txc_cushion.specs.declared.pins.Pins.{Pins}
 use Rattle.txc_ports.specs.declared.reply.PortReply.{PortReply}
 use Rattle.txc_ports.specs.declared.reply.PortReply.TheVariants as ports
-use Rattle.txc_ports.specs.declared.turn.Turn.{Turn}
+use Rattle.txc_ports.specs.Turns.{PortTurn}
 use Rattle.txc_ports.specs.declared.turn.Turn.TheVariants as turns
 use Rattle.txc_ports.specs.declared.bounds.Bounds.{Bounds}
 use Rattle.txc_ports.specs.declared.recorded.Recorded.{Recorded}
@@ -277,19 +277,18 @@ core_begun next objects nodes renew_after bounds pins call idle empty none some 
 -- ---- how the call stands
 
 -- what the core does with how its call stands
-pub need_stands : (old new : CoreValue) (objects objects' : Objects) (turn : Turn) → NeedLeads old objects new objects' turn
+pub need_stands : (old new : CoreValue) (objects objects' : Objects) (turn : PortTurn) → NeedLeads old objects new objects' turn
     → StandingLeads (Ok (record { frames = old.call.frames; asked = old.call.asked; need = old.call.need; objects = objects })) new objects' turn
 need_stands old new objects objects' (turns.Ask request) h = (ap (λ (call : Calling). call.frames) h.0, ap (λ (call : Calling). call.asked) h.0, ap (λ (call : Calling). call.need) h.0, h.1)
-need_stands old new objects objects' (turns.Value value) h = h
-need_stands old new objects objects' (turns.Rows rows) h = absurd h
-need_stands old new objects objects' (turns.Refused error) h = h
+need_stands old new objects objects' (turns.Ended (Ok value)) h = h
+need_stands old new objects objects' (turns.Ended (Err error)) h = h
 
 -- what comes of a pin does not depend on what was seen of the history
 still_seen : (c : CoreValue) (seen : FrontValue) (objects : Objects) (new : CoreValue) (objects' : Objects)
     → StandsStill (record c { seen = seen }) objects new objects' → StandsStill c objects new objects'
 still_seen c seen objects new objects' h = record { same_call = h.same_call; same_objects = h.same_objects; none = h.none }
 
-pin_seen : (c : CoreValue) (seen : FrontValue) (objects : Objects) (first : Option Call) (new : CoreValue) (objects' : Objects) (turn : Turn)
+pin_seen : (c : CoreValue) (seen : FrontValue) (objects : Objects) (first : Option Call) (new : CoreValue) (objects' : Objects) (turn : PortTurn)
     → PresentPinLeads first (record c { seen = seen }) objects new objects' turn → PresentPinLeads first c objects new objects' turn
 pin_seen c seen objects None new objects' turn h = (still_seen c seen objects new objects' h.0, h.1)
 pin_seen c seen objects (Some k) new objects' turn h = record {
@@ -298,18 +297,18 @@ pin_seen c seen objects (Some k) new objects' turn h = record {
 }
 
 -- nor does what comes of any reply
-pub leads_seen : (next : Next) (c : CoreValue) (seen : FrontValue) (objects : Objects) (reply : PortReply) (new : CoreValue) (objects' : Objects) (turn : Turn)
+pub leads_seen : (next : Next) (c : CoreValue) (seen : FrontValue) (objects : Objects) (reply : PortReply) (new : CoreValue) (objects' : Objects) (turn : PortTurn)
     → ReplyLeads next (record c { seen = seen }) objects reply new objects' turn → ReplyLeads next c objects reply new objects' turn
 leads_seen next c seen objects (ports.Pin (Ok pinned)) new objects' turn h = h
 leads_seen next c seen objects (ports.Pin (Err error)) new objects' turn h = h
 leads_seen next c seen objects (ports.AddPin pinned (Ok added)) new objects' turn h = pin_seen c seen objects (first_call c.pinning) new objects' turn h
 leads_seen next c seen objects (ports.AddPin pinned (Err error)) new objects' turn h = h
-leads_seen next c seen objects ports.Unpin new objects' turn h = h
+leads_seen next c seen objects (ports.Unpin unpinned) new objects' turn h = h
 leads_seen next c seen objects (ports.Lookup None) new objects' turn h = h
 leads_seen next c seen objects (ports.Lookup (Some hit)) new objects' turn h = λ k is. record { held = (h k is).held; none = (h k is).none }
 leads_seen next c seen objects (ports.Query (Ok found)) new objects' turn h = h
 leads_seen next c seen objects (ports.Query (Err error)) new objects' turn h = h
-leads_seen next c seen objects ports.Insert new objects' turn h = h
+leads_seen next c seen objects (ports.Insert kept) new objects' turn h = h
 
 -- ---- with a registry
 
@@ -318,12 +317,12 @@ no_front : (next : Next) (need : Option Need) (reply : PortReply) (M : History) 
 no_front next need (ports.Pin (Ok pinned)) M none = absurd (cc none)
 no_front next need (ports.Pin (Err error)) M none = tt
 no_front next need (ports.AddPin pinned added) M none = tt
-no_front next need ports.Unpin M none = tt
+no_front next need (ports.Unpin unpinned) M none = tt
 no_front next need (ports.Lookup None) M none = tt
 no_front next need (ports.Lookup (Some hit)) M none = absurd (cc none)
 no_front next need (ports.Query (Ok found)) M none = absurd (cc none)
 no_front next need (ports.Query (Err error)) M none = tt
-no_front next need ports.Insert M none = tt
+no_front next need (ports.Insert kept) M none = tt
 
 -- a reply that is right in the history that it shows is right in what is seen after it
 pub right_seen : StatesStay → (next : Next) (need : Option Need) (reply : PortReply) (M : History) → ForSome (front_of_reply reply) (λ front. IsPrefix front.history M)

@@ -1,3 +1,4 @@
+mod Cited
 pub mod Longer
 pub mod Meanings
 pub mod Cores

@@ -116,9 +116,9 @@ module _ (stay : StatesStay) (L M : History) (begins : IsPrefix L M) where
   right_later next need (ports.Pin (Ok pinned)) h = same_moment pinned.stamp pinned.moment h
   right_later next need (ports.Pin (Err error)) h = tt
   right_later next need (ports.AddPin pinned added) h = tt
-  right_later next need ports.Unpin h = tt
+  right_later next need (ports.Unpin unpinned) h = tt
   right_later next need (ports.Lookup None) h = tt
   right_later next need (ports.Lookup (Some hit)) h = λ n is. reply_later next n (replies.Hit hit.answer) (h n is)
   right_later next need (ports.Query (Ok found)) h = λ n is. reply_later next n (replies.Found found.answer) (h n is)
   right_later next need (ports.Query (Err error)) h = tt
-  right_later next need ports.Insert h = tt
+  right_later next need (ports.Insert kept) h = tt

@@ -22,13 +22,13 @@ use Rattle.txc_ports.specs.declared.request.PortRequest.{PortRequest}
 use Rattle.txc_ports.specs.declared.request.PortRequest.TheVariants as requests
 use Rattle.txc_ports.specs.declared.reply.PortReply.{PortReply}
 use Rattle.txc_ports.specs.declared.reply.PortReply.TheVariants as replies
-use Rattle.txc_ports.specs.declared.turn.Turn.{Turn}
+use Rattle.txc_ports.specs.Turns.{PortTurn}
 use Rattle.txc_ports.specs.declared.turn.Turn.TheVariants as turns
 use Rattle.txc_ports.specs.Fronts.{front_of_reply}
 use Rattle.txc_txn.specs.Core.{CoreValue, AddsOnly, HoldsNewest, IsAnswered, CoreAsks, IsNoAdding}
 use Rattle.txc_txn.specs.Leading.{ReplyLeads}
 use Rattle.txc_txn.specs.Kept.{TxnValue, IsTxn, IsShownRight}
-use Rattle.txc_ports.specs.Asking.{AddsSuch, IsAnsweredRight, IsReplyTo, MayAsk}
+use Rattle.txc_ports.specs.Asking.{AddsSuch, TurnAddsSuch, IsAnsweredRight, IsReplyTo, MayAsk}
 use Rattle.txc_ports.specs.Exchanges.{Exchange, reply_of, request_of}
 use Rattle.txc_ports.specs.Exchanges as exchanges
 use Rattle.txc_ports.proofs.Offered.{by_exchange}
@@ -36,32 +36,30 @@ use Rattle.txc_ports.proofs.Offered.{by_exchange}
 -- ---- a pin that is to be added
 
 module _ (P Q : FrontValue → Type 0) (weaker : (front : FrontValue) → P front → Q front) where
-  pub adds_weaker : (turn : Turn) → AddsSuch P turn → AddsSuch Q turn
-  adds_weaker (turns.Ask (requests.Pin now at_least)) adds = tt
+  pub adds_weaker : (turn : PortTurn) → TurnAddsSuch P turn → TurnAddsSuch Q turn
   adds_weaker (turns.Ask (requests.AddPin pinned)) adds = weaker pinned.front adds
+  adds_weaker (turns.Ask (requests.Pin now at_least)) adds = tt
   adds_weaker (turns.Ask (requests.Unpin stamp)) adds = tt
   adds_weaker (turns.Ask (requests.Lookup node key lo hi)) adds = tt
   adds_weaker (turns.Ask (requests.Query query stamp)) adds = tt
   adds_weaker (turns.Ask (requests.Insert node entry)) adds = tt
-  adds_weaker (turns.Value value) adds = tt
-  adds_weaker (turns.Rows rows) adds = tt
-  adds_weaker (turns.Refused error) adds = tt
+  adds_weaker (turns.Ended result) adds = tt
 
 module _ (P : FrontValue → Type 0) where
-  pub adds_none : (turn : Turn) → IsNoAdding turn → AddsSuch P turn
+  pub adds_none : (turn : PortTurn) → IsNoAdding turn → TurnAddsSuch P turn
   adds_none turn none = adds_weaker (λ front. ⊥) P (λ front no. absurd no) turn none
 
   -- it is the one of the reply
-  module _ (next : Next) (old new : TxnValue) (turn : Turn) where
+  module _ (next : Next) (old new : TxnValue) (turn : PortTurn) where
     pub adds_next : (reply : PortReply) → ForSome (front_of_reply reply) P → AddsOnly reply turn
-        → ReplyLeads next old.core old.objects reply new.core new.objects turn → AddsSuch P turn
-    adds_next (replies.Pin (Ok pinned)) of only leads = subst (AddsSuch P) (sym leads) (of pinned.front refl)
+        → ReplyLeads next old.core old.objects reply new.core new.objects turn → TurnAddsSuch P turn
+    adds_next (replies.Pin (Ok pinned)) of only leads = subst (TurnAddsSuch P) (sym leads) (of pinned.front refl)
     adds_next (replies.Pin (Err error)) of only leads = adds_none turn only
     adds_next (replies.AddPin pinned added) of only leads = adds_none turn only
-    adds_next replies.Unpin of only leads = adds_none turn only
+    adds_next (replies.Unpin unpinned) of only leads = adds_none turn only
     adds_next (replies.Lookup hit) of only leads = adds_none turn only
     adds_next (replies.Query found) of only leads = adds_none turn only
-    adds_next replies.Insert of only leads = adds_none turn only
+    adds_next (replies.Insert kept) of only leads = adds_none turn only
 
 -- ---- what is asked may be asked
 
@@ -71,7 +69,7 @@ module _ (next : Next) (row : Name) (t : TxnValue) (kept : IsTxn next t) where
       subst (λ (n : ℕ). node < n) same (subst (λ (n : ℕ). n < t.core.nodes) (sym is) (mod_below (key.function + sum key.args) t.core.nodes kept.fits.nodes))
 
   pub may_ask : (nodes : ℕ) → t.core.nodes ≡ nodes → (request : PortRequest) → CoreAsks t.core request
-      → AddsSuch (λ front. front.events ≡ row) (turns.Ask request) → MayAsk next row nodes t.core.seen.history request
+      → AddsSuch (λ front. front.events ≡ row) request → MayAsk next row nodes t.core.seen.history request
   may_ask nodes same (requests.Pin now at_least) asking adds = tt
   may_ask nodes same (requests.AddPin pinned) asking adds = adds
   may_ask nodes same (requests.Unpin stamp) asking adds = tt
@@ -100,12 +98,12 @@ module _ (next : Next) (c : CoreValue) where
       (asking.0, right.0 ∙ asking.2, subst (λ (n : ℕ). n ≤ pinned.stamp) asking.3 right.1)
   answered (exchanges.Pin now at_least (Err error)) right asking = asking.0
   answered (exchanges.AddPin pinned given added) right asking = subst (λ p. IsAnswered c (replies.AddPin p added)) (sym right) asking
-  answered (exchanges.Unpin stamp) right asking = (stamp, asking.0, asking.1)
+  answered (exchanges.Unpin stamp unpinned) right asking = (stamp, asking.0, asking.1)
   answered (exchanges.Lookup node key lo hi hit) right asking = (key, asking.0)
   answered (exchanges.Query query stamp (Ok found)) right asking =
       (query, asking.0, chosen c.bounds.now c.renew_after c.pins.has_present c.pins.members stamp found.answer.reach asking.1 right.around)
   answered (exchanges.Query query stamp (Err error)) right asking = (query, asking.0)
-  answered (exchanges.Insert node entry) right asking = (entry, asking.0)
+  answered (exchanges.Insert node entry kept) right asking = (entry, asking.0)
 
   pub is_answered : (request : PortRequest) (reply : PortReply) → CoreAsks c request → IsReplyTo next request reply → IsAnswered c reply
   is_answered request reply asking to =
@@ -123,7 +121,7 @@ module _ (next : Next) (t : TxnValue) where
       subst (λ (f : FrontValue). moment_at f.history pinned.stamp ≡ Some pinned.moment) same right.2
   shown_right (exchanges.Pin now at_least (Err error)) right asking = λ front is. absurd (cc is)
   shown_right (exchanges.AddPin pinned given added) right asking = λ front is. tt
-  shown_right (exchanges.Unpin stamp) right asking = λ front is. absurd (cc is)
+  shown_right (exchanges.Unpin stamp unpinned) right asking = λ front is. absurd (cc is)
   shown_right (exchanges.Lookup node key lo hi None) right asking = λ front is. absurd (cc is)
   shown_right (exchanges.Lookup node key lo hi (Some hit)) right asking = λ front is n at.
       let same : hit.front ≡ front = cc in
@@ -134,7 +132,7 @@ module _ (next : Next) (t : TxnValue) where
       subst (λ (f : FrontValue). ReplyHolds next f.history n (calls.Found found.answer)) same
       (subst (λ (m : Need). ReplyHolds next found.front.history m (calls.Found found.answer)) (needs_this (needs.Query query) n asking.0.1 at) right.rows)
   shown_right (exchanges.Query query stamp (Err error)) right asking = λ front is. absurd (cc is)
-  shown_right (exchanges.Insert node entry) right asking = λ front is. absurd (cc is)
+  shown_right (exchanges.Insert node entry kept) right asking = λ front is. absurd (cc is)
 
   pub is_right : (request : PortRequest) (reply : PortReply) → CoreAsks t.core request → IsReplyTo next request reply → IsShownRight next t reply
   is_right request reply asking to =

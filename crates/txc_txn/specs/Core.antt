@@ -27,10 +27,10 @@ use Rattle.txc_ports.specs.declared.request.PortRequest.{PortRequest}
 use Rattle.txc_ports.specs.declared.request.PortRequest.TheVariants as requests
 use Rattle.txc_ports.specs.declared.reply.PortReply.{PortReply}
 use Rattle.txc_ports.specs.declared.reply.PortReply.TheVariants as ports
-use Rattle.txc_ports.specs.declared.turn.Turn.{Turn}
-use Rattle.txc_ports.specs.declared.turn.Turn.TheVariants.{Ask, Value, Refused}
+use Rattle.txc_ports.specs.declared.turn.Turn.TheVariants.{Ask, Ended}
+use Rattle.txc_ports.specs.Turns.{PortTurn}
 use Rattle.txc_ports.specs.Answers.{IsFresh, AreConsistent}
-use Rattle.txc_ports.specs.Asking.{AddsSuch}
+use Rattle.txc_ports.specs.Asking.{TurnAddsSuch}
 use Rattle.txc_txn.specs.declared.pinning.Pinning.{Pinning}
 use Rattle.txc_txn.specs.declared.pinning.PinStep.{PinStep}
 use Rattle.txc_txn.specs.declared.pinning.PinStep.TheVariants.{Asked, Adding, Dropping}
@@ -164,11 +164,9 @@ CoreAsks c (requests.Insert node entry) = IsNeeding c (needs.Insert entry)
     × (node ≡ node_of c.nodes entry.key)
 
 -- the core asks, or its call has ended
-abbrev pub IsTurn : CoreValue → Turn → Type 0
+abbrev pub IsTurn : CoreValue → PortTurn → Type 0
 IsTurn c (Ask request) = CoreAsks c request
-IsTurn c (Value value) = IsIdle c
-IsTurn c (Refused error) = IsIdle c
-IsTurn c turn = ⊥
+IsTurn c (Ended result) = IsIdle c
 
 -- ---- replies
 
@@ -184,12 +182,12 @@ IsAnswered c (ports.Pin (Ok pinned)) = IsPinningAt c Asked × (pinned.moment ≡
     × (least_present c.bounds c.pins.members ≤ pinned.stamp)
 IsAnswered c (ports.Pin (Err error)) = IsPinningAt c Asked
 IsAnswered c (ports.AddPin pinned added) = IsPinningAt c (Adding (pin_of pinned))
-IsAnswered c ports.Unpin = (stamp : ℕ) × (error : TxnError) × IsPinningAt c (Dropping stamp error)
+IsAnswered c (ports.Unpin unpinned) = (stamp : ℕ) × (error : TxnError) × IsPinningAt c (Dropping stamp error)
 IsAnswered c (ports.Lookup hit) = (k : Call) × IsNeeding c (needs.Lookup k)
 IsAnswered c (ports.Query (Ok found)) = (query : Query) × IsNeeding c (needs.Query query)
     × HoldsNewest found.answer.reach c.pins.members
 IsAnswered c (ports.Query (Err error)) = (query : Query) × IsNeeding c (needs.Query query)
-IsAnswered c ports.Insert = (entry : Entry) × IsNeeding c (needs.Insert entry)
+IsAnswered c (ports.Insert kept) = (entry : Entry) × IsNeeding c (needs.Insert entry)
 
 -- the reply to what the call needs is right in the history
 abbrev pub IsRightPortReply : Next → History → Option Need → PortReply → Type 0
@@ -242,22 +240,22 @@ abbrev pub open_call : CoreValue → Option Call
 open_call c = either_call (first_call c.pinning) (running_call c.call.need c.call.top)
 
 -- a value of the open call is recorded
-abbrev pub recorded_after : List Recorded → Turn → Option Call → List Recorded
-recorded_after recorded (Value value) (Some k) = recorded ++ record { key = k; value = value } ∷ []
+abbrev pub recorded_after : List Recorded → PortTurn → Option Call → List Recorded
+recorded_after recorded (Ended (Ok value)) (Some k) = recorded ++ record { key = k; value = value } ∷ []
 recorded_after recorded turn k = recorded
 
 -- the turn does not ask the pincushion to add a pin
-abbrev pub IsNoAdding : Turn → Type 0
-IsNoAdding turn = AddsSuch (λ front. ⊥) turn
+abbrev pub IsNoAdding : PortTurn → Type 0
+IsNoAdding turn = TurnAddsSuch (λ front. ⊥) turn
 
 -- a pin is to be added only as soon as the database has given it
-abbrev pub AddsOnly : PortReply → Turn → Type 0
+abbrev pub AddsOnly : PortReply → PortTurn → Type 0
 AddsOnly (ports.Pin (Ok pinned)) turn = Unit {0}
 AddsOnly reply turn = IsNoAdding turn
 
 -- the turn is no value
-abbrev pub IsNoValue : Turn → Type 0
-IsNoValue (Value value) = ⊥
+abbrev pub IsNoValue : PortTurn → Type 0
+IsNoValue (Ended (Ok value)) = ⊥
 IsNoValue turn = Unit {0}
 
 -- the bounds, after how long the newest pin is renewed, and the number of nodes stay

@@ -7,10 +7,9 @@ use Rattle.txc_db.specs.History.{History}
 use Rattle.txc_app.specs.Eval.{Next}
 use Rattle.txc_registry.specs.Objects.{Objects, numbers_of}
 use Rattle.txc_ports.specs.declared.reply.PortReply.{PortReply}
-use Rattle.txc_ports.specs.declared.turn.Turn.{Turn}
 use Rattle.txc_ports.specs.Fronts.{front_of_reply}
 use Rattle.txc_txn.specs.Core.{CoreValue, CoreHolds, IsCore, IsRightPortReply, IsTurn, KeepsSettings, PinsAfter}
-use Rattle.txc_ports.specs.Turns.{IsAsk}
+use Rattle.txc_ports.specs.Turns.{PortTurn, IsAsk}
 use Rattle.txc_txn.specs.Core.{left_after, left_pin, open_call, recorded_after, taken_after, AddsOnly, IsNoAdding, IsNoValue, IsOneOf}
 use Rattle.txc_txn.specs.Leading.{ReplyLeads, StartLeads}
 
@@ -35,7 +34,7 @@ IsShownRight next t reply =
 
 -- What comes of a call that begins: a turn that asks for it under its key, or refuses it. No pin is to be added, and none
 -- is left to be; the functions stay, and so does all but the call and its pin of the present.
-pub record HasBegunCall (old : TxnValue) (key : Call) (new : TxnValue) (turn : Turn) : Type 0 where
+pub record HasBegunCall (old : TxnValue) (key : Call) (new : TxnValue) (turn : PortTurn) : Type 0 where
   pub turn_fits : IsTurn new.core turn
   pub begins : IsAsk turn → open_call new.core ≡ Some key
   pub no_value : IsNoValue turn
@@ -48,7 +47,7 @@ pub record HasBegunCall (old : TxnValue) (key : Call) (new : TxnValue) (turn : T
 -- what comes of a reply: a turn, and what it leaves; the functions stay; more was seen of the history, and what
 -- the reply shows of it too
 pub record HasGoneOn (next : Next) (old : TxnValue) (reply : PortReply) (new : TxnValue)
-    (turn : Turn) : Type 0 where
+    (turn : PortTurn) : Type 0 where
   pub turn_fits : IsTurn new.core turn
   pub leads : ReplyLeads next old.core old.objects reply new.core new.objects turn
   pub adds : AddsOnly reply turn
@@ -66,7 +65,7 @@ pub record HasGoneOn (next : Next) (old : TxnValue) (reply : PortReply) (new : T
 
 -- What a step of a core between two requests comes to: it fits its functions, which stay, and the turn is one of its;
 -- no pin is to be added, and none is left to be.
-pub record HasTurned (next : Next) (was : Objects) (new : CoreValue) (is : Objects) (turn : Turn) : Type 0 where
+pub record HasTurned (next : Next) (was : Objects) (new : CoreValue) (is : Objects) (turn : PortTurn) : Type 0 where
   pub fits : IsCore next is new
   pub turn_fits : IsTurn new turn
   pub no_add : IsNoAdding turn
@@ -76,7 +75,7 @@ pub record HasTurned (next : Next) (was : Objects) (new : CoreValue) (is : Objec
 -- What comes of a reply, once what it shows was seen. The core fits its functions still, and means what it says in
 -- each history in which the reply is right. And a turn comes of it, as after the whole reply.
 pub record HasAnswered (next : Next) (old : CoreValue) (was : Objects) (reply : PortReply) (new : CoreValue)
-    (is : Objects) (turn : Turn) : Type 0 where
+    (is : Objects) (turn : PortTurn) : Type 0 where
   pub fits : IsCore next is new
   pub holds : (L : History) → IsRightPortReply next L old.call.need reply → CoreHolds next L was old
       → CoreHolds next L is new

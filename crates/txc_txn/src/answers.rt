@@ -12,7 +12,7 @@ use txc_app::App;
 use txc_call::Reply;
 use txc_cushion::{AddError, pin_of};
 use txc_db::{Answered, DbError, Pinned};
-use txc_node::Shown;
+use txc_node::{Shown, Value};
 use txc_ports::{PortReply, PortRequest, Turn, TxnError};
 use txc_registry::{Cacheable, Registry};
 use txc_validity::Found;
@@ -40,7 +40,7 @@ impl TxnCore {
         &mut self,
         registry: &mut Registry<A, C>,
         pinned: Result<Pinned, DbError>,
-    ) -> Turn
+    ) -> Turn<PortRequest, Value>
         requires fits { IsCore A.next registry.old (value_of self.old) }
         requires reply { IsAnswered (value_of self.old) (PortReply.Pin pinned) }
         ensures { HasAnswered A.next (value_of self.old) registry.old (PortReply.Pin pinned)
@@ -67,7 +67,7 @@ impl TxnCore {
         registry: &mut Registry<A, C>,
         pinned: &Pinned,
         added: Result<(), AddError>,
-    ) -> Turn
+    ) -> Turn<PortRequest, Value>
         requires fits { IsCore A.next registry.old (value_of self.old) }
         requires reply { IsAnswered (value_of self.old) (PortReply.AddPin pinned.now added) }
         ensures { HasAnswered A.next (value_of self.old) registry.old (PortReply.AddPin pinned.now added)
@@ -90,14 +90,15 @@ impl TxnCore {
         }
     }
 
-    // The hold of a pin that was not added is gone: the call is refused for the reason.
+    // The hold of a pin that was not added is taken away, or was not there: the call is refused for the reason.
     pub(crate) fn answer_unpin<A: App, C: Cacheable>(
         &mut self,
         registry: &mut Registry<A, C>,
-    ) -> Turn
+        _unpinned: Result<(), DbError>,
+    ) -> Turn<PortRequest, Value>
         requires fits { IsCore A.next registry.old (value_of self.old) }
-        requires reply { IsAnswered (value_of self.old) PortReply.Unpin }
-        ensures { HasAnswered A.next (value_of self.old) registry.old PortReply.Unpin
+        requires reply { IsAnswered (value_of self.old) (PortReply.Unpin _unpinned) }
+        ensures { HasAnswered A.next (value_of self.old) registry.old (PortReply.Unpin _unpinned)
             (value_of self.new) registry.new result }
     {
         let Some(
@@ -119,7 +120,7 @@ impl TxnCore {
         alloc: Global,
         registry: &mut Registry<A, C>,
         hit: Option<Answered<Shown>>,
-    ) -> Turn
+    ) -> Turn<PortRequest, Value>
         requires fits { IsCore A.next registry.old (value_of self.old) }
         requires reply { IsAnswered (value_of self.old) (PortReply.Lookup hit) }
         ensures { HasAnswered A.next (value_of self.old) registry.old (PortReply.Lookup hit)
@@ -141,7 +142,7 @@ impl TxnCore {
         alloc: Global,
         registry: &mut Registry<A, C>,
         found: Result<Answered<Found>, DbError>,
-    ) -> Turn
+    ) -> Turn<PortRequest, Value>
         requires fits { IsCore A.next registry.old (value_of self.old) }
         requires reply { IsAnswered (value_of self.old) (PortReply.Query found) }
         ensures { HasAnswered A.next (value_of self.old) registry.old (PortReply.Query found)
@@ -164,7 +165,7 @@ impl TxnCore {
         alloc: Global,
         registry: &mut Registry<A, C>,
         reply: PortReply,
-    ) -> Turn
+    ) -> Turn<PortRequest, Value>
         requires fits { IsCore A.next registry.old (value_of self.old) }
         requires reply { IsAnswered (value_of self.old) reply }
         ensures { HasAnswered A.next (value_of self.old) registry.old reply
@@ -173,10 +174,10 @@ impl TxnCore {
         match reply {
             PortReply::Pin(pinned) => self.answer_pin(registry, pinned),
             PortReply::AddPin(pinned, added) => self.answer_add(alloc, registry, &pinned, added),
-            PortReply::Unpin => self.answer_unpin(registry),
+            PortReply::Unpin(unpinned) => self.answer_unpin(registry, unpinned),
             PortReply::Lookup(hit) => self.answer_lookup(alloc, registry, hit),
             PortReply::Query(found) => self.answer_query(alloc, registry, found),
-            PortReply::Insert => self.go_on(alloc, registry, Reply::Inserted),
+            PortReply::Insert(_) => self.go_on(alloc, registry, Reply::Inserted),
         }
     }
 }

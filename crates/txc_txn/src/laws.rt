@@ -5,15 +5,10 @@ ghost use Rattle.txc_txn.specs.Laws.{CallIsGivenUp, ValueIsRecorded, OpenAnswers
 ghost use Rattle.txc_txn.specs.Laws.{UnreachedAnswersAreValues, NewestExplains};
 ghost use Rattle.txc_txn.specs.Worked.{WorkedMeanings};
 
-use txc_db::states_stay;
-use txc_pinset::laws::{a_pin_set_is_never_empty, narrowing_keeps_exactly_the_held};
-
 /// What a pin set means in a history, it means in a longer one.
 pub fn meaning_stays()
     ensures { MeaningStays }
-{
-    states_stay();
-}
+{}
 
 /// A transaction begins with what it means, and keeps it while calls begin and are given up.
 pub fn meaning_begins()
@@ -26,18 +21,14 @@ pub fn meaning_begins()
 pub fn findings_narrow()
     ensures narrows { FindingNarrows }
     ensures query { QueryLeavesAMember }
-{
-    narrowing_keeps_exactly_the_held();
-}
+{}
 
 /// The present's pin may join, and members may be taken away.
 pub fn members_come_and_go()
     ensures joins { PresentJoins }
     ensures fresh { PresentIsFresh }
     ensures fewer { FewerMembersMeanTheSame }
-{
-    a_pin_set_is_never_empty();
-}
+{}
 
 /// The value of a call is recorded, and the newest member explains all that was.
 pub fn answers_are_explained()

@@ -10,8 +10,8 @@ use crate::txn_core::TxnCore;
 use std::alloc::Global;
 use std::marker::Model;
 use txc_app::{Answer, App, Ask};
-use txc_db::states_stay;
-use txc_ports::{PortReply, Turn, TxnError};
+use txc_node::Value;
+use txc_ports::{PortReply, PortRequest, Turn, TxnError};
 use txc_registry::{Cacheable, OtherAsk, Registry, Suppliable};
 use txc_stamp::Stamp;
 use txc_tags::Key;
@@ -62,7 +62,7 @@ impl<A: App, C: Cacheable> RunningTxn<A, C> {
     }
 
     /// Begins a call.
-    pub fn start(&mut self, alloc: Global, key: Key) -> Turn
+    pub fn start(&mut self, alloc: Global, key: Key) -> Turn<PortRequest, Value>
         requires { IsIdle self.old.core }
         ensures { HasBegunCall self.old key self.new result }
     {
@@ -70,13 +70,12 @@ impl<A: App, C: Cacheable> RunningTxn<A, C> {
     }
 
     /// Goes on with the reply to what it asked, which is right in the history that it shows.
-    pub fn next(&mut self, alloc: Global, reply: PortReply) -> Turn
+    pub fn next(&mut self, alloc: Global, reply: PortReply) -> Turn<PortRequest, Value>
         requires reply { IsAnswered self.old.core reply }
         requires row { ForSome (front_of_reply reply) (λ front. front.events ≡ self.old.core.seen.events) }
         requires right { IsShownRight A.next self.old reply }
         ensures { HasGoneOn A.next self.old reply self.new result }
     {
-        states_stay();
         self.core.next(alloc, &mut self.registry, reply)
     }
 

@@ -1,6 +1,6 @@
 //! The steps of a core between two requests.
 ghost use Rattle.std.specs.Prelude.{◌≡◌, ◌≢◌, ◌<◌, ◌++◌, ◌∷◌, [], ◌↔◌, All, IsErr, IsSome, OnOk, MatchOption};
-ghost use Rattle.std.specs.Prelude.{None, Some, true, false, vec_len, vec_capacity};
+ghost use Rattle.std.specs.Prelude.{None, Some, Err, true, false, vec_len, vec_capacity};
 ghost use Rattle.txc_stamp.specs.declared.stamp.TheConstants.{LAST_STAMP};
 ghost use Rattle.txc_tags.specs.Keys.{Call};
 ghost use Rattle.txc_rows.specs.declared.query.Query.{Query};
@@ -22,7 +22,7 @@ use txc_app::App;
 use txc_call::{Need, Outcome, Reply};
 use txc_cushion::pin_of;
 use txc_db::{DbError, Pinned};
-use txc_pinset::laws::{a_pin_set_is_never_empty, narrowing_keeps_exactly_the_held};
+use txc_node::Value;
 use txc_pinset::{Choice, WouldEmpty};
 use txc_ports::{PortRequest, Recorded, Turn, TxnError};
 use txc_registry::{Cacheable, Registry};
@@ -33,7 +33,7 @@ impl TxnCore {
     ghost use Rattle.txc_txn.specs.Core.{least_present, open_call, recorded_after, value_of, CoreHolds};
     ghost use Rattle.txc_txn.specs.Core.{IsCore, IsIdle, IsNarrowed, IsNoValue};
     ghost use Rattle.txc_txn.specs.Kept.{HasTurned};
-    ghost use Rattle.txc_ports.specs.Turns.{IsAsk, IsCallEnd};
+    ghost use Rattle.txc_ports.specs.Turns.{IsAsk};
     ghost use Rattle.txc_txn.specs.Core.{WaitsForPin};
     ghost use Rattle.txc_txn.specs.Leading.{AsksLookup, AsksPin, BeginLeads, CallLeads, IsBeyond, NeedLeads, StandsStill};
 
@@ -57,20 +57,20 @@ impl TxnCore {
         &mut self,
         registry: &mut Registry<A, C>,
         error: TxnError,
-    ) -> Turn
+    ) -> Turn<PortRequest, Value>
         requires { IsCore A.next registry.old (value_of self.old) }
         ensures fits { IsCore A.next registry.new (value_of self.new) }
         ensures holds { (L : History) → CoreHolds A.next L registry.old (value_of self.old)
             → CoreHolds A.next L registry.new (value_of self.new) }
         ensures idle { IsIdle (value_of self.new) }
-        ensures answer { result ≡ Turn.Refused error }
+        ensures answer { result ≡ Turn.Ended (Err error) }
         ensures functions { numbers_of registry.new ≡ numbers_of registry.old }
         ensures same { value_of self.new
             ≡ record (value_of self.old) { call = self.new.machine; pinning = None } }
     {
         self.machine.cancel(registry);
         self.pinning = None;
-        Turn::Refused(error)
+        Turn::Ended(Err(error))
     }
 
     // Asks for a pin of the present, after which a call begins or the open one goes on.
@@ -78,7 +78,7 @@ impl TxnCore {
         &mut self,
         registry: &mut Registry<A, C>,
         first: Option<Key>,
-    ) -> Turn
+    ) -> Turn<PortRequest, Value>
         requires fits { IsCore A.next registry.old (value_of self.old) }
         requires none { self.old.pinning ≡ None }
         requires due { choice_of self.old.bounds.now self.old.renew_after self.old.pins ≡ Choice.Present }
@@ -97,7 +97,7 @@ impl TxnCore {
         ensures waits { IsAsk result
             → self.new.pinning ≡ Some (record { step = PinStep.Asked; first = first }) }
         ensures refused { ¬ (IsAsk result) → IsBeyond (value_of self.new)
-            × (result ≡ Turn.Refused (TxnError.Database DbError.Full)) }
+            × (result ≡ Turn.Ended (Err (TxnError.Database DbError.Full))) }
         ensures same { value_of self.new
             ≡ record (value_of self.old) { call = self.new.machine; pinning = self.new.pinning } }
     {
@@ -115,7 +115,7 @@ impl TxnCore {
     }
 
     // Records the value of the call, which has one, and returns a copy of it.
-    fn record(&mut self, alloc: Global) -> Turn
+    fn record(&mut self, alloc: Global) -> Turn<PortRequest, Value>
         requires { (o : Outcome) × (self.old.machine.need ≡ Some (Need.Value o)) }
         ensures fits { (next : Next) (objects : Objects) → self.old.pinning ≡ None
             → IsCore next objects (value_of self.old)
@@ -124,7 +124,7 @@ impl TxnCore {
             → CoreHolds next L objects (value_of self.old)
             → CoreHolds next L objects (value_of self.new) }
         ensures need { self.new.machine.need ≡ None }
-        ensures ended { IsCallEnd result }
+        ensures ended { ¬ (IsAsk result) }
         ensures leads { (objects objects' : Objects)
             → NeedLeads (value_of self.old) objects (value_of self.new) objects' result }
         ensures recorded { (next : Next) (objects : Objects) → IsCore next objects (value_of self.old)
@@ -145,12 +145,12 @@ impl TxnCore {
             tags: _,
         } = outcome;
         let Ok(copy) = value.copy(alloc) else {
-            return Turn::Refused(TxnError::Memory);
+            return Turn::Ended(Err(TxnError::Memory));
         };
         let Ok(()) = self.recorded.push(Recorded { key, value }) else {
-            return Turn::Refused(TxnError::Memory);
+            return Turn::Ended(Err(TxnError::Memory));
         };
-        Turn::Value(copy)
+        Turn::Ended(Ok(copy))
     }
 
     // Asks for what the call needs, or ends it with its value.
@@ -158,7 +158,7 @@ impl TxnCore {
         &mut self,
         alloc: Global,
         registry: &mut Registry<A, C>,
-    ) -> Turn
+    ) -> Turn<PortRequest, Value>
         requires fits { IsCore A.next registry.old (value_of self.old) }
         requires none { self.old.pinning ≡ None }
         requires calling { IsSome self.old.machine.need }
@@ -219,7 +219,7 @@ impl TxnCore {
         alloc: Global,
         registry: &mut Registry<A, C>,
         key: Key,
-    ) -> Turn
+    ) -> Turn<PortRequest, Value>
         requires fits { IsCore A.next registry.old (value_of self.old) }
         requires none { self.old.pinning ≡ None }
         requires idle { self.old.machine.need ≡ None }
@@ -236,7 +236,7 @@ impl TxnCore {
     {
         match self.machine.start(registry, key) {
             Ok(()) => self.request(alloc, registry),
-            Err(error) => Turn::Refused(error.into()),
+            Err(error) => Turn::Ended(Err(error.into())),
         }
     }
 
@@ -246,7 +246,7 @@ impl TxnCore {
         alloc: Global,
         registry: &mut Registry<A, C>,
         reply: Reply,
-    ) -> Turn
+    ) -> Turn<PortRequest, Value>
         requires fits { IsCore A.next registry.old (value_of self.old) }
         requires none { self.old.pinning ≡ None }
         requires reply { (need : Need) × (self.old.machine.need ≡ Some need) × ReplyFits need reply }
@@ -271,7 +271,7 @@ impl TxnCore {
     {
         match self.machine.reply(registry, alloc, reply) {
             Ok(()) => self.request(alloc, registry),
-            Err(error) => Turn::Refused(error.into()),
+            Err(error) => Turn::Ended(Err(error.into())),
         }
     }
 
@@ -289,8 +289,6 @@ impl TxnCore {
         ensures no_present { OnOk result (self.new.pins.has_present ≡ false) }
         ensures same { value_of self.new ≡ record (value_of self.old) { pins = self.new.pins } }
     {
-        narrowing_keeps_exactly_the_held();
-        a_pin_set_is_never_empty();
         self.pins.narrow(reach)?;
         Ok(())
     }
@@ -310,7 +308,6 @@ impl TxnCore {
           taken = self.old.taken.items ++ pinned.now.stamp ∷ [];
         } }
     {
-        a_pin_set_is_never_empty();
         self.pins.take_present(pinned);
         self.taken.push_reserved(pinned.stamp);
     }

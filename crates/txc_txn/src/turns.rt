@@ -15,9 +15,10 @@ use std::alloc::{AllocError, Global};
 use txc_app::App;
 use txc_call::CallMachine;
 use txc_cushion::{Pin, Pins};
-use txc_db::{HistoryFront, states_stay};
+use txc_db::HistoryFront;
+use txc_node::Value;
 use txc_pinset::PinSet;
-use txc_ports::{Bounds, PortReply, Recorded, Turn};
+use txc_ports::{Bounds, PortReply, PortRequest, Recorded, Turn};
 use txc_registry::{Cacheable, Registry};
 use txc_stamp::Stamp;
 use txc_tags::Key;
@@ -94,7 +95,7 @@ impl TxnCore {
         alloc: Global,
         registry: &mut Registry<A, C>,
         key: Key,
-    ) -> Turn
+    ) -> Turn<PortRequest, Value>
         requires fits { IsCore A.next registry.old (value_of self.old) }
         requires idle { IsIdle (value_of self.old) }
         ensures fits { IsCore A.next registry.new (value_of self.new) }
@@ -115,7 +116,7 @@ impl TxnCore {
         alloc: Global,
         registry: &mut Registry<A, C>,
         reply: PortReply,
-    ) -> Turn
+    ) -> Turn<PortRequest, Value>
         requires fits { IsCore A.next registry.old (value_of self.old) }
         requires reply { IsAnswered (value_of self.old) reply }
         requires row { ForSome (front_of_reply reply) (λ front. front.events ≡ (value_of self.old).seen.events) }
@@ -126,7 +127,6 @@ impl TxnCore {
         ensures gone_on { HasGoneOn A.next (txn_value (value_of self.old) registry.old) reply
             (txn_value (value_of self.new) registry.new) result }
     {
-        states_stay();
         self.see(&reply);
         self.answer(alloc, registry, reply)
     }

@@ -102,7 +102,7 @@ pub fn updates(alloc: Global) -> Result<usize> {
     let mut registry = functions(alloc)?;
     let mut asking = RwCore::begin(alloc, Stamp::ZERO);
     let query = Query::All(Table::new(1).unwrap());
-    let _turn = asking.ask(alloc, &registry, query);
+    let _asked = asking.ask(alloc, &query);
     let mut core = RwCore::begin(alloc, Stamp::ZERO);
     core.is_within_budget();
     let turn = core.start(alloc, &mut registry, Key::read(b"f0(7)")?);

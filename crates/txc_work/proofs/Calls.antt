@@ -9,7 +9,7 @@ use Rattle.txc_registry.specs.Objects.{Objects, numbers_of, AllIdle}
 use Rattle.txc_ports.specs.declared.bounds.Bounds.{Bounds}
 use Rattle.txc_ports.specs.declared.error.TxnError.{TxnError}
 use Rattle.txc_txn.specs.Kept.{IsTxn}
-use Rattle.txc_client.specs.Run.{turn_of_result, HasRun}
+use Rattle.txc_client.specs.Run.{HasRun}
 use Rattle.txc_client.specs.Txn.{RoTxnValue}
 use Rattle.txc_work.specs.Batches.{keys_of, IsRefusedAt}
 
@@ -23,7 +23,7 @@ pub refused_at : (next : Next) (row : Name) (node_histories : ℕ → Name) (obj
     (old new : RoTxnValue) (result : Result (List ℕ) TxnError) (error : TxnError)
     → IsTxn next old.txn → AllIdle old.txn.objects → old.txn.objects ≡ objects
     → i < length keys → key ≡ get_or keys i key → copy ≡ key → keys_of old.txn.core.recorded ≡ take i keys
-    → old.txn.core.bounds ≡ bounds → result ≡ Err error → HasRun next row node_histories old copy new (turn_of_result result)
+    → old.txn.core.bounds ≡ bounds → result ≡ Err error → HasRun next row node_histories old copy new result
     → IsRefusedAt next row node_histories (numbers_of objects) bounds keys error
 refused_at next row node_histories objects bounds keys i key copy old new result error meant idle of below at same answered bounded is run = record {
   before = take i keys;
@@ -37,5 +37,5 @@ refused_at next row node_histories objects bounds keys i key copy old new result
   of_functions = ap numbers_of of;
   bounded = bounded;
   answered = answered;
-  run = subst (λ r. HasRun next row node_histories old key new (turn_of_result r)) is (subst (λ k. HasRun next row node_histories old k new (turn_of_result result)) same run);
+  run = subst (λ r. HasRun next row node_histories old key new r) is (subst (λ k. HasRun next row node_histories old k new result) same run);
 }

@@ -12,7 +12,7 @@ use Rattle.txc_ports.specs.declared.recorded.Recorded.{Recorded}
 use Rattle.txc_txn.specs.Core.{Explains}
 use Rattle.txc_txn.specs.Kept.{IsTxn}
 use Rattle.txc_txn.specs.declared.receipt.Receipt.{Receipt}
-use Rattle.txc_client.specs.Run.{turn_of_result, HasRun}
+use Rattle.txc_client.specs.Run.{HasRun}
 use Rattle.txc_client.specs.Txn.{RoTxnValue}
 use Rattle.txc_work.specs.declared.error.BatchError.{BatchError}
 use Rattle.txc_work.specs.declared.error.BatchError.TheVariants.{Missing, Twice, Memory}
@@ -48,7 +48,7 @@ pub record IsRefusedAt (next : Next) (row : Name) (node_histories : ℕ → Name
   pub of_functions : numbers_of old.txn.objects ≡ functions
   pub bounded : old.txn.core.bounds ≡ bounds
   pub answered : keys_of old.txn.core.recorded ≡ before
-  pub run : HasRun next row node_histories old key new (turn_of_result (Err error))
+  pub run : HasRun next row node_histories old key new (Err error)
 
 -- A receipt is the job's. A refusal is out of memory, or that of the first of the job's calls that was
 -- refused, in a transaction of these functions.

@@ -1,12 +1,13 @@
 -- What comes of a transaction's requests at the plain ports.
-use Rattle.std.proofs.Common.{◌≡◌, ◌∙◌, ℕ, [], ◌∷◌, ◌++◌, Result, Ok, Err, Option, Some, None, refl, ap, sym, subst}
+use Rattle.std.proofs.Common.{◌≡◌, ◌∙◌, inl, inr, ℕ, false, [], ◌∷◌, ◌++◌, Result, Ok, Err, Option, Some, None, refl, ap, sym, subst}
 use Rattle.std.specs.Prelude.{IfSome}
-use Rattle.std.specs.Option.{ForSome}
+use Rattle.std.specs.Option.{option_map, ForSome}
 use Rattle.txc_tags.specs.Keys.{Call}
 use Rattle.txc_rows.specs.declared.query.Query.{Query}
 use Rattle.txc_validity.specs.declared.answer.Found.{Found}
 use Rattle.txc_db.specs.declared.answered.Answered.{Answered}
 use Rattle.txc_db.specs.declared.error.DbError.{DbError}
+use Rattle.txc_db.specs.declared.error.DbError.TheVariants.{Memory}
 use Rattle.txc_db.specs.declared.pinned.Pinned.{Pinned}
 use Rattle.txc_db.specs.History.{History, pin_event}
 use Rattle.txc_db.specs.Seen.{FrontValue}
@@ -16,19 +17,24 @@ use Rattle.txc_cushion.specs.declared.error.AddError.{AddError}
 use Rattle.txc_app.specs.Claims.{IsTrueIn, entry_shown}
 use Rattle.txc_app.specs.Eval.{Next}
 use Rattle.txc_shared.specs.declared.insertion.Insertion.{Insertion}
-use Rattle.txc_shared.specs.declared.insertion.Insertion.TheVariants as insertions
 use Rattle.txc_shared.specs.Nodes.{NodeValue}
+use Rattle.txc_ports.specs.declared.kept.Kept.{Kept}
+use Rattle.txc_ports.specs.declared.kept.Kept.TheVariants as kepts
+use Rattle.txc_ports.specs.declared.request.PortRequest.{PortRequest}
 use Rattle.txc_ports.specs.declared.request.PortRequest.TheVariants as requests
+use Rattle.txc_ports.specs.declared.reply.PortReply.{PortReply}
 use Rattle.txc_ports.specs.declared.reply.PortReply.TheVariants as replies
 use Rattle.txc_world.specs.declared.did.Did.{Did}
 use Rattle.txc_world.specs.declared.did.Did.TheVariants as dids
-use Rattle.txc_world.specs.declared.did.RowsFound.{RowsFound}
 use Rattle.txc_world.specs.Parts.{IsPartOf}
 use Rattle.txc_world.specs.Ports.{PortsValue, whole_of, KeepsRow, HasLedNode}
-use Rattle.txc_world.specs.Asks.{did_insert, AddLeads, DoesTell, IsAnswerWithFront, IsAsked, IsToldOf, PinLeads}
+use Rattle.txc_world.specs.Asks.{kept_after, AddLeads, AnswersRows, DoesTell, FindLeads, IsAsked, IsAskedAt, IsTold, PinLeads, PortRequestLeads, UnpinLeads}
+use Rattle.txc_world.specs.Books.{CountRight}
+use Rattle.txc_world.specs.NodeSteps.{InsertLeads, LookupLeads}
+use Rattle.txc_world.proofs.Fairness.{counts_add, counts_pin, counts_query, counts_unpin, fair_led}
 use Rattle.txc_world.specs.Told.{did_in}
 use Rattle.txc_world.proofs.PartLemmas.{part_itself, part_then}
-use Rattle.txc_world.proofs.PortsLemmas.{keeps_same, left_history}
+use Rattle.txc_world.proofs.PortsLemmas.{left_history}
 
 -- what was part of the whole is so after a step
 pub still_part : (old new : PortsValue) (front : FrontValue) → KeepsRow old new → IsPartOf (whole_of old) front → IsPartOf (whole_of new) front
@@ -41,120 +47,183 @@ for_this P x h y is = let same : x ≡ y = cc in subst P same h
 for_none : {X : Type 0} (P : X → Type 0) → ForSome None P
 for_none P y is = absurd (cc is)
 
+-- what a node shows that is not broken is part of the whole
+pub shown_part : (whole : FrontValue) (node : NodeValue) (hit : Option (Answered Shown)) → (node.broken ≡ false → IsPartOf whole node.seen)
+    → IfSome hit (λ h. h.front ≡ node.seen) → IfSome hit (λ h. node.broken ≡ false) → IfSome hit (λ h. IsPartOf whole h.front)
+shown_part whole node (Some hit) seen front unbroken = subst (IsPartOf whole) (sym front) (seen unbroken)
+shown_part whole node None seen front unbroken = tt
+
+module _ (next : Next) (pass : ℕ) (seen : FrontValue) (old new : PortsValue) (keeps : KeepsRow old new) (right : CountRight old) where
+  pub asked_pin : (now at_least : ℕ) (pinned : Result Pinned DbError) → PinLeads now at_least old new pinned
+      → IsAsked next pass seen (requests.Pin now at_least) old new (replies.Pin pinned)
+  asked_pin now at_least (Ok pinned) h = record {
+    to = (h.moment, h.late, h.shown);
+    row = for_this (λ (f : FrontValue). f.events ≡ old.database.events) pinned.front (ap (λ (f : FrontValue). f.events) h.front ∙ keeps.events);
+    shown = for_this (IsPartOf (whole_of new)) pinned.front (subst (IsPartOf (whole_of new)) (sym h.front) (part_itself (whole_of new)));
+    leads = h;
+    keeps = keeps;
+    spare = ap (λ (p : PortsValue). p.spare) h.after;
+    counts = counts_pin old new now at_least (Ok pinned) h;
+  }
+  asked_pin now at_least (Err e) h = record {
+    to = tt;
+    row = for_none (λ (f : FrontValue). f.events ≡ old.database.events);
+    shown = for_none (IsPartOf (whole_of new));
+    leads = h;
+    keeps = keeps;
+    spare = ap (λ (p : PortsValue). p.spare) h.0.is;
+    counts = counts_pin old new now at_least (Err e) h;
+  }
+
+  spare_added : (pinned : Pinned) (added : Result (Unit {0}) AddError) → AddLeads pinned old new added → new.spare ≡ old.spare
+  spare_added pinned (Ok added) h = ap (λ (p : PortsValue). p.spare) h.0
+  spare_added pinned (Err e) h = ap (λ (p : PortsValue). p.spare) h.0
+
+  pub asked_add : (pinned : Pinned) (added : Result (Unit {0}) AddError) → IsPartOf (whole_of old) pinned.front → AddLeads pinned old new added
+      → IsAsked next pass seen (requests.AddPin pinned) old new (replies.AddPin pinned added)
+  asked_add pinned added part h = record {
+    to = refl;
+    row = for_this (λ (f : FrontValue). f.events ≡ old.database.events) pinned.front part.row;
+    shown = for_this (IsPartOf (whole_of new)) pinned.front (still_part old new pinned.front keeps part);
+    leads = h;
+    keeps = keeps;
+    spare = spare_added pinned added h;
+    counts = counts_add old new pinned added right h;
+  }
+
+  spare_unpinned : (stamp : ℕ) (unpinned : Result (Unit {0}) DbError) → UnpinLeads stamp old new unpinned → new.spare ≡ old.spare
+  spare_unpinned stamp (Ok done) h = ap (λ (p : PortsValue). p.spare) h.0
+  spare_unpinned stamp (Err e) h = ap (λ (p : PortsValue). p.spare) h.0
+
+  pub asked_unpin : (stamp : ℕ) (unpinned : Result (Unit {0}) DbError) → UnpinLeads stamp old new unpinned
+      → IsAsked next pass seen (requests.Unpin stamp) old new (replies.Unpin unpinned)
+  asked_unpin stamp unpinned h = record {
+    to = tt;
+    row = for_none (λ (f : FrontValue). f.events ≡ old.database.events);
+    shown = for_none (IsPartOf (whole_of new));
+    leads = h;
+    keeps = keeps;
+    spare = spare_unpinned stamp unpinned h;
+    counts = counts_unpin old new stamp unpinned right h;
+  }
+
+  pub asked_lookup : (node : ℕ) (key : Call) (lo hi : ℕ) (hit : Option (Answered Shown))
+      → HasLedNode node (λ was is. LookupLeads pass key lo hi was is (option_map (λ h. h.answer) hit)) old new
+      → IfSome hit (λ h. IsTrueIn next h.front.history (entry_shown key h.answer)) → IfSome hit (λ h. IsPartOf (whole_of old) h.front)
+      → IsAsked next pass seen (requests.Lookup node key lo hi) old new (replies.Lookup hit)
+  asked_lookup node key lo hi (Some hit) led true_in part = record {
+    to = true_in;
+    row = for_this (λ (f : FrontValue). f.events ≡ old.database.events) hit.front part.row;
+    shown = for_this (IsPartOf (whole_of new)) hit.front (still_part old new hit.front keeps part);
+    leads = led;
+    keeps = keeps;
+    spare = ap (λ (p : PortsValue). p.spare) led.is;
+    counts = record { fair = fair_led old new node _ led; gone = tt };
+  }
+  asked_lookup node key lo hi None led true_in part = record {
+    to = tt;
+    row = for_none (λ (f : FrontValue). f.events ≡ old.database.events);
+    shown = for_none (IsPartOf (whole_of new));
+    leads = led;
+    keeps = keeps;
+    spare = ap (λ (p : PortsValue). p.spare) led.is;
+    counts = record { fair = fair_led old new node _ led; gone = tt };
+  }
+
+  pub asked_insert : (node : ℕ) (entry : Entry) (made : Option Insertion) (kept : Option Kept) → kept ≡ kept_after made
+      → HasLedNode node (λ was is. InsertLeads pass seen entry was is made) old new
+      → IsAsked next pass seen (requests.Insert node entry) old new (replies.Insert kept)
+  asked_insert node entry made kept is led = record {
+    to = tt;
+    row = for_none (λ (f : FrontValue). f.events ≡ old.database.events);
+    shown = for_none (IsPartOf (whole_of new));
+    leads = (made, is, led);
+    keeps = keeps;
+    spare = ap (λ (p : PortsValue). p.spare) led.is;
+    counts = record { fair = fair_led old new node _ led; gone = tt };
+  }
+
+  pub asked_query : (query : Query) (stamp : ℕ) (found : Result (Answered Found) DbError) → new ≡ old → FindLeads query stamp old found
+      → IsAsked next pass seen (requests.Query query stamp) old new (replies.Query found)
+  asked_query query stamp (Ok found) same h = record {
+    to = h.0.over;
+    row = for_this (λ (f : FrontValue). f.events ≡ old.database.events) found.front (ap (λ (f : FrontValue). f.events) h.0.front);
+    shown = for_this (IsPartOf (whole_of new)) found.front (still_part old new found.front keeps (subst (IsPartOf (whole_of old)) (sym h.0.front) (part_itself (whole_of old))));
+    leads = (same, h);
+    keeps = keeps;
+    spare = ap (λ (p : PortsValue). p.spare) same;
+    counts = counts_query old new query stamp (Ok found) right same h;
+  }
+  asked_query query stamp (Err e) same h = record {
+    to = tt;
+    row = for_none (λ (f : FrontValue). f.events ≡ old.database.events);
+    shown = for_none (IsPartOf (whole_of new));
+    leads = (same, h);
+    keeps = keeps;
+    spare = ap (λ (p : PortsValue). p.spare) same;
+    counts = counts_query old new query stamp (Err e) right same h;
+  }
+
+-- ---- what is told
+
+module _ (next : Next) (pass : ℕ) (seen : FrontValue) (old new : PortsValue) where
+  -- a query that was answered may be refused as out of memory
+  wanting : (request : PortRequest) (reply : PortReply) → AnswersRows reply → IsAsked next pass seen request old new reply
+      → IsAsked next pass seen request old new (replies.Query (Err Memory))
+  wanting (requests.Query query stamp) (replies.Query (Ok found)) rows h = record {
+    to = tt;
+    row = for_none (λ (f : FrontValue). f.events ≡ old.database.events);
+    shown = for_none (IsPartOf (whole_of new));
+    leads = (h.leads.0, h.leads.1.1);
+    keeps = h.keeps;
+    spare = h.spare;
+    counts = record { fair = h.counts.fair; gone = tt };
+  }
+  wanting request (replies.Query (Ok found)) rows h = absurd h.leads
+  wanting request reply rows h = absurd rows
+
+  pub still_asked : (request : PortRequest) (reply told : PortReply) → IsTold reply told → IsAsked next pass seen request old new reply → IsAsked next pass seen request old new told
+  still_asked request reply told (inl same) h = subst (IsAsked next pass seen request old new) (sym same) h
+  still_asked request reply told (inr want) h = subst (IsAsked next pass seen request old new) (sym want.1) (wanting request reply want.0 h)
+
+-- ---- what is told of the history
+
 -- what is told of anything but a pin leaves the history
 module _ (old new : History) (same : new ≡ old) (now : ℕ) where
   tells_same : (did told : Did) → did ≡ told → did_in told now old ≡ old → new ≡ did_in did now old
   tells_same did told is none = same ∙ (sym none ∙ ap (λ (d : Did). did_in d now old) (sym is))
 
-module _ (next : Next) (old new : PortsValue) (keeps : KeepsRow old new) where
-  pub asked_pin : (now at_least : ℕ) (pinned : Result Pinned DbError) (did : Did) → PinLeads now at_least old new pinned
-      → DoesTell (replies.Pin pinned) did → IsAsked next (requests.Pin now at_least) old new (record { did = did; reply = replies.Pin pinned })
-  asked_pin now at_least (Ok pinned) did h told = record {
-    reply = (h.moment, h.late, h.shown);
-    row = for_this (λ (f : FrontValue). f.events ≡ old.database.events) pinned.front (ap (λ (f : FrontValue). f.events) h.front ∙ keeps.events);
-    shown = for_this (IsPartOf (whole_of new)) pinned.front (subst (IsPartOf (whole_of new)) (sym h.front) (part_itself (whole_of new)));
-    tells = told;
-    history = λ n is. ap (λ (p : PortsValue). p.database.history) h.after ∙ (ap (λ (m : ℕ). old.database.history ++ pin_event m ∷ []) is
-        ∙ ap (λ (d : Did). did_in d n old.database.history) (sym told));
-    keeps = keeps;
-    spare = ap (λ (p : PortsValue). p.spare) h.after;
-  }
-  asked_pin now at_least (Err e) did h told = record {
-    reply = tt;
-    row = for_none (λ (f : FrontValue). f.events ≡ old.database.events);
-    shown = for_none (IsPartOf (whole_of new));
-    tells = told;
-    history = λ n is. tells_same old.database.history new.database.history (left_history old.database new.database e h.0.left) n did (dids.Refused e) told refl;
-    keeps = keeps;
-    spare = ap (λ (p : PortsValue). p.spare) h.0.is;
-  }
+module _ (old new : PortsValue) (did : Did) (now : ℕ) where
+  led_history : (at : ℕ) (leads : NodeValue → NodeValue → Type 0) → HasLedNode at leads old new → new.database.history ≡ old.database.history
+  led_history at leads led = ap (λ (p : PortsValue). p.database.history) led.is
 
-  pub asked_add : (pinned : Pinned) (added : Result (Unit {0}) AddError) (did : Did) → IsPartOf (whole_of old) pinned.front
-      → AddLeads pinned old new added → DoesTell (replies.AddPin pinned added) did
-      → IsAsked next (requests.AddPin pinned) old new (record { did = did; reply = replies.AddPin pinned added })
-  asked_add pinned (Ok added) did part h told = record {
-    reply = refl;
-    row = for_this (λ (f : FrontValue). f.events ≡ old.database.events) pinned.front part.row;
-    shown = for_this (IsPartOf (whole_of new)) pinned.front (still_part old new pinned.front keeps part);
-    tells = told;
-    history = λ n is. tells_same old.database.history new.database.history (ap (λ (p : PortsValue). p.database.history) h.0) n did dids.Added told refl;
-    keeps = keeps;
-    spare = ap (λ (p : PortsValue). p.spare) h.0;
-  }
-  asked_add pinned (Err e) did part h told = record {
-    reply = refl;
-    row = for_this (λ (f : FrontValue). f.events ≡ old.database.events) pinned.front part.row;
-    shown = for_this (IsPartOf (whole_of new)) pinned.front (still_part old new pinned.front keeps part);
-    tells = told;
-    history = λ n is. tells_same old.database.history new.database.history (ap (λ (p : PortsValue). p.database.history) h.0) n did (dids.NotAdded e) told refl;
-    keeps = keeps;
-    spare = ap (λ (p : PortsValue). p.spare) h.0;
-  }
-
-  module _ (node : ℕ) (key : Call) (lo hi : ℕ) (leads : NodeValue → NodeValue → Type 0) (led : HasLedNode node leads old new) where
-    pub asked_lookup : (hit : Option (Answered Shown)) (did : Did)
-        → IfSome hit (λ h. IsTrueIn next h.front.history (entry_shown key h.answer)) → IfSome hit (λ h. IsPartOf (whole_of old) h.front)
-        → DoesTell (replies.Lookup hit) did
-        → IsAsked next (requests.Lookup node key lo hi) old new (record { did = did; reply = replies.Lookup hit })
-    asked_lookup (Some hit) did right part told = record {
-      reply = right;
-      row = for_this (λ (f : FrontValue). f.events ≡ old.database.events) hit.front part.row;
-      shown = for_this (IsPartOf (whole_of new)) hit.front (still_part old new hit.front keeps part);
-      tells = told;
-      history = λ n is. tells_same old.database.history new.database.history (ap (λ (p : PortsValue). p.database.history) led.is) n did (dids.Hit hit.answer.reach) told refl;
-      keeps = keeps;
-      spare = ap (λ (p : PortsValue). p.spare) led.is;
-    }
-    asked_lookup None did right part told = record {
-      reply = tt;
-      row = for_none (λ (f : FrontValue). f.events ≡ old.database.events);
-      shown = for_none (IsPartOf (whole_of new));
-      tells = told;
-      history = λ n is. tells_same old.database.history new.database.history (ap (λ (p : PortsValue). p.database.history) led.is) n did dids.Miss told refl;
-      keeps = keeps;
-      spare = ap (λ (p : PortsValue). p.spare) led.is;
-    }
-
-  made_tells : (made : Option Insertion) (now : ℕ) (L : History) → did_in (did_insert made) now L ≡ L
-  made_tells (Some (insertions.Stored reach)) now L = refl
-  made_tells (Some insertions.Kept) now L = refl
-  made_tells None now L = refl
-
-  pub asked_insert : (node : ℕ) (entry : Entry) (leads : NodeValue → NodeValue → Type 0) (made : Option Insertion) (did : Did)
-      → HasLedNode node leads old new → did ≡ did_insert made
-      → IsAsked next (requests.Insert node entry) old new (record { did = did; reply = replies.Insert })
-  asked_insert node entry leads made did led is = record {
-    reply = tt;
-    row = for_none (λ (f : FrontValue). f.events ≡ old.database.events);
-    shown = for_none (IsPartOf (whole_of new));
-    tells = (made, is);
-    history = λ n at. tells_same old.database.history new.database.history (ap (λ (p : PortsValue). p.database.history) led.is) n did (did_insert made) is (made_tells made n old.database.history);
-    keeps = keeps;
-    spare = ap (λ (p : PortsValue). p.spare) led.is;
-  }
-
--- ---- queries, which change nothing
-
-module _ (next : Next) (old new : PortsValue) (same : new ≡ old) (query : Query) (stamp : ℕ) where
-  pub asked_rows : (found : Answered Found) (rows : RowsFound) → IsAnswerWithFront query stamp old found → IsToldOf found.answer rows
-      → IsAsked next (requests.Query query stamp) old new (record { did = dids.Rows rows; reply = replies.Query (Ok found) })
-  asked_rows found rows h told = record {
-    reply = h.over;
-    row = for_this (λ (f : FrontValue). f.events ≡ old.database.events) found.front (ap (λ (f : FrontValue). f.events) h.front);
-    shown = for_this (IsPartOf (whole_of new)) found.front (still_part old new found.front (keeps_same old new same) (subst (IsPartOf (whole_of old)) (sym h.front) (part_itself (whole_of old))));
-    tells = (rows, refl, told);
-    history = λ n is. ap (λ (p : PortsValue). p.database.history) same;
-    keeps = keeps_same old new same;
-    spare = ap (λ (p : PortsValue). p.spare) same;
-  }
-
-  pub asked_refusal : (e : DbError) → IsAsked next (requests.Query query stamp) old new (record { did = dids.Refused e; reply = replies.Query (Err e) })
-  asked_refusal e = record {
-    reply = tt;
-    row = for_none (λ (f : FrontValue). f.events ≡ old.database.events);
-    shown = for_none (IsPartOf (whole_of new));
-    tells = refl;
-    history = λ n is. ap (λ (p : PortsValue). p.database.history) same;
-    keeps = keeps_same old new same;
-    spare = ap (λ (p : PortsValue). p.spare) same;
-  }
+  pub told_history : (pass : ℕ) (seen : FrontValue) (request : PortRequest) (reply : PortReply) → PortRequestLeads pass seen request old new reply → DoesTell reply did
+      → IsAskedAt now request → new.database.history ≡ did_in did now old.database.history
+  told_history pass seen (requests.Pin moment at_least) (replies.Pin (Ok pinned)) h told is =
+      ap (λ (p : PortsValue). p.database.history) h.after
+      ∙ (ap (λ (m : ℕ). old.database.history ++ pin_event m ∷ []) is ∙ ap (λ (d : Did). did_in d now old.database.history) (sym told))
+  told_history pass seen (requests.Pin moment at_least) (replies.Pin (Err e)) h told is =
+      tells_same old.database.history new.database.history (left_history old.database new.database e h.0.left) now did (dids.Refused e) told refl
+  told_history pass seen (requests.AddPin pinned) (replies.AddPin given (Ok added)) h told is =
+      tells_same old.database.history new.database.history (ap (λ (p : PortsValue). p.database.history) h.0) now did dids.Added told refl
+  told_history pass seen (requests.AddPin pinned) (replies.AddPin given (Err e)) h told is =
+      tells_same old.database.history new.database.history (ap (λ (p : PortsValue). p.database.history) h.0) now did (dids.NotAdded e) told refl
+  told_history pass seen (requests.Unpin stamp) (replies.Unpin (Ok unpinned)) h told is =
+      tells_same old.database.history new.database.history (ap (λ (p : PortsValue). p.database.history) h.0) now did dids.Unpinned told refl
+  told_history pass seen (requests.Unpin stamp) (replies.Unpin (Err e)) h told is =
+      tells_same old.database.history new.database.history (ap (λ (p : PortsValue). p.database.history) h.0) now did (dids.Refused e) told refl
+  told_history pass seen (requests.Lookup node key lo hi) (replies.Lookup (Some hit)) h told is =
+      tells_same old.database.history new.database.history (led_history node _ h) now did (dids.Hit hit.answer.reach) told refl
+  told_history pass seen (requests.Lookup node key lo hi) (replies.Lookup None) h told is =
+      tells_same old.database.history new.database.history (led_history node _ h) now did dids.Miss told refl
+  told_history pass seen (requests.Query query stamp) (replies.Query (Ok found)) h told is =
+      tells_same old.database.history new.database.history (ap (λ (p : PortsValue). p.database.history) h.0) now did (dids.Rows told.0) told.1 refl
+  told_history pass seen (requests.Query query stamp) (replies.Query (Err e)) h told is =
+      tells_same old.database.history new.database.history (ap (λ (p : PortsValue). p.database.history) h.0) now did (dids.Refused e) told refl
+  told_history pass seen (requests.Insert node entry) (replies.Insert (Some (kepts.Stored reach))) h told is =
+      tells_same old.database.history new.database.history (led_history node _ h.2) now did (dids.Stored reach) told refl
+  told_history pass seen (requests.Insert node entry) (replies.Insert (Some kepts.Earlier)) h told is =
+      tells_same old.database.history new.database.history (led_history node _ h.2) now did dids.Kept told refl
+  told_history pass seen (requests.Insert node entry) (replies.Insert None) h told is =
+      tells_same old.database.history new.database.history (led_history node _ h.2) now did dids.Dropped told refl
+  told_history pass seen request reply h told is = absurd h

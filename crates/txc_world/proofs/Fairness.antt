@@ -5,11 +5,8 @@ use Rattle.std.proofs.lemmas.List.{drop_all}
 use Rattle.std.proofs.lemmas.List.Elements.{All-head}
 use Rattle.std.specs.Prelude.{if◌then◌else◌}
 use Rattle.std.specs.List.{AllByRecursion}
-use Rattle.txc_tags.specs.Keys.{Call}
 use Rattle.txc_rows.specs.declared.query.Query.{Query}
 use Rattle.txc_validity.specs.declared.answer.Found.{Found}
-use Rattle.txc_node.specs.declared.entry.Entry.{Entry}
-use Rattle.txc_node.specs.declared.hit.Shown.{Shown}
 use Rattle.txc_db.specs.declared.answered.Answered.{Answered}
 use Rattle.txc_db.specs.declared.error.DbError.{DbError}
 use Rattle.txc_db.specs.declared.error.DbError.TheVariants as errors
@@ -27,8 +24,6 @@ use Rattle.txc_cushion.specs.Pinning.{is_older}
 use Rattle.txc_pinset.specs.declared.choice.Choice.TheVariants.{Present, At}
 use Rattle.txc_pinset.specs.Members.{choice_among}
 use Rattle.txc_app.specs.Eval.{Next}
-use Rattle.txc_shared.specs.declared.insertion.Insertion.{Insertion}
-use Rattle.txc_shared.specs.declared.insertion.Insertion.TheVariants as insertions
 use Rattle.txc_shared.specs.Nodes.{NodeValue}
 use Rattle.txc_registry.specs.Objects.{Objects}
 use Rattle.txc_ports.specs.declared.request.PortRequest.{PortRequest}
@@ -39,14 +34,13 @@ use Rattle.txc_txn.specs.Core.{left_after, left_pin, taken_after, CoreAsks, Core
 use Rattle.txc_world.specs.declared.did.Did.{Did}
 use Rattle.txc_world.specs.declared.did.Did.TheVariants as dids
 use Rattle.txc_world.specs.Ports.{PortsValue, HasLedNode}
-use Rattle.txc_world.specs.Asks.{did_insert, AddLeads, DoesTell, FreshLeads, PinLeads, UnpinLeads}
+use Rattle.txc_world.specs.Asks.{AddLeads, FindLeads, FreshLeads, PinLeads, UnpinLeads}
 use Rattle.txc_world.specs.Keeping.{GiveBackLeads}
-use Rattle.txc_world.specs.declared.did.RowsFound.{RowsFound}
 use Rattle.txc_world.specs.declared.reply.Reply.{Reply}
 use Rattle.txc_world.specs.Actors.{counted, holds_any}
 use Rattle.txc_world.specs.Books.{account_of_core, gained, handed, nothing, spent, stamp_if_any, Account, ActCounts, AskCounts, CountRight, HasLost, IsFair, LosesOnlyUnheld}
-use Rattle.txc_world.specs.Losing.{IfDidLose, IfReplyLost}
-use Rattle.txc_world.proofs.Losing.{did_so}
+use Rattle.txc_world.specs.Losing.{IfDidLose, IfGone, IfPortLoses, IfReplyLost}
+use Rattle.txc_world.proofs.Losing.{gone_so, port_so}
 use Rattle.txc_world.proofs.Times.{times_append, times_cons, times_off, times_one, times_there, times_without}
 
 -- ---- what is fair
@@ -122,16 +116,16 @@ none_held stamp horizon last (h ∷ hs) below all = go (h == stamp) refl (none_h
     go false is none = times_off stamp h hs is ∙ none
 
 module _ (p : PortsValue) (right : CountRight p) where
-  pub gone_query : (query : Query) (stamp : ℕ) (e : DbError) → IsQueryRefused p.database query stamp e → LosesOnlyUnheld (requests.Query query stamp) p (dids.Refused e)
+  pub gone_query : (query : Query) (stamp : ℕ) (e : DbError) → IsQueryRefused p.database query stamp e → IfGone e (times stamp p.database.holds ≡ 0)
   gone_query query stamp (errors.SnapshotGone horizon) h =
       none_held stamp p.database.horizon (newest p.database) p.database.holds h.1 (right.sound h.0).held
   gone_query query stamp e h = tt
 
-gone_pin : (p : PortsValue) (now at_least : ℕ) (e : DbError) → IsPinRefused p.database at_least e → LosesOnlyUnheld (requests.Pin now at_least) p (dids.Refused e)
-gone_pin p now at_least (errors.SnapshotGone horizon) h = h
-gone_pin p now at_least e h = tt
+gone_pin : (p : PortsValue) (at_least : ℕ) (e : DbError) → IsPinRefused p.database at_least e → IfGone e ⊥
+gone_pin p at_least (errors.SnapshotGone horizon) h = h
+gone_pin p at_least e h = tt
 
-gone_unpin : (p : PortsValue) (stamp : ℕ) (e : DbError) → IsUnpinRefused p.database stamp e → LosesOnlyUnheld (requests.Unpin stamp) p (dids.Refused e)
+gone_unpin : (p : PortsValue) (stamp : ℕ) (e : DbError) → IsUnpinRefused p.database stamp e → IfGone e ⊥
 gone_unpin p stamp (errors.SnapshotGone horizon) h = h
 gone_unpin p stamp e h = tt
 
@@ -150,65 +144,40 @@ pin_holds old new now stamp is at =
     ap (λ (d : DatabaseValue). d.holds) is ∙ ap (λ (s : ℕ). old.database.holds ++ s ∷ []) (sym (at ∙ next))
 
 module _ (old new : PortsValue) where
-  pub counts_pin : (now at_least : ℕ) (pinned : Result Pinned DbError) (did : Did) → PinLeads now at_least old new pinned → DoesTell (replies.Pin pinned) did
-      → AskCounts (requests.Pin now at_least) old new did (replies.Pin pinned)
-  counts_pin now at_least (Ok pinned) did h told = rw told (record {
+  pub counts_pin : (now at_least : ℕ) (pinned : Result Pinned DbError) → PinLeads now at_least old new pinned → AskCounts (requests.Pin now at_least) old new (replies.Pin pinned)
+  counts_pin now at_least (Ok pinned) h = record {
     fair = fair_hold old new [] pinned.stamp (pin_holds old new now pinned.stamp (ap (λ (p : PortsValue). p.database) h.after) h.stamp) (ap (λ (p : PortsValue). p.cushion) h.after);
     gone = tt;
-  })
-  counts_pin now at_least (Err e) did h told = rw told (record {
+  }
+  counts_pin now at_least (Err e) h = record {
     fair = fair_same old new nothing nothing (left_holds old.database new.database e h.0.left) (ap (λ (p : PortsValue). p.cushion) h.0.is) (λ t. omega arith) (λ t. omega arith);
-    gone = gone_pin old now at_least e h.1;
-  })
+    gone = gone_pin old at_least e h.1;
+  }
 
-  pub counts_add : (pinned : Pinned) (added : Result (Unit {0}) AddError) (did : Did) → CountRight old → AddLeads pinned old new added → DoesTell (replies.AddPin pinned added) did
-      → AskCounts (requests.AddPin pinned) old new did (replies.AddPin pinned added)
-  counts_add pinned (Ok added) did right h told = rw (told, h.0) (record {
+  pub counts_add : (pinned : Pinned) (added : Result (Unit {0}) AddError) → CountRight old → AddLeads pinned old new added → AskCounts (requests.AddPin pinned) old new (replies.AddPin pinned added)
+  counts_add pinned (Ok added) right h = rw h.0 (record {
     fair = record {
       holds = λ t. let one = right.add old.cushion pinned t right.cushion h.1 in let a = one.stamps in let b = times_one t pinned.stamp in omega (arith, a, b);
       users = λ t. let one = right.add old.cushion pinned t right.cushion h.1 in let a = one.users in let b = times_one t pinned.stamp in omega (arith, a, b);
     };
     gone = tt;
   })
-  counts_add pinned (Err e) did right h told = rw (told, h.0) (record { fair = fair_itself old (spent (requests.AddPin pinned)); gone = tt })
+  counts_add pinned (Err e) right h = rw h.0 (record { fair = fair_itself old (spent (requests.AddPin pinned)); gone = tt })
 
-  pub counts_unpin : (stamp : ℕ) → CountRight old → UnpinLeads {A = Unit {0}} stamp old new (Ok tt) → AskCounts (requests.Unpin stamp) old new dids.Unpinned replies.Unpin
-  counts_unpin stamp right h = record { fair = fair_unpin {A = Unit {0}} old new [] stamp (Ok tt) right h; gone = tt }
-
-  pub counts_not_unpinned : (stamp : ℕ) (e : DbError) → CountRight old → UnpinLeads {A = Unit {0}} stamp old new (Err e)
-      → AskCounts (requests.Unpin stamp) old new (dids.Refused e) replies.Unpin
-  counts_not_unpinned stamp e right h = record { fair = fair_unpin {A = Unit {0}} old new [] stamp (Err e) right h; gone = gone_unpin old stamp e h.1 }
+  pub counts_unpin : (stamp : ℕ) (unpinned : Result (Unit {0}) DbError) → CountRight old → UnpinLeads stamp old new unpinned → AskCounts (requests.Unpin stamp) old new (replies.Unpin unpinned)
+  counts_unpin stamp (Ok done) right h = record { fair = fair_unpin old new [] stamp (Ok done) right h; gone = tt }
+  counts_unpin stamp (Err e) right h = record { fair = fair_unpin old new [] stamp (Err e) right h; gone = gone_unpin old stamp e h.1 }
 
   -- a node led on leaves holds and users
-  fair_led : (at : ℕ) (leads : NodeValue → NodeValue → Type 0) → HasLedNode at leads old new → IsFair old new nothing nothing
+  pub fair_led : (at : ℕ) (leads : NodeValue → NodeValue → Type 0) → HasLedNode at leads old new → IsFair old new nothing nothing
   fair_led at leads led =
       fair_same old new nothing nothing (ap (λ (p : PortsValue). p.database.holds) led.is) (ap (λ (p : PortsValue). p.cushion) led.is) (λ t. omega arith) (λ t. omega arith)
 
-  pub counts_lookup : (at : ℕ) (key : Call) (lo hi : ℕ) (leads : NodeValue → NodeValue → Type 0) (hit : Option (Answered Shown)) (did : Did)
-      → HasLedNode at leads old new → DoesTell (replies.Lookup hit) did → AskCounts (requests.Lookup at key lo hi) old new did (replies.Lookup hit)
-  counts_lookup at key lo hi leads (Some hit) did led told = rw told (record { fair = fair_led at leads led; gone = tt })
-  counts_lookup at key lo hi leads None did led told = rw told (record { fair = fair_led at leads led; gone = tt })
-
-  not_gone : (at : ℕ) (entry : Entry) (made : Option Insertion) → LosesOnlyUnheld (requests.Insert at entry) old (did_insert made)
-  not_gone at entry (Some (insertions.Stored reach)) = tt
-  not_gone at entry (Some insertions.Kept) = tt
-  not_gone at entry None = tt
-
-  pub counts_insert : (at : ℕ) (entry : Entry) (leads : NodeValue → NodeValue → Type 0) (made : Option Insertion) (did : Did)
-      → HasLedNode at leads old new → did ≡ did_insert made → AskCounts (requests.Insert at entry) old new did replies.Insert
-  counts_insert at entry leads made did led is = rw is (record { fair = fair_led at leads led; gone = not_gone at entry made })
-
--- a query changes nothing
-module _ (old new : PortsValue) (same : new ≡ old) (query : Query) (stamp : ℕ) where
-  fair_query : IsFair old new nothing nothing
-  fair_query = rw same (fair_itself old nothing)
-
-  pub counts_rows : (found : Answered Found) (rows : RowsFound) → AskCounts (requests.Query query stamp) old new (dids.Rows rows) (replies.Query (Ok found))
-  counts_rows found rows = record { fair = fair_query; gone = tt }
-
-  pub counts_refusal : (e : DbError) → CountRight old → IsQueryRefused old.database query stamp e
-      → AskCounts (requests.Query query stamp) old new (dids.Refused e) (replies.Query (Err e))
-  counts_refusal e right refused = record { fair = fair_query; gone = gone_query old right query stamp e refused }
+  -- a query changes nothing
+  pub counts_query : (query : Query) (stamp : ℕ) (found : Result (Answered Found) DbError) → CountRight old → new ≡ old → FindLeads query stamp old found
+      → AskCounts (requests.Query query stamp) old new (replies.Query found)
+  counts_query query stamp (Ok found) right same h = record { fair = rw same (fair_itself old nothing); gone = tt }
+  counts_query query stamp (Err e) right same h = record { fair = rw same (fair_itself old nothing); gone = gone_query old right query stamp e h }
 
 -- ---- a transaction goes on
 
@@ -249,17 +218,17 @@ newest_taken now renew_after present (newest ∷ older) taken stamp is all = go 
     go false due = let same : At newest.stamp ≡ At stamp = rw due at is in let at : newest.stamp ≡ stamp = cc in subst (λ (s : ℕ). 0 < times s taken) at first
 
 -- what is asked at a stamp that is gone, is asked at one that was taken
-pub loss_did : (next : Next) (objects : Objects) (p : PortsValue) (c : CoreValue) (request : PortRequest) (did : Did) → IsCore next objects c → CoreAsks c request
-    → LosesOnlyUnheld request p did → IfDidLose did (HasLost p (account_of_core c))
-loss_did next objects p c (requests.Query query stamp) did fits asking gone =
-    did_so (times stamp p.database.holds ≡ 0) (HasLost p (account_of_core c))
+pub loss_port : (next : Next) (objects : Objects) (p : PortsValue) (c : CoreValue) (request : PortRequest) (reply : PortReply) → IsCore next objects c → CoreAsks c request
+    → LosesOnlyUnheld request p reply → IfPortLoses reply (HasLost p (account_of_core c))
+loss_port next objects p c (requests.Query query stamp) reply fits asking gone =
+    port_so (times stamp p.database.holds ≡ 0) (HasLost p (account_of_core c))
     (λ none. record {
       stamp = stamp;
       had = let some = newest_taken c.bounds.now c.renew_after c.pins.has_present c.pins.members c.taken stamp asking.1 fits.taken in omega (arith, some);
       lost = none;
     })
-    did gone
-loss_did next objects p c request did fits asking gone = did_so ⊥ (HasLost p (account_of_core c)) (λ no. absurd no) did gone
+    reply gone
+loss_port next objects p c request reply fits asking gone = port_so ⊥ (HasLost p (account_of_core c)) (λ no. absurd no) reply gone
 
 -- a hit that holds no member loses nothing either
 pub loss_counted : (P : Type 0) (members : List Pin) (did : Did) → IfDidLose did P → IfDidLose (counted members did) P
@@ -279,7 +248,7 @@ fair_ended old new c stamps given law leads same rest fewer =
     fair_give_back old new stamps given law leads c.taken [] (stamp_if_any (left_pin c.pinning)) rest (λ t. rw same (omega arith)) fewer
 
 pub loss_unpin : (p : PortsValue) (a : Account) (stamp : ℕ) (e : DbError) → IsUnpinRefused p.database stamp e → IfDidLose (dids.Refused e) (HasLost p a)
-loss_unpin p a stamp e h = did_so ⊥ (HasLost p a) (λ no. absurd no) (dids.Refused e) (gone_unpin p stamp e h)
+loss_unpin p a stamp e h = gone_so ⊥ (HasLost p a) (λ no. absurd no) e (gone_unpin p stamp e h)
 
 -- a step that leaves the ports and the account
 pub counts_itself : (p : PortsValue) (a : Account) (reply : Reply) → IfReplyLost reply (HasLost p a) → ActCounts p p a a reply

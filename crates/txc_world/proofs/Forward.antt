@@ -1,7 +1,7 @@
 -- What actors are told of transactions that begin in their sessions.
-use Rattle.std.proofs.Common.{◌≡◌, ◌∙◌, ℕ, zero, suc, ◌+◌, ◌<◌, ◌≤◌, List, [], ◌∷◌, ◌++◌, length, Option, Some, None, refl, sym, ap, subst, take, arith, slice_get, slice_set}
+use Rattle.std.proofs.Common.{◌≡◌, ◌∙◌, ℕ, zero, suc, ◌+◌, ◌<◌, ◌≤◌, List, [], ◌∷◌, ◌++◌, length, Option, Some, None, Ok, Err, refl, sym, ap, subst, take, arith, slice_get, slice_set}
 use Rattle.std.proofs.Math.Seq.{take-length}
-use Rattle.std.specs.Prelude.{MatchOption}
+use Rattle.std.specs.Prelude.{MatchOption, Result}
 use Rattle.std.specs.List.{AllByRecursion}
 use Rattle.std.proofs.lemmas.Option.{slice_get_within}
 use Rattle.txc_db.specs.History.{History}
@@ -11,8 +11,7 @@ use Rattle.txc_world.specs.declared.step.Act.{Act}
 use Rattle.txc_world.specs.declared.step.Act.TheVariants.{BeginRo, BeginRw, Start, Request, Ask, Write, Commit, Abort}
 use Rattle.txc_world.specs.declared.step.Step.{Step}
 use Rattle.txc_world.specs.declared.step.Step.TheVariants.{Actor, BeginIn, Keeper}
-use Rattle.txc_world.specs.declared.reply.End.{End}
-use Rattle.txc_world.specs.declared.reply.End.TheVariants as ends
+use Rattle.txc_ports.specs.declared.error.TxnError.{TxnError}
 use Rattle.txc_world.specs.declared.reply.Reply.{Reply}
 use Rattle.txc_world.specs.declared.reply.Reply.TheVariants as replies
 use Rattle.txc_world.specs.Told.{Reading, Story, idle, reading, writing, leaving, Told, act_at, after, after_end, begin_at, floor_at, floor_by, story_after, AreExplained, IsCommitOf, IsExplainedIn, IsReceiptOfStory, ReplyExplains}
@@ -144,10 +143,10 @@ NotBegun replies.Begun = ⊥
 NotBegun reply = Unit {0}
 
 module _ (P : ℕ → Type 0) where
-  end_reads : (end : Option End) (r : Reading) → P r.bounds.at_least → ReadsFrom P (reading (after_end end r))
+  end_reads : (end : Option (Result (List ℕ) TxnError)) (r : Reading) → P r.bounds.at_least → ReadsFrom P (reading (after_end end r))
   end_reads None r h = h
-  end_reads (Some (ends.Value value)) r h = h
-  end_reads (Some (ends.Refused error)) r h = h
+  end_reads (Some (Ok value)) r h = h
+  end_reads (Some (Err error)) r h = h
 
   act_reads : (act : Act) (reply : Reply) (story : Story) → NotBegun reply → ReadsFrom P story → ReadsFrom P (story_after act reply story)
   act_reads (BeginRo bounds) replies.Begun story new h = absurd new

@@ -1,6 +1,6 @@
 -- What steps leave of a world, one after another.
 use Rattle.std.proofs.Common.{◌≡◌, ℕ, ◌+◌, ◌<◌, ◌≤◌, List, [], ◌∷◌, ◌++◌, length, map, Option, Some, None, refl, ap, sym, subst, ◌∙◌, arith, take, get_or, add-one, length-take-le, slice_get, slice_set}
-use Rattle.std.specs.Prelude.{MatchOption}
+use Rattle.std.specs.Prelude.{MatchOption, Result}
 use Rattle.std.specs.Option.{option_map}
 use Rattle.std.proofs.Math.Seq.{take-length, take-suc}
 use Rattle.std.proofs.lemmas.Option.{slice_get-map}
@@ -11,7 +11,7 @@ use Rattle.txc_app.specs.Eval.{Next}
 use Rattle.txc_world.specs.declared.actor.OpenTxn.{OpenTxn}
 use Rattle.txc_world.specs.declared.actor.Actor.{Actor}
 use Rattle.txc_world.specs.declared.actor.Actor.TheVariants.{Reading}
-use Rattle.txc_world.specs.declared.reply.End.{End}
+use Rattle.txc_ports.specs.declared.error.TxnError.{TxnError}
 use Rattle.txc_world.specs.declared.reply.Reply.{Reply}
 use Rattle.txc_world.specs.declared.settings.WorldSettings.{WorldSettings}
 use Rattle.txc_world.specs.declared.step.Act.{Act}
@@ -29,12 +29,10 @@ use Rattle.txc_world.specs.Worlds.{value_of_world, WorldValue}
 pub some_there : {X : Type 0} (Absent : Type 0) (There : X → Type 0) (o : Option X) (x : X) → o ≡ Some x → There x → MatchOption o Absent There
 some_there Absent There o x is h = rw is h
 
-pub noted_seen : {X Y : Type 0} (see : X → Y) (opened : Turn → X) (turn : Turn) (call : Option X) (end : Option End) → IsNoted opened turn call end
-    → IsNoted (λ (t : Turn). see (opened t)) turn (option_map see call) end
+pub noted_seen : {R X Y : Type 0} (see : X → Y) (opened : Turn R (List ℕ) → X) (turn : Turn R (List ℕ)) (call : Option X) (end : Option (Result (List ℕ) TxnError)) → IsNoted opened turn call end
+    → IsNoted (λ (t : Turn R (List ℕ)). see (opened t)) turn (option_map see call) end
 noted_seen see opened (turns.Ask request) call end h = (ap (option_map see) h.0, h.1)
-noted_seen see opened (turns.Value value) call end h = (ap (option_map see) h.0, h.1)
-noted_seen see opened (turns.Refused error) call end h = (ap (option_map see) h.0, h.1)
-noted_seen see opened (turns.Rows rows) call end h = absurd h
+noted_seen see opened (turns.Ended result) call end h = (ap (option_map see) h.0, h.1)
 
 -- ---- a step of an actor
 

@@ -1,6 +1,7 @@
 -- What is refused for a snapshot that is gone, from a port to the end of a call.
 use Rattle.std.proofs.Common.{◌≡◌, ◌∙◌, ◌⊎◌, ℕ, List, [], ◌∷◌, Ok, Err, Option, Some, None, inl, inr, refl, ap, sym, subst}
-use Rattle.std.specs.Prelude.{IsNone, IsSome}
+use Rattle.std.specs.Prelude.{IsNone, IsSome, Result, Vec}
+use Rattle.std.specs.declared.alloc.Global.{Global}
 use Rattle.txc_tags.specs.Keys.{Call}
 use Rattle.txc_db.specs.declared.error.DbError.{DbError}
 use Rattle.txc_db.specs.declared.error.DbError.TheVariants as errors
@@ -11,7 +12,7 @@ use Rattle.txc_cushion.specs.Pinning.{pin_of}
 use Rattle.txc_pinset.specs.Members.{kept}
 use Rattle.txc_app.specs.Eval.{Next}
 use Rattle.txc_node.specs.declared.hit.Shown.{Shown}
-use Rattle.txc_rows.specs.States.{State}
+use Rattle.txc_rows.specs.States.{RowValue, State}
 use Rattle.txc_registry.specs.Objects.{activity_of, Objects}
 use Rattle.txc_call.specs.declared.error.CallError.{CallError}
 use Rattle.txc_call.specs.declared.error.CallError.TheVariants as calls
@@ -24,10 +25,12 @@ use Rattle.txc_call.specs.Calling.{started}
 use Rattle.txc_call.specs.Turns.{Turn as CallTurn}
 use Rattle.txc_ports.specs.declared.error.TxnError.{TxnError}
 use Rattle.txc_ports.specs.declared.error.TxnError.TheVariants as txns
+use Rattle.txc_ports.specs.declared.kept.Kept.TheVariants as kepts
 use Rattle.txc_ports.specs.declared.reply.PortReply.{PortReply}
 use Rattle.txc_ports.specs.declared.reply.PortReply.TheVariants as ports
 use Rattle.txc_ports.specs.declared.turn.Turn.{Turn}
 use Rattle.txc_ports.specs.declared.turn.Turn.TheVariants as turns
+use Rattle.txc_ports.specs.Turns.{PortTurn}
 use Rattle.txc_ports.specs.Refusals.{refused_call, refused_pin, refused_request}
 use Rattle.txc_txn.specs.declared.pinning.Pinning.{Pinning}
 use Rattle.txc_txn.specs.declared.pinning.PinStep.{PinStep}
@@ -36,18 +39,16 @@ use Rattle.txc_txn.specs.Core.{first_call, left_after, left_pin, CoreValue, IsAn
 use Rattle.txc_ports.specs.Turns.{IsAsk}
 use Rattle.txc_txn.specs.Kept.{TxnValue}
 use Rattle.txc_txn.specs.Leading.{AsksLookup, AsksPin, BeginLeads, CallLeads, HitLeads, IsWanting, PresentPinLeads, ReplyLeads, StandingLeads, StartLeads}
-use Rattle.txc_rw.specs.Core.{RwValue}
+use Rattle.txc_rw.specs.Core.{QueryTurn, RwValue}
 use Rattle.txc_rw.specs.Leading.{standing_of, RwCallLeads, RwStandingLeads}
 use Rattle.txc_world.specs.declared.did.Did.{Did}
 use Rattle.txc_world.specs.declared.did.Did.TheVariants as dids
-use Rattle.txc_world.specs.declared.reply.End.{End}
-use Rattle.txc_world.specs.declared.reply.End.TheVariants as ends
 use Rattle.txc_world.specs.declared.reply.Reply.{Reply}
 use Rattle.txc_world.specs.declared.reply.Reply.TheVariants as replies
 use Rattle.txc_world.specs.declared.reply.Refusal.TheVariants as refusals
-use Rattle.txc_world.specs.Actors.{DropsNone, IsEndOf, IsNoted, IsToldQuery}
+use Rattle.txc_world.specs.Actors.{DropsNone, IsNoted, IsToldQuery}
 use Rattle.txc_world.specs.Asks.{DoesTell}
-use Rattle.txc_world.specs.Losing.{IfDidLose, IfEndLost, IfGone, IfLost, IfReplyLost, IfTurnLost}
+use Rattle.txc_world.specs.Losing.{IfDidLose, IfEndLost, IfGone, IfLost, IfPortLoses, IfReplyLost, IfResultLost, IfTurnLost}
 
 -- there is something, or nothing
 there_or_not : {X : Type 0} (o : Option X) → IsNone o ⊎ IsSome o
@@ -69,21 +70,45 @@ module _ (P Q : Type 0) (leads : P → Q) where
   did_so (dids.Refused error) h = gone_so error h
   did_so did h = tt
 
-  pub end_so : (end : Option End) → IfEndLost end P → IfEndLost end Q
+  pub port_so : (reply : PortReply) → IfPortLoses reply P → IfPortLoses reply Q
+  port_so (ports.Pin (Err error)) h = gone_so error h
+  port_so (ports.Unpin (Err error)) h = gone_so error h
+  port_so (ports.Query (Err error)) h = gone_so error h
+  port_so reply h = tt
+
+  result_so : {T : Type 0} → (result : Result T TxnError) → IfResultLost result P → IfResultLost result Q
+  result_so (Err error) h = lost_so error h
+  result_so (Ok value) h = tt
+
+  end_so : (end : Option (Result (List ℕ) TxnError)) → IfEndLost end P → IfEndLost end Q
   end_so None h = tt
-  end_so (Some (ends.Refused error)) h = lost_so error h
-  end_so (Some (ends.Value value)) h = tt
+  end_so (Some result) h = result_so result h
 
   pub reply_so : (reply : Reply) → IfReplyLost reply P → IfReplyLost reply Q
   reply_so (replies.Asked did end) h = (did_so did h.0, end_so end h.1)
-  reply_so (replies.Ended end) h = end_so (Some end) h
+  reply_so (replies.Ended result) h = result_so result h
   reply_so (replies.Refused (refusals.Transaction error)) h = lost_so error h
   reply_so reply h = tt
 
 -- what never comes loses nothing
-pub never_lost : (P : Type 0) (turn : Turn) → IfTurnLost turn ⊥ → IfTurnLost turn P
-never_lost P (turns.Refused error) h = lost_so ⊥ P (λ no. absurd no) error h
-never_lost P turn h = tt
+pub never_lost : {T : Type 0} → (P : Type 0) (result : Result T TxnError) → IfResultLost result ⊥ → IfResultLost result P
+never_lost P result h = result_so ⊥ P (λ no. absurd no) result h
+
+-- what is told of a port tells what it lost
+pub told_lost : (P : Type 0) (reply : PortReply) (did : Did) → DoesTell reply did → IfPortLoses reply P → IfDidLose did P
+told_lost P (ports.Pin (Ok pinned)) did told lost = rw told tt
+told_lost P (ports.Pin (Err e)) did told lost = rw told lost
+told_lost P (ports.AddPin pinned (Ok added)) did told lost = rw told tt
+told_lost P (ports.AddPin pinned (Err e)) did told lost = rw told tt
+told_lost P (ports.Unpin (Ok unpinned)) did told lost = rw told tt
+told_lost P (ports.Unpin (Err e)) did told lost = rw told lost
+told_lost P (ports.Lookup (Some hit)) did told lost = rw told tt
+told_lost P (ports.Lookup None) did told lost = rw told tt
+told_lost P (ports.Query (Ok found)) did told lost = rw told.1 tt
+told_lost P (ports.Query (Err e)) did told lost = rw told lost
+told_lost P (ports.Insert (Some (kepts.Stored reach))) did told lost = rw told tt
+told_lost P (ports.Insert (Some kepts.Earlier)) did told lost = rw told tt
+told_lost P (ports.Insert None) did told lost = rw told tt
 
 module _ (P : Type 0) where
   -- what the database refuses, the transaction is refused
@@ -102,38 +127,31 @@ module _ (P : Type 0) where
 
   -- ---- turns
 
-  ask_not_lost : (turn : Turn) → IsAsk turn → IfTurnLost turn P
-  ask_not_lost (turns.Refused error) asks = absurd asks
-  ask_not_lost turn asks = tt
+  ask_not_lost : (turn : PortTurn) → IsAsk turn → IfTurnLost turn P
+  ask_not_lost (turns.Ask request) asks = tt
+  ask_not_lost (turns.Ended result) asks = absurd asks
 
-  lookup_not_lost : (k : Call) (turn : Turn) → AsksLookup k turn → IfTurnLost turn P
-  lookup_not_lost k (turns.Refused error) asks = absurd asks
-  lookup_not_lost k turn asks = tt
+  lookup_not_lost : (k : Call) (turn : PortTurn) → AsksLookup k turn → IfTurnLost turn P
+  lookup_not_lost k (turns.Ask request) asks = tt
+  lookup_not_lost k (turns.Ended result) asks = absurd asks
 
-  present_not_lost : (turn : Turn) → AsksPin turn → IfTurnLost turn P
-  present_not_lost (turns.Refused error) asks = absurd asks
-  present_not_lost turn asks = tt
+  present_not_lost : (turn : PortTurn) → AsksPin turn → IfTurnLost turn P
+  present_not_lost (turns.Ask request) asks = tt
+  present_not_lost (turns.Ended result) asks = absurd asks
 
-  -- the end of a call, or its value, is that of the turn
-  pub noted_lost : {X : Type 0} (opened : Turn → X) (turn : Turn) (call : Option X) (end : Option End) → IsNoted opened turn call end → IfTurnLost turn P → IfEndLost end P
+  -- the end of a call is that of the turn
+  pub noted_lost : {R X : Type 0} → (opened : Turn R (List ℕ) → X) (turn : Turn R (List ℕ)) (call : Option X) (end : Option (Result (List ℕ) TxnError)) → IsNoted opened turn call end
+      → IfTurnLost turn P → IfEndLost end P
   noted_lost opened (turns.Ask request) call end noted h = rw noted.1 tt
-  noted_lost opened (turns.Value value) call end noted h = rw noted.1 tt
-  noted_lost opened (turns.Refused error) call end noted h = rw noted.1 h
-  noted_lost opened (turns.Rows rows) call end noted h = absurd noted
+  noted_lost opened (turns.Ended result) call end noted h = rw noted.1 h
 
-  pub end_lost : (turn : Turn) (end : End) → IsEndOf turn end → IfTurnLost turn P → IfEndLost (Some end) P
-  end_lost (turns.Value value) end is h = rw is tt
-  end_lost (turns.Refused error) end is h = rw is h
-  end_lost turn end is h = absurd is
-
-  pub rows_lost : (turn : Turn) (reply : Reply) → IsToldQuery turn reply → IfTurnLost turn P → IfReplyLost reply P
-  rows_lost (turns.Rows rows) reply told h = rw told tt
-  rows_lost (turns.Refused error) reply told h = rw told h
-  rows_lost turn reply told h = absurd told
+  pub rows_lost : (result : Result (Vec RowValue Global) TxnError) (reply : Reply) → IsToldQuery result reply → IfResultLost result P → IfReplyLost reply P
+  rows_lost (Ok rows) reply told h = rw told tt
+  rows_lost (Err error) reply told h = rw told h
 
   -- ---- a call of a read-only transaction
 
-  module _ (new : CoreValue) (objects : Objects) (turn : Turn) where
+  module _ (new : CoreValue) (objects : Objects) (turn : PortTurn) where
     wanting_not_lost : (need : Option Need) (error : TxnError) → IsWanting need new error → IfLost error P
     wanting_not_lost need error (inl is) = rw is tt
     wanting_not_lost need error (inr is) = rw is.3 tt
@@ -154,9 +172,10 @@ module _ (P : Type 0) where
     standing_not_lost : (stands : CallTurn) → StandingLeads stands new objects turn → IfTurnLost turn P
     standing_not_lost stands leads = standing_turn stands turn leads
       where
-        standing_turn : (c : CallTurn) (t : Turn) → StandingLeads c new objects t → IfTurnLost t P
-        standing_turn (Ok standing) (turns.Refused error) l = wanting_not_lost standing.need error l
-        standing_turn (Ok standing) t l = tt
+        standing_turn : (c : CallTurn) (t : PortTurn) → StandingLeads c new objects t → IfTurnLost t P
+        standing_turn (Ok standing) (turns.Ended (Err error)) l = wanting_not_lost standing.need error l
+        standing_turn (Ok standing) (turns.Ended (Ok value)) l = tt
+        standing_turn (Ok standing) (turns.Ask request) l = tt
         standing_turn (Err error) t l = rw l (call_not_lost error)
 
     called_not_lost : (next : Next) (old : CoreValue) (before : Objects) (need : Need) (reply : CallReply) → CallLeads next old before need reply new objects turn
@@ -176,31 +195,32 @@ module _ (P : Type 0) where
     pinned_not_lost None old before leads = ask_not_lost turn leads.1
 
     -- a turn that comes of a reply loses what the port has lost
-    pub reply_lost : (next : Next) (old : CoreValue) (before : Objects) (reply : PortReply) (did : Did) → IsAnswered old reply → DropsNone old → DoesTell reply did
-        → IfDidLose did P → ReplyLeads next old before reply new objects turn → IfTurnLost turn P
-    reply_lost next old before (ports.Pin (Ok pinned)) did to drops told lost leads = rw leads tt
-    reply_lost next old before (ports.Pin (Err e)) did to drops told lost leads = rw leads (request_lost e (subst (λ (d : Did). IfDidLose d P) told lost))
-    reply_lost next old before (ports.AddPin pinned (Ok added)) did to drops told lost leads = pinned_not_lost (first_call old.pinning) old before leads
-    reply_lost next old before (ports.AddPin pinned (Err e)) did to drops told lost leads = rw leads.0 tt
-    reply_lost next old before ports.Unpin did to drops told lost leads =
+    pub reply_lost : (next : Next) (old : CoreValue) (before : Objects) (reply : PortReply) → IsAnswered old reply → DropsNone old
+        → IfPortLoses reply P → ReplyLeads next old before reply new objects turn → IfTurnLost turn P
+    reply_lost next old before (ports.Pin (Ok pinned)) to drops lost leads = rw leads tt
+    reply_lost next old before (ports.Pin (Err e)) to drops lost leads = rw leads (request_lost e lost)
+    reply_lost next old before (ports.AddPin pinned (Ok added)) to drops lost leads = pinned_not_lost (first_call old.pinning) old before leads
+    reply_lost next old before (ports.AddPin pinned (Err e)) to drops lost leads = rw leads.0 tt
+    reply_lost next old before (ports.Unpin unpinned) to drops lost leads =
         rw (leads to.0 to.1 to.2) (lost_so ⊥ P (λ no. absurd no) to.1 (drops to.0 to.1 to.2))
-    reply_lost next old before (ports.Lookup None) did to drops told lost leads = called_not_lost next old before (needs.Lookup to.0) calls_replies.Miss (leads to.0 to.1.1)
-    reply_lost next old before (ports.Lookup (Some hit)) did to drops told lost leads = hit_not_lost next old before to.0 hit.answer (leads to.0 to.1.1)
-    reply_lost next old before (ports.Query (Ok found)) did to drops told lost leads =
+    reply_lost next old before (ports.Lookup None) to drops lost leads = called_not_lost next old before (needs.Lookup to.0) calls_replies.Miss (leads to.0 to.1.1)
+    reply_lost next old before (ports.Lookup (Some hit)) to drops lost leads = hit_not_lost next old before to.0 hit.answer (leads to.0 to.1.1)
+    reply_lost next old before (ports.Query (Ok found)) to drops lost leads =
         called_not_lost next old before (needs.Query to.0) (calls_replies.Found found.answer) (leads to.0 to.1.1)
-    reply_lost next old before (ports.Query (Err e)) did to drops told lost leads = rw leads (request_lost e (subst (λ (d : Did). IfDidLose d P) told lost))
-    reply_lost next old before ports.Insert did to drops told lost leads = called_not_lost next old before (needs.Insert to.0) calls_replies.Inserted (leads to.0 to.1.1)
+    reply_lost next old before (ports.Query (Err e)) to drops lost leads = rw leads (request_lost e lost)
+    reply_lost next old before (ports.Insert kept) to drops lost leads = called_not_lost next old before (needs.Insert to.0) calls_replies.Inserted (leads to.0 to.1.1)
 
   -- ---- a call of a read-write transaction
 
-  pub rw_not_lost : (stands : CallTurn) (new : RwValue) (objects : Objects) (turn : Turn) → RwStandingLeads stands new objects turn → IfTurnLost turn P
-  rw_not_lost (Ok standing) new objects (turns.Refused error) leads = rw leads tt
-  rw_not_lost (Ok standing) new objects turn leads = tt
+  pub rw_not_lost : (stands : CallTurn) (new : RwValue) (objects : Objects) (turn : QueryTurn) → RwStandingLeads stands new objects turn → IfTurnLost turn P
+  rw_not_lost (Ok standing) new objects (turns.Ended (Err error)) leads = rw leads tt
+  rw_not_lost (Ok standing) new objects (turns.Ended (Ok value)) leads = tt
+  rw_not_lost (Ok standing) new objects (turns.Ask query) leads = tt
   rw_not_lost (Err error) new objects turn leads = rw leads (call_not_lost error)
 
-  pub rw_start_not_lost : (next : Next) (s : State) (k : Call) (before : Objects) (new : RwValue) (objects : Objects) (turn : Turn)
+  pub rw_start_not_lost : (next : Next) (s : State) (k : Call) (before : Objects) (new : RwValue) (objects : Objects) (turn : QueryTurn)
       → (IsSome (activity_of before k.function) → RwCallLeads next s (standing_of (started k) before) [] new objects turn)
-      → (IsNone (activity_of before k.function) → turn ≡ turns.Refused (txns.Call (NoFunction k.function))) → IfTurnLost turn P
+      → (IsNone (activity_of before k.function) → turn ≡ turns.Ended (Err (txns.Call (NoFunction k.function)))) → IfTurnLost turn P
   rw_start_not_lost next s k before new objects turn leads missing = elim (there_or_not (activity_of before k.function)) [
     | inl none ↦ rw (missing none) tt
     | inr some ↦ let on = leads some in rw_not_lost on.0 new objects turn on.2
@@ -230,9 +250,9 @@ dropping_drops_none c stamp error dropping = λ at_stamp why at.
     let same : refused_pin error ≡ why = cc both in
     subst (λ (e : TxnError). IfLost e ⊥) same (pin_not_lost ⊥ error)
 
-pub drops_next : (next : Next) (old new : TxnValue) (reply : PortReply) (turn : Turn) → IsTurn new.core turn → left_pin new.core.pinning ≡ left_after reply
+pub drops_next : (next : Next) (old new : TxnValue) (reply : PortReply) (turn : PortTurn) → IsTurn new.core turn → left_pin new.core.pinning ≡ left_after reply
     → ReplyLeads next old.core old.objects reply new.core new.objects turn → DropsNone new.core
 drops_next next old new (ports.Pin (Ok pinned)) turn is left leads =
-    adding_drops_none new.core (pin_of pinned) (subst (λ (t : Turn). IsTurn new.core t) leads is)
+    adding_drops_none new.core (pin_of pinned) (subst (λ (t : PortTurn). IsTurn new.core t) leads is)
 drops_next next old new (ports.AddPin pinned (Err e)) turn is left leads = dropping_drops_none new.core pinned.stamp e leads.1
 drops_next next old new reply turn is left leads = none_left new.core left

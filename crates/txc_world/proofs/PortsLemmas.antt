@@ -129,6 +129,12 @@ module _ (p q : PortsValue) (same : p ≡ q) where
   ports_node_from at old new are within is stays =
       ports_with_node p at old new are (subst (λ (v : PortsValue). at < length v.nodes) (sym same) within) is stays
 
+  pub node_from : (at : ℕ) (old : NodeValue) → ArePorts p → at < length q.nodes → old ≡ get_or p.nodes at old → IsNodeOf (whole_of q) q.actors old
+  node_from at old are within is =
+      let there : at < length p.nodes = subst (λ (v : PortsValue). at < length v.nodes) (sym same) within in
+      subst (λ (v : PortsValue). IsNodeOf (whole_of v) v.actors old) same
+      (subst (IsNodeOf (whole_of p) p.actors) (sym is) (All-get_or (IsNodeOf (whole_of p) p.actors) p.nodes at old there are.nodes))
+
   pub led_from : (at : ℕ) (leads : NodeValue → NodeValue → Type 0) (old new : NodeValue) → at < length q.nodes
       → old ≡ get_or p.nodes at old → leads old new → HasLedNode at leads q (record p { nodes = set p.nodes at new })
   led_from at leads old new within is led =

@@ -1,19 +1,21 @@
 -- What a transaction asks, and how its call stands after a reply.
-use Rattle.std.proofs.Common.{◌≡◌, ⊎_elim, ℕ, Bool, true, false, List, Option, Some, refl, sym, subst}
-use Rattle.std.specs.Prelude.{if◌then◌else◌}
+use Rattle.std.proofs.Common.{◌≡◌, ⊎_elim, ℕ, Bool, true, false, List, Option, Some, None, Ok, Err, refl, sym, subst}
+use Rattle.std.specs.Prelude.{if◌then◌else◌, Result}
 use Rattle.std.specs.Option.{ForSome}
 use Rattle.txc_cushion.specs.declared.pin.Pin.{Pin}
 use Rattle.txc_db.specs.History.{History}
 use Rattle.txc_db.specs.Seen.{FrontValue}
 use Rattle.txc_ports.specs.declared.request.PortRequest.{PortRequest}
 use Rattle.txc_ports.specs.declared.request.PortRequest.TheVariants as requests
-use Rattle.txc_txn.specs.Core.{CoreAsks, CoreValue, IsOneOf}
+use Rattle.txc_ports.specs.declared.error.TxnError.{TxnError}
+use Rattle.txc_ports.specs.declared.turn.Turn.TheVariants as turns
+use Rattle.txc_txn.specs.Core.{CoreAsks, CoreValue, IsNoValue, IsOneOf}
 use Rattle.txc_world.specs.Parts.{IsPartOf}
 use Rattle.txc_world.specs.Ports.{PortsValue, whole_of, KeepsRow}
 use Rattle.txc_world.specs.Asks.{IsAskedAt}
 use Rattle.txc_world.specs.declared.did.Did.{Did}
 use Rattle.txc_world.specs.declared.did.Did.TheVariants as dids
-use Rattle.txc_world.specs.Told.{did_in}
+use Rattle.txc_world.specs.Told.{after_end, did_in, reading, Reading}
 use Rattle.txc_world.specs.Actors.{counted, holds_any}
 use Rattle.txc_world.proofs.Whole.{part_kept}
 
@@ -43,3 +45,8 @@ counted_in members (dids.Hit reach) now L = go (holds_any reach members)
     go true = refl
     go false = refl
 counted_in members did now L = refl
+
+-- a call that ended before any request ended with a refusal, and tells no answer
+pub ended_story : (r : Reading) (result : Result (List ℕ) TxnError) → IsNoValue (turns.Ended result) → reading (record r { call = None }) ≡ reading (after_end (Some result) r)
+ended_story r (Ok value) none = absurd none
+ended_story r (Err error) none = refl

@@ -1,5 +1,7 @@
 -- What read-write transactions do to holds.
-use Rattle.std.proofs.Common.{◌≡◌, ◌∙◌, ℕ, zero, List, [], ◌∷◌, ◌++◌, Result, Ok, Err, refl, ap, sym, subst, arith}
+use Rattle.std.proofs.Common.{◌≡◌, ◌∙◌, ℕ, zero, List, [], ◌∷◌, ◌++◌, Result, Ok, Err, inl, inr, refl, ap, sym, subst, arith}
+use Rattle.std.specs.Prelude.{Vec}
+use Rattle.std.specs.declared.alloc.Global.{Global}
 use Rattle.txc_tags.specs.declared.tag.Tag.{Tag}
 use Rattle.txc_rows.specs.declared.query.Change.{Change}
 use Rattle.txc_rows.specs.declared.query.Query.{Query}
@@ -10,24 +12,20 @@ use Rattle.txc_db.specs.DatabaseValue.{after_event_of, newest_net, newest_state}
 use Rattle.txc_cushion.specs.Entries.{times}
 use Rattle.txc_ports.specs.declared.error.TxnError.{TxnError}
 use Rattle.txc_ports.specs.declared.error.TxnError.TheVariants as txns
-use Rattle.txc_ports.specs.declared.request.PortRequest.TheVariants as requests
-use Rattle.txc_ports.specs.declared.turn.Turn.{Turn}
-use Rattle.txc_ports.specs.declared.turn.Turn.TheVariants as turns
-use Rattle.txc_ports.specs.Refusals.{refused_request}
 use Rattle.txc_app.specs.Eval.{Next}
 use Rattle.txc_registry.specs.Objects.{Objects}
-use Rattle.txc_rw.specs.Core.{AsksQueryAt, IsWriteRefused, RwValue}
-use Rattle.txc_rw.specs.Leading.{RowsLead}
+use Rattle.txc_rows.specs.States.{RowValue}
+use Rattle.txc_rw.specs.Core.{IsWriteRefused, QueryTurn, RwValue}
 use Rattle.txc_world.specs.declared.did.Did.{Did}
 use Rattle.txc_world.specs.declared.did.Did.TheVariants as dids
 use Rattle.txc_world.specs.declared.reply.Reply.{Reply}
 use Rattle.txc_world.specs.declared.reply.Reply.TheVariants as replies
 use Rattle.txc_world.specs.Ports.{PortsValue}
 use Rattle.txc_world.specs.Asks.{DoesTellFound, HoldLeads, QueryLeads}
-use Rattle.txc_world.specs.Books.{nothing, Account, ActCounts, CountRight, HasLost, IsFair, LosesOnlyUnheld}
-use Rattle.txc_world.specs.Losing.{IfDidLose, IfGone, IfLost, IfReplyLost, IfTurnLost}
+use Rattle.txc_world.specs.Books.{nothing, Account, ActCounts, CountRight, HasLost, IsFair}
+use Rattle.txc_world.specs.Losing.{IfDidLose, IfGone, IfLost, IfReplyLost, IfResultLost, IfTurnLost}
 use Rattle.txc_world.specs.Keeping.{CommitLeads}
-use Rattle.txc_world.specs.Writing.{HasAskedRw}
+use Rattle.txc_world.specs.Writing.{FindLeadsRw, HasAskedRw}
 use Rattle.txc_world.proofs.Balance.{committed_holds}
 use Rattle.txc_world.proofs.Fairness.{counts_itself, fair_hold, fair_same, gone_query, left_holds}
 use Rattle.txc_world.proofs.Losing.{gone_so, request_lost, rw_not_lost}
@@ -47,33 +45,21 @@ base_lost p base gone = record {
 }
 
 module _ (p : PortsValue) (base : ℕ) where
-  gone_lost : (query : Query) (e : DbError) → LosesOnlyUnheld (requests.Query query base) p (dids.Refused e) → IfGone e (HasLost p (based base))
-  gone_lost query e gone = gone_so (times base p.database.holds ≡ 0) (HasLost p (based base)) (base_lost p base) e gone
+  gone_lost : (e : DbError) → IfGone e (times base p.database.holds ≡ 0) → IfGone e (HasLost p (based base))
+  gone_lost e gone = gone_so (times base p.database.holds ≡ 0) (HasLost p (based base)) (base_lost p base) e gone
 
   -- of a query of the open call
   pub loss_told : (query : Query) (found : Result Found DbError) (did : Did) → CountRight p → QueryLeads query base p found → DoesTellFound found did
       → IfDidLose did (HasLost p (based base))
   loss_told query (Ok found) did right leads told = rw told.1 tt
-  loss_told query (Err e) did right leads told = rw told (gone_lost query e (gone_query p right query base e leads))
+  loss_told query (Err e) did right leads told = rw told (gone_lost e (gone_query p right query base e leads))
 
   -- of a query of its own
-  pub loss_asked : (a : Account) (query : Query) (stamp : ℕ) (turn : Turn) → AsksQueryAt query stamp turn → IfTurnLost turn (HasLost p a)
-  loss_asked a query stamp (turns.Ask request) asked = tt
-  loss_asked a query stamp (turns.Refused error) asked = rw asked tt
-  loss_asked a query stamp (turns.Value value) asked = tt
-  loss_asked a query stamp (turns.Rows rows) asked = tt
-
-  found_lost : (found : Found) (turn : Turn) → RowsLead found.rows.items turn → IfTurnLost turn (HasLost p (based base))
-  found_lost found (turns.Refused error) leads = rw leads tt
-  found_lost found (turns.Ask request) leads = tt
-  found_lost found (turns.Value value) leads = tt
-  found_lost found (turns.Rows rows) leads = tt
-
-  pub loss_found : (query : Query) (answer : Result Found DbError) (turn : Turn) → CountRight p → QueryLeads query base p answer
-      → ((found : Found) → answer ≡ Ok found → RowsLead found.rows.items turn) → ((e : DbError) → answer ≡ Err e → turn ≡ turns.Refused (refused_request e))
-      → IfTurnLost turn (HasLost p (based base))
-  loss_found query (Ok found) turn right leads rows refused = found_lost found turn (rows found refl)
-  loss_found query (Err e) turn right leads rows refused = rw (refused e refl) (request_lost (HasLost p (based base)) e (gone_lost query e (gone_query p right query base e leads)))
+  pub loss_found : (query : Query) (result : Result (Vec RowValue Global) TxnError) → CountRight p → FindLeadsRw query base p result → IfResultLost result (HasLost p (based base))
+  loss_found query (Ok rows) right leads = tt
+  loss_found query (Err e) right (inl want) = rw want tt
+  loss_found query (Err e) right (inr refused) =
+      rw refused.2 (request_lost (HasLost p (based base)) refused.0 (gone_lost refused.0 (gone_query p right query base refused.0 refused.1)))
 
 -- a write is not refused so
 pub loss_write : (P : Type 0) (count : ℕ) (e : TxnError) → IsWriteRefused count e → IfLost e P
@@ -81,7 +67,7 @@ loss_write P count (txns.SnapshotLost horizon) refused = absurd refused
 loss_write P count e refused = tt
 
 -- what a turn of a call has lost, the database had lost
-pub asked_lost : (P : Type 0) (next : Next) (query : Query) (p : PortsValue) (before after : RwValue) (was is : Objects) (did : Did) (turn : Turn)
+pub asked_lost : (P : Type 0) (next : Next) (query : Query) (p : PortsValue) (before after : RwValue) (was is : Objects) (did : Did) (turn : QueryTurn)
     → HasAskedRw next query p before after was is did turn → IfDidLose did P → IfTurnLost turn P
 asked_lost P next query p before after was is did turn asks lost = go asks.found refl
   where

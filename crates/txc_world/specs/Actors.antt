@@ -1,9 +1,12 @@
 -- What actors keep, and how they are told.
-use Rattle.std.specs.Prelude.{◌≡◌, ℕ, ◌-◌, Bool, List, [], Option, Some, None, Result, Ok, IsSome, length, take, option_map, if◌then◌else◌}
+use Rattle.std.specs.Prelude.{◌≡◌, ℕ, ◌-◌, Bool, List, [], Option, Some, None, Result, Ok, Err, length, take, option_map, if◌then◌else◌}
+use Rattle.std.specs.Prelude.{Vec}
 use Rattle.std.specs.List.{list_any}
+use Rattle.std.specs.declared.alloc.Global.{Global}
 use Rattle.txc_stamp.specs.Interval.{Interval}
 use Rattle.txc_tags.specs.Keys.{Call}
 use Rattle.txc_rows.specs.declared.query.Query.{Query}
+use Rattle.txc_rows.specs.States.{RowValue}
 use Rattle.txc_db.specs.History.{History}
 use Rattle.txc_db.specs.Seen.{FrontValue}
 use Rattle.txc_cushion.specs.declared.pin.Pin.{Pin}
@@ -14,21 +17,19 @@ use Rattle.txc_app.specs.Eval.{Next}
 use Rattle.txc_ports.specs.declared.error.TxnError.{TxnError}
 use Rattle.txc_ports.specs.declared.reply.PortReply.{PortReply}
 use Rattle.txc_ports.specs.declared.request.PortRequest.{PortRequest}
-use Rattle.txc_ports.specs.declared.request.PortRequest.TheVariants as requests
 use Rattle.txc_cushion.specs.declared.pins.Pins.{Pins}
 use Rattle.txc_txn.specs.Leading.{StartLeads}
 use Rattle.txc_txn.specs.Kept.{HasGoneOn, TxnValue}
 use Rattle.txc_ports.specs.declared.turn.Turn.{Turn}
-use Rattle.txc_ports.specs.declared.turn.Turn.TheVariants.{Ask, Value, Rows, Refused}
+use Rattle.txc_ports.specs.declared.turn.Turn.TheVariants as turns
+use Rattle.txc_ports.specs.Turns.{PortTurn}
 use Rattle.txc_pinset.specs.Members.{is_held_by}
 use Rattle.txc_world.specs.declared.did.Did.{Did}
 use Rattle.txc_world.specs.declared.did.Did.TheVariants.{Hit, Miss}
-use Rattle.txc_world.specs.declared.reply.End.{End}
-use Rattle.txc_world.specs.declared.reply.End.TheVariants as ends
 use Rattle.txc_txn.specs.declared.pinning.PinStep.TheVariants.{Dropping}
 use Rattle.txc_txn.specs.Core.{CoreValue, begun_core, open_call, IsPinningAt, IsIdle, IsNoValue, IsTurn}
 use Rattle.txc_rw.specs.declared.given.Given.{Given}
-use Rattle.txc_rw.specs.Core.{answers_after, IsOfCall, RwHolds, RwValue}
+use Rattle.txc_rw.specs.Core.{answers_after, QueryTurn, RwHolds, RwValue}
 use Rattle.txc_rw.specs.Core.{IsRw, IsRwIdle, IsRwTurn}
 use Rattle.txc_ports.specs.Turns.{IsAsk}
 use Rattle.txc_world.specs.declared.actor.OpenCall.{OpenCall}
@@ -42,7 +43,7 @@ use Rattle.txc_world.specs.declared.reply.Reply.TheVariants.{Asked, Begun, Ended
 use Rattle.txc_world.specs.declared.reply.Refusal.TheVariants.{Memory, Transaction}
 use Rattle.txc_world.specs.Parts.{IsPartOf}
 use Rattle.txc_world.specs.Ports.{PortsValue}
-use Rattle.txc_ports.specs.Asking.{AddsSuch, IsReplyTo}
+use Rattle.txc_ports.specs.Asking.{TurnAddsSuch, IsReplyTo}
 use Rattle.txc_world.specs.Asks.{DoesTell, FreshLeads, PortRequestLeads}
 use Rattle.txc_world.specs.Cast.{call_at_turn, ActorValue, CallValue, reads, resting, leaves}
 use Rattle.txc_world.specs.Keeping.{GiveBackLeads}
@@ -50,8 +51,8 @@ use Rattle.txc_world.specs.Losing.{IfLost, IfTurnLost}
 use Rattle.txc_world.specs.Told.{Story, idle, reading, writing, leaving}
 
 -- a pin that is to be added is of the whole
-abbrev pub AddsPart : FrontValue → Turn → Type 0
-AddsPart whole turn = AddsSuch (IsPartOf whole) turn
+abbrev pub AddsPart : FrontValue → PortTurn → Type 0
+AddsPart whole turn = TurnAddsSuch (IsPartOf whole) turn
 
 -- the reason that waits for the hold of a pin to be taken away is of no snapshot that is gone
 abbrev pub DropsNone : CoreValue → Type 0
@@ -59,7 +60,7 @@ DropsNone c = (stamp : ℕ) (error : TxnError) → IsPinningAt c (Dropping stamp
 
 -- the call's next turn is one of the core's, which has it open under its key while it asks; it is no value,
 -- asks to add only what the whole shows, and has lost no snapshot
-pub record IsOpenCall (whole : FrontValue) (c : CoreValue) (call : OpenCall) : Type 0 where
+pub record IsOpenCall (whole : FrontValue) (c : CoreValue) (call : OpenCall PortRequest) : Type 0 where
   pub turn : IsTurn c call.turn
   pub no_value : IsNoValue call.turn
   pub key : IsAsk call.turn → open_call c ≡ Some call.key
@@ -67,7 +68,7 @@ pub record IsOpenCall (whole : FrontValue) (c : CoreValue) (call : OpenCall) : T
   pub not_lost : IfTurnLost call.turn ⊥
   pub drops : DropsNone c
 
-abbrev pub HasCall : FrontValue → CoreValue → Option OpenCall → Type 0
+abbrev pub HasCall : FrontValue → CoreValue → Option (OpenCall PortRequest) → Type 0
 HasCall whole c None = IsIdle c
 HasCall whole c (Some call) = IsOpenCall whole c call
 
@@ -90,25 +91,23 @@ pub record HasBegunWithin (whole : FrontValue) (count : ℕ) (bounds : Bounds) (
 
 -- the answers without the last one, where that is the value of a call that has ended and was not told so
 -- yet
-abbrev pub told_by_turn : Turn → List Given → List Given
-told_by_turn (Value value) answers = take (length answers - 1) answers
+abbrev pub told_by_turn : QueryTurn → List Given → List Given
+told_by_turn (turns.Ended (Ok value)) answers = take (length answers - 1) answers
 told_by_turn turn answers = answers
 
-abbrev pub told_answers : Option OpenCall → List Given → List Given
+abbrev pub told_answers : Option (OpenCall Query) → List Given → List Given
 told_answers None answers = answers
 told_answers (Some call) answers = told_by_turn call.turn answers
 
 -- the call's next turn is one of the core's, which has it open under its key while it asks; its value comes
 -- after all answers that were told; and it has lost no snapshot
-pub record IsRwCall (c : RwValue) (call : OpenCall) : Type 0 where
+pub record IsRwCall (c : RwValue) (call : OpenCall Query) : Type 0 where
   pub turn : IsRwTurn c call.turn
-  pub kind : IsOfCall call.turn
   pub key : IsAsk call.turn → c.call.top ≡ call.key
-  pub is_open : IsAsk call.turn → IsSome c.call.need
-  pub answers : c.answers ≡ answers_after (told_by_turn call.turn c.answers) call.key None call.turn
+  pub answers : c.answers ≡ answers_after (told_by_turn call.turn c.answers) call.key call.turn
   pub not_lost : IfTurnLost call.turn ⊥
 
-abbrev pub HasRwCall : RwValue → Option OpenCall → Type 0
+abbrev pub HasRwCall : RwValue → Option (OpenCall Query) → Type 0
 HasRwCall c None = IsRwIdle c
 HasRwCall c (Some call) = IsRwCall c call
 
@@ -134,29 +133,16 @@ IsActorThere next whole count (Some actor) = IsActor next whole count actor
 
 -- ---- turns of a call
 
--- the query that the turn asks, if it asks one
-abbrev pub asked_query : Turn → Option Query
-asked_query (Ask (requests.Query query stamp)) = Some query
-asked_query turn = None
-
--- the call has ended so
-abbrev pub IsEndOf : Turn → End → Type 0
-IsEndOf (Value value) end = end ≡ ends.Value value
-IsEndOf (Refused error) end = end ≡ ends.Refused error
-IsEndOf turn end = ⊥
-
 -- what is told of a query of a read-write transaction's own
-abbrev pub IsToldQuery : Turn → Reply → Type 0
-IsToldQuery (Rows rows) reply = reply ≡ replies.Answered rows
-IsToldQuery (Refused error) reply = reply ≡ replies.Refused (Transaction error)
-IsToldQuery turn reply = ⊥
+abbrev pub IsToldQuery : Result (Vec RowValue Global) TxnError → Reply → Type 0
+IsToldQuery (Ok rows) reply = reply ≡ replies.Answered rows
+IsToldQuery (Err error) reply = reply ≡ replies.Refused (Transaction error)
 
 -- a call that asks is open with its turn; else it has ended so
-abbrev pub IsNoted : {X : Type 0} → (Turn → X) → Turn → Option X → Option End → Type 0
-IsNoted opened (Ask request) call end = (call ≡ Some (opened (Ask request))) × (end ≡ None)
-IsNoted opened (Value value) call end = (call ≡ None) × (end ≡ Some (ends.Value value))
-IsNoted opened (Refused error) call end = (call ≡ None) × (end ≡ Some (ends.Refused error))
-IsNoted opened turn call end = ⊥
+abbrev pub IsNoted : {R X : Type 0} → (Turn R (List ℕ) → X) → Turn R (List ℕ) → Option X
+    → Option (Result (List ℕ) TxnError) → Type 0
+IsNoted opened (turns.Ask request) call end = (call ≡ Some (opened (turns.Ask request))) × (end ≡ None)
+IsNoted opened (turns.Ended result) call end = (call ≡ None) × (end ≡ Some result)
 
 -- the reach holds one of the members
 abbrev pub holds_any : Interval → List Pin → Bool
@@ -188,7 +174,7 @@ TxnBeginLeads renew_after bounds old new objects actor reply = ⊥
 -- a call is open, with the turn that its start came to
 pub record HasStarted (key : Call) (before : TxnValue) (actor : ActorValue) : Type 0 where
   pub txn : TxnValue
-  pub turn : Turn
+  pub turn : PortTurn
   pub actor_is : actor ≡ reads (record { txn = txn; call = Some (call_at_turn key turn) })
   pub leads : StartLeads before.core before.objects key txn.core txn.objects turn
   pub same : txn.core ≡ record before.core { call = txn.core.call; pinning = txn.core.pinning }
@@ -196,12 +182,12 @@ pub record HasStarted (key : Call) (before : TxnValue) (actor : ActorValue) : Ty
 -- One request of a transaction, as a step of the pass: the port that was asked did this, and the transaction
 -- went on with its reply.
 pub record HasAsked (next : Next) (pass : ℕ) (request : PortRequest) (old new : PortsValue)
-    (before after : TxnValue) (did : Did) (turn : Turn) : Type 0 where
+    (before after : TxnValue) (did : Did) (turn : PortTurn) : Type 0 where
   pub reply : PortReply
   pub port : Did
   pub right : IsReplyTo next request reply
   pub tells : DoesTell reply port
-  pub leads : PortRequestLeads pass before.core.seen request old new port reply
+  pub leads : PortRequestLeads pass before.core.seen request old new reply
   pub counts : did ≡ counted before.core.pins.members port
   pub went : HasGoneOn next before reply after turn
 
@@ -209,10 +195,10 @@ pub record HasAsked (next : Next) (pass : ℕ) (request : PortRequest) (old new 
 pub record HasRequested (next : Next) (pass : ℕ) (key : Call) (request : PortRequest) (old new : PortsValue)
     (before : TxnValue) (actor : ActorValue) (reply : Reply) : Type 0 where
   pub txn : TxnValue
-  pub call : Option CallValue
+  pub call : Option (CallValue PortRequest)
   pub did : Did
-  pub end : Option End
-  pub turn : Turn
+  pub end : Option (Result (List ℕ) TxnError)
+  pub turn : PortTurn
   pub actor_is : actor ≡ reads (record { txn = txn; call = call })
   pub reply_is : reply ≡ Asked did end
   pub asks : HasAsked next pass request old new before txn did turn
@@ -220,13 +206,12 @@ pub record HasRequested (next : Next) (pass : ℕ) (key : Call) (request : PortR
 
 -- a request at a turn of the open call: it is made; or the call had ended, which is told, and no port was
 -- asked
-abbrev pub RequestLeads : Next → ℕ → Call → Turn → PortsValue → PortsValue → TxnValue → ActorValue → Reply
+abbrev pub RequestLeads : Next → ℕ → Call → PortTurn → PortsValue → PortsValue → TxnValue → ActorValue → Reply
     → Type 0
-RequestLeads next pass key (Ask request) old new before actor reply =
+RequestLeads next pass key (turns.Ask request) old new before actor reply =
     HasRequested next pass key request old new before actor reply
-RequestLeads next pass key (Refused error) old new before actor reply = (new ≡ old)
-    × (actor ≡ reads (record { txn = before; call = None })) × (reply ≡ Ended (ends.Refused error))
-RequestLeads next pass key turn old new before actor reply = ⊥
+RequestLeads next pass key (turns.Ended result) old new before actor reply = (new ≡ old)
+    × (actor ≡ reads (record { txn = before; call = None })) × (reply ≡ Ended result)
 
 -- given up: every function is there still and idle, and the hold of the stamp, if there is one, is left
 abbrev pub IsGivenUp : Option ℕ → Objects → ActorValue → Type 0

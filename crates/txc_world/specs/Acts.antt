@@ -16,8 +16,9 @@ use Rattle.txc_world.specs.Kept.{KeepLeads}
 use Rattle.txc_world.specs.Cast.{ActorValue, ReadingValue, WritingValue, resting, reads, writes, leaves}
 use Rattle.txc_world.specs.Actors.{HasGivenBack, HasStarted, IsGivenUp, RequestLeads, TxnBeginLeads}
 use Rattle.txc_world.specs.Writing.{BeginRwLeads, CommitLeadsRw, HasFoundRw, HasStartedRw, RequestLeadsRw, WriteLeadsRw}
-use Rattle.txc_world.specs.Told.{after, begin_at, floor_at}
-use Rattle.txc_world.specs.Worlds.{IsTrueWorld, WorldValue}
+use Rattle.txc_world.specs.Tidy.{purse_after, IsTidy, LosesNoSnapshot, Purse}
+use Rattle.txc_world.specs.Told.{after, begin_at, floor_at, IsDue, IsExplainedIn}
+use Rattle.txc_world.specs.Worlds.{IsBalanced, IsTrueWorld, WorldValue}
 
 -- ---- a step of an actor
 
@@ -122,6 +123,17 @@ pub record HasStepped (next : Next) (old : WorldValue) (step : Step) (reply : Re
   pub told : new.told ≡ after old.told step reply
   pub leads : StepLeads next old step reply new
   pub world : IsTrueWorld next new
+
+-- A step was made: it leads so, is replied what is due, and explains what was told before it. Where each had what is
+-- its own and the step is tidy, each has so after it, and no snapshot is lost.
+pub record IsWholeStep (next : Next) (old : WorldValue) (step : Step) (reply : Reply) (new : WorldValue) : Type 0 where
+  pub told : new.told ≡ after old.told step reply
+  pub leads : StepLeads next old step reply new
+  pub world : IsTrueWorld next new
+  pub due : IsDue old.told step reply
+  pub explained : IsExplainedIn next new.told.history old.told step reply
+  pub balanced : (purse : Purse) → IsBalanced old purse → IsTidy step reply purse
+      → IsBalanced new (purse_after step reply purse) × LosesNoSnapshot step reply
 
 -- the steps lead from the one world to the other: each to a world that is true, from which the next one leads on
 abbrev pub AreLed : Next → WorldValue → List Step → List Reply → WorldValue → Type 0

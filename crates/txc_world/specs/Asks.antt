@@ -7,6 +7,7 @@ use Rattle.txc_validity.specs.declared.answer.Found.{Found}
 use Rattle.txc_validity.specs.Answers.{IsAnswer}
 use Rattle.txc_db.specs.declared.answered.Answered.{Answered}
 use Rattle.txc_db.specs.declared.error.DbError.{DbError}
+use Rattle.txc_db.specs.declared.error.DbError.TheVariants.{Memory}
 use Rattle.txc_db.specs.declared.pinned.Pinned.{Pinned}
 use Rattle.txc_db.specs.History.{moment_at, state_at}
 use Rattle.txc_db.specs.Seen.{FrontValue}
@@ -19,6 +20,8 @@ use Rattle.txc_cushion.specs.Refusals.{IsAddable, IsAddRefused}
 use Rattle.txc_app.specs.Eval.{Next}
 use Rattle.txc_shared.specs.declared.insertion.Insertion.{Insertion}
 use Rattle.txc_shared.specs.declared.insertion.Insertion.TheVariants as insertions
+use Rattle.txc_ports.specs.declared.kept.Kept.{Kept}
+use Rattle.txc_ports.specs.declared.kept.Kept.TheVariants as kepts
 use Rattle.txc_ports.specs.declared.request.PortRequest.{PortRequest}
 use Rattle.txc_ports.specs.declared.request.PortRequest.TheVariants as requests
 use Rattle.txc_ports.specs.declared.reply.PortReply.{PortReply}
@@ -28,8 +31,7 @@ use Rattle.txc_ports.specs.Fronts.{front_of_reply as shown_by}
 use Rattle.txc_world.specs.declared.did.RowsFound.{RowsFound}
 use Rattle.txc_world.specs.declared.did.Did.{Did}
 use Rattle.txc_world.specs.declared.did.Did.TheVariants as dids
-use Rattle.txc_world.specs.declared.asked.Asked.{Asked}
-use Rattle.txc_world.specs.Told.{did_in}
+use Rattle.txc_world.specs.Books.{AskCounts}
 use Rattle.txc_world.specs.Parts.{IsPartOf}
 use Rattle.txc_world.specs.NodeSteps.{LookupLeads, InsertLeads}
 use Rattle.txc_world.specs.Ports.{PortsValue, whole_of, KeepsRow, HasRefused, HasLedNode}
@@ -113,25 +115,37 @@ DoesTellFound (Err e) did = did ≡ dids.Refused e
 
 -- ---- requests
 
--- an insertion, as it is told: no node's is dropped
-abbrev pub did_insert : Option Insertion → Did
-did_insert (Some (insertions.Stored reach)) = dids.Stored reach
-did_insert (Some insertions.Kept) = dids.Kept
-did_insert None = dids.Dropped
+-- what a node keeps that made the insertion; nothing where it refused
+abbrev pub kept_after : Option Insertion → Option Kept
+kept_after (Some (insertions.Stored reach)) = Some (kepts.Stored reach)
+kept_after (Some insertions.Kept) = Some kepts.Earlier
+kept_after None = None
 
--- what a port did, as it is told, is what the transaction is given
+-- what is told of a port is its reply to the transaction; of rows found, their ids with their reach and tags
 abbrev pub DoesTell : PortReply → Did → Type 0
 DoesTell (replies.Pin (Ok pinned)) did = did ≡ dids.Pinned pinned.stamp
 DoesTell (replies.Pin (Err e)) did = did ≡ dids.Refused e
 DoesTell (replies.AddPin pinned (Ok added)) did = did ≡ dids.Added
 DoesTell (replies.AddPin pinned (Err e)) did = did ≡ dids.NotAdded e
-DoesTell replies.Unpin did = (did ≡ dids.Unpinned) ⊎ ((e : DbError) × (did ≡ dids.Refused e))
+DoesTell (replies.Unpin (Ok unpinned)) did = did ≡ dids.Unpinned
+DoesTell (replies.Unpin (Err e)) did = did ≡ dids.Refused e
 DoesTell (replies.Lookup (Some hit)) did = did ≡ dids.Hit hit.answer.reach
 DoesTell (replies.Lookup None) did = did ≡ dids.Miss
 DoesTell (replies.Query (Ok found)) did = (rows : RowsFound) × (did ≡ dids.Rows rows)
     × IsToldOf found.answer rows
 DoesTell (replies.Query (Err e)) did = did ≡ dids.Refused e
-DoesTell replies.Insert did = (made : Option Insertion) × (did ≡ did_insert made)
+DoesTell (replies.Insert (Some (kepts.Stored reach))) did = did ≡ dids.Stored reach
+DoesTell (replies.Insert (Some kepts.Earlier)) did = did ≡ dids.Kept
+DoesTell (replies.Insert None) did = did ≡ dids.Dropped
+
+-- the reply answers a query
+abbrev pub AnswersRows : PortReply → Type 0
+AnswersRows (replies.Query (Ok found)) = Unit {0}
+AnswersRows reply = ⊥
+
+-- the reply as it is told: itself, or, of a query that is out of memory for that, a refusal
+abbrev pub IsTold : PortReply → PortReply → Type 0
+IsTold reply told = (told ≡ reply) ⊎ (AnswersRows reply × (told ≡ replies.Query (Err Memory)))
 
 -- of a hold, by what is told
 abbrev pub UnpinTold : ℕ → PortsValue → PortsValue → Did → Type 0
@@ -142,34 +156,35 @@ UnpinTold stamp old new did = ⊥
 
 -- What comes of a request: a pin, or the hold of one taken away; a pin added; a lookup or an insertion at
 -- the node of its number, as a step of the pass; or a query, which changes nothing.
-abbrev pub PortRequestLeads : ℕ → FrontValue → PortRequest → PortsValue → PortsValue → Did → PortReply → Type 0
-PortRequestLeads pass seen (requests.Pin now at_least) old new did (replies.Pin pinned) =
+abbrev pub PortRequestLeads : ℕ → FrontValue → PortRequest → PortsValue → PortsValue → PortReply → Type 0
+PortRequestLeads pass seen (requests.Pin now at_least) old new (replies.Pin pinned) =
     PinLeads now at_least old new pinned
-PortRequestLeads pass seen (requests.AddPin pinned) old new did (replies.AddPin given added) =
+PortRequestLeads pass seen (requests.AddPin pinned) old new (replies.AddPin given added) =
     AddLeads pinned old new added
-PortRequestLeads pass seen (requests.Unpin stamp) old new did replies.Unpin = UnpinTold stamp old new did
-PortRequestLeads pass seen (requests.Lookup node key lo hi) old new did (replies.Lookup hit) =
+PortRequestLeads pass seen (requests.Unpin stamp) old new (replies.Unpin unpinned) =
+    UnpinLeads stamp old new unpinned
+PortRequestLeads pass seen (requests.Lookup node key lo hi) old new (replies.Lookup hit) =
     HasLedNode node (λ was is. LookupLeads pass key lo hi was is (option_map (λ h. h.answer) hit)) old new
-PortRequestLeads pass seen (requests.Query query stamp) old new did (replies.Query found) =
+PortRequestLeads pass seen (requests.Query query stamp) old new (replies.Query found) =
     (new ≡ old) × FindLeads query stamp old found
-PortRequestLeads pass seen (requests.Insert node entry) old new did replies.Insert = (made : Option Insertion)
-    × (did ≡ did_insert made)
+PortRequestLeads pass seen (requests.Insert node entry) old new (replies.Insert kept) = (made : Option Insertion)
+    × (kept ≡ kept_after made)
     × HasLedNode node (λ was is. InsertLeads pass seen entry was is made) old new
-PortRequestLeads pass seen request old new did reply = ⊥
+PortRequestLeads pass seen request old new reply = ⊥
 
 -- the request asks for this moment, where it asks for a pin
 abbrev pub IsAskedAt : ℕ → PortRequest → Type 0
 IsAskedAt now (requests.Pin moment at_least) = moment ≡ now
 IsAskedAt now request = Unit {0}
 
--- The reply is one to the request, right in the history that it shows, which is part of the whole; it is
--- what is told of the port, and of the history.
-pub record IsAsked (next : Next) (request : PortRequest) (old new : PortsValue) (asked : Asked) : Type 0 where
-  pub reply : IsReplyTo next request asked.reply
-  pub row : IsOfRow old.database.events asked.reply
-  pub shown : ForSome (shown_by asked.reply) (λ front. IsPartOf (whole_of new) front)
-  pub tells : DoesTell asked.reply asked.did
-  pub history : (now : ℕ) → IsAskedAt now request
-      → new.database.history ≡ did_in asked.did now old.database.history
+-- The reply is one to the request, right in the history that it shows, which is part of the whole. The port that
+-- was asked left the ports so, as a step of the pass; and holds and users came and went fairly.
+pub record IsAsked (next : Next) (pass : ℕ) (seen : FrontValue) (request : PortRequest) (old new : PortsValue)
+    (reply : PortReply) : Type 0 where
+  pub to : IsReplyTo next request reply
+  pub row : IsOfRow old.database.events reply
+  pub shown : ForSome (shown_by reply) (λ front. IsPartOf (whole_of new) front)
+  pub leads : PortRequestLeads pass seen request old new reply
   pub keeps : KeepsRow old new
   pub spare : new.spare ≡ old.spare
+  pub counts : AskCounts request old new reply

@@ -14,9 +14,8 @@ use Rattle.txc_ports.specs.declared.reply.PortReply.{PortReply}
 use Rattle.txc_txn.specs.Core.{left_after, left_pin, taken_after, CoreValue}
 use Rattle.txc_world.specs.declared.actor.Actor.{Actor}
 use Rattle.txc_world.specs.declared.actor.Actor.TheVariants.{Idle, Reading, Writing, Leaving}
-use Rattle.txc_world.specs.declared.did.Did.{Did}
 use Rattle.txc_world.specs.declared.reply.Reply.{Reply}
-use Rattle.txc_world.specs.Losing.{IfDidLose, IfReplyLost}
+use Rattle.txc_world.specs.Losing.{IfPortLoses, IfReplyLost}
 use Rattle.txc_world.specs.Ports.{PortsValue}
 
 -- what an actor has: the stamps of the pins that it was handed or added, of each of which it is a user; and
@@ -107,9 +106,9 @@ abbrev pub gained : PortReply → Account
 gained reply = record { taken = taken_after [] reply; own = stamp_if_any (left_after reply) }
 
 -- what is asked at the stamp is gone only where it is held no more; and nothing else is refused so
-abbrev pub LosesOnlyUnheld : PortRequest → PortsValue → Did → Type 0
-LosesOnlyUnheld (requests.Query query stamp) p did = IfDidLose did (times stamp p.database.holds ≡ 0)
-LosesOnlyUnheld request p did = IfDidLose did ⊥
+abbrev pub LosesOnlyUnheld : PortRequest → PortsValue → PortReply → Type 0
+LosesOnlyUnheld (requests.Query query stamp) p reply = IfPortLoses reply (times stamp p.database.holds ≡ 0)
+LosesOnlyUnheld request p reply = IfPortLoses reply ⊥
 
 -- a stamp of the account is held no more
 pub record HasLost (p : PortsValue) (account : Account) : Type 0 where
@@ -118,10 +117,9 @@ pub record HasLost (p : PortsValue) (account : Account) : Type 0 where
   pub lost : times stamp p.database.holds ≡ 0
 
 -- one request of a transaction: it is fair, and is refused as gone only where that is so
-pub record AskCounts (request : PortRequest) (old new : PortsValue) (did : Did) (reply : PortReply)
-    : Type 0 where
+pub record AskCounts (request : PortRequest) (old new : PortsValue) (reply : PortReply) : Type 0 where
   pub fair : IsFair old new (spent request) (gained reply)
-  pub gone : LosesOnlyUnheld request old did
+  pub gone : LosesOnlyUnheld request old reply
 
 -- one step of an actor: it is fair, and is refused for a snapshot that is gone only where one of its own is
 pub record ActCounts (old new : PortsValue) (before after : Account) (reply : Reply) : Type 0 where

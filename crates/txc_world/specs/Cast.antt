@@ -1,8 +1,10 @@
 -- What callers see of an actor.
-use Rattle.std.specs.Prelude.{ℕ, [], Option, None, Some}
+use Rattle.std.specs.Prelude.{ℕ, List, [], Option, None, Some}
 use Rattle.std.specs.Option.{option_map}
 use Rattle.txc_tags.specs.Keys.{Call}
 use Rattle.txc_registry.specs.Objects.{Objects}
+use Rattle.txc_rows.specs.declared.query.Query.{Query}
+use Rattle.txc_ports.specs.declared.request.PortRequest.{PortRequest}
 use Rattle.txc_ports.specs.declared.turn.Turn.{Turn}
 use Rattle.txc_txn.specs.Kept.{TxnValue}
 use Rattle.txc_rw.specs.Core.{RwValue}
@@ -13,20 +15,20 @@ use Rattle.txc_world.specs.declared.actor.Actor.{Actor}
 use Rattle.txc_world.specs.declared.actor.Actor.TheVariants.{Idle, Reading, Writing, Leaving}
 
 -- a call that did not end for its caller yet: its key, and what it does next
-pub record CallValue : Type 0 where
+pub record CallValue (R : Type 0) : Type 0 where
   pub key : Call
-  pub turn : Turn
+  pub turn : Turn R (List ℕ)
 
 -- an open read-only transaction, with its call, if one is open
 pub record ReadingValue : Type 0 where
   pub txn : TxnValue
-  pub call : Option CallValue
+  pub call : Option (CallValue PortRequest)
 
 -- an open read-write transaction, with what its objects do and its call, if one is open
 pub record WritingValue : Type 0 where
   pub core : RwValue
   pub objects : Objects
-  pub call : Option CallValue
+  pub call : Option (CallValue Query)
 
 -- an actor has nothing open; or a read-only or a read-write transaction; or that has ended, and it has the hold
 -- of a stamp still to take away
@@ -37,16 +39,16 @@ pub data ActorValue : Type 0 where
   leaves : Objects → ℕ → ActorValue
 
 -- a call of this key, by its turn
-abbrev pub call_at_turn : Call → Turn → CallValue
+abbrev pub call_at_turn : {R : Type 0} → Call → Turn R (List ℕ) → CallValue R
 call_at_turn key turn = record { key = key; turn = turn }
 
 -- ---- what they are made from
 
 -- the same as it is kept
-abbrev pub opened : Call → Turn → OpenCall
+abbrev pub opened : {R : Type 0} → Call → Turn R (List ℕ) → OpenCall R
 opened key turn = record { key = key; turn = turn }
 
-abbrev pub call_value : OpenCall → CallValue
+abbrev pub call_value : {R : Type 0} → OpenCall R → CallValue R
 call_value call = call_at_turn call.key call.turn
 
 abbrev pub reading_value : {A C : Type 0} → OpenTxn A C → ReadingValue

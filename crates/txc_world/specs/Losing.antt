@@ -1,15 +1,15 @@
 -- What is refused for a snapshot that is gone.
-use Rattle.std.specs.Prelude.{Option, Some}
+use Rattle.std.specs.Prelude.{List, ℕ, Option, None, Some, Result, Ok, Err}
 use Rattle.txc_db.specs.declared.error.DbError.{DbError}
 use Rattle.txc_db.specs.declared.error.DbError.TheVariants.{SnapshotGone}
 use Rattle.txc_ports.specs.declared.error.TxnError.{TxnError}
 use Rattle.txc_ports.specs.declared.error.TxnError.TheVariants.{SnapshotLost}
+use Rattle.txc_ports.specs.declared.reply.PortReply.{PortReply}
+use Rattle.txc_ports.specs.declared.reply.PortReply.TheVariants as ports
 use Rattle.txc_ports.specs.declared.turn.Turn.{Turn}
 use Rattle.txc_ports.specs.declared.turn.Turn.TheVariants as turns
 use Rattle.txc_world.specs.declared.did.Did.{Did}
 use Rattle.txc_world.specs.declared.did.Did.TheVariants as dids
-use Rattle.txc_world.specs.declared.reply.End.{End}
-use Rattle.txc_world.specs.declared.reply.End.TheVariants as ends
 use Rattle.txc_world.specs.declared.reply.Reply.{Reply}
 use Rattle.txc_world.specs.declared.reply.Reply.TheVariants.{Asked, Ended, Refused}
 use Rattle.txc_world.specs.declared.reply.Refusal.TheVariants.{Transaction}
@@ -25,24 +25,36 @@ IfLost (SnapshotLost horizon) P = P
 IfLost error P = Unit {0}
 
 -- this is so, where a port refused for a snapshot that is gone
+abbrev pub IfPortLoses : PortReply → Type 0 → Type 0
+IfPortLoses (ports.Pin (Err error)) P = IfGone error P
+IfPortLoses (ports.Unpin (Err error)) P = IfGone error P
+IfPortLoses (ports.Query (Err error)) P = IfGone error P
+IfPortLoses reply P = Unit {0}
+
+-- the same of what is told of a port
 abbrev pub IfDidLose : Did → Type 0 → Type 0
 IfDidLose (dids.Refused error) P = IfGone error P
 IfDidLose did P = Unit {0}
 
--- this is so, where the turn is a refusal for a snapshot that is gone
-abbrev pub IfTurnLost : Turn → Type 0 → Type 0
-IfTurnLost (turns.Refused error) P = IfLost error P
-IfTurnLost turn P = Unit {0}
+-- this is so, where what a transaction did was refused for a snapshot that is gone
+abbrev pub IfResultLost : {T : Type 0} → Result T TxnError → Type 0 → Type 0
+IfResultLost (Err error) P = IfLost error P
+IfResultLost (Ok value) P = Unit {0}
+
+-- this is so, where it has ended so at the turn
+abbrev pub IfTurnLost : {R T : Type 0} → Turn R T → Type 0 → Type 0
+IfTurnLost (turns.Ended result) P = IfResultLost result P
+IfTurnLost (turns.Ask request) P = Unit {0}
 
 -- this is so, where a call has ended for a snapshot that is gone
-abbrev pub IfEndLost : Option End → Type 0 → Type 0
-IfEndLost (Some (ends.Refused error)) P = IfLost error P
-IfEndLost end P = Unit {0}
+abbrev pub IfEndLost : Option (Result (List ℕ) TxnError) → Type 0 → Type 0
+IfEndLost (Some result) P = IfResultLost result P
+IfEndLost None P = Unit {0}
 
 -- This is so, where the reply tells of a snapshot that is gone: of a request that a port refused so, of a call
 -- that has ended so, or of a query of the transaction's own.
 abbrev pub IfReplyLost : Reply → Type 0 → Type 0
 IfReplyLost (Asked did end) P = IfDidLose did P × IfEndLost end P
-IfReplyLost (Ended end) P = IfEndLost (Some end) P
+IfReplyLost (Ended result) P = IfResultLost result P
 IfReplyLost (Refused (Transaction error)) P = IfLost error P
 IfReplyLost reply P = Unit {0}

@@ -1,5 +1,5 @@
 -- What a list of steps and replies tells of a world.
-use Rattle.std.specs.Prelude.{◌≡◌, ◌⊎◌, ℕ, ◌+◌, ◌<◌, ◌≤◌, max, nat_lt, if◌then◌else◌, List, [], ◌∷◌, ◌++◌, length, take, Option, Some, None, slice_get, slice_index_or, slice_set, MatchOption}
+use Rattle.std.specs.Prelude.{◌≡◌, ◌⊎◌, ℕ, ◌+◌, ◌<◌, ◌≤◌, max, nat_lt, if◌then◌else◌, List, [], ◌∷◌, ◌++◌, length, take, Option, Some, None, Result, Ok, Err, slice_get, slice_index_or, slice_set, MatchOption}
 use Rattle.txc_tags.specs.Keys.{Call}
 use Rattle.txc_rows.specs.declared.query.Change.{Change}
 use Rattle.txc_db.specs.History.{History, commit_event, pin_event, state_at}
@@ -7,6 +7,7 @@ use Rattle.txc_db.specs.DatabaseValue.{is_held, without}
 use Rattle.txc_cushion.specs.declared.pin.Pin.{Pin}
 use Rattle.txc_app.specs.Eval.{Next}
 use Rattle.txc_ports.specs.declared.bounds.Bounds.{Bounds}
+use Rattle.txc_ports.specs.declared.error.TxnError.{TxnError}
 use Rattle.txc_ports.specs.declared.recorded.Recorded.{Recorded}
 use Rattle.txc_txn.specs.Core.{Explains}
 use Rattle.txc_txn.specs.Sessions.{floor_after}
@@ -25,8 +26,6 @@ use Rattle.txc_world.specs.declared.step.Step.{Step}
 use Rattle.txc_world.specs.declared.step.Step.TheVariants.{Actor, BeginIn, Keeper}
 use Rattle.txc_world.specs.declared.did.Did.{Did}
 use Rattle.txc_world.specs.declared.did.Did.TheVariants.{Pinned}
-use Rattle.txc_world.specs.declared.reply.End.{End}
-use Rattle.txc_world.specs.declared.reply.End.TheVariants as ends
 use Rattle.txc_world.specs.declared.reply.Reply.{Reply}
 use Rattle.txc_world.specs.declared.reply.Reply.TheVariants as replies
 use Rattle.txc_world.specs.declared.reply.Reply.TheVariants.{Begun, Based, Started, Asked, Ended, Answered, Kept, Receipt, Aborted, At, Refused}
@@ -74,21 +73,21 @@ with_answered_call None value answers = answers
 with_answered_call (Some key) value answers = answers ++ record { key = key; value = value } ∷ []
 
 -- the call has ended so, or goes on
-abbrev pub after_end : Option End → Reading → Reading
+abbrev pub after_end : Option (Result (List ℕ) TxnError) → Reading → Reading
 after_end None r = r
-after_end (Some (ends.Value value)) r = record r { call = None; answers = with_answered_call r.call value r.answers }
-after_end (Some (ends.Refused error)) r = record r { call = None }
+after_end (Some (Ok value)) r = record r { call = None; answers = with_answered_call r.call value r.answers }
+after_end (Some (Err error)) r = record r { call = None }
 
 -- the same of a read-write transaction
 abbrev pub given_of : Option Call → List ℕ → List Given → List Given
 given_of None value answers = answers
 given_of (Some key) value answers = answers ++ given.Value key value ∷ []
 
-abbrev pub writing_on : Option End → Writing → Writing
+abbrev pub writing_on : Option (Result (List ℕ) TxnError) → Writing → Writing
 writing_on None w = w
-writing_on (Some (ends.Value value)) w =
+writing_on (Some (Ok value)) w =
     record w { call = None; answers = given_of w.call value w.answers }
-writing_on (Some (ends.Refused error)) w = record w { call = None }
+writing_on (Some (Err error)) w = record w { call = None }
 
 -- given up, with this hold to take away
 abbrev pub given_up : Option ℕ → Story

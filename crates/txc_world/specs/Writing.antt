@@ -1,9 +1,10 @@
 -- What comes of a step of a read-write transaction.
-use Rattle.std.specs.Prelude.{◌≡◌, ◌⊎◌, ℕ, List, [], ◌∷◌, ◌++◌, Result, Ok, Err, Option, Some, None, IsNone, IsSome, MatchOption}
+use Rattle.std.specs.Prelude.{◌≡◌, ◌⊎◌, ℕ, List, [], ◌∷◌, ◌++◌, Vec, Result, Ok, Err, Option, Some, None, IsNone, IsSome}
+use Rattle.std.specs.declared.alloc.Global.{Global}
 use Rattle.txc_tags.specs.Keys.{Call}
 use Rattle.txc_rows.specs.declared.query.Query.{Query}
 use Rattle.txc_rows.specs.declared.query.Change.{Change}
-use Rattle.txc_rows.specs.States.{State}
+use Rattle.txc_rows.specs.States.{RowValue, State}
 use Rattle.txc_validity.specs.declared.answer.Found.{Found}
 use Rattle.txc_db.specs.declared.error.DbError.{DbError}
 use Rattle.txc_db.specs.History.{state_at}
@@ -11,14 +12,15 @@ use Rattle.txc_app.specs.Eval.{Next}
 use Rattle.txc_registry.specs.Objects.{activity_of, Objects}
 use Rattle.txc_call.specs.declared.error.CallError.TheVariants.{NoFunction}
 use Rattle.txc_call.specs.Calling.{started}
+use Rattle.txc_ports.specs.declared.error.TxnError.{TxnError}
 use Rattle.txc_ports.specs.declared.error.TxnError.TheVariants.{Call as CallRefused, Memory}
-use Rattle.txc_ports.specs.declared.turn.Turn.{Turn}
 use Rattle.txc_ports.specs.declared.turn.Turn.TheVariants as turns
 use Rattle.txc_ports.specs.Refusals.{refused_request}
-use Rattle.txc_rw.specs.Core.{queried_after, tags_read, IsBegun, RwValue}
+use Rattle.txc_rw.specs.declared.given.Given.{Given}
+use Rattle.txc_rw.specs.declared.given.Given.TheVariants as given
+use Rattle.txc_rw.specs.Core.{queried_after, tags_read, IsBegun, QueryTurn, RwValue}
 use Rattle.txc_rw.specs.Leading.{standing_of, RwCallLeads}
 use Rattle.txc_world.specs.declared.did.Did.{Did}
-use Rattle.txc_world.specs.declared.reply.End.{End}
 use Rattle.txc_world.specs.declared.reply.Reply.{Reply}
 use Rattle.txc_world.specs.declared.reply.Reply.TheVariants.{Asked, At, Based, Ended, Kept, Refused}
 use Rattle.txc_world.specs.declared.reply.Refusal.TheVariants.{Database}
@@ -26,7 +28,7 @@ use Rattle.txc_world.specs.Ports.{PortsValue}
 use Rattle.txc_world.specs.Asks.{DoesTellFound, HoldLeads, QueryLeads}
 use Rattle.txc_world.specs.Keeping.{CommitLeads}
 use Rattle.txc_world.specs.Cast.{call_at_turn, ActorValue, CallValue, WritingValue, resting, writes}
-use Rattle.txc_world.specs.Actors.{asked_query, IsEndOf, IsGivenUp, IsNoted, IsToldQuery}
+use Rattle.txc_world.specs.Actors.{IsGivenUp, IsNoted, IsToldQuery}
 
 -- a transaction began at the newest stamp, which is held, with the functions as they are; or the database
 -- refused that, and nothing is open, as before
@@ -42,18 +44,18 @@ BeginRwLeads old new objects actor reply = ⊥
 pub record HasStartedRw (next : Next) (key : Call) (before : WritingValue) (actor : ActorValue) : Type 0 where
   pub core : RwValue
   pub objects : Objects
-  pub turn : Turn
+  pub turn : QueryTurn
   pub actor_is : actor ≡ writes (record { core = core; objects = objects; call = Some (call_at_turn key turn) })
   pub leads : IsSome (activity_of before.objects key.function)
       → (s : State) → RwCallLeads next s (standing_of (started key) before.objects) [] core objects turn
   pub missing : IsNone (activity_of before.objects key.function)
-      → turn ≡ turns.Refused (CallRefused (NoFunction key.function))
+      → turn ≡ turns.Ended (Err (CallRefused (NoFunction key.function)))
   pub same : core ≡ record before.core { answers = core.answers; call = core.call; reading = core.reading }
 
 -- One request of a call: its query was asked at the base, and counts as read where it was answered; the call
 -- went on with the rows, or was refused as the database refused.
 pub record HasAskedRw (next : Next) (query : Query) (p : PortsValue) (before after : RwValue)
-    (was is : Objects) (did : Did) (turn : Turn) : Type 0 where
+    (was is : Objects) (did : Did) (turn : QueryTurn) : Type 0 where
   pub found : Result Found DbError
   pub answer : QueryLeads query before.base p found
   pub tells : DoesTellFound found did
@@ -61,7 +63,7 @@ pub record HasAskedRw (next : Next) (query : Query) (p : PortsValue) (before aft
   pub leads : (f : Found) → found ≡ Ok f
       → RwCallLeads next (state_at p.database.history before.base) (standing_of before.call was) (query ∷ [])
       after is turn
-  pub refused : (e : DbError) → found ≡ Err e → turn ≡ turns.Refused (refused_request e)
+  pub refused : (e : DbError) → found ≡ Err e → turn ≡ turns.Ended (Err (refused_request e))
   pub same : after ≡ record before {
     queried = after.queried;
     answers = after.answers;
@@ -74,51 +76,49 @@ pub record HasRequestedRw (next : Next) (key : Call) (query : Query) (p : PortsV
     (actor : ActorValue) (reply : Reply) : Type 0 where
   pub core : RwValue
   pub objects : Objects
-  pub call : Option CallValue
+  pub call : Option (CallValue Query)
   pub did : Did
-  pub end : Option End
-  pub turn : Turn
+  pub end : Option (Result (List ℕ) TxnError)
+  pub turn : QueryTurn
   pub actor_is : actor ≡ writes (record { core = core; objects = objects; call = call })
   pub reply_is : reply ≡ Asked did end
   pub asks : HasAskedRw next query p before.core core before.objects objects did turn
   pub noted : IsNoted (call_at_turn key) turn call end
 
--- the call had ended so before any request, which is told, and nothing else has changed
-pub record HasEndedRw (turn : Turn) (before : WritingValue) (actor : ActorValue) (reply : Reply) : Type 0 where
-  pub end : End
-  pub ends : IsEndOf turn end
-  pub reply_is : reply ≡ Ended end
-  pub actor_is : actor ≡ writes (record before { call = None })
-
--- a request at a turn of the open call: its query is asked; or the call had ended, which is told
-abbrev pub RequestLeadsRw : Next → Call → Turn → PortsValue → WritingValue → ActorValue → Reply → Type 0
-RequestLeadsRw next key turn p before actor reply = MatchOption (asked_query turn)
-    (HasEndedRw turn before actor reply)
-    (λ query. HasRequestedRw next key query p before actor reply)
+-- a request at a turn of the open call: its query is asked; or the call had ended, which is told, and nothing else
+-- has changed
+abbrev pub RequestLeadsRw : Next → Call → QueryTurn → PortsValue → WritingValue → ActorValue → Reply → Type 0
+RequestLeadsRw next key (turns.Ask query) p before actor reply = HasRequestedRw next key query p before actor reply
+RequestLeadsRw next key (turns.Ended result) p before actor reply = (actor ≡ writes (record before { call = None }))
+    × (reply ≡ Ended result)
 
 -- a query of its own: its rows are those that were found at the base; or it is refused as the database
 -- refused, or as out of memory
-abbrev pub FindLeadsRw : Query → ℕ → PortsValue → Turn → Type 0
-FindLeadsRw query base p (turns.Rows rows) = (found : Found) × QueryLeads query base p (Ok found)
+abbrev pub FindLeadsRw : Query → ℕ → PortsValue → Result (Vec RowValue Global) TxnError → Type 0
+FindLeadsRw query base p (Ok rows) = (found : Found) × QueryLeads query base p (Ok found)
     × (rows.items ≡ found.rows.items)
-FindLeadsRw query base p (turns.Refused e) = (e ≡ Memory)
+FindLeadsRw query base p (Err e) = (e ≡ Memory)
     ⊎ ((cause : DbError) × QueryLeads query base p (Err cause) × (e ≡ refused_request cause))
-FindLeadsRw query base p turn = ⊥
 
--- a query whose rows are the turn's was read, beside those before it; one that is refused may have been
-abbrev pub IsRead : Query → List Query → List Query → Turn → Type 0
-IsRead query old new (turns.Rows rows) = new ≡ old ++ query ∷ []
-IsRead query old new turn = (new ≡ old ++ query ∷ []) ⊎ (new ≡ old)
+-- a query whose rows were answered was read, beside those before it; one that is refused may have been
+abbrev pub IsRead : Query → List Query → List Query → Result (Vec RowValue Global) TxnError → Type 0
+IsRead query old new (Ok rows) = new ≡ old ++ query ∷ []
+IsRead query old new (Err e) = (new ≡ old ++ query ∷ []) ⊎ (new ≡ old)
+
+-- the rows of a query of its own are one answer more
+abbrev pub with_rows : Query → List Given → Result (Vec RowValue Global) TxnError → List Given
+with_rows query answers (Ok rows) = answers ++ given.Rows query rows.items ∷ []
+with_rows query answers (Err e) = answers
 
 -- a query of its own came to this, and no call is open
 pub record HasFoundRw (query : Query) (p : PortsValue) (before : WritingValue) (actor : ActorValue)
     (reply : Reply) : Type 0 where
   pub core : RwValue
-  pub turn : Turn
-  pub told : IsToldQuery turn reply
-  pub found : FindLeadsRw query before.core.base p turn
+  pub result : Result (Vec RowValue Global) TxnError
+  pub told : IsToldQuery result reply
+  pub found : FindLeadsRw query before.core.base p result
   pub actor_is : actor ≡ writes (record { core = core; objects = before.objects; call = None })
-  pub read : IsRead query before.core.queried core.queried turn
+  pub read : IsRead query before.core.queried core.queried result
   pub same : core ≡ record before.core { queried = core.queried; answers = core.answers }
 
 -- the change stands after those before it; or nothing has changed

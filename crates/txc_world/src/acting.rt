@@ -2,8 +2,8 @@
 ghost use Rattle.std.specs.Prelude.{◌≡◌, ℕ, ◌≤◌, ◌<◌, All, IfNone, IfOk, IfSome, None, OnErr, Some, length, map, vec_len};
 ghost use Rattle.txc_registry.specs.Objects.{AllIdle, Objects};
 ghost use Rattle.txc_app.specs.Eval.{Next};
-ghost use Rattle.txc_rw.specs.Core.{IsOfCall};
 ghost use Rattle.txc_txn.specs.Core.{open_call, recorded_after, value_of, CoreAsks, CoreHolds, IsCore, IsTurn};
+ghost use Rattle.txc_ports.specs.Asking.{AddsSuch};
 ghost use Rattle.txc_ports.specs.Turns.{IsAsk};
 ghost use Rattle.txc_world.specs.Acted.{ActsAt, ActsThere, IsActed};
 ghost use Rattle.txc_world.specs.Actors.{counted, holds_any, AddsPart, CoreHasBegun, DropsNone, HasAsked, HasBegunWithin, IsActor, IsActorThere, IsNoted, IsOpenTxn};
@@ -16,17 +16,17 @@ ghost use Rattle.txc_world.specs.Ports.{whole_of, KeepsRow};
 ghost use Rattle.txc_world.specs.Told.{did_in};
 
 use crate::actor::{Actor, OpenCall, OpenTxn, put_back, take_out};
-use crate::asked::{Asked, Went};
+use crate::asking::told;
 use crate::did::Did;
 use crate::ports::Ports;
-use crate::reply::{End, Refusal, Reply};
+use crate::reply::{Refusal, Reply};
 use crate::step::Act;
 use crate::writing::{act_writing, begin_rw};
 use std::alloc::{AllocError, Global};
 use txc_app::App;
 use txc_cushion::Pin;
-use txc_cushion::laws::give_back_counts_users;
-use txc_ports::{Bounds, PortRequest, Turn};
+use txc_node::Value;
+use txc_ports::{Bounds, PortRequest, Turn, TxnError};
 use txc_registry::{Cacheable, Registry};
 use txc_stamp::{Reach, Stamp};
 use txc_tags::Key;
@@ -135,41 +135,44 @@ fn go_on<A: App, C: Cacheable>(
     pass: usize,
     txn: &mut RunningTxn<A, C>,
     request: PortRequest,
-) -> Went
+) -> (Did, Turn<PortRequest, Value>)
     requires own { pass < ports.old.actors }
     requires asks { CoreAsks txn.old.core request }
     requires seen { IsPartOf (whole_of ports.old) txn.old.core.seen }
     requires nodes { txn.old.core.nodes ≡ length ports.old.nodes }
-    requires adds { AddsPart (whole_of ports.old) (Turn.Ask request) }
+    requires adds { AddsSuch (IsPartOf (whole_of ports.old)) request }
     requires drops { DropsNone txn.old.core }
-    ensures asks { HasAsked A.next pass request ports.old ports.new txn.old txn.new result.did result.turn }
-    ensures turn { IsTurn txn.new.core result.turn }
-    ensures goes_on { IsAsk result.turn → open_call txn.new.core ≡ open_call txn.old.core }
+    ensures asks { HasAsked A.next pass request ports.old ports.new txn.old txn.new result.0 result.1 }
+    ensures turn { IsTurn txn.new.core result.1 }
+    ensures goes_on { IsAsk result.1 → open_call txn.new.core ≡ open_call txn.old.core }
     ensures recorded { txn.new.core.recorded
-        ≡ recorded_after txn.old.core.recorded result.turn (open_call txn.old.core) }
+        ≡ recorded_after txn.old.core.recorded result.1 (open_call txn.old.core) }
     ensures bounds { txn.new.core.bounds ≡ txn.old.core.bounds }
     ensures seen { IsPartOf (whole_of ports.new) txn.new.core.seen }
     ensures nodes { txn.new.core.nodes ≡ length ports.new.nodes }
-    ensures adds { AddsPart (whole_of ports.new) result.turn }
+    ensures adds { AddsPart (whole_of ports.new) result.1 }
     ensures history { ports.new.database.history
-        ≡ did_in result.did txn.old.core.bounds.now ports.old.database.history }
+        ≡ did_in result.0 txn.old.core.bounds.now ports.old.database.history }
     ensures keeps { KeepsRow ports.old ports.new }
     ensures spare { ports.new.spare ≡ ports.old.spare }
     ensures fair { IsFair ports.old ports.new (account_of_core txn.old.core) (account_of_core txn.new.core) }
     ensures drops { DropsNone txn.new.core }
-    ensures loss { IfDidLose result.did (HasLost ports.old (account_of_core txn.old.core)) }
-    ensures lost { IfTurnLost result.turn (HasLost ports.old (account_of_core txn.old.core)) }
+    ensures loss { IfDidLose result.0 (HasLost ports.old (account_of_core txn.old.core)) }
+    ensures lost { IfTurnLost result.1 (HasLost ports.old (account_of_core txn.old.core)) }
 {
     txn.is_kept();
-    let Asked { did, reply } = ports.ask(alloc, pass, txn.core().seen(), request);
+    let reply = ports.ask(alloc, pass, txn.core().seen(), request);
+    let (did, reply) = told(alloc, reply);
     let did = counted(did, txn.core().members());
     let turn = txn.next(alloc, reply);
-    Went { did, turn }
+    (did, turn)
 }
 
 /// How the call stands at this turn: it is open still, or has ended.
-pub(crate) fn note(key: Key, turn: Turn) -> (Option<OpenCall>, Option<End>)
-    requires { IsOfCall turn }
+pub(crate) fn note<R>(
+    key: Key,
+    turn: Turn<R, Value>,
+) -> (Option<OpenCall<R>>, Option<Result<Value, TxnError>>)
     ensures { IsNoted (opened key) turn result.0 result.1 }
 {
     match turn {
@@ -177,9 +180,7 @@ pub(crate) fn note(key: Key, turn: Turn) -> (Option<OpenCall>, Option<End>)
             let turn = Turn::Ask(request);
             (Some(OpenCall { key, turn }), None)
         }
-        Turn::Value(value) => (None, Some(End::Value(value))),
-        Turn::Refused(error) => (None, Some(End::Refused(error))),
-        _ => unreachable!(),
+        Turn::Ended(result) => (None, Some(result)),
     }
 }
 
@@ -202,13 +203,12 @@ fn request_call<A: App, C: Cacheable>(
     };
     match turn {
         Turn::Ask(request) => {
-            let Went { did, turn } = go_on(alloc, ports, pass, &mut current.txn, request);
+            let (did, turn) = go_on(alloc, ports, pass, &mut current.txn, request);
             let (call, end) = note(key, turn);
             current.call = call;
             Reply::Asked(did, end)
         }
-        Turn::Refused(error) => Reply::Ended(End::Refused(error)),
-        _ => unreachable!(),
+        Turn::Ended(result) => Reply::Ended(result),
     }
 }
 
@@ -243,7 +243,6 @@ fn commit<A: App, C: Cacheable>(
     ensures leads { (next : Next) (pass : ℕ) → ReadingLeads next pass Act.Commit ports.old ports.new
         (reading_value current) (actor_value result.0) result.1 }
 {
-    give_back_counts_users();
     let OpenTxn { txn, call: _ } = current;
     let (receipt, pins, registry) = txn.finish();
     let _ = ports.give_back(&pins);
@@ -256,7 +255,6 @@ fn abort<A: App, C: Cacheable>(ports: &mut Ports<A>, current: OpenTxn<A, C>) -> 
     ensures leads { (next : Next) (pass : ℕ) → ReadingLeads next pass Act.Abort ports.old ports.new
         (reading_value current) (actor_value result.0) result.1 }
 {
-    give_back_counts_users();
     let (left, registry) = current.txn.cancel();
     let _ = ports.give_back(&left.give_back);
     match left.unpin {

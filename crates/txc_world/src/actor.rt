@@ -4,8 +4,10 @@ ghost use Rattle.std.specs.Prelude.{◌≡◌, ◌<◌, map, None, Some, slice_g
 use std::alloc::{AllocError, Global};
 use std::mem;
 use txc_app::App;
-use txc_ports::Turn;
+use txc_node::Value;
+use txc_ports::{PortRequest, Turn};
 use txc_registry::{Cacheable, Registry};
+use txc_rows::Query;
 use txc_rw::RwCore;
 use txc_stamp::Stamp;
 use txc_tags::Key;
@@ -13,16 +15,16 @@ use txc_txn::RunningTxn;
 
 /// A call that did not end for its caller yet: its key, and what it does next.
 #[derive(Drop)]
-pub(crate) struct OpenCall {
+pub(crate) struct OpenCall<R> {
     pub key: Key,
-    pub turn: Turn,
+    pub turn: Turn<R, Value>,
 }
 
 /// A read-only transaction, and its call, where one is open.
 #[derive(Drop)]
 pub(crate) struct OpenTxn<A: App, C: Cacheable> {
     pub txn: RunningTxn<A, C>,
-    pub call: Option<OpenCall>,
+    pub call: Option<OpenCall<PortRequest>>,
 }
 
 /// A read-write transaction with the registry of its functions, and its call, where one is open.
@@ -30,7 +32,7 @@ pub(crate) struct OpenTxn<A: App, C: Cacheable> {
 pub(crate) struct OpenRw<A: App, C: Cacheable> {
     pub core: RwCore,
     pub registry: Registry<A, C>,
-    pub call: Option<OpenCall>,
+    pub call: Option<OpenCall<Query>>,
 }
 
 /// An actor, with the registry of its functions.

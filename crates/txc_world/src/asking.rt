@@ -1,24 +1,16 @@
-//! What a transaction asks, put to the plain ports.
-ghost use Rattle.std.specs.Prelude.{◌≡◌, ◌<◌, ℕ, length, map, Err, IfErr, IfOk, Ok, Some};
-ghost use Rattle.std.specs.Option.{ForSome};
-ghost use Rattle.txc_app.specs.Claims.{IsTrueIn};
-ghost use Rattle.txc_db.specs.declared.pinned.Pinned.{Pinned};
-ghost use Rattle.txc_ports.specs.Fronts.{front_of_reply};
-ghost use Rattle.txc_world.specs.Asks.{did_insert, DoesTell, IsToldOf};
+//! What a transaction asks, put to the plain ports, and what is told of it.
+ghost use Rattle.std.specs.Prelude.{◌≡◌, ◌<◌, length, map, IfOk, OnErr};
+ghost use Rattle.txc_world.specs.Asks.{kept_after, AnswersRows, DoesTell, IsTold, IsToldOf};
 
-use crate::asked::Asked;
 use crate::did::{Did, RowsFound};
+use crate::nodes;
 use crate::ports::Ports;
 use std::alloc::{AllocError, Global};
 use txc_app::App;
-use txc_cushion::AddError;
-use txc_db::{Answered, DbError, HistoryFront, Pinned};
-use txc_node::{Entry, Shown};
-use txc_ports::{PortReply, PortRequest};
-use txc_rows::{Query, Row};
+use txc_db::{DbError, HistoryFront};
+use txc_ports::{Kept, PortReply, PortRequest};
+use txc_rows::Row;
 use txc_shared::Insertion;
-use txc_stamp::Stamp;
-use txc_tags::Key;
 use txc_validity::Found;
 
 // The ids of the rows.
@@ -45,239 +37,96 @@ pub(crate) fn rows_found(alloc: Global, found: &Found) -> Result<RowsFound, Allo
     })
 }
 
-// The rows that were found, as they are told and as they are handed over.
-fn asked_rows(found: Answered<Found>, rows: RowsFound) -> Asked
-    ensures { result ≡ record { did = Did.Rows rows; reply = PortReply.Query (Ok found) } }
+// What is told of a reply. It takes memory for the rows of a query alone.
+fn did_of(alloc: Global, reply: &PortReply) -> Result<Did, AllocError>
+    ensures tells { IfOk result (DoesTell reply.now) }
+    ensures rows { OnErr result (AnswersRows reply.now) }
 {
-    let answer: Result<Answered<Found>, DbError> = Ok(found);
-    let reply = PortReply::Query(answer);
-    let did = Did::Rows(rows);
-    Asked { did, reply }
+    let did = match reply {
+        PortReply::Pin(Ok(pinned)) => Did::Pinned(pinned.stamp),
+        PortReply::Pin(Err(refusal)) => Did::Refused(*refusal),
+        PortReply::AddPin(_, Ok(())) => Did::Added,
+        PortReply::AddPin(_, Err(refusal)) => Did::NotAdded(*refusal),
+        PortReply::Unpin(Ok(())) => Did::Unpinned,
+        PortReply::Unpin(Err(refusal)) => Did::Refused(*refusal),
+        PortReply::Lookup(Some(hit)) => Did::Hit(hit.answer.reach),
+        PortReply::Lookup(None) => Did::Miss,
+        PortReply::Query(Ok(found)) => Did::Rows(rows_found(alloc, &found.answer)?),
+        PortReply::Query(Err(refusal)) => Did::Refused(*refusal),
+        PortReply::Insert(Some(Kept::Stored(reach))) => Did::Stored(*reach),
+        PortReply::Insert(Some(Kept::Earlier)) => Did::Kept,
+        PortReply::Insert(None) => Did::Dropped,
+    };
+    Ok(did)
 }
 
-fn asked_refusal(refusal: &DbError) -> Asked
-    ensures { result ≡ record { did = Did.Refused refusal.now; reply = PortReply.Query (Err refusal.now) } }
+/// A reply, and what is told of it. Out of memory for what is told, a query is refused.
+pub(crate) fn told(alloc: Global, reply: PortReply) -> (Did, PortReply)
+    ensures tells { DoesTell result.1 result.0 }
+    ensures same { IsTold reply result.1 }
 {
-    let did = Did::Refused(*refusal);
-    let reply = PortReply::Query(Err(*refusal));
-    Asked { did, reply }
+    match did_of(alloc, &reply) {
+        Ok(did) => (did, reply),
+        Err(_) => (
+            Did::Refused(DbError::Memory),
+            PortReply::Query(Err(DbError::Memory)),
+        ),
+    }
 }
 
-impl Did {
-    fn of_pin(pinned: &Result<Pinned, DbError>) -> Did
-        ensures { DoesTell (PortReply.Pin pinned.now) result }
-    {
-        match pinned {
-            Ok(pinned) => Did::Pinned(pinned.stamp),
-            Err(refusal) => Did::Refused(*refusal),
-        }
-    }
-
-    fn of_addition(added: &Result<(), AddError>) -> Did
-        ensures { (pinned : Pinned) → DoesTell (PortReply.AddPin pinned added.now) result }
-    {
-        match added {
-            Ok(()) => Did::Added,
-            Err(refusal) => Did::NotAdded(*refusal),
-        }
-    }
-
-    fn of_lookup(hit: &Option<Answered<Shown>>) -> Did
-        ensures { DoesTell (PortReply.Lookup hit.now) result }
-    {
-        match hit {
-            Some(hit) => Did::Hit(hit.answer.reach),
-            None => Did::Miss,
-        }
-    }
-
-    /// What is told of an insertion that was made.
-    fn of_insertion(insertion: &Insertion) -> Did
-        ensures { result ≡ did_insert (Some insertion.now) }
-    {
-        match insertion {
-            Insertion::Stored(reach) => Did::Stored(*reach),
-            Insertion::Kept => Did::Kept,
-        }
-    }
-
-    /// What is told of an insertion. None is one that was dropped.
-    fn of_made(made: Option<Insertion>) -> Did
-        ensures { result ≡ did_insert made }
-    {
-        match made {
-            Some(insertion) => Did::of_insertion(&insertion),
-            None => Did::Dropped,
-        }
+// What a node keeps that made the insertion; nothing where it refused.
+fn kept_after(made: Option<Insertion>) -> Option<Kept>
+    ensures { result ≡ kept_after made }
+{
+    match made {
+        Some(Insertion::Stored(reach)) => Some(Kept::Stored(reach)),
+        Some(Insertion::Kept) => Some(Kept::Earlier),
+        None => None,
     }
 }
 
 impl<A: App> Ports<A> {
-    ghost use Rattle.txc_db.specs.Seen.{FrontValue};
-    ghost use Rattle.txc_ports.specs.declared.turn.Turn.TheVariants.{Ask};
-    ghost use Rattle.txc_ports.specs.Asking.{AddsSuch, IsOfRow, IsReplyTo, MayAsk};
-    ghost use Rattle.txc_db.specs.Calls.{IsAnswerable, IsQueryRefused};
-    ghost use Rattle.txc_world.specs.Asks.{IsAnswerWithFront, IsAsked, IsAskedAt, PortRequestLeads};
-    ghost use Rattle.txc_world.specs.Books.{AskCounts};
+    ghost use Rattle.txc_ports.specs.Asking.{AddsSuch, MayAsk};
+    ghost use Rattle.txc_world.specs.Asks.{IsAsked};
     ghost use Rattle.txc_world.specs.Parts.{IsPartOf};
-    ghost use Rattle.txc_world.specs.Ports.{whole_of, KeepsRow};
-    ghost use Rattle.txc_world.specs.Told.{did_in};
+    ghost use Rattle.txc_world.specs.Ports.{whole_of};
 
-    fn ask_pin(&mut self, alloc: Global, pass: usize, now: u64, at_least: Stamp) -> Asked
-        ensures asked { IsAsked A.next (PortRequest.Pin now at_least) self.old self.new result }
-        ensures leads { (seen : FrontValue) → PortRequestLeads pass seen (PortRequest.Pin now at_least)
-            self.old self.new result.did result.reply }
-        ensures counts { AskCounts (PortRequest.Pin now at_least) self.old self.new result.did result.reply }
-    {
-        let pinned = self.pin(alloc, now, at_least);
-        let did = Did::of_pin(&pinned);
-        let reply = PortReply::Pin(pinned);
-        Asked { did, reply }
-    }
-
-    fn ask_add(&mut self, pass: usize, pinned: Pinned) -> Asked
-        requires { IsPartOf (whole_of self.old) pinned.front }
-        ensures asked { IsAsked A.next (PortRequest.AddPin pinned) self.old self.new result }
-        ensures leads { (seen : FrontValue) → PortRequestLeads pass seen (PortRequest.AddPin pinned)
-            self.old self.new result.did result.reply }
-        ensures counts { AskCounts (PortRequest.AddPin pinned) self.old self.new result.did result.reply }
-    {
-        self.count_right();
-        let added = self.add(&pinned);
-        let did = Did::of_addition(&added);
-        let reply = PortReply::AddPin(pinned, added);
-        Asked { did, reply }
-    }
-
-    fn ask_unpin(&mut self, pass: usize, stamp: Stamp) -> Asked
-        ensures asked { IsAsked A.next (PortRequest.Unpin stamp) self.old self.new result }
-        ensures leads { (seen : FrontValue) → PortRequestLeads pass seen (PortRequest.Unpin stamp)
-            self.old self.new result.did result.reply }
-        ensures counts { AskCounts (PortRequest.Unpin stamp) self.old self.new result.did result.reply }
-    {
-        self.count_right();
-        match self.unpin(stamp) {
-            Ok(()) => Asked {
-                did: Did::Unpinned,
-                reply: PortReply::Unpin,
-            },
-            Err(refusal) => Asked {
-                did: Did::Refused(refusal),
-                reply: PortReply::Unpin,
-            },
-        }
-    }
-
-    fn ask_lookup(
-        &mut self,
-        alloc: Global,
-        pass: usize,
-        node: usize,
-        key: &Key,
-        lo: Stamp,
-        hi: Stamp,
-    ) -> Asked
-        requires own { pass < self.old.actors }
-        requires node { node < length self.old.nodes }
-        ensures asked { IsAsked A.next (PortRequest.Lookup node key.now lo hi) self.old self.new result }
-        ensures leads { (seen : FrontValue) → PortRequestLeads pass seen (PortRequest.Lookup node key.now lo hi)
-            self.old self.new result.did result.reply }
-        ensures counts { AskCounts (PortRequest.Lookup node key.now lo hi) self.old self.new result.did result.reply }
-    {
-        let hit = self.look_up(alloc, pass, node, key, lo, hi);
-        let did = Did::of_lookup(&hit);
-        let reply = PortReply::Lookup(hit);
-        Asked { did, reply }
-    }
-
-    // The answer of the query, and what is told of it.
-    fn find_told(
-        &mut self,
-        alloc: Global,
-        query: &Query,
-        stamp: Stamp,
-    ) -> Result<(Answered<Found>, RowsFound), DbError>
-        ensures same { self.new ≡ self.old }
-        ensures found { IfOk result (λ both. IsAnswerWithFront query.now stamp self.old both.0) }
-        ensures rows { IfOk result (λ both. IsToldOf both.0.answer both.1) }
-        ensures only_if { IfOk result (λ both. IsAnswerable self.old.database stamp) }
-        ensures refused { IfErr result (IsQueryRefused self.old.database query.now stamp) }
-    {
-        let found = self.find(alloc, query, stamp)?;
-        let rows = rows_found(alloc, &found.answer)?;
-        Ok((found, rows))
-    }
-
-    fn ask_query(&mut self, alloc: Global, pass: usize, query: &Query, stamp: Stamp) -> Asked
-        ensures asked { IsAsked A.next (PortRequest.Query query.now stamp) self.old self.new result }
-        ensures leads { (seen : FrontValue) → PortRequestLeads pass seen (PortRequest.Query query.now stamp)
-            self.old self.new result.did result.reply }
-        ensures counts { AskCounts (PortRequest.Query query.now stamp) self.old self.new result.did result.reply }
-    {
-        self.count_right();
-        match self.find_told(alloc, query, stamp) {
-            Ok((found, rows)) => asked_rows(found, rows),
-            Err(refusal) => asked_refusal(&refusal),
-        }
-    }
-
-    fn ask_insert(
-        &mut self,
-        alloc: Global,
-        pass: usize,
-        node: usize,
-        entry: Entry,
-        seen: &HistoryFront,
-    ) -> Asked
-        requires own { pass < self.old.actors }
-        requires node { node < length self.old.nodes }
-        requires seen { IsPartOf (whole_of self.old) seen.now }
-        requires is_true { IsTrueIn A.next seen.now.history entry }
-        ensures asked { IsAsked A.next (PortRequest.Insert node entry) self.old self.new result }
-        ensures leads { PortRequestLeads pass seen.now (PortRequest.Insert node entry)
-            self.old self.new result.did result.reply }
-        ensures counts { AskCounts (PortRequest.Insert node entry) self.old self.new result.did result.reply }
-    {
-        let made = self.insert(alloc, pass, node, entry, seen);
-        Asked {
-            did: Did::of_made(made),
-            reply: PortReply::Insert,
-        }
-    }
-
-    /// Asks what a transaction asks, as a step of the pass. It has seen that much of the history.
+    /// Asks what a transaction asks, as a step of the pass. It has seen that much of the history. A node that
+    /// refuses has nothing, and keeps nothing.
     pub(crate) fn ask(
         &mut self,
         alloc: Global,
         pass: usize,
         seen: &HistoryFront,
         request: PortRequest,
-    ) -> Asked
+    ) -> PortReply
         requires own { pass < self.old.actors }
         requires seen { IsPartOf (whole_of self.old) seen.now }
         requires may { MayAsk A.next self.old.database.events (length self.old.nodes) seen.now.history
             request }
-        requires shown { AddsSuch (IsPartOf (whole_of self.old)) (Ask request) }
-        ensures reply { IsReplyTo A.next request result.reply }
-        ensures row { IsOfRow self.old.database.events result.reply }
-        ensures shown { ForSome (front_of_reply result.reply) (λ front. IsPartOf (whole_of self.new) front) }
-        ensures tells { DoesTell result.reply result.did }
-        ensures leads { PortRequestLeads pass seen.now request self.old self.new result.did result.reply }
-        ensures history { (now : ℕ) → IsAskedAt now request
-            → self.new.database.history ≡ did_in result.did now self.old.database.history }
-        ensures keeps { KeepsRow self.old self.new }
-        ensures spare { self.new.spare ≡ self.old.spare }
-        ensures counts { AskCounts request self.old self.new result.did result.reply }
+        requires shown { AddsSuch (IsPartOf (whole_of self.old)) request }
+        ensures { IsAsked A.next pass seen.now request self.old self.new result }
     {
+        self.count_right();
         match request {
-            PortRequest::Pin { now, at_least } => self.ask_pin(alloc, pass, now, at_least),
-            PortRequest::AddPin(pinned) => self.ask_add(pass, pinned),
-            PortRequest::Unpin(stamp) => self.ask_unpin(pass, stamp),
-            PortRequest::Lookup { node, key, lo, hi } => self.ask_lookup(
-                alloc, pass, node, &key, lo, hi,
-            ),
-            PortRequest::Query { query, stamp } => self.ask_query(alloc, pass, &query, stamp),
-            PortRequest::Insert { node, entry } => self.ask_insert(alloc, pass, node, entry, seen),
+            PortRequest::Pin { now, at_least } => PortReply::Pin(self.pin(alloc, now, at_least)),
+            PortRequest::AddPin(pinned) => {
+                let added = self.add(&pinned);
+                PortReply::AddPin(pinned, added)
+            }
+            PortRequest::Unpin(stamp) => PortReply::Unpin(self.unpin(stamp)),
+            PortRequest::Lookup { node, key, lo, hi } => {
+                let at = &mut self.nodes[node];
+                PortReply::Lookup(nodes::look_up(alloc, at, pass, &key, lo, hi))
+            }
+            PortRequest::Query { query, stamp } => PortReply::Query(self.find(
+                alloc, &query, stamp,
+            )),
+            PortRequest::Insert { node, entry } => {
+                let at = &mut self.nodes[node];
+                let made = nodes::insert(alloc, at, pass, entry, seen);
+                PortReply::Insert(kept_after(made))
+            }
         }
     }
 }

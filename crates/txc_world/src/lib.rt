@@ -8,7 +8,6 @@
 
 mod acting;
 mod actor;
-mod asked;
 mod asking;
 mod counting;
 mod did;
@@ -26,7 +25,7 @@ mod world;
 mod writing;
 
 pub use did::{Did, RowsFound};
-pub use reply::{End, Refusal, Reply};
+pub use reply::{Refusal, Reply};
 pub use settings::WorldSettings;
 pub use step::{Act, Keep, Step};
 pub use world::{Members, World};

@@ -1,22 +1,16 @@
 //! The plain ports of a world.
-ghost use Rattle.std.specs.Prelude.{◌≡◌, ◌+◌, false, ◌≤◌, ◌<◌, length, IfSome, IfOk, OnErr, slice_get, Some, All};
-ghost use Rattle.std.specs.Option.{option_map};
+ghost use Rattle.std.specs.Prelude.{◌≡◌, ◌+◌, false, ◌≤◌, ◌<◌, length, IfOk, slice_get, Some, All};
 ghost use Rattle.txc_stream.specs.Names.{HasRow};
-ghost use Rattle.txc_app.specs.Claims.{IsTrueIn, entry_shown};
 
-use crate::nodes;
 use std::alloc::{AllocError, Global};
 use std::marker::Model;
 use txc_app::App;
 use txc_app::laws::found_rows_give_true_entries;
-use txc_cushion::laws::give_back_counts_users;
 use txc_cushion::{AddError, CushionCore, Pins};
-use txc_db::{Answered, DbCore, DbError, HistoryFront, Pinned};
-use txc_node::{Entry, Shown};
+use txc_db::{Answered, DbCore, DbError, Pinned};
 use txc_rows::Query;
-use txc_shared::{Insertion, StoredNode};
+use txc_shared::StoredNode;
 use txc_stamp::Stamp;
-use txc_tags::Key;
 use txc_validity::Found;
 
 /// The database, the pincushion and the nodes of a world, and the pins that its keeper has and did not add
@@ -62,9 +56,8 @@ impl<A: App> Ports<A> {
     ghost use Rattle.txc_ports.specs.Answers.{IsFresh};
     ghost use Rattle.txc_world.specs.Asks.{AddLeads, FindLeads, FreshLeads, HoldLeads, PinLeads, UnpinLeads};
     ghost use Rattle.txc_world.specs.Books.{handed, nothing, GivesBack, IsFair, KeepsPins};
-    ghost use Rattle.txc_world.specs.NodeSteps.{InsertLeads, LookupLeads};
     ghost use Rattle.txc_world.specs.Parts.{IsPartOf};
-    ghost use Rattle.txc_world.specs.Ports.{whole_of, HasLedNode, KeepsRow};
+    ghost use Rattle.txc_world.specs.Ports.{whole_of, KeepsRow};
 
     /// The database and the pincushion; all else is dropped.
     pub(crate) fn into_parts(self) -> (DbCore, CushionCore)
@@ -171,50 +164,6 @@ impl<A: App> Ports<A> {
         Ok(Answered { answer, front })
     }
 
-    /// What the node has of the call, as a step of the pass. A node that refuses has nothing.
-    pub(crate) fn look_up(
-        &mut self,
-        alloc: Global,
-        pass: usize,
-        at: usize,
-        key: &Key,
-        lo: Stamp,
-        hi: Stamp,
-    ) -> Option<Answered<Shown>>
-        requires node { at < length self.old.nodes }
-        requires own { pass ≤ self.old.actors }
-        ensures leads { HasLedNode at (λ was is.
-            LookupLeads pass key.now lo hi was is (option_map (λ hit. hit.answer) result)) self.old self.new }
-        ensures right { IfSome result (λ hit.
-            IsTrueIn A.next hit.front.history (entry_shown key.now hit.answer)) }
-        ensures part { IfSome result (λ hit. IsPartOf (whole_of self.old) hit.front) }
-        ensures keeps { KeepsRow self.old self.new }
-    {
-        let node = &mut self.nodes[at];
-        nodes::look_up(alloc, node, pass, key, lo, hi)
-    }
-
-    /// Gives the node an entry to keep, as a step of the pass. A node that refuses keeps nothing.
-    pub(crate) fn insert(
-        &mut self,
-        alloc: Global,
-        pass: usize,
-        at: usize,
-        entry: Entry,
-        seen: &HistoryFront,
-    ) -> Option<Insertion>
-        requires node { at < length self.old.nodes }
-        requires own { pass ≤ self.old.actors }
-        requires seen { IsPartOf (whole_of self.old) seen.now }
-        requires is_true { IsTrueIn A.next seen.now.history entry }
-        ensures leads { HasLedNode at (λ was is.
-            InsertLeads pass seen.now entry was is result) self.old self.new }
-        ensures keeps { KeepsRow self.old self.new }
-    {
-        let node = &mut self.nodes[at];
-        nodes::insert(alloc, node, pass, entry, seen)
-    }
-
     /// The newest of the pins that the bounds allow, each with one user more.
     pub(crate) fn fresh(
         &mut self,
@@ -240,7 +189,6 @@ impl<A: App> Ports<A> {
         ensures users { GivesBack self.old self.new pins.now.pins.items }
         ensures pins { KeepsPins self.old self.new }
     {
-        give_back_counts_users();
         for pin in &pins.pins {
             let _ = self.give_back(&[pin.stamp]);
         }

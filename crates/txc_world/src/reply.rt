@@ -10,13 +10,6 @@ use txc_rows::Row;
 use txc_shared::{Advanced, NodeError};
 use txc_stamp::Stamp;
 
-/// How a call ended.
-#[derive(Debug, Drop)]
-pub enum End {
-    Value(Value),
-    Refused(TxnError),
-}
-
 /// Why a step was refused. The first six are the world's own: they come before any other, in this order, and
 /// change nothing.
 #[derive(Clone, Copy, Debug, PartialEq, Eq, Error)]
@@ -72,9 +65,9 @@ pub enum Reply {
     /// A call is open.
     Started,
     /// What the port did that was asked, and how the call ended, where it ended with this.
-    Asked(Did, Option<End>),
+    Asked(Did, Option<Result<Value, TxnError>>),
     /// How the call ended, where it ended before any request.
-    Ended(End),
+    Ended(Result<Value, TxnError>),
     /// The rows of a query of a read-write transaction, as they were found.
     Answered(Vec<Row>),
     /// The change is kept until the transaction commits.

@@ -7,14 +7,14 @@ ghost use Rattle.txc_shared.specs.declared.log.TheConstants.{MAX_PASSES};
 ghost use Rattle.txc_shared.specs.Nodes.{start_of};
 ghost use Rattle.txc_shared.specs.Runs.{IsNode};
 ghost use Rattle.txc_registry.specs.Objects.{AllIdle};
-ghost use Rattle.txc_world.specs.Acts.{AreLed, StepLeads};
+ghost use Rattle.txc_world.specs.Acts.{AreLed, IsWholeStep};
 ghost use Rattle.txc_world.specs.Worlds.{due_of_pins, AreMembersOf, IsBalanced, IsTrueWorld};
 ghost use Rattle.txc_world.specs.Cast.{reads, resting, ReadingValue};
 ghost use Rattle.txc_world.specs.Making.{AreNewPorts};
 ghost use Rattle.txc_world.specs.Sessions.{NoActorGoesBack};
 ghost use Rattle.txc_db.specs.Refusals.{IsWant};
-ghost use Rattle.txc_world.specs.Tidy.{empty_purse, purse_after, purse_by, AreTidy, IsTidy, LoseNoSnapshot, LosesNoSnapshot, LosesNothing, Purse};
-ghost use Rattle.txc_world.specs.Told.{after, idle, reading, told_by, AreDue, AreExplained, AreExplainedIn, IsDue, IsExplainedIn, Reading};
+ghost use Rattle.txc_world.specs.Tidy.{empty_purse, purse_by, AreTidy, LoseNoSnapshot, Purse};
+ghost use Rattle.txc_world.specs.Told.{idle, reading, told_by, AreDue, AreExplained, AreExplainedIn, Reading};
 
 use crate::acting::act_at;
 use crate::actor::{Actor, idle_actors};
@@ -33,7 +33,6 @@ use txc_db::{DbCore, DbError};
 use txc_node::Counts;
 use txc_ports::Bounds;
 use txc_registry::{Cacheable, Registry};
-use txc_rw::laws::transactions_stay_right;
 use txc_shared::StoredNode;
 use txc_shared::laws::nodes_go_on;
 use txc_txn::Session;
@@ -199,19 +198,12 @@ impl<A: App, C: Cacheable> World<A, C> {
 
     // One step of an actor.
     fn act(&mut self, alloc: Global, place: usize, doing: &Act) -> Reply
-        ensures told { self.new.told ≡ after self.old.told (Step.Actor place doing.now) result }
-        ensures leads { StepLeads A.next self.old (Step.Actor place doing.now) result self.new }
-        ensures due { IsDue self.old.told (Step.Actor place doing.now) result }
-        ensures world { IsTrueWorld A.next self.new }
-        ensures explained { IsExplainedIn A.next self.new.told.history self.old.told (Step.Actor place doing.now) result }
-        ensures balanced { (purse : Purse) → IsBalanced self.old purse
-            → IsBalanced self.new purse × LosesNothing result }
+        ensures { IsWholeStep A.next self.old (Step.Actor place doing.now) result self.new }
     {
         if place >= self.actors.len() {
             self.ports.are_true();
             return Reply::Refused(Refusal::NoActor);
         }
-        transactions_stay_right();
         self.ports.count_right();
         let renew_after = self.settings.renew_after;
         let reply = act_at(
@@ -229,14 +221,7 @@ impl<A: App, C: Cacheable> World<A, C> {
 
     // The actor begins a transaction in its session.
     fn begin_in(&mut self, alloc: Global, place: usize, now: u64, staleness: u64) -> Reply
-        ensures told { self.new.told ≡ after self.old.told (Step.BeginIn place now staleness) result }
-        ensures leads { StepLeads A.next self.old (Step.BeginIn place now staleness) result self.new }
-        ensures world { IsTrueWorld A.next self.new }
-        ensures due { IsDue self.old.told (Step.BeginIn place now staleness) result }
-        ensures explained { IsExplainedIn A.next self.new.told.history self.old.told
-            (Step.BeginIn place now staleness) result }
-        ensures balanced { (purse : Purse) → IsBalanced self.old purse
-            → IsBalanced self.new purse × LosesNothing result }
+        ensures { IsWholeStep A.next self.old (Step.BeginIn place now staleness) result self.new }
     {
         let at_least = floor_at(&self.sessions, place);
         let bounds = Bounds {
@@ -249,15 +234,8 @@ impl<A: App, C: Cacheable> World<A, C> {
 
     /// Takes one step, as `run` does, and returns what it was replied.
     pub fn step(&mut self, alloc: Global, step: &Step) -> Reply
-        ensures told { self.new.told ≡ after self.old.told step.now result }
-        ensures leads { StepLeads A.next self.old step.now result self.new }
-        ensures world { IsTrueWorld A.next self.new }
-        ensures due { IsDue self.old.told step.now result }
-        ensures explained { IsExplainedIn A.next self.new.told.history self.old.told step.now result }
-        ensures balanced { (purse : Purse) → IsBalanced self.old purse → IsTidy step.now result purse
-            → IsBalanced self.new (purse_after step.now result purse) × LosesNoSnapshot step.now result }
+        ensures { IsWholeStep A.next self.old step.now result self.new }
     {
-        transactions_stay_right();
         match step {
             Step::Actor(place, doing) => self.act(alloc, *place, doing),
             Step::BeginIn {

@@ -1,31 +1,32 @@
 //! What an actor does with a read-write transaction, each kind of step by itself.
-ghost use Rattle.std.specs.Prelude.{◌≡◌, ℕ, ◌++◌, ◌∷◌, ◌<◌, [], IfErr, IsSome, None, OnErr, OnOk, Some, length};
+ghost use Rattle.std.specs.Prelude.{◌≡◌, ℕ, ◌++◌, ◌∷◌, ◌<◌, [], IfErr, None, OnErr, OnOk, length};
 ghost use Rattle.txc_rows.specs.declared.query.Change.{Change};
-ghost use Rattle.txc_registry.specs.Objects.{AllIdle};
+ghost use Rattle.txc_app.specs.Eval.{Next};
+ghost use Rattle.txc_registry.specs.Objects.{AllIdle, Objects};
 ghost use Rattle.txc_rw.specs.declared.rw_core.TheConstants.{MAX_CHANGES};
-ghost use Rattle.txc_rw.specs.Core.{answers_after, IsOfCall, IsOfQuery, IsRw, IsRwIdle, IsRwTurn, IsWriteRefused, RwHolds};
-ghost use Rattle.txc_ports.specs.Turns.{IsAsk, IsCallEnd};
+ghost use Rattle.txc_rw.specs.Core.{answers_after, IsRw, IsRwIdle, IsRwTurn, IsWriteRefused, RwHolds};
+ghost use Rattle.txc_ports.specs.Turns.{IsAsk};
 ghost use Rattle.txc_world.specs.Acted.{IsActed};
-ghost use Rattle.txc_world.specs.Actors.{asked_query, IsEndOf, IsOpenRw, IsToldQuery};
+ghost use Rattle.txc_world.specs.Actors.{IsOpenRw};
 ghost use Rattle.txc_world.specs.Books.{HasLost};
-ghost use Rattle.txc_world.specs.Losing.{IfDidLose, IfTurnLost};
+ghost use Rattle.txc_world.specs.Losing.{IfDidLose, IfResultLost};
 ghost use Rattle.txc_world.specs.Acts.{RestingLeads, WritingLeads};
 ghost use Rattle.txc_world.specs.Cast.{actor_value, writing_value};
-ghost use Rattle.txc_world.specs.Writing.{FindLeadsRw, HasAskedRw, IsRead};
+ghost use Rattle.txc_world.specs.Writing.{with_rows, FindLeadsRw, HasAskedRw, IsRead};
 
 use crate::acting::note;
 use crate::actor::{Actor, OpenCall, OpenRw};
-use crate::asked::Went;
+use crate::did::Did;
 use crate::ports::Ports;
-use crate::reply::{End, Refusal, Reply};
+use crate::reply::{Refusal, Reply};
 use crate::step::Act;
 use std::alloc::Global;
 use txc_app::App;
-use txc_db::states_stay;
-use txc_ports::{PortRequest, Turn, TxnError};
+use txc_node::Value;
+use txc_ports::{Turn, TxnError};
 use txc_registry::{Cacheable, Registry};
-use txc_rows::{Change, Query};
-use txc_rw::laws::{answers_are_right, transactions_stay_right};
+use txc_rows::{Change, Query, Row};
+use txc_rw::laws::answers_are_right;
 use txc_rw::{MAX_CHANGES, RwCore};
 use txc_tags::Key;
 
@@ -40,7 +41,6 @@ pub(crate) fn begin_rw<A: App, C: Cacheable>(
     ensures leads { (renew_after : ℕ) → RestingLeads renew_after Act.BeginRw ports.old ports.new registry
         (actor_value result.0) result.1 }
 {
-    transactions_stay_right();
     match ports.hold(alloc) {
         Ok(base) => {
             let core = RwCore::begin(alloc, base);
@@ -80,28 +80,6 @@ fn start<A: App, C: Cacheable>(
     (Actor::Writing(current), Reply::Started)
 }
 
-// The query that the turn asks, if it asks one.
-fn asked(turn: &Turn) -> Option<Query>
-    ensures { result ≡ asked_query turn.now }
-{
-    match turn {
-        Turn::Ask(PortRequest::Query { query, stamp: _ }) => Some(*query),
-        _ => None,
-    }
-}
-
-// How the call has ended.
-fn end_of(turn: Turn) -> End
-    requires { IsCallEnd turn }
-    ensures { IsEndOf turn result }
-{
-    match turn {
-        Turn::Value(value) => End::Value(value),
-        Turn::Refused(error) => End::Refused(error),
-        _ => unreachable!(),
-    }
-}
-
 // Asks the query of the open call at the base, and goes on with what was found.
 fn go_on<A: App, C: Cacheable>(
     alloc: Global,
@@ -109,49 +87,45 @@ fn go_on<A: App, C: Cacheable>(
     core: &mut RwCore,
     registry: &mut Registry<A, C>,
     query: &Query,
-) -> Went
+) -> (Did, Turn<Query, Value>)
     requires fits { IsRw A.next registry.old core.old }
     requires holds { RwHolds A.next ports.old.database.history registry.old core.old }
-    requires asked { core.old.reading ≡ Some query.now }
-    requires open { IsSome core.old.call.need }
+    requires asks { IsRwTurn core.old (Turn.Ask query.now) }
     ensures same_ports { ports.new ≡ ports.old }
     ensures fits { IsRw A.next registry.new core.new }
     ensures holds { RwHolds A.next ports.old.database.history registry.new core.new }
-    ensures turn { IsRwTurn core.new result.turn }
-    ensures kind { IsOfCall result.turn }
-    ensures goes_on { IsAsk result.turn → core.new.call.top ≡ core.old.call.top }
-    ensures open { IsAsk result.turn → IsSome core.new.call.need }
-    ensures answers { core.new.answers
-        ≡ answers_after core.old.answers core.old.call.top None result.turn }
+    ensures turn { IsRwTurn core.new result.1 }
+    ensures goes_on { IsAsk result.1 → core.new.call.top ≡ core.old.call.top }
+    ensures answers { core.new.answers ≡ answers_after core.old.answers core.old.call.top result.1 }
     ensures base { core.new.base ≡ core.old.base }
     ensures changes { core.new.changes ≡ core.old.changes }
     ensures asks { HasAskedRw A.next query.now ports.old core.old core.new registry.old registry.new
-        result.did result.turn }
-    ensures loss { IfDidLose result.did (HasLost ports.old (record { taken = []; own = core.old.base ∷ [] })) }
+        result.0 result.1 }
+    ensures loss { IfDidLose result.0 (HasLost ports.old (record { taken = []; own = core.old.base ∷ [] })) }
 {
     ports.count_right();
     let base = core.base();
     let (did, found) = ports.answer_told(alloc, query, base);
     let turn = core.reply(alloc, registry, found);
-    Went { did, turn }
+    (did, turn)
 }
 
 // The call has ended so before any request.
 fn end_call<A: App, C: Cacheable>(
     core: RwCore,
     registry: Registry<A, C>,
-    end: End,
+    ended: Result<Value, TxnError>,
 ) -> (Actor<A, C>, Reply)
     ensures actor { result.0
         ≡ Actor.Writing (record { core = core; registry = registry; call = None }) }
-    ensures reply { result.1 ≡ Reply.Ended end }
+    ensures reply { result.1 ≡ Reply.Ended ended }
 {
     let current = OpenRw {
         core,
         registry,
         call: None,
     };
-    (Actor::Writing(current), Reply::Ended(end))
+    (Actor::Writing(current), Reply::Ended(ended))
 }
 
 // Makes the next request of the open call. A call that ended before any is told so by its first request.
@@ -179,65 +153,43 @@ fn request<A: App, C: Cacheable>(
         };
         return (Actor::Writing(current), Reply::Refused(Refusal::NoRequest));
     };
-    let Some(query) = asked(&turn) else {
-        return end_call(core, registry, end_of(turn));
-    };
-    let Went { did, turn } = go_on(alloc, ports, &mut core, &mut registry, &query);
-    let (call, end) = note(key, turn);
-    let current = OpenRw {
-        core,
-        registry,
-        call,
-    };
-    (Actor::Writing(current), Reply::Asked(did, end))
+    match turn {
+        Turn::Ask(query) => {
+            let (did, turn) = go_on(alloc, ports, &mut core, &mut registry, &query);
+            let (call, end) = note(key, turn);
+            let current = OpenRw {
+                core,
+                registry,
+                call,
+            };
+            (Actor::Writing(current), Reply::Asked(did, end))
+        }
+        Turn::Ended(result) => end_call(core, registry, result),
+    }
 }
 
-// Asks a query of its own at the base, and goes on with what was found.
-fn find<A: App, C: Cacheable>(
+// Asks a query of its own at the base, and takes what was found.
+fn find<A: App>(
     alloc: Global,
     ports: &mut Ports<A>,
     core: &mut RwCore,
-    registry: &mut Registry<A, C>,
     query: &Query,
-) -> Turn
-    requires fits { IsRw A.next registry.old core.old }
-    requires holds { RwHolds A.next ports.old.database.history registry.old core.old }
-    requires idle { IsRwIdle core.old }
+) -> Result<Vec<Row>, TxnError>
+    requires { IsRwIdle core.old }
     ensures same_ports { ports.new ≡ ports.old }
-    ensures fits { IsRw A.next registry.new core.new }
-    ensures holds { RwHolds A.next ports.old.database.history registry.new core.new }
-    ensures idle { IsRwIdle core.new }
-    ensures kind { IsOfQuery result }
-    ensures answers { core.new.answers
-        ≡ answers_after core.old.answers core.old.call.top (Some query.now) result }
-    ensures base { core.new.base ≡ core.old.base }
-    ensures changes { core.new.changes ≡ core.old.changes }
-    ensures objects { registry.new ≡ registry.old }
+    ensures holds { (next : Next) (objects : Objects) → RwHolds next ports.old.database.history objects core.old
+        → RwHolds next ports.old.database.history objects core.new }
+    ensures leads { FindLeadsRw query.now core.old.base ports.old result }
+    ensures answers { core.new.answers ≡ with_rows query.now core.old.answers result }
     ensures read { IsRead query.now core.old.queried core.new.queried result }
     ensures same { core.new ≡ record core.old { queried = core.new.queried; answers = core.new.answers } }
-    ensures leads { FindLeadsRw query.now core.old.base ports.old result }
-    ensures loss { IfTurnLost result (HasLost ports.old (record { taken = []; own = core.old.base ∷ [] })) }
+    ensures loss { IfResultLost result (HasLost ports.old (record { taken = []; own = core.old.base ∷ [] })) }
 {
     ports.count_right();
-    let turn = core.ask(alloc, registry, *query);
-    let Some(query) = asked(&turn) else {
-        return turn;
-    };
+    core.ask(alloc, query)?;
     let base = core.base();
-    let found = ports.answer(alloc, &query, base);
-    core.reply(alloc, registry, found)
-}
-
-// What is told of a query of its own that has ended.
-fn told_rows(turn: Turn) -> Reply
-    requires { IsOfQuery turn }
-    ensures { IsToldQuery turn result }
-{
-    match turn {
-        Turn::Rows(rows) => Reply::Answered(rows),
-        Turn::Refused(error) => Reply::Refused(Refusal::Transaction(error)),
-        _ => unreachable!(),
-    }
+    let found = ports.answer(alloc, query, base);
+    core.answer(alloc, found)
 }
 
 // Asks the database at the base.
@@ -253,18 +205,14 @@ fn ask<A: App, C: Cacheable>(
     ensures leads { WritingLeads A.next (Act.Ask query.now) ports.old ports.new (writing_value current)
         (actor_value result.0) result.1 }
 {
-    let OpenRw {
-        mut core,
-        mut registry,
-        call: _,
-    } = current;
-    let turn = find(alloc, ports, &mut core, &mut registry, query);
-    let current = OpenRw {
-        core,
-        registry,
-        call: None,
-    };
-    (Actor::Writing(current), told_rows(turn))
+    let mut current = current;
+    match find(alloc, ports, &mut current.core, query) {
+        Ok(rows) => (Actor::Writing(current), Reply::Answered(rows)),
+        Err(error) => (
+            Actor::Writing(current),
+            Reply::Refused(Refusal::Transaction(error)),
+        ),
+    }
 }
 
 // Keeps a copy of the change.
@@ -319,8 +267,6 @@ fn commit<A: App, C: Cacheable>(
         (actor_value result.0) result.1 }
 {
     answers_are_right();
-    transactions_stay_right();
-    states_stay();
     let mut current = current;
     let base = current.core.base();
     let read = current.core.tags();

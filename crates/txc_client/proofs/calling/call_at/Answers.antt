@@ -1,6 +1,6 @@
 use Rattle.std.proofs.Common.{◌≡◌, length, refl, sym, ap, subst, ◌∙◌}
 use Rattle.txc_db.specs.Seen.{FrontValue}
-use Rattle.txc_ports.specs.Asking.{AddsSuch, MayAsk}
+use Rattle.txc_ports.specs.Asking.{TurnAddsSuch, MayAsk}
 use Rattle.txc_txn.specs.Core.{CoreValue, IsTurn}
 use Rattle.txc_ports.specs.Turns.{IsAsk}
 use Rattle.txc_txn.proofs.Offered.{adds_next, adds_none, is_answered, is_right, may_ask}
@@ -8,7 +8,8 @@ use Rattle.txc_client.specs.Run.{HasBegun}
 use Rattle.txc_client.specs.Txn.{RoTxnValue}
 use Rattle.txc_client.proofs.Counting.{goes_down}
 use Rattle.txc_client.proofs.Grown.{as_many, have_grown_self, have_grown_then, prefix_then}
-use Rattle.txc_client.proofs.Runs.{run_begun, run_asked}
+use Rattle.txc_ports.specs.Turns.{PortTurn}
+use Rattle.txc_client.proofs.Runs.{HasRunTo, run_begun, run_asked, run_ended}
 use Rattle.txc_client.proofs.Turns.{history_stays, none_recorded, recorded_on, recorded_stays, row_stays, settings_stay, settings_then}
 use Rattle.txc_client.proofs.calling.call_at.Goals as goal
 
@@ -82,7 +83,7 @@ ask-reply-requires g c =
       row = ap (λ (f : FrontValue). f.events) same ∙ inv.events;
       may = subst (λ (f : FrontValue). MayAsk g.A.App.next g.J.Naming.database_history (length c.loop-turn.ports) f.history c.in-Ask.request) (sym same)
           (may_ask g.A.App.next g.J.Naming.database_history txn c.is_kept.ensures (length c.loop-turn.ports) nodes c.in-Ask.request
-          (subst (IsTurn txn.core) c.in-Ask.is inv.turn) (subst (AddsSuch (λ front. front.events ≡ g.J.Naming.database_history)) c.in-Ask.is inv.adds));
+          (subst (IsTurn txn.core) c.in-Ask.is inv.turn) (subst (TurnAddsSuch (λ front. front.events ≡ g.J.Naming.database_history)) c.in-Ask.is inv.adds));
     }
 
 pub next-turn-requires : goal.next-turn-requires
@@ -94,3 +95,10 @@ next-turn-requires g c =
       row = λ front is. c.ask-reply.ensures.row front is ∙ sym c.loop-turn.invariant.events;
       right = is_right g.A.App.next txn c.in-Ask.request c.ask-reply.result asking c.ask-reply.ensures.answer;
     }
+
+pub returns-in-Ended-clause-run : goal.returns-in-Ended-clause-run
+returns-in-Ended-clause-run g c =
+    let began : RoTxnValue = record { txn = c.args.txn.now; passes = c.args.ports.now } in
+    let after : RoTxnValue = record { txn = c.loop-turn.txn; passes = c.loop-turn.ports } in
+    run_ended g.A.App.next g.J.Naming.database_history g.J.Naming.node_histories began c.args.key after c.in-Ended.result
+    (subst (λ (t : PortTurn). HasRunTo g.A.App.next g.J.Naming.database_history g.J.Naming.node_histories began c.args.key after t) c.in-Ended.is c.loop-turn.invariant.run)

@@ -2,6 +2,7 @@ use Rattle.std.proofs.Common.{◌≡◌, ◌∙◌, ℕ, List, Some, None, [], �
 use Rattle.txc_txn.specs.Core.{left_pin}
 use Rattle.txc_world.proofs.Fairness.{fair_ended}
 use Rattle.txc_world.specs.Keeping.{GiveBackLeads}
+use Rattle.txc_cushion.proofs.Counts.{give_back_counts}
 use Rattle.txc_world.proofs.acting.abort.Goals as goal
 
 pub returns-in-Some-clause-leads : goal.returns-in-Some-clause-leads
@@ -33,12 +34,12 @@ returns-clause-leads g c = λ next pass.
 pub returns-in-Some-clause-acted : goal.returns-in-Some-clause-acted
 returns-in-Some-clause-acted g c =
     let is : left_pin c.args.current.txn.core.pinning ≡ Some c.in-Some.stamp = sym c.cancel-left.ensures.unpin ∙ c.in-Some.is in
-    let fair = fair_ended c.args.ports.now c.give_back.new.self c.args.current.txn.core _ c.give_back.result c.give_back_counts_users.ensures c.give_back.ensures.leads
+    let fair = fair_ended c.args.ports.now c.give_back.new.self c.args.current.txn.core _ c.give_back.result give_back_counts c.give_back.ensures.leads
     (c.deref.ensures.value ∙ c.cancel-left.ensures.give_back) (c.in-Some.stamp ∷ []) (λ t. rw is (omega arith)) in
     search (rules, fair)
 
 pub returns-clause-acted : goal.returns-clause-acted
 returns-clause-acted g c =
-    let fair = fair_ended c.args.ports.now c.give_back.new.self c.args.current.txn.core _ c.give_back.result c.give_back_counts_users.ensures c.give_back.ensures.leads
+    let fair = fair_ended c.args.ports.now c.give_back.new.self c.args.current.txn.core _ c.give_back.result give_back_counts c.give_back.ensures.leads
     (c.deref.ensures.value ∙ c.cancel-left.ensures.give_back) [] (λ t. omega arith) in
     search (rules, fair)

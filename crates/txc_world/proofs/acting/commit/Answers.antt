@@ -6,6 +6,7 @@ use Rattle.txc_world.proofs.Fairness.{fair_ended}
 use Rattle.txc_world.specs.declared.reply.Reply.TheVariants.{Receipt}
 use Rattle.txc_world.specs.Cast.{resting}
 use Rattle.txc_world.specs.Keeping.{GiveBackLeads}
+use Rattle.txc_cushion.proofs.Counts.{give_back_counts}
 use Rattle.txc_world.proofs.acting.commit.Goals as goal
 
 pub returns-clause-leads : goal.returns-clause-leads
@@ -27,6 +28,6 @@ returns-clause-acted g c =
     (sym c.give_back.ensures.same)
     (explained_later g.A.App.next c.args.current.txn.core.seen.history c.args.ports.now.database.history
     c.args.current.txn.core.bounds c.finish-receipt.result.0.pin c.args.current.txn.core.recorded c.requires.fits.seen.begins explained) in
-    let fair = fair_ended c.args.ports.now c.give_back.new.self c.args.current.txn.core _ c.give_back.result c.give_back_counts_users.ensures c.give_back.ensures.leads
+    let fair = fair_ended c.args.ports.now c.give_back.new.self c.args.current.txn.core _ c.give_back.result give_back_counts c.give_back.ensures.leads
     (c.deref.ensures.value ∙ c.finish-receipt.ensures.give_back) [] (λ t. omega arith) in
     search (rules, c.requires.no_call, later, fair)

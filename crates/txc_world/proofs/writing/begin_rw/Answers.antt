@@ -3,13 +3,14 @@ use Rattle.txc_world.specs.declared.reply.Reply.TheVariants.{Based, Refused}
 use Rattle.txc_world.specs.Books.{nothing, ActCounts}
 use Rattle.txc_world.proofs.WritingCounts.{based, counts_begun, counts_unchanged}
 use Rattle.txc_world.specs.declared.reply.Refusal.TheVariants.{Database}
+use Rattle.txc_rw.proofs.Holding.{holds_at_first}
 use Rattle.txc_world.proofs.writing.begin_rw.Goals as goal
 
 pub returns-in-Ok-clause-acted : goal.returns-in-Ok-clause-acted
 returns-in-Ok-clause-acted g c =
     let counts = subst (λ (b : ℕ). ActCounts c.args.ports.now c.hold.new.self nothing (based b) (Based c.in-Ok.base)) (sym c.begin-core.ensures.at_base)
     (counts_begun c.args.ports.now c.hold.new.self c.in-Ok.base c.in-Ok.ensures.leads) in
-    search (rules, counts)
+    search (rules, counts, holds_at_first)
 
 pub returns-in-Err-clause-acted : goal.returns-in-Err-clause-acted
 returns-in-Err-clause-acted g c =

@@ -4,6 +4,8 @@ use Rattle.txc_world.specs.Told.{leaving}
 use Rattle.txc_world.specs.Ports.{PortsValue}
 use Rattle.txc_world.proofs.CommitLemmas.{explained_lent, explained_open}
 use Rattle.txc_world.proofs.WritingCounts.{fair_commit, fair_not_committed}
+use Rattle.txc_rw.proofs.Holding.{holds_in_longer}
+use Rattle.txc_db.proofs.Histories.{states_stay, tags_stay}
 use Rattle.txc_world.proofs.writing.commit.Goals as goal
 
 pub returns-in-Ok-clause-leads : goal.returns-in-Ok-clause-leads
@@ -23,8 +25,8 @@ returns-in-Ok-clause-acted g c =
     let explained =
     explained_open g.A.App.next c.commit.new.self.database.history _ c.args.current.core c.in-Ok.stamp c.args.current.call c.requires.no_call
     (explained_lent g.A.App.next c.args.current.registry c.args.current.core c.args.ports.now.database c.requires.fits.holds
-    c.answers_are_right.ensures.base c.answers_are_right.ensures.quiet c.answers_are_right.ensures.event c.transactions_stay_right.ensures.longer
-    c.states_stay.ensures.states c.states_stay.ensures.tags
+    c.answers_are_right.ensures.base c.answers_are_right.ensures.quiet c.answers_are_right.ensures.event (holds_in_longer states_stay)
+    states_stay tags_stay
     c.args.ports.now c.commit.new.self c.base-base.result c.tags-read.result.now c.changes-changes.result.now c.in-Ok.stamp refl c.in-Ok.ensures.leads
     c.base-base.ensures c.tags-read.ensures c.changes-changes.ensures.answer) in
     let fair = fair_commit c.args.ports.now c.commit.new.self c.base-base.result c.args.current.core.base c.base-base.result c.in-Ok.stamp _ _ c.in-Ok.ensures.leads c.base-base.ensures in

@@ -1,5 +1,5 @@
 use Rattle.txc_db.specs.History.{state_at}
-use Rattle.txc_world.proofs.WritingLemmas.{answered_at, answered_rows, needs_query, queried_so, right_answer}
+use Rattle.txc_world.proofs.WritingLemmas.{answered_at, answered_rows, queried_so, right_answer}
 use Rattle.std.proofs.Common.{ℕ, subst}
 use Rattle.txc_world.specs.Books.{HasLost}
 use Rattle.txc_world.specs.Losing.{IfDidLose}
@@ -9,7 +9,7 @@ use Rattle.txc_world.proofs.writing.go_on.Goals as goal
 pub returns-clause-holds : goal.returns-clause-holds
 returns-clause-holds g c =
     c.reply-turn.ensures.holds c.args.ports.now.database.history
-    (right_answer c.args.ports.now c.args.core.now c.args.query.now c.base-base.result c.answer_told-did.result.1 c.answer_told-did.ensures.leads c.base-base.ensures c.requires.asked)
+    (right_answer c.args.ports.now c.args.core.now c.args.query.now c.base-base.result c.answer_told-did.result.1 c.answer_told-did.ensures.leads c.base-base.ensures c.requires.asks.0)
     c.requires.holds
 
 pub returns-clause-loss : goal.returns-clause-loss
@@ -25,10 +25,10 @@ returns-clause-asks g c =
       found = c.answer_told-did.result.1;
       answer = here;
       tells = c.answer_told-did.ensures.tells;
-      queried = queried_so c.args.core.now.queried c.args.core.now.reading c.args.query.now c.answer_told-did.result.1 c.reply-turn.new.self.queried c.requires.asked c.reply-turn.ensures.queried;
+      queried = queried_so c.args.core.now.queried c.args.core.now.reading c.args.query.now c.answer_told-did.result.1 c.reply-turn.new.self.queried c.requires.asks.0 c.reply-turn.ensures.queried;
       leads = λ f is.
           c.reply-turn.ensures.leads (state_at c.args.ports.now.database.history c.args.core.now.base) c.args.query.now f
-          (needs_query c.args.core.now.reading c.args.core.now.call.need c.args.query.now c.requires.fits.reading c.requires.asked c.requires.open)
+          c.requires.asks.1
           is (answered_rows c.args.query.now c.args.core.now.base c.args.ports.now c.answer_told-did.result.1 f here is);
       refused = c.reply-turn.ensures.refused;
       same = c.reply-turn.ensures.same;

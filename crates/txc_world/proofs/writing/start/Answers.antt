@@ -1,4 +1,4 @@
-use Rattle.std.proofs.Common.{rules, ◌≡◌, Some, [], ap, refl, subst, sym, ◌∙◌}
+use Rattle.std.proofs.Common.{rules, ◌≡◌, Some, Err, [], ap, refl, subst, sym, ◌∙◌}
 use Rattle.std.specs.Prelude.{IsNone, IsSome}
 use Rattle.txc_tags.specs.Keys.{Call}
 use Rattle.txc_registry.specs.Objects.{activity_of}
@@ -30,7 +30,7 @@ returns-clause-leads g c = rw c.requires.no_call (
         c.copy.ensures
         (c.start-turn.ensures.leads (subst (λ (k : Call). IsSome (activity_of c.args.current.registry k.function)) (sym c.copy.ensures) there) s);
     missing = λ gone.
-        subst (λ (k : Call). c.start-turn.result ≡ turns.Refused (CallRefused (NoFunction k.function))) c.copy.ensures
+        subst (λ (k : Call). c.start-turn.result ≡ turns.Ended (Err (CallRefused (NoFunction k.function)))) c.copy.ensures
         (c.start-turn.ensures.missing (subst (λ (k : Call). IsNone (activity_of c.args.current.registry k.function)) (sym c.copy.ensures) gone));
     same = c.start-turn.ensures.same;
   },
@@ -43,16 +43,14 @@ returns-clause-acted g c =
     let holds = c.start-turn.ensures.holds c.args.whole.now.database.history c.requires.fits.holds in
     let call : IsRwCall new (opened c.copy-2.result c.start-turn.result) = record {
       turn = c.start-turn.ensures.turn;
-      kind = c.start-turn.ensures.kind;
       key = λ asks. c.start-turn.ensures.begins asks ∙ (c.copy.ensures ∙ sym c.copy-2.ensures);
-      is_open = c.start-turn.ensures.open;
-      answers = answers_at_start old.answers new.answers c.copy.result c.copy-2.result c.start-turn.result c.start-turn.ensures.kind
+      answers = answers_at_start old.answers new.answers c.copy.result c.copy-2.result c.start-turn.result
           (c.copy.ensures ∙ sym c.copy-2.ensures) c.start-turn.ensures.answers;
       not_lost = rw_start_not_lost ⊥ g.A.App.next [] c.copy.result c.args.current.registry new c.start-turn.new.registry c.start-turn.result
           (λ there. c.start-turn.ensures.leads there []) c.start-turn.ensures.missing;
     } in
     let told = writing_same _ _ _ _ _ _ _ _ (ap (λ (v : RwValue). v.base) c.start-turn.ensures.same) (ap Some c.copy-2.ensures)
-    (told_at_start old.answers new.answers c.copy.result c.start-turn.result c.start-turn.ensures.kind c.start-turn.ensures.answers
+    (told_at_start old.answers new.answers c.copy.result c.start-turn.result c.start-turn.ensures.answers
     ∙ ap (λ call. told_answers call old.answers) (sym c.requires.no_call))
     (ap (λ (v : RwValue). v.changes) c.start-turn.ensures.same) in
     let counts = counts_based c.args.whole.now c.args.whole.now old.base new.base Started refl (ap (λ (v : RwValue). v.base) c.start-turn.ensures.same) tt in

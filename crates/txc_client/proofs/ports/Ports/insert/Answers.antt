@@ -1,10 +1,11 @@
-use Rattle.std.proofs.Common.{◌<◌, List, ap, length, subst, sym, ◌∙◌}
+use Rattle.std.proofs.Common.{◌<◌, List, Some, ap, length, subst, sym, ◌∙◌}
 use Rattle.std.specs.Prelude.{slice_set}
 use Rattle.txc_shared.specs.Passes.{PassValue}
 use Rattle.txc_client.specs.Ports.{HaveGrown, InsertLeaves, IsCallAt}
-use Rattle.txc_client.proofs.Called.{called_at, inserted}
+use Rattle.txc_client.proofs.Called.{called_at, inserted, kept_of}
 use Rattle.txc_client.proofs.Grown.{one_has_grown, settings_stay}
 use Rattle.txc_client.proofs.ports.Ports.insert.Goals as goal
+use Rattle.txc_client.proofs.ports.Ports.insert.Goals.{in-Ok, in-Err}
 
 pub invariant_of-self : goal.invariant_of-self
 invariant_of-self g c = (
@@ -20,9 +21,17 @@ returns-clause-passes g c =
 
 pub returns-clause-left : goal.returns-clause-left
 returns-clause-left g c =
-    let leaves = InsertLeaves g.J.Naming.node_histories c.args.entry in
+    let histories = g.J.Naming.node_histories in
+    let old = c.index_mut-pass.result.now in
+    let new = c.insert.new.self in
+    let made = c.insert.ensures in
+    let leaves = InsertLeaves histories c.args.entry c.match-insert.result in
     let passes = c.self.inside.passes.items in
     let within : c.args.node < length passes = subst (λ (v : List PassValue). c.args.node < length v) (sym c.self.view_is) c.requires.node in
-    subst (λ (v : List PassValue). IsCallAt c.args.node leaves v (slice_set passes c.args.node c.insert.new.self)) c.self.view_is
-    (called_at passes c.args.node leaves c.index_mut-pass.result.now c.insert.new.self within c.index_mut-pass.ensures.value c.insert.ensures.longer
-    (inserted g.J.Naming.node_histories c.index_mut-pass.result.now c.insert.new.self c.args.entry c.insert.result c.insert.ensures.made c.insert.ensures.left c.insert.ensures.refused))
+    subst (λ (v : List PassValue). IsCallAt c.args.node leaves v (slice_set passes c.args.node new)) c.self.view_is
+    (called_at passes c.args.node leaves old new within c.index_mut-pass.ensures.value made.longer
+    (inserted histories old new c.args.entry c.insert.result made.made made.left made.refused c.match-insert.result
+    (elim c.match-insert.branch [
+      | in-Ok w ↦ w.result-is ∙ ap Some w.kept_by.ensures ∙ sym (ap kept_of w.in-Ok.is)
+      | in-Err w ↦ w.result-is ∙ sym (ap kept_of w.in-Err.is)
+    ])))

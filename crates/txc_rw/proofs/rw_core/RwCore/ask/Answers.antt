@@ -1,17 +1,17 @@
-use Rattle.std.proofs.Common.{Some, sym, subst, ap}
-use Rattle.txc_ports.specs.declared.request.PortRequest.TheVariants as requests
-use Rattle.txc_rw.specs.Core.{RwHolds, RwValue}
-use Rattle.txc_rw.proofs.Holding.{holds_moved}
+use Rattle.std.proofs.Common.{◌≡◌, List, sym, ap, subst, arith, ◌∙◌}
+use Rattle.txc_tags.specs.declared.tag.Tag.{Tag}
+use Rattle.txc_tags.specs.Tags.{with_tag}
+use Rattle.txc_rows.specs.declared.query.Query.{Query}
+use Rattle.txc_rows.specs.RowTags.{query_tag}
+use Rattle.txc_rw.specs.Core.{tags_of}
 use Rattle.txc_rw.proofs.rw_core.RwCore.ask.Goals as goal
 
-pub returns-clause-holds : goal.returns-clause-holds
-returns-clause-holds g c = λ L h.
-    subst (λ (w : RwValue). RwHolds g.A.App.next L c.args.registry.now w) (sym c.in-Ok.ensures.after)
-    (holds_moved g.A.App.next L c.args.registry.now c.args.self.now h c.args.registry.now c.args.self.now.call (Some c.args.query) (λ M hold. hold))
-
-pub returns-clause-turn : goal.returns-clause-turn
-returns-clause-turn g c = (
-  c.args.query,
-  ap (λ (w : RwValue). w.reading) c.in-Ok.ensures.after,
-  ap (λ (w : RwValue). requests.Query c.args.query w.base) c.self.view_is,
-)
+pub invariant_of-self-2 : goal.invariant_of-self-2
+invariant_of-self-2 c = record {
+  exact = subst (λ (qs : List Query). c.self.inside.tags ≡ tags_of qs) (sym c.reserve.ensures.items) c.self.invariant.exact;
+  few = c.self.invariant.few;
+  ready = (
+    c.in_ok-add.ensures.after ∙ ap (λ (t : Tag). with_tag t c.in_ok-tags.tags) c.tag.ensures ∙ ap (λ (set : List Tag). with_tag (query_tag c.args.query.now) set) c.in_ok-tags.ensures,
+    let room = c.in_ok-reserve.ensures.ok in omega (arith, room),
+  );
+}

@@ -1,5 +1,4 @@
 use Rattle.std.proofs.Common.{◌≡◌, Some, sym, subst, ap, ◌∙◌}
-use Rattle.txc_ports.specs.declared.request.PortRequest.TheVariants as requests
 use Rattle.txc_rw.specs.Core.{query_of_reading, RwHolds, RwValue}
 use Rattle.txc_rw.proofs.Holding.{given_up, holds_moved}
 use Rattle.txc_rw.proofs.rw_core.RwCore.ask_of_call.Goals as goal
@@ -18,7 +17,6 @@ returns-clause-holds g c = λ L h.
 
 pub returns-clause-turn : goal.returns-clause-turn
 returns-clause-turn g c = (
-  c.args.query,
   ap (λ (w : RwValue). w.reading) c.in-Ok.ensures.after,
-  ap (λ (w : RwValue). requests.Query c.args.query w.base) c.self.view_is,
+  ap (λ (w : RwValue). w.call.need) c.in-Ok.ensures.after ∙ c.requires.need,
 )

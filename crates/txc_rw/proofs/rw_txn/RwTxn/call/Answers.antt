@@ -8,6 +8,7 @@ use Rattle.txc_db.specs.History.{state_at}
 use Rattle.txc_app.specs.Eval.{eval}
 use Rattle.txc_registry.proofs.Offered.{idle_same}
 use Rattle.txc_rw.proofs.Resting.{called, holds_by, if_ok, last_right, rested}
+use Rattle.txc_rw.proofs.Holding.{right_at_base}
 use Rattle.txc_rw.proofs.rw_txn.RwTxn.call.Goals as goal
 
 pub call_at-requires-clause-shown : goal.call_at-requires-clause-shown
@@ -25,7 +26,7 @@ pub returns-clause-answer : goal.returns-clause-answer
 returns-clause-answer g c =
     let core' : RwValue = c.call_at.new.core in
     let L : History = c.self.inside.held in
-    let right = c.answers_are_right.ensures.base g.A.App.next L c.call_at.new.registry core' (holds_by g.A.App.next c.front.result.now.history c.self.inside.held c.self.inside.registry c.call_at.new.registry c.self.inside.core c.call_at.new.core c.front.ensures.history
+    let right = right_at_base g.A.App.next L c.call_at.new.registry core' (holds_by g.A.App.next c.front.result.now.history c.self.inside.held c.self.inside.registry c.call_at.new.registry c.self.inside.core c.call_at.new.core c.front.ensures.history
     c.call_at.ensures.holds (c.self.invariant.1.holds c.self.inside.registry)) in
     let base : core'.base ≡ c.self.inside.core.base = ap (λ (w : RwValue). w.base) c.call_at.ensures.same in
     subst (λ (t : RwTxnValue). IfOk c.call_at.result (λ v. eval g.A.App.next c.args.key (state_at t.history t.core.base) ≡ Some v)) c.self.view_is

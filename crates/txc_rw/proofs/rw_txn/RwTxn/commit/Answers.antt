@@ -5,6 +5,7 @@ use Rattle.txc_rw.specs.Core.{tags_read, RwHolds, RwValue}
 use Rattle.txc_rw.specs.Outcomes.{IsCommitted}
 use Rattle.txc_rw.specs.Txn.{RwTxnValue}
 use Rattle.txc_rw.proofs.Commits.{answer_lent, holds_seen, knows_base}
+use Rattle.txc_db.proofs.Histories.{states_stay}
 use Rattle.txc_rw.proofs.rw_txn.RwTxn.commit.Goals as goal
 
 pub returns-clause-answer : goal.returns-clause-answer
@@ -13,7 +14,7 @@ returns-clause-answer g c =
     let F : History = c.in-Ok.done.front.history in
     let lent = answer_lent F c.in-Ok.done.answer c.base-base.result core.base c.tags-tags.result.now (tags_read core) c.changes-changes.result.now core.changes
     c.base-base.ensures c.tags-tags.ensures c.changes-changes.ensures.answer c.in-Ok.ensures.answer in
-    let holds = holds_seen c.states_stay.ensures.states g.A.App.next c.front.result.now.history F [] core c.agree.ensures
+    let holds = holds_seen states_stay g.A.App.next c.front.result.now.history F [] core c.agree.ensures
     (knows_base F core.base c.in-Ok.done.answer (tags_read core) core.changes lent) (subst (λ (M : History). RwHolds g.A.App.next M [] core) (sym c.front.ensures.history) (c.self.invariant.1.holds [])) in
     subst (λ (t : RwTxnValue). IsCommitted g.A.App.next F t.core c.in-Ok.done.answer) c.self.view_is
     (c.answers_are_right.ensures.committed g.A.App.next F [] core c.in-Ok.done.answer holds lent)
@@ -24,7 +25,7 @@ returns-clause-at_base g c =
     let F : History = c.in-Ok.done.front.history in
     let lent = answer_lent F c.in-Ok.done.answer c.base-base.result core.base c.tags-tags.result.now (tags_read core) c.changes-changes.result.now core.changes
     c.base-base.ensures c.tags-tags.ensures c.changes-changes.ensures.answer c.in-Ok.ensures.answer in
-    let holds = holds_seen c.states_stay.ensures.states g.A.App.next c.front.result.now.history F [] core c.agree.ensures
+    let holds = holds_seen states_stay g.A.App.next c.front.result.now.history F [] core c.agree.ensures
     (knows_base F core.base c.in-Ok.done.answer (tags_read core) core.changes lent) (subst (λ (M : History). RwHolds g.A.App.next M [] core) (sym c.front.ensures.history) (c.self.invariant.1.holds [])) in
     subst (λ (t : RwTxnValue). AreRightIn g.A.App.next (state_at F t.core.base) t.core.answers) c.self.view_is
     (c.answers_are_right.ensures.base g.A.App.next F [] core holds)

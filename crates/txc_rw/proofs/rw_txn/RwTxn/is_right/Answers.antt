@@ -4,6 +4,7 @@ use Rattle.std.proofs.Common.{◌≤◌, List, length}
 use Rattle.txc_rows.specs.declared.query.Change.{Change}
 use Rattle.txc_db.specs.History.{state_at}
 use Rattle.txc_rw.specs.Answers.{state_of, AgreeOn, AreRightIn}
+use Rattle.txc_rw.proofs.Holding.{right_at_base}
 use Rattle.txc_rw.proofs.rw_txn.RwTxn.is_right.Goals as goal
 
 pub returns-clause-base : goal.returns-clause-base
@@ -12,7 +13,7 @@ returns-clause-base g c = subst (λ (t : RwTxnValue). t.core.base ≤ length t.h
 pub returns-clause-answers : goal.returns-clause-answers
 returns-clause-answers g c =
     subst (λ (t : RwTxnValue). AreRightIn g.A.App.next (state_at t.history t.core.base) t.core.answers) c.self.view_is
-    (c.answers_are_right.ensures.base g.A.App.next c.self.inside.held [] c.self.inside.core (c.self.invariant.1.holds []))
+    (right_at_base g.A.App.next c.self.inside.held [] c.self.inside.core (c.self.invariant.1.holds []))
 
 pub returns-clause-rests : goal.returns-clause-rests
 returns-clause-rests g c =

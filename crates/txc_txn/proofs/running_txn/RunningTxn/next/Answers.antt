@@ -2,6 +2,7 @@ use Rattle.std.proofs.Common.{sym, subst}
 use Rattle.txc_txn.specs.Core.{value_of}
 use Rattle.txc_txn.specs.Kept.{txn_value, TxnValue, HasGoneOn, IsShownRight}
 use Rattle.txc_txn.proofs.Cores.{right_seen}
+use Rattle.txc_db.proofs.Histories.{states_stay}
 use Rattle.txc_txn.proofs.running_txn.RunningTxn.next.Goals as goal
 
 pub invariant_of-self : goal.invariant_of-self
@@ -12,7 +13,7 @@ invariant_of-self g c =
     record {
       fits = c.next.ensures.fits;
       holds = c.next.ensures.holds core.seen.history c.next.new.self.seen.history c.next.ensures.gone_on.longer c.self.invariant.holds
-          (right_seen c.states_stay.ensures.states next core.machine.need c.args.reply c.next.new.self.seen.history c.next.ensures.gone_on.shown right);
+          (right_seen states_stay next core.machine.need c.args.reply c.next.new.self.seen.history c.next.ensures.gone_on.shown right);
     }
 
 pub returns : goal.returns

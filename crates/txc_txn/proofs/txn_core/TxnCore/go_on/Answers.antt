@@ -1,6 +1,6 @@
 use Rattle.std.proofs.Common.{Ok, Err, ap}
 use Rattle.txc_call.specs.Needs.{reply_reach}
-use Rattle.txc_ports.specs.declared.turn.Turn.TheVariants.{Refused}
+use Rattle.txc_ports.specs.declared.turn.Turn.TheVariants.{Ended}
 use Rattle.txc_txn.specs.Core.{value_of}
 use Rattle.txc_txn.proofs.Cores.{common, core_went_on, holds_went_on, need_stands}
 use Rattle.txc_txn.proofs.txn_core.TxnCore.go_on.Goals as goal
@@ -30,4 +30,4 @@ returns-in-Ok-clause-leads g c = λ n is. (
 )
 
 pub returns-in-Err-clause-leads : goal.returns-in-Err-clause-leads
-returns-in-Err-clause-leads g c = λ n is. (Err c.in-Err.error, c.in-Err.ensures.answer n is, ap Refused c.into.ensures)
+returns-in-Err-clause-leads g c = λ n is. (Err c.in-Err.error, c.in-Err.ensures.answer n is, ap (λ e. Ended (Err e)) c.into.ensures)

@@ -3,6 +3,7 @@ use Rattle.txc_pinset.specs.Members.{PinSetValue}
 use Rattle.txc_txn.specs.Core.{CoreValue, CoreHolds, IsRightPortReply, PinsAfter, value_of}
 use Rattle.txc_txn.specs.Leading.{ReplyLeads}
 use Rattle.txc_txn.proofs.Cores.{core_seen, holds_seen, leads_seen}
+use Rattle.txc_db.proofs.Histories.{states_stay}
 use Rattle.txc_txn.proofs.txn_core.TxnCore.next.Goals as goal
 
 pub answer-requires-clause-fits : goal.answer-requires-clause-fits
@@ -13,7 +14,7 @@ returns-clause-holds g c = λ L M begins h right.
     let next = g.A.App.next in
     c.answer.ensures.holds M
     (subst (λ (v : CoreValue). IsRightPortReply next M v.call.need c.args.reply) (sym c.see.ensures.same) right)
-    (subst (CoreHolds next M c.args.registry.now) (sym c.see.ensures.same) (holds_seen c.states_stay.ensures.states next L M begins c.args.registry.now (value_of c.args.self.now) c.see.new.self.seen h))
+    (subst (CoreHolds next M c.args.registry.now) (sym c.see.ensures.same) (holds_seen states_stay next L M begins c.args.registry.now (value_of c.args.self.now) c.see.new.self.seen h))
 
 pub returns-clause-gone_on : goal.returns-clause-gone_on
 returns-clause-gone_on g c =

@@ -1,29 +1,86 @@
-use Rattle.std.proofs.Common.{sym, subst}
+use Rattle.std.proofs.Common.{◌<◌, length, set, sym, subst}
 use Rattle.txc_ports.specs.declared.request.PortRequest.{PortRequest}
-use Rattle.txc_world.specs.Asks.{PortRequestLeads}
+use Rattle.txc_ports.specs.declared.request.PortRequest.TheVariants as requests
+use Rattle.txc_ports.specs.declared.reply.PortReply.TheVariants as replies
+use Rattle.txc_ports.specs.Asking.{AddsSuch, MayAsk}
+use Rattle.txc_world.specs.Asks.{IsAsked}
+use Rattle.txc_world.specs.Parts.{IsPartOf}
+use Rattle.txc_world.specs.Ports.{IsNodeOf, KeepsRow, PortsValue, whole_of}
+use Rattle.txc_world.proofs.AskLemmas.{asked_add, asked_insert, asked_lookup, asked_pin, asked_query, asked_unpin, shown_part}
+use Rattle.txc_world.proofs.NodeLemmas.{stays_inserted, stays_looked_up}
+use Rattle.txc_world.proofs.PortsLemmas.{keeps_node_from, keeps_same, led_from, node_from, ports_node_from}
 use Rattle.txc_world.proofs.ports.Ports.ask.Goals as goal
 
-pub returns-in-Pin-clause-leads : goal.returns-in-Pin-clause-leads
-returns-in-Pin-clause-leads g c =
-    subst (λ (r : PortRequest). PortRequestLeads c.args.pass c.args.seen.now r c.args.self.now c.ask_pin.new.self c.ask_pin.result.did c.ask_pin.result.reply) (sym c.in-Pin.is)
-    (c.ask_pin.ensures.leads c.args.seen.now)
+pub returns-in-Pin : goal.returns-in-Pin
+returns-in-Pin g c =
+    subst (λ (r : PortRequest). IsAsked g.A.App.next c.args.pass c.args.seen.now r c.args.self.now c.pin.new.self (replies.Pin c.pin.result)) (sym c.in-Pin.is)
+    (asked_pin g.A.App.next c.args.pass c.args.seen.now c.args.self.now c.pin.new.self c.pin.ensures.keeps c.count_right.ensures c.in-Pin.now c.in-Pin.at_least c.pin.result c.pin.ensures.leads)
 
-pub returns-in-AddPin-clause-leads : goal.returns-in-AddPin-clause-leads
-returns-in-AddPin-clause-leads g c =
-    subst (λ (r : PortRequest). PortRequestLeads c.args.pass c.args.seen.now r c.args.self.now c.ask_add.new.self c.ask_add.result.did c.ask_add.result.reply) (sym c.in-AddPin.is)
-    (c.ask_add.ensures.leads c.args.seen.now)
+pub returns-in-AddPin : goal.returns-in-AddPin
+returns-in-AddPin g c =
+    subst (λ (r : PortRequest). IsAsked g.A.App.next c.args.pass c.args.seen.now r c.args.self.now c.add-added.new.self (replies.AddPin c.in-AddPin.pinned c.add-added.result)) (sym c.in-AddPin.is)
+    (asked_add g.A.App.next c.args.pass c.args.seen.now c.args.self.now c.add-added.new.self c.add-added.ensures.keeps c.count_right.ensures c.in-AddPin.pinned c.add-added.result (subst (AddsSuch (IsPartOf (whole_of c.args.self.now))) c.in-AddPin.is c.requires.shown) c.add-added.ensures.leads)
 
-pub returns-in-Unpin-clause-leads : goal.returns-in-Unpin-clause-leads
-returns-in-Unpin-clause-leads g c =
-    subst (λ (r : PortRequest). PortRequestLeads c.args.pass c.args.seen.now r c.args.self.now c.ask_unpin.new.self c.ask_unpin.result.did c.ask_unpin.result.reply) (sym c.in-Unpin.is)
-    (c.ask_unpin.ensures.leads c.args.seen.now)
+pub returns-in-Unpin : goal.returns-in-Unpin
+returns-in-Unpin g c =
+    subst (λ (r : PortRequest). IsAsked g.A.App.next c.args.pass c.args.seen.now r c.args.self.now c.unpin.new.self (replies.Unpin c.unpin.result)) (sym c.in-Unpin.is)
+    (asked_unpin g.A.App.next c.args.pass c.args.seen.now c.args.self.now c.unpin.new.self c.unpin.ensures.keeps c.count_right.ensures c.in-Unpin.stamp c.unpin.result c.unpin.ensures.leads)
 
-pub returns-in-Lookup-clause-leads : goal.returns-in-Lookup-clause-leads
-returns-in-Lookup-clause-leads g c =
-    subst (λ (r : PortRequest). PortRequestLeads c.args.pass c.args.seen.now r c.args.self.now c.ask_lookup.new.self c.ask_lookup.result.did c.ask_lookup.result.reply) (sym c.in-Lookup.is)
-    (c.ask_lookup.ensures.leads c.args.seen.now)
+pub returns-in-Query : goal.returns-in-Query
+returns-in-Query g c =
+    subst (λ (r : PortRequest). IsAsked g.A.App.next c.args.pass c.args.seen.now r c.args.self.now c.find.new.self (replies.Query c.find.result)) (sym c.in-Query.is)
+    (asked_query g.A.App.next c.args.pass c.args.seen.now c.args.self.now c.find.new.self (keeps_same c.args.self.now c.find.new.self c.find.ensures.same) c.count_right.ensures c.in-Query.query c.in-Query.stamp c.find.result c.find.ensures.same c.find.ensures.leads)
 
-pub returns-in-Query-clause-leads : goal.returns-in-Query-clause-leads
-returns-in-Query-clause-leads g c =
-    subst (λ (r : PortRequest). PortRequestLeads c.args.pass c.args.seen.now r c.args.self.now c.ask_query.new.self c.ask_query.result.did c.ask_query.result.reply) (sym c.in-Query.is)
-    (c.ask_query.ensures.leads c.args.seen.now)
+-- ---- at a node
+
+pub invariant_of-self-in-Lookup : goal.invariant_of-self-in-Lookup
+invariant_of-self-in-Lookup g c =
+    let p : PortsValue = record { database = c.self.inside.database; cushion = c.self.inside.cushion; nodes = c.self.inside.nodes.items; spare = c.self.inside.spare.items; actors = c.self.inside.actors } in
+    let q : PortsValue = c.args.self.now in
+    let within : c.in-Lookup.node < length q.nodes = subst (MayAsk g.A.App.next q.database.events (length q.nodes) c.args.seen.now.history) c.in-Lookup.is c.requires.may in (
+      c.self.invariant.0,
+      ports_node_from p q c.self.view_is c.in-Lookup.node c.index_mut-at.result.now c.look_up.new.node c.self.invariant.1
+          within c.index_mut-at.ensures.value (stays_looked_up _ _ _ _ _ _ _ _ c.look_up.ensures.leads),
+    )
+
+pub returns-in-Lookup : goal.returns-in-Lookup
+returns-in-Lookup g c =
+    let p : PortsValue = record { database = c.self.inside.database; cushion = c.self.inside.cushion; nodes = c.self.inside.nodes.items; spare = c.self.inside.spare.items; actors = c.self.inside.actors } in
+    let q : PortsValue = c.args.self.now in
+    let within : c.in-Lookup.node < length q.nodes = subst (MayAsk g.A.App.next q.database.events (length q.nodes) c.args.seen.now.history) c.in-Lookup.is c.requires.may in
+    let new : PortsValue = record p { nodes = set p.nodes c.in-Lookup.node c.look_up.new.node } in
+    let keeps : KeepsRow q new = keeps_node_from p q c.self.view_is c.in-Lookup.node c.index_mut-at.result.now c.look_up.new.node c.index_mut-at.ensures.value
+    (stays_looked_up _ _ _ _ _ _ _ _ c.look_up.ensures.leads) in
+    let node : IsNodeOf (whole_of q) q.actors c.index_mut-at.result.now =
+    node_from p q c.self.view_is c.in-Lookup.node c.index_mut-at.result.now c.self.invariant.1 within c.index_mut-at.ensures.value in
+    subst (λ (r : PortRequest). IsAsked g.A.App.next c.args.pass c.args.seen.now r q new (replies.Lookup c.look_up.result)) (sym c.in-Lookup.is)
+    (asked_lookup g.A.App.next c.args.pass c.args.seen.now q new keeps c.count_right.ensures c.in-Lookup.node c.in-Lookup.key c.in-Lookup.lo c.in-Lookup.hi c.look_up.result
+    (led_from p q c.self.view_is c.in-Lookup.node _ c.index_mut-at.result.now c.look_up.new.node within c.index_mut-at.ensures.value c.look_up.ensures.leads)
+    c.look_up.ensures.right
+    (shown_part (whole_of q) c.index_mut-at.result.now c.look_up.result node.seen c.look_up.ensures.front c.look_up.ensures.whole))
+
+pub invariant_of-self-in-Insert : goal.invariant_of-self-in-Insert
+invariant_of-self-in-Insert g c =
+    let p : PortsValue = record { database = c.self.inside.database; cushion = c.self.inside.cushion; nodes = c.self.inside.nodes.items; spare = c.self.inside.spare.items; actors = c.self.inside.actors } in
+    let q : PortsValue = c.args.self.now in
+    let may : MayAsk g.A.App.next q.database.events (length q.nodes) c.args.seen.now.history (requests.Insert c.in-Insert.node c.in-Insert.entry) =
+    subst (MayAsk g.A.App.next q.database.events (length q.nodes) c.args.seen.now.history) c.in-Insert.is c.requires.may in
+    let part : IsPartOf (whole_of p) c.args.seen.now = subst (λ (v : PortsValue). IsPartOf (whole_of v) c.args.seen.now) (sym c.self.view_is) c.requires.seen in (
+      c.self.invariant.0,
+      ports_node_from p q c.self.view_is c.in-Insert.node c.index_mut-at-2.result.now c.insert-made.new.node c.self.invariant.1
+          may.0 c.index_mut-at-2.ensures.value (stays_inserted _ _ _ _ _ _ _ part c.insert-made.ensures),
+    )
+
+pub returns-in-Insert : goal.returns-in-Insert
+returns-in-Insert g c =
+    let p : PortsValue = record { database = c.self.inside.database; cushion = c.self.inside.cushion; nodes = c.self.inside.nodes.items; spare = c.self.inside.spare.items; actors = c.self.inside.actors } in
+    let q : PortsValue = c.args.self.now in
+    let may : MayAsk g.A.App.next q.database.events (length q.nodes) c.args.seen.now.history (requests.Insert c.in-Insert.node c.in-Insert.entry) =
+    subst (MayAsk g.A.App.next q.database.events (length q.nodes) c.args.seen.now.history) c.in-Insert.is c.requires.may in
+    let part : IsPartOf (whole_of p) c.args.seen.now = subst (λ (v : PortsValue). IsPartOf (whole_of v) c.args.seen.now) (sym c.self.view_is) c.requires.seen in
+    let new : PortsValue = record p { nodes = set p.nodes c.in-Insert.node c.insert-made.new.node } in
+    let keeps : KeepsRow q new = keeps_node_from p q c.self.view_is c.in-Insert.node c.index_mut-at-2.result.now c.insert-made.new.node c.index_mut-at-2.ensures.value
+    (stays_inserted _ _ _ _ _ _ _ part c.insert-made.ensures) in
+    subst (λ (r : PortRequest). IsAsked g.A.App.next c.args.pass c.args.seen.now r q new (replies.Insert c.kept_after.result)) (sym c.in-Insert.is)
+    (asked_insert g.A.App.next c.args.pass c.args.seen.now q new keeps c.count_right.ensures c.in-Insert.node c.in-Insert.entry c.insert-made.result c.kept_after.result c.kept_after.ensures
+    (led_from p q c.self.view_is c.in-Insert.node _ c.index_mut-at-2.result.now c.insert-made.new.node may.0 c.index_mut-at-2.ensures.value c.insert-made.ensures))

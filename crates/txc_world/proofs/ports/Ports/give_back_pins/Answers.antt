@@ -2,6 +2,7 @@ use Rattle.std.proofs.Common.{◌≡◌, ◌∙◌, ◌<◌, length, get_or, ap,
 use Rattle.txc_world.specs.Ports.{PortsValue}
 use Rattle.txc_world.proofs.Fairness.{fair_all, fair_rest}
 use Rattle.txc_world.proofs.Giving.{gives_all, gives_one, pins_then}
+use Rattle.txc_cushion.proofs.Counts.{give_back_counts}
 use Rattle.txc_world.proofs.ports.Ports.give_back_pins.Goals as goal
 
 pub loop-pin-preserved : goal.loop-pin-preserved
@@ -12,10 +13,10 @@ loop-pin-preserved g c =
     let is : c.pin-item.result ≡ get_or pins at c.pin-item.result = cc (c.pin-item.is, c.deref-pin-items.ensures.value) in
     record {
       same = c.give_back.ensures.same ∙ ap (λ (p : PortsValue). record p { cushion = c.give_back.new.self.cushion }) c.loop-pin.invariant.same;
-      fair = fair_rest c.args.self.now c.loop-pin.self c.give_back.new.self pins at c.pin-item.result c.give_back.result c.give_back_counts_users.ensures
+      fair = fair_rest c.args.self.now c.loop-pin.self c.give_back.new.self pins at c.pin-item.result c.give_back.result give_back_counts
           c.give_back.ensures.leads within is c.loop-pin.invariant.fair;
       pins = pins_then c.args.self.now c.loop-pin.self c.give_back.new.self c.pin-item.result.stamp c.give_back.result c.loop-pin.invariant.pins c.give_back.ensures.leads;
-      users = gives_one c.args.self.now c.loop-pin.self c.give_back.new.self pins at c.pin-item.result c.give_back.result c.give_back_counts_users.ensures
+      users = gives_one c.args.self.now c.loop-pin.self c.give_back.new.self pins at c.pin-item.result c.give_back.result give_back_counts
           c.give_back.ensures.leads within is c.loop-pin.invariant.users;
     }
 

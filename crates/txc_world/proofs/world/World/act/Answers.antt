@@ -1,51 +1,48 @@
-use Rattle.std.proofs.Common.{Option, List, Some, refl, ap, ◌∙◌, slice_set, arith}
+use Rattle.std.proofs.Common.{Option, List, Some, refl, ap, ◌∙◌, slice_set, arith, rules}
 use Rattle.txc_world.specs.declared.actor.Actor.{Actor}
 use Rattle.txc_world.specs.Worlds.{WorldValue}
 use Rattle.txc_world.proofs.Balancing.{world_balanced}
 use Rattle.txc_world.proofs.Leading.{world_led}
 use Rattle.txc_world.proofs.Stepping.{due_act, explained_act, told_act, world_acts}
+use Rattle.txc_rw.proofs.Holding.{holds_in_longer}
+use Rattle.txc_db.proofs.Histories.{states_stay}
 use Rattle.txc_world.proofs.world.World.act.Goals as goal
 
 pub invariant_of-self : goal.invariant_of-self
 invariant_of-self g c =
     rw (c.note.ensures, c.act_at-reply.ensures.others)
-    (world_acts c.transactions_stay_right.ensures.longer g.A.App.next c.self.inside.settings c.self.inside.ports c.act_at-reply.new.ports
+    (world_acts (holds_in_longer states_stay) g.A.App.next c.self.inside.settings c.self.inside.ports c.act_at-reply.new.ports
     c.self.inside.sessions.items c.self.inside.actors.items c.args.place _ c.act_at-reply.ensures.is c.self.invariant c.act_at-reply.ensures.acted.keeps c.act_at-reply.ensures.acted.fits)
 
-pub returns-clause-told : goal.returns-clause-told
-returns-clause-told g c =
-    told_act c.self.inside.settings c.self.inside.ports c.self.inside.sessions.items c.self.inside.actors.items c.args.place c.act_at-reply.ensures.was
-    c.act_at-reply.ensures.there
-    c.act_at-reply.new.ports c.note.new.sessions.items c.act_at-reply.new.actors.items c.act_at-reply.ensures.is c.args.doing.now c.act_at-reply.result c.args.self.now.told
-    c.note.ensures
-    c.act_at-reply.ensures.others
-    c.act_at-reply.ensures.acted.told c.act_at-reply.ensures.acted.history c.act_at-reply.ensures.acted.spare (ap (λ (w : WorldValue). w.told) c.self.view_is)
-
-pub returns-clause-due : goal.returns-clause-due
-returns-clause-due g c =
-    due_act c.self.inside.settings c.self.inside.ports c.self.inside.sessions.items c.self.inside.actors.items c.args.place c.act_at-reply.ensures.was
-    c.act_at-reply.ensures.there c.args.doing.now c.act_at-reply.result c.args.self.now.told c.act_at-reply.ensures.acted.due
-    (ap (λ (w : WorldValue). w.told) c.self.view_is)
-
-pub returns-clause-explained : goal.returns-clause-explained
-returns-clause-explained g c =
-    explained_act c.self.inside.settings c.self.inside.ports c.self.inside.sessions.items c.self.inside.actors.items c.args.place c.act_at-reply.ensures.was
-    c.act_at-reply.ensures.there g.A.App.next c.act_at-reply.new.ports c.args.doing.now c.act_at-reply.result c.args.self.now.told
-    c.act_at-reply.ensures.acted.explained (ap (λ (w : WorldValue). w.told) c.self.view_is)
-
-pub returns-clause-balanced : goal.returns-clause-balanced
-returns-clause-balanced g c = λ purse h.
-    world_balanced c.self.inside.settings c.self.inside.ports c.act_at-reply.new.ports c.self.inside.sessions.items c.note.new.sessions.items c.self.inside.actors.items c.args.place c.act_at-reply.ensures.was c.act_at-reply.ensures.is
-    c.act_at-reply.ensures.there c.act_at-reply.new.actors.items c.args.self.now _ c.act_at-reply.result purse
-    c.act_at-reply.ensures.others
-    c.act_at-reply.ensures.acted.spare c.count_right.ensures c.act_at-reply.ensures.acted.counts c.self.view_is refl h
-
-pub returns-clause-leads : goal.returns-clause-leads
-returns-clause-leads g c =
-    world_led g.A.App.next c.self.inside.settings c.self.inside.ports c.act_at-reply.new.ports c.self.inside.sessions.items c.note.new.sessions.items c.self.inside.actors.items c.args.place c.act_at-reply.ensures.was c.act_at-reply.ensures.is
-    c.act_at-reply.ensures.there c.act_at-reply.new.actors.items c.args.self.now _ c.args.doing.now c.act_at-reply.result
-    c.act_at-reply.ensures.others
-    c.act_at-reply.ensures.leads c.self.view_is refl
+pub returns : goal.returns
+returns g c = record {
+  told =
+      told_act c.self.inside.settings c.self.inside.ports c.self.inside.sessions.items c.self.inside.actors.items c.args.place c.act_at-reply.ensures.was
+      c.act_at-reply.ensures.there
+      c.act_at-reply.new.ports c.note.new.sessions.items c.act_at-reply.new.actors.items c.act_at-reply.ensures.is c.args.doing.now c.act_at-reply.result c.args.self.now.told
+      c.note.ensures
+      c.act_at-reply.ensures.others
+      c.act_at-reply.ensures.acted.told c.act_at-reply.ensures.acted.history c.act_at-reply.ensures.acted.spare (ap (λ (w : WorldValue). w.told) c.self.view_is);
+  leads =
+      world_led g.A.App.next c.self.inside.settings c.self.inside.ports c.act_at-reply.new.ports c.self.inside.sessions.items c.note.new.sessions.items c.self.inside.actors.items c.args.place c.act_at-reply.ensures.was c.act_at-reply.ensures.is
+      c.act_at-reply.ensures.there c.act_at-reply.new.actors.items c.args.self.now _ c.args.doing.now c.act_at-reply.result
+      c.act_at-reply.ensures.others
+      c.act_at-reply.ensures.leads c.self.view_is refl;
+  world = search rules;
+  due =
+      due_act c.self.inside.settings c.self.inside.ports c.self.inside.sessions.items c.self.inside.actors.items c.args.place c.act_at-reply.ensures.was
+      c.act_at-reply.ensures.there c.args.doing.now c.act_at-reply.result c.args.self.now.told c.act_at-reply.ensures.acted.due
+      (ap (λ (w : WorldValue). w.told) c.self.view_is);
+  explained =
+      explained_act c.self.inside.settings c.self.inside.ports c.self.inside.sessions.items c.self.inside.actors.items c.args.place c.act_at-reply.ensures.was
+      c.act_at-reply.ensures.there g.A.App.next c.act_at-reply.new.ports c.args.doing.now c.act_at-reply.result c.args.self.now.told
+      c.act_at-reply.ensures.acted.explained (ap (λ (w : WorldValue). w.told) c.self.view_is);
+  balanced = λ purse h tidy.
+      world_balanced c.self.inside.settings c.self.inside.ports c.act_at-reply.new.ports c.self.inside.sessions.items c.note.new.sessions.items c.self.inside.actors.items c.args.place c.act_at-reply.ensures.was c.act_at-reply.ensures.is
+      c.act_at-reply.ensures.there c.act_at-reply.new.actors.items c.args.self.now _ c.act_at-reply.result purse
+      c.act_at-reply.ensures.others
+      c.act_at-reply.ensures.acted.spare c.count_right.ensures c.act_at-reply.ensures.acted.counts c.self.view_is refl h;
+}
 
 pub note-requires : goal.note-requires
 note-requires g c = omega (arith, c.self.invariant.sessions, c.self.inside.sessions.ok.0)
