@@ -1,2 +1,3 @@
 pub mod Activity
 pub mod Objects
+pub mod Supplies
