@@ -21,7 +21,7 @@ def crates():
 
 
 # Those that only call the others.
-USES = {"txc_uses", "txc_thread_uses"}
+USES = {"txc_uses", "txc_thread_uses", "txc_supply_uses"}
 
 
 def documented():

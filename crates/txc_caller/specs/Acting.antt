@@ -1,8 +1,9 @@
 -- What comes of an act of the caller.
 use Rattle.std.specs.Prelude.{◌≡◌, List, [], ◌∷◌, ◌++◌, Option, Some, None, Result, Ok, Err}
-use Rattle.std.specs.Option.{ForSome, option_map}
+use Rattle.std.specs.Option.{ForSome}
 use Rattle.txc_tags.specs.Keys.{Call}
 use Rattle.txc_app.specs.Eval.{Next}
+use Rattle.txc_app.specs.declared.ask.Answer.{Answer}
 use Rattle.txc_ports.specs.declared.recorded.Recorded.{Recorded}
 use Rattle.txc_txn.specs.Core.{open_call, IsIdle}
 use Rattle.txc_txn.specs.Kept.{TxnValue}
@@ -13,17 +14,19 @@ use Rattle.txc_caller.specs.declared.step.CallerError.{CallerError}
 use Rattle.txc_caller.specs.declared.step.Step.{Step}
 use Rattle.txc_caller.specs.declared.step.Step.TheVariants.{Compute, Answered, Value}
 
--- the outermost call that is open
-abbrev pub top_of : Option OpenCall → Option Call
-top_of open = option_map (λ (o : OpenCall). o.frames.top) open
+-- this call is open, and its innermost function was answered this last
+abbrev pub IsOpenWith : Call → Option Answer → Option OpenCall → Type 0
+IsOpenWith k given open = (o : OpenCall) × (open ≡ Some o) × (o.frames.top ≡ k) × (o.given ≡ given)
 
 -- What comes of a step of this call, before which these values were recorded: its value is recorded beside them, and no
--- call is open; or it is open, and they are as they were. They are so too where it was refused.
+-- call is open; or it is open, and they are as they were: its innermost function has asked nothing yet, or has an
+-- answer. They are so too where it was refused.
 abbrev pub IsStepOf : List Recorded → Call → List Recorded → Option OpenCall → Result Step CallerError → Type 0
 IsStepOf before k recorded open (Ok (Value value)) =
     (recorded ≡ before ++ record { key = k; value = value } ∷ []) × (open ≡ None)
-IsStepOf before k recorded open (Ok Compute) = (recorded ≡ before) × (top_of open ≡ Some k)
-IsStepOf before k recorded open (Ok Answered) = (recorded ≡ before) × (top_of open ≡ Some k)
+IsStepOf before k recorded open (Ok Compute) = (recorded ≡ before) × IsOpenWith k None open
+IsStepOf before k recorded open (Ok Answered) =
+    (recorded ≡ before) × ((answer : Answer) × IsOpenWith k (Some answer) open)
 IsStepOf before k recorded open (Err error) =
     (recorded ≡ before) × ForSome open (λ (o : OpenCall). o.frames.top ≡ k)
 
@@ -35,7 +38,7 @@ pub record HasActed (next : Next) (before : List Recorded) (k : Call) (t : TxnVa
   pub kept : ForSome acted.open (λ (o : OpenCall). IsKept next t o.kept)
   pub top : ForSome acted.open (λ (o : OpenCall). open_call t.core ≡ Some o.frames.top)
 
--- the call goes on
-abbrev pub GoesOn : Step → Type 0
-GoesOn (Value value) = ⊥
-GoesOn step = Unit {0}
+-- the step in an open call whose innermost function was answered this last
+abbrev pub step_with : Option Answer → Step
+step_with None = Compute
+step_with (Some answer) = Answered

@@ -5,7 +5,7 @@ ghost use Rattle.txc_tags.specs.Keys.{Call};
 ghost use Rattle.txc_ports.specs.declared.recorded.Recorded.{Recorded};
 ghost use Rattle.txc_txn.specs.Core.{open_call, IsIdle};
 ghost use Rattle.txc_txn.specs.Kept.{TxnValue};
-ghost use Rattle.txc_caller.specs.Acting.{GoesOn, HasActed};
+ghost use Rattle.txc_caller.specs.Acting.{step_with, HasActed};
 ghost use Rattle.txc_caller.specs.Standing.{asks_next, IsKept, IsStanding, KeepsOn};
 
 use crate::acted::Acted;
@@ -24,21 +24,33 @@ use txc_rows::Query;
 use txc_tags::Key;
 use txc_txn::RunningTxn;
 
-// The call as it stands: open, with this answer and this step for the caller, or ended.
-fn standing(stand: Stand, frames: Frames, given: Option<Answer>, step: Step) -> Acted
-    requires { GoesOn step }
+// What the caller does in an open call: he computes a function, or goes on with its answer.
+fn step_with(given: &Option<Answer>) -> Step
+    ensures { result ≡ step_with given.now }
+{
+    match given {
+        None => Step::Compute,
+        Some(_) => Step::Answered,
+    }
+}
+
+// The call as it stands: open, with this answer, or ended.
+fn standing(stand: Stand, frames: Frames, given: Option<Answer>) -> Acted
     ensures { (next : Next) (before : List Recorded) (t : TxnValue)
         → IsStanding next before frames.top t stand → HasActed next before frames.top t result }
 {
     match stand {
-        Stand::Kept(kept) => Acted {
-            open: Some(OpenCall {
-                frames,
-                given,
-                kept,
-            }),
-            step: Ok(step),
-        },
+        Stand::Kept(kept) => {
+            let step = step_with(&given);
+            Acted {
+                open: Some(OpenCall {
+                    frames,
+                    given,
+                    kept,
+                }),
+                step: Ok(step),
+            }
+        }
         Stand::Value(value) => Acted {
             open: None,
             step: Ok(Step::Value(value)),
@@ -98,11 +110,11 @@ fn answered<A: App, C: Suppliable>(
                 reached: true,
             };
             let frames = Frames { top, inner, outer };
-            standing(Stand::Kept(kept), frames, given, Step::Answered)
+            standing(Stand::Kept(kept), frames, given)
         }
         Err(_) => {
             let stand = feed(alloc, ports, txn, kept);
-            standing(stand, frames, None, Step::Compute)
+            standing(stand, frames, None)
         }
     }
 }
@@ -134,11 +146,11 @@ pub(crate) fn call_first<A: App, C: Suppliable>(
             let reply = counted(reply, txn.core().members());
             if is_hit(&reply) {
                 let stand = feed(alloc, ports, txn, reply);
-                return standing(stand, frames, None, Step::Compute);
+                return standing(stand, frames, None);
             }
-            standing(Stand::Kept(reply), frames, None, Step::Compute)
+            standing(Stand::Kept(reply), frames, None)
         }
-        stand => standing(stand, frames, None, Step::Compute),
+        stand => standing(stand, frames, None),
     }
 }
 
@@ -183,14 +195,9 @@ pub(crate) fn call_inside<A: App, C: Suppliable>(
                 key,
                 reached: false,
             };
-            standing(
-                Stand::Kept(reply),
-                Frames { top, inner, outer },
-                None,
-                Step::Compute,
-            )
+            standing(Stand::Kept(reply), Frames { top, inner, outer }, None)
         }
-        stand => standing(stand, Frames { top, inner, outer }, None, Step::Compute),
+        stand => standing(stand, Frames { top, inner, outer }, None),
     }
 }
 
@@ -221,7 +228,7 @@ pub(crate) fn query_inside<A: App, C: Suppliable>(
     }
     match feed(alloc, ports, txn, kept) {
         Stand::Kept(reply) => answered(alloc, ports, txn, frames, reply),
-        stand => standing(stand, frames, None, Step::Compute),
+        stand => standing(stand, frames, None),
     }
 }
 
@@ -245,9 +252,9 @@ fn conclude<A: App, C: Suppliable>(
     match feed(alloc, ports, txn, kept) {
         Stand::Kept(inserted) => {
             let stand = feed(alloc, ports, txn, inserted);
-            standing(stand, frames, None, Step::Compute)
+            standing(stand, frames, None)
         }
-        stand => standing(stand, frames, None, Step::Compute),
+        stand => standing(stand, frames, None),
     }
 }
 
@@ -273,10 +280,10 @@ fn close<A: App, C: Suppliable>(
 {
     let given = Some(Answer::Value(value));
     if !is_reached {
-        return standing(Stand::Kept(kept), frames, given, Step::Answered);
+        return standing(Stand::Kept(kept), frames, given);
     }
     let stand = feed(alloc, ports, txn, kept);
-    standing(stand, frames, given, Step::Answered)
+    standing(stand, frames, given)
 }
 
 /// The function is done, with these bytes.
@@ -345,5 +352,5 @@ pub(crate) fn give_up_inside<A: App, C: Suppliable>(
         kept,
     } = open;
     let stand = feed(alloc, ports, txn, kept);
-    standing(stand, frames, None, Step::Compute)
+    standing(stand, frames, None)
 }

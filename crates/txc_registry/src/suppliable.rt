@@ -19,20 +19,20 @@ pub trait Suppliable: Cacheable {
     /// Takes what the function asks first at these arguments. It is never refused where the caller keeps to one
     /// function.
     fn supply_first(&mut self, args: Vec<u32>, ask: Ask) -> Result<(), OtherAsk>
-        requires { next_of (says self.old) (begun args.items) ≡ Some ask }
+        requires { next_of (Self.says self.old) (begun args.items) ≡ Some ask }
         ensures taken { IsOk result }
         ensures after { supplies self.new ≡ with_first (supplies self.old) args.items ask }
-        ensures same_activity { activity self.new ≡ activity self.old }
-        ensures same_number { number self.new ≡ number self.old }
-        ensures same_meaning { says self.new ≡ says self.old };
+        ensures same_activity { Self.activity self.new ≡ Self.activity self.old }
+        ensures same_number { Self.number self.new ≡ Self.number self.old }
+        ensures same_meaning { Self.says self.new ≡ Self.says self.old };
 
     /// Takes what the function asks after this answer to what it asked last. It is never refused where the
     /// caller keeps to one function.
     fn supply_next(&mut self, answer: Answer, ask: Ask) -> Result<(), OtherAsk>
-        requires { next_of (says self.old) (answered (activation_in (activity self.old)) answer) ≡ Some ask }
+        requires { next_of (Self.says self.old) (answered (activation_in (Self.activity self.old)) answer) ≡ Some ask }
         ensures taken { IsOk result }
         ensures after { supplies self.new ≡ with_next (supplies self.old) answer ask }
-        ensures same_activity { activity self.new ≡ activity self.old }
-        ensures same_number { number self.new ≡ number self.old }
-        ensures same_meaning { says self.new ≡ says self.old };
+        ensures same_activity { Self.activity self.new ≡ Self.activity self.old }
+        ensures same_number { Self.number self.new ≡ Self.number self.old }
+        ensures same_meaning { Self.says self.new ≡ Self.says self.old };
 }

@@ -1,0 +1,9 @@
+//! Calls of what is handed over from outside, at the types of a program, so that what they require can be met.
+//! Nothing runs them.
+#![tactic(auto)]
+
+mod one_row;
+mod supplied;
+
+pub use one_row::OneRow;
+pub use supplied::supplied;
