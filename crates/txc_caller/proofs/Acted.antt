@@ -32,7 +32,7 @@ module _ (before recorded : List Recorded) (k : Call) (same : recorded ≡ befor
 module _ (next : Next) (before : List Recorded) (t : TxnValue) where
   -- the call is open
   pub acted_open : (o : OpenCall) (step : Step) → step ≡ step_with o.given → IsKept next t o.kept → open_call t.core ≡ Some o.frames.top → t.core.recorded ≡ before
-      → HasActed next before o.frames.top t (record { open = Some o; step = Ok step })
+      → HasActed next before o.frames.top t (record { doing = Some o; step = Ok step })
   acted_open o step is kept top same = record {
     step = subst (λ (s : Step). IsStepOf before o.frames.top t.core.recorded (Some o) (Ok s)) (sym is) (step_open before t.core.recorded o.frames.top same o refl o.given refl);
     idle = λ none. absurd (cc none);
@@ -42,7 +42,7 @@ module _ (next : Next) (before : List Recorded) (t : TxnValue) where
 
   -- it is open still, and the caller was refused
   pub acted_back : (o : OpenCall) (error : CallerError) → IsKept next t o.kept → open_call t.core ≡ Some o.frames.top → t.core.recorded ≡ before
-      → HasActed next before o.frames.top t (record { open = Some o; step = Err error })
+      → HasActed next before o.frames.top t (record { doing = Some o; step = Err error })
   acted_back o error kept top same = record {
     step = (same, for_this (λ (p : OpenCall). p.frames.top ≡ o.frames.top) o refl);
     idle = λ none. absurd (cc none);
@@ -53,7 +53,7 @@ module _ (next : Next) (before : List Recorded) (t : TxnValue) where
   module _ (k : Call) where
     -- it has its value
     pub acted_value : (value : List ℕ) → IsIdle t.core → t.core.recorded ≡ before ++ record { key = k; value = value } ∷ []
-        → HasActed next before k t (record { open = None; step = Ok (Value value) })
+        → HasActed next before k t (record { doing = None; step = Ok (Value value) })
     acted_value value idle same = record {
       step = (same, refl);
       idle = λ none. idle;
@@ -63,7 +63,7 @@ module _ (next : Next) (before : List Recorded) (t : TxnValue) where
 
     -- it was refused
     pub acted_refused : (error : TxnError) → IsIdle t.core → t.core.recorded ≡ before
-        → HasActed next before k t (record { open = None; step = Err (Txn error) })
+        → HasActed next before k t (record { doing = None; step = Err (Txn error) })
     acted_refused error idle same = record {
       step = (same, for_none (λ (p : OpenCall). p.frames.top ≡ k));
       idle = λ none. idle;

@@ -27,7 +27,7 @@ pub record ReadingValue : Type 0 where
   pub ports : PortsValue
   pub renew_after : ℕ
   pub txn : TxnValue
-  pub open : Option OpenCall
+  pub doing : Option OpenCall
 
 -- the transaction is of the ports' row. Without an open call its core is idle; else a reply is kept back for it, and
 -- the open call is the core's.
@@ -35,13 +35,13 @@ pub record IsReading (next : Next) (r : ReadingValue) : Type 0 where
   pub row : r.txn.core.seen.events ≡ r.ports.database.events
   pub nodes : r.txn.core.nodes ≡ 1
   pub renew_after : r.txn.core.renew_after ≡ r.renew_after
-  pub idle : r.open ≡ None → IsIdle r.txn.core
-  pub kept : ForSome r.open (λ (o : OpenCall). IsKept next r.txn o.kept)
-  pub top : ForSome r.open (λ (o : OpenCall). open_call r.txn.core ≡ Some o.frames.top)
+  pub idle : r.doing ≡ None → IsIdle r.txn.core
+  pub kept : ForSome r.doing (λ (o : OpenCall). IsKept next r.txn o.kept)
+  pub top : ForSome r.doing (λ (o : OpenCall). open_call r.txn.core ≡ Some o.frames.top)
 
 -- the function that the caller computes asks this next, if he computes one
 abbrev pub AsksNext : Next → ReadingValue → Ask → Type 0
-AsksNext next r ask = ForSome r.open (λ (o : OpenCall). asks_next next r.txn.objects o.frames.inner.key o.given ≡ Some ask)
+AsksNext next r ask = ForSome r.doing (λ (o : OpenCall). asks_next next r.txn.objects o.frames.inner.key o.given ≡ Some ask)
 
 -- the outermost call that is open, or else this one
 abbrev pub top_or : Option OpenCall → Call → Call

@@ -5,7 +5,7 @@ use crate::step::{CallerError, Step};
 #[derive(Drop)]
 pub(crate) struct Acted {
     /// The call, if it is open still.
-    pub(crate) open: Option<OpenCall>,
+    pub(crate) doing: Option<OpenCall>,
     /// What the caller does next.
     pub(crate) step: Result<Step, CallerError>,
 }

@@ -43,7 +43,7 @@ fn standing(stand: Stand, frames: Frames, given: Option<Answer>) -> Acted
         Stand::Kept(kept) => {
             let step = step_with(&given);
             Acted {
-                open: Some(OpenCall {
+                doing: Some(OpenCall {
                     frames,
                     given,
                     kept,
@@ -52,11 +52,11 @@ fn standing(stand: Stand, frames: Frames, given: Option<Answer>) -> Acted
             }
         }
         Stand::Value(value) => Acted {
-            open: None,
+            doing: None,
             step: Ok(Step::Value(value)),
         },
         Stand::Refused(error) => Acted {
-            open: None,
+            doing: None,
             step: Err(CallerError::Txn(error)),
         },
     }
@@ -68,7 +68,7 @@ fn refused(frames: Frames, given: Option<Answer>, kept: PortReply, error: Caller
         → HasActed next t.core.recorded frames.top t result }
 {
     Acted {
-        open: Some(OpenCall {
+        doing: Some(OpenCall {
             frames,
             given,
             kept,
@@ -159,15 +159,15 @@ pub(crate) fn call_inside<A: App, C: Suppliable>(
     alloc: Global,
     ports: &mut Ports<A>,
     txn: &mut RunningTxn<A, C>,
-    open: OpenCall,
+    call: OpenCall,
     key: Key,
 ) -> Acted
-    requires asks { asks_next A.next txn.old.objects open.frames.inner.key open.given ≡ Some (Ask.Call key) }
-    requires kept { IsKept A.next txn.old open.kept }
-    requires top { open_call txn.old.core ≡ Some open.frames.top }
+    requires asks { asks_next A.next txn.old.objects call.frames.inner.key call.given ≡ Some (Ask.Call key) }
+    requires kept { IsKept A.next txn.old call.kept }
+    requires top { open_call txn.old.core ≡ Some call.frames.top }
     requires row { txn.old.core.seen.events ≡ ports.old.database.events }
     requires nodes { txn.old.core.nodes ≡ 1 }
-    ensures acted { HasActed A.next txn.old.core.recorded open.frames.top txn.new result }
+    ensures acted { HasActed A.next txn.old.core.recorded call.frames.top txn.new result }
     ensures keeps { KeepsOn txn.old txn.new }
     ensures events { ports.new.database.events ≡ ports.old.database.events }
 {
@@ -175,11 +175,16 @@ pub(crate) fn call_inside<A: App, C: Suppliable>(
         frames,
         given,
         kept,
-    } = open;
+    } = call;
     let Frames { top, inner, outer } = frames;
     let mut outer = outer;
     if outer.reserve(1).is_err() {
-        return refused(Frames { top, inner, outer }, given, kept, CallerError::Memory);
+        return refused(
+            Frames { top, inner, outer },
+            given,
+            kept,
+            CallerError::Memory,
+        );
     }
     if let Err(error) = supply(alloc, txn, &inner.key, given, Ask::Call(key.copy())) {
         return refused(Frames { top, inner, outer }, None, kept, error);
@@ -206,15 +211,15 @@ pub(crate) fn query_inside<A: App, C: Suppliable>(
     alloc: Global,
     ports: &mut Ports<A>,
     txn: &mut RunningTxn<A, C>,
-    open: OpenCall,
+    call: OpenCall,
     query: Query,
 ) -> Acted
-    requires asks { asks_next A.next txn.old.objects open.frames.inner.key open.given ≡ Some (Ask.Query query) }
-    requires kept { IsKept A.next txn.old open.kept }
-    requires top { open_call txn.old.core ≡ Some open.frames.top }
+    requires asks { asks_next A.next txn.old.objects call.frames.inner.key call.given ≡ Some (Ask.Query query) }
+    requires kept { IsKept A.next txn.old call.kept }
+    requires top { open_call txn.old.core ≡ Some call.frames.top }
     requires row { txn.old.core.seen.events ≡ ports.old.database.events }
     requires nodes { txn.old.core.nodes ≡ 1 }
-    ensures acted { HasActed A.next txn.old.core.recorded open.frames.top txn.new result }
+    ensures acted { HasActed A.next txn.old.core.recorded call.frames.top txn.new result }
     ensures keeps { KeepsOn txn.old txn.new }
     ensures events { ports.new.database.events ≡ ports.old.database.events }
 {
@@ -222,7 +227,7 @@ pub(crate) fn query_inside<A: App, C: Suppliable>(
         frames,
         given,
         kept,
-    } = open;
+    } = call;
     if let Err(error) = supply(alloc, txn, &frames.inner.key, given, Ask::Query(query)) {
         return refused(frames, None, kept, error);
     }
@@ -291,15 +296,15 @@ pub(crate) fn finish_inside<A: App, C: Suppliable>(
     alloc: Global,
     ports: &mut Ports<A>,
     txn: &mut RunningTxn<A, C>,
-    open: OpenCall,
+    call: OpenCall,
     bytes: Vec<u8>,
 ) -> Acted
-    requires asks { asks_next A.next txn.old.objects open.frames.inner.key open.given ≡ Some (Ask.Done bytes.items) }
-    requires kept { IsKept A.next txn.old open.kept }
-    requires top { open_call txn.old.core ≡ Some open.frames.top }
+    requires asks { asks_next A.next txn.old.objects call.frames.inner.key call.given ≡ Some (Ask.Done bytes.items) }
+    requires kept { IsKept A.next txn.old call.kept }
+    requires top { open_call txn.old.core ≡ Some call.frames.top }
     requires row { txn.old.core.seen.events ≡ ports.old.database.events }
     requires nodes { txn.old.core.nodes ≡ 1 }
-    ensures acted { HasActed A.next txn.old.core.recorded open.frames.top txn.new result }
+    ensures acted { HasActed A.next txn.old.core.recorded call.frames.top txn.new result }
     ensures keeps { KeepsOn txn.old txn.new }
     ensures events { ports.new.database.events ≡ ports.old.database.events }
 {
@@ -307,7 +312,7 @@ pub(crate) fn finish_inside<A: App, C: Suppliable>(
         frames,
         given,
         kept,
-    } = open;
+    } = call;
     let Ok(copy) = Vec::from_slice(alloc, &bytes) else {
         return refused(frames, given, kept, CallerError::Memory);
     };
@@ -336,13 +341,13 @@ pub(crate) fn give_up_inside<A: App, C: Suppliable>(
     alloc: Global,
     ports: &mut Ports<A>,
     txn: &mut RunningTxn<A, C>,
-    open: OpenCall,
+    call: OpenCall,
 ) -> Acted
-    requires kept { IsKept A.next txn.old open.kept }
-    requires top { open_call txn.old.core ≡ Some open.frames.top }
+    requires kept { IsKept A.next txn.old call.kept }
+    requires top { open_call txn.old.core ≡ Some call.frames.top }
     requires row { txn.old.core.seen.events ≡ ports.old.database.events }
     requires nodes { txn.old.core.nodes ≡ 1 }
-    ensures acted { HasActed A.next txn.old.core.recorded open.frames.top txn.new result }
+    ensures acted { HasActed A.next txn.old.core.recorded call.frames.top txn.new result }
     ensures keeps { KeepsOn txn.old txn.new }
     ensures events { ports.new.database.events ≡ ports.old.database.events }
 {
@@ -350,7 +355,7 @@ pub(crate) fn give_up_inside<A: App, C: Suppliable>(
         frames,
         given: _,
         kept,
-    } = open;
+    } = call;
     let stand = feed(alloc, ports, txn, kept);
     standing(stand, frames, None)
 }

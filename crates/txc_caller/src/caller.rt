@@ -121,7 +121,7 @@ impl<A: App, C: Suppliable> Caller<A, C> {
         ensures members { IfOk result (λ txn. txn.txn.core.pins.members
             ≡ handed_out self.entry.ports.cushion bounds.now bounds.staleness bounds.at_least) }
         ensures present { IfOk result (λ txn. txn.txn.core.pins.has_present ≡ true) }
-        ensures open { IfOk result (λ txn. txn.open ≡ None) }
+        ensures none { IfOk result (λ txn. txn.doing ≡ None) }
         ensures caller { IfOk result (λ txn. caller_of txn
             ≡ record self.entry { ports = record self.entry.ports { cushion = txn.ports.cushion } }) }
         ensures handed_back { IfErr result (λ caller. caller
@@ -138,7 +138,7 @@ impl<A: App, C: Suppliable> Caller<A, C> {
                 ports,
                 renew_after,
                 txn: RunningTxn::new(core, registry),
-                open: None,
+                doing: None,
             }),
             Err(_) => Err(Caller {
                 ports,

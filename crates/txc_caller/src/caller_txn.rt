@@ -31,7 +31,7 @@ pub struct CallerTxn<A: App, C: Suppliable> {
     pub(crate) ports: Ports<A>,
     pub(crate) renew_after: u64,
     pub(crate) txn: RunningTxn<A, C>,
-    pub(crate) open: Option<OpenCall>,
+    pub(crate) doing: Option<OpenCall>,
 }
 
 impl<A: App, C: Suppliable> Model for CallerTxn<A, C> {
@@ -39,30 +39,29 @@ impl<A: App, C: Suppliable> Model for CallerTxn<A, C> {
 
     ghost Value = { ReadingValue };
 
-    ghost view = { λ r. record { ports = r.ports; renew_after = r.renew_after; txn = r.txn; open = r.open } };
+    ghost view = { λ r. record { ports = r.ports; renew_after = r.renew_after; txn = r.txn; doing = r.doing } };
 
     ghost invariant = { λ r. IsReading A.next
-        (record { ports = r.ports; renew_after = r.renew_after; txn = r.txn; open = r.open }) };
+        (record { ports = r.ports; renew_after = r.renew_after; txn = r.txn; doing = r.doing }) };
 }
 
 impl<A: App, C: Suppliable> CallerTxn<A, C> {
-    ghost use Rattle.txc_app.specs.declared.ask.Ask.{Ask};
     ghost use Rattle.txc_app.specs.declared.ask.Ask.TheVariants as asks;
 
     /// Asks for the value of a call: by no function the outermost one, else by the function that is computed.
     /// [`Step::Compute`] says that the caller is to compute its function.
     pub fn call(&mut self, alloc: Global, key: Key) -> Result<Step, CallerError>
         requires asks { AsksNext A.next self.old (asks.Call key) }
-        ensures step { IsStepOf self.old.txn.core.recorded (top_or self.old.open key)
-            self.new.txn.core.recorded self.new.open result }
+        ensures step { IsStepOf self.old.txn.core.recorded (top_or self.old.doing key)
+            self.new.txn.core.recorded self.new.doing result }
         ensures keeps { KeepsReading self.old self.new }
         ensures meant { IsTxn A.next self.new.txn }
     {
-        let Acted { open, step } = match self.open.take() {
+        let Acted { doing, step } = match self.doing.take() {
             None => call_first(alloc, &mut self.ports, &mut self.txn, key),
-            Some(open) => call_inside(alloc, &mut self.ports, &mut self.txn, open, key),
+            Some(call) => call_inside(alloc, &mut self.ports, &mut self.txn, call, key),
         };
-        self.open = open;
+        self.doing = doing;
         self.txn.is_kept();
         step
     }
@@ -70,18 +69,23 @@ impl<A: App, C: Suppliable> CallerTxn<A, C> {
     /// Asks for the rows of a query, by the function that is computed.
     pub fn query(&mut self, alloc: Global, query: Query) -> Result<Step, CallerError>
         requires asks { AsksNext A.next self.old (asks.Query query) }
-        ensures step { MatchOption self.old.open (result ≡ Err CallerError.NoFunction)
-            (λ o. IsStepOf self.old.txn.core.recorded o.frames.top self.new.txn.core.recorded self.new.open result) }
+        ensures step { MatchOption self.old.doing (result ≡ Err CallerError.NoFunction)
+            (λ o. IsStepOf self.old.txn.core.recorded o.frames.top self.new.txn.core.recorded self.new.doing result) }
         ensures keeps { KeepsReading self.old self.new }
         ensures meant { IsTxn A.next self.new.txn }
     {
-        let Some(open) = self.open.take() else {
+        let Some(call) = self.doing.take() else {
             self.txn.is_kept();
             return Err(CallerError::NoFunction);
         };
-        let Acted { open, step } =
-            query_inside(alloc, &mut self.ports, &mut self.txn, open, query);
-        self.open = open;
+        let Acted { doing, step } = query_inside(
+            alloc,
+            &mut self.ports,
+            &mut self.txn,
+            call,
+            query,
+        );
+        self.doing = doing;
         self.txn.is_kept();
         step
     }
@@ -89,36 +93,41 @@ impl<A: App, C: Suppliable> CallerTxn<A, C> {
     /// Says that the function that is computed gives these bytes. They are kept at the node, under its call, with
     /// the reach and the tags of what it was answered, where that depends on a row.
     pub fn finish(&mut self, alloc: Global, bytes: Vec<u8>) -> Result<Step, CallerError>
-        requires asks { (ask : Ask) → ask ≡ asks.Done bytes.items → AsksNext A.next self.old ask }
-        ensures step { MatchOption self.old.open (result ≡ Err CallerError.NoFunction)
-            (λ o. IsStepOf self.old.txn.core.recorded o.frames.top self.new.txn.core.recorded self.new.open result) }
+        requires asks { AsksNext A.next self.old (asks.Done bytes.items) }
+        ensures step { MatchOption self.old.doing (result ≡ Err CallerError.NoFunction)
+            (λ o. IsStepOf self.old.txn.core.recorded o.frames.top self.new.txn.core.recorded self.new.doing result) }
         ensures keeps { KeepsReading self.old self.new }
         ensures meant { IsTxn A.next self.new.txn }
     {
-        let Some(open) = self.open.take() else {
+        let Some(call) = self.doing.take() else {
             self.txn.is_kept();
             return Err(CallerError::NoFunction);
         };
-        let Acted { open, step } =
-            finish_inside(alloc, &mut self.ports, &mut self.txn, open, bytes);
-        self.open = open;
+        let Acted { doing, step } = finish_inside(
+            alloc,
+            &mut self.ports,
+            &mut self.txn,
+            call,
+            bytes,
+        );
+        self.doing = doing;
         self.txn.is_kept();
         step
     }
 
     /// Gives the open call up; the transaction stays open, and its answers are as before.
     pub fn give_up(&mut self, alloc: Global) -> Result<Step, CallerError>
-        ensures step { MatchOption self.old.open (result ≡ Err CallerError.NoFunction)
-            (λ o. IsStepOf self.old.txn.core.recorded o.frames.top self.new.txn.core.recorded self.new.open result) }
+        ensures step { MatchOption self.old.doing (result ≡ Err CallerError.NoFunction)
+            (λ o. IsStepOf self.old.txn.core.recorded o.frames.top self.new.txn.core.recorded self.new.doing result) }
         ensures keeps { KeepsReading self.old self.new }
         ensures meant { IsTxn A.next self.new.txn }
     {
-        let Some(open) = self.open.take() else {
+        let Some(call) = self.doing.take() else {
             self.txn.is_kept();
             return Err(CallerError::NoFunction);
         };
-        let Acted { open, step } = give_up_inside(alloc, &mut self.ports, &mut self.txn, open);
-        self.open = open;
+        let Acted { doing, step } = give_up_inside(alloc, &mut self.ports, &mut self.txn, call);
+        self.doing = doing;
         self.txn.is_kept();
         step
     }
@@ -127,11 +136,11 @@ impl<A: App, C: Suppliable> CallerTxn<A, C> {
     /// computed.
     pub fn answer(&self) -> Option<&Answer>
         ensures { MatchOption result
-            (MatchOption self.now.open (self.now.open ≡ None) (λ o. o.given ≡ None))
-            (λ answer. MatchOption self.now.open (self.now.open ≢ None) (λ o. o.given ≡ Some answer.now)) }
+            (MatchOption self.now.doing (self.now.doing ≡ None) (λ o. o.given ≡ None))
+            (λ answer. MatchOption self.now.doing (self.now.doing ≢ None) (λ o. o.given ≡ Some answer.now)) }
     {
-        match &self.open {
-            Some(open) => open.given.as_ref(),
+        match &self.doing {
+            Some(call) => call.given.as_ref(),
             None => None,
         }
     }
@@ -163,17 +172,17 @@ impl<A: App, C: Suppliable> CallerTxn<A, C> {
         ensures row { IfOk result (λ it. it.0.seen.events ≡ it.1.ports.database.events) }
         ensures caller { IfOk result (λ it. it.1
             ≡ record (caller_of self.entry) { ports = record self.entry.ports { cushion = it.1.ports.cushion } }) }
-        ensures only_if { IsOk result → self.entry.open ≡ None }
-        ensures handed_back { IfErr result (λ it. (it ≡ self.entry) × IsSome self.entry.open) }
+        ensures only_if { IsOk result → self.entry.doing ≡ None }
+        ensures handed_back { IfErr result (λ it. (it ≡ self.entry) × IsSome self.entry.doing) }
     {
-        if self.open.is_some() {
+        if self.doing.is_some() {
             return Err(self);
         }
         let CallerTxn {
             ports,
             renew_after,
             txn,
-            open: _,
+            doing: _,
         } = self;
         let (receipt, pins, registry) = txn.finish();
         let mut ports = ports;
@@ -198,7 +207,7 @@ impl<A: App, C: Suppliable> CallerTxn<A, C> {
             ports,
             renew_after,
             txn,
-            open: _,
+            doing: _,
         } = self;
         let (left, registry) = txn.cancel();
         let mut ports = ports;

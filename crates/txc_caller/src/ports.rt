@@ -103,13 +103,7 @@ impl<A: App> Ports<A> {
     }
 
     // What the node has of the call at the stamps from `lo` to `hi`. A node that refuses has nothing.
-    fn look_up(
-        &mut self,
-        alloc: Global,
-        key: &Key,
-        lo: Stamp,
-        hi: Stamp,
-    ) -> Option<Answered<Shown>>
+    fn look_up(&mut self, alloc: Global, key: &Key, lo: Stamp, hi: Stamp) -> Option<Answered<Shown>>
         ensures same { self.new ≡ record self.old { node = self.new.node } }
         ensures leads { LookupLeads key.now lo hi self.old.node self.new.node result }
         ensures right { IfSome result (λ hit.
@@ -244,9 +238,12 @@ impl<A: App> Ports<A> {
                 self.unpin(stamp);
                 PortReply::Unpin
             }
-            PortRequest::Lookup { node: _, key, lo, hi } => {
-                PortReply::Lookup(self.look_up(alloc, &key, lo, hi))
-            }
+            PortRequest::Lookup {
+                node: _,
+                key,
+                lo,
+                hi,
+            } => { PortReply::Lookup(self.look_up(alloc, &key, lo, hi)) }
             PortRequest::Query { query, stamp } => {
                 PortReply::Query(self.find(alloc, &query, stamp))
             }
