@@ -1,4 +1,4 @@
-use Rattle.std.proofs.Common.{◌≡◌, Option, Some, sym, ap, ◌∙◌, subst}
+use Rattle.std.proofs.Common.{◌≡◌, Option, Some, sym, ◌∙◌, subst}
 use Rattle.std.specs.Prelude.{unwrap_or}
 use Rattle.txc_registry.specs.Activity.{Activity, Says, activation_in, answered, idle, next_of}
 use Rattle.txc_registry.proofs.Places.{entry_here, means_here, stays, unchanged}
