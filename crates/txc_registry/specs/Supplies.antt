@@ -14,9 +14,9 @@ abbrev pub no_supplies : Supplies
 no_supplies = record { first = None; next = None }
 
 -- with what the function asks first at these arguments
-abbrev pub with_first : Supplies → List ℕ → Ask → Supplies
-with_first supplies args ask = record supplies { first = Some (args, ask) }
+abbrev pub with_first_ask : Supplies → List ℕ → Ask → Supplies
+with_first_ask supplies args ask = record supplies { first = Some (args, ask) }
 
 -- with what the function asks after this answer
-abbrev pub with_next : Supplies → Answer → Ask → Supplies
-with_next supplies answer ask = record supplies { next = Some (answer, ask) }
+abbrev pub with_next_ask : Supplies → Answer → Ask → Supplies
+with_next_ask supplies answer ask = record supplies { next = Some (answer, ask) }

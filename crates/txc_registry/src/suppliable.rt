@@ -1,6 +1,6 @@
 ghost use Rattle.std.specs.Prelude.{◌≡◌, ◌∷◌, Some, IsOk};
 ghost use Rattle.txc_registry.specs.Activity.{answered, activation_in, begun, next_of};
-ghost use Rattle.txc_registry.specs.Supplies.{with_first, with_next, Supplies};
+ghost use Rattle.txc_registry.specs.Supplies.{with_first_ask, with_next_ask, Supplies};
 
 use crate::cacheable::Cacheable;
 use thiserror::Error;
@@ -21,7 +21,7 @@ pub trait Suppliable: Cacheable {
     fn supply_first(&mut self, args: Vec<u32>, ask: Ask) -> Result<(), OtherAsk>
         requires { next_of (Self.says self.old) (begun args.items) ≡ Some ask }
         ensures taken { IsOk result }
-        ensures after { supplies self.new ≡ with_first (supplies self.old) args.items ask }
+        ensures after { supplies self.new ≡ with_first_ask (supplies self.old) args.items ask }
         ensures same_activity { Self.activity self.new ≡ Self.activity self.old }
         ensures same_number { Self.number self.new ≡ Self.number self.old }
         ensures same_meaning { Self.says self.new ≡ Self.says self.old };
@@ -31,7 +31,7 @@ pub trait Suppliable: Cacheable {
     fn supply_next(&mut self, answer: Answer, ask: Ask) -> Result<(), OtherAsk>
         requires { next_of (Self.says self.old) (answered (activation_in (Self.activity self.old)) answer) ≡ Some ask }
         ensures taken { IsOk result }
-        ensures after { supplies self.new ≡ with_next (supplies self.old) answer ask }
+        ensures after { supplies self.new ≡ with_next_ask (supplies self.old) answer ask }
         ensures same_activity { Self.activity self.new ≡ Self.activity self.old }
         ensures same_number { Self.number self.new ≡ Self.number self.old }
         ensures same_meaning { Self.says self.new ≡ Self.says self.old };

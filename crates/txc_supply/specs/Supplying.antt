@@ -8,13 +8,13 @@ use Rattle.txc_supply.specs.declared.held.First.{First}
 use Rattle.txc_supply.specs.declared.held.Next.{Next}
 
 -- it runs the activation that it holds, if it holds one
-abbrev pub activity_with : Option Held → Activity
-activity_with None = idle
-activity_with (Some held) = running (record { args = held.args.items; answers = held.answers.items })
+abbrev pub supplied_activity : Option Held → Activity
+supplied_activity None = idle
+supplied_activity (Some held) = running (record { args = held.args.items; answers = held.answers.items })
 
 -- what it was handed for its first ask, and for its next one
-abbrev pub supplies_with : Option First → Option Next → Supplies
-supplies_with first next = record {
+abbrev pub supplies_of : Option First → Option Next → Supplies
+supplies_of first next = record {
   first = option_map (λ (f : First). (f.args.items, f.ask)) first;
   next = option_map (λ (n : Next). (n.answer, n.ask)) next;
 }

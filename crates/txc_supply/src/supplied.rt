@@ -27,7 +27,7 @@ pub struct Supplied<A: App> {
 impl<A: App> Supplied<A> {
     ghost use Rattle.txc_registry.specs.Activity.{answered, activation_in, begun, idle, next_of};
     ghost use Rattle.txc_registry.specs.Supplies.{no_supplies};
-    ghost use Rattle.txc_supply.specs.Supplying.{activity_with};
+    ghost use Rattle.txc_supply.specs.Supplying.{supplied_activity};
 
     /// The object of the function of this number, which refuses no arguments. It is idle.
     pub fn new(alloc: Global, function: u8) -> Supplied<A>
@@ -61,7 +61,7 @@ impl<A: App> Supplied<A> {
     // Whether another ask was handed over for this answer.
     fn has_other_next(&self, answer: &Answer, ask: &Ask) -> bool
         requires { next_of (A.next self.now.function)
-            (answered (activation_in (activity_with self.now.held)) answer.now) ≡ Some ask.now }
+            (answered (activation_in (supplied_activity self.now.held)) answer.now) ≡ Some ask.now }
         ensures { result ≡ false }
     {
         match &self.next {
@@ -76,11 +76,11 @@ impl<A: App> Supplied<A> {
 }
 
 impl<A: App> Cacheable for Supplied<A> {
-    ghost use Rattle.txc_supply.specs.Supplying.{activity_with};
+    ghost use Rattle.txc_supply.specs.Supplying.{supplied_activity};
 
     ghost number = { λ o. o.function };
 
-    ghost activity = { λ o. activity_with o.held };
+    ghost activity = { λ o. supplied_activity o.held };
 
     ghost says = { λ o. A.next o.function };
 
@@ -126,9 +126,9 @@ impl<A: App> Cacheable for Supplied<A> {
 }
 
 impl<A: App> Suppliable for Supplied<A> {
-    ghost use Rattle.txc_supply.specs.Supplying.{supplies_with};
+    ghost use Rattle.txc_supply.specs.Supplying.{supplies_of};
 
-    ghost supplies = { λ o. supplies_with o.first o.next };
+    ghost supplies = { λ o. supplies_of o.first o.next };
 
     fn supply_first(&mut self, args: Vec<u32>, ask: Ask) -> Result<(), OtherAsk> {
         if self.has_other_first(&args, &ask) {
