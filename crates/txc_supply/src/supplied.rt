@@ -1,5 +1,5 @@
 //! The object.
-ghost use Rattle.std.specs.Prelude.{◌≡◌, ◌≢◌, ◌∷◌, ◌++◌, [], ℕ, List, None, Some, false};
+ghost use Rattle.std.specs.Prelude.{◌≡◌, ◌≢◌, ◌↔◌, ◌∷◌, ◌++◌, [], ℕ, List, Err, IfOk, None, Ok, OnErr, OnOk, Some, false};
 ghost use Rattle.std.specs.Option.{ForSome};
 
 use crate::held::{First, Held, Next};
@@ -76,7 +76,9 @@ impl<A: App> Supplied<A> {
 }
 
 impl<A: App> Cacheable for Supplied<A> {
-    ghost use Rattle.txc_supply.specs.Supplying.{supplied_activity};
+    ghost use Rattle.txc_app.specs.declared.ask.Ask.{Ask as AskValue};
+    ghost use Rattle.txc_registry.specs.Activity.{begun, next_of, running};
+    ghost use Rattle.txc_supply.specs.Supplying.{supplied_activity, supplies_of};
 
     ghost number = { λ o. o.function };
 
@@ -88,7 +90,18 @@ impl<A: App> Cacheable for Supplied<A> {
         self.function
     }
 
-    fn begin(&mut self, args: &[u32]) -> Result<Ask, CallFault> {
+    // The trait's clauses, and that it asks what was handed over for these arguments.
+    fn begin(&mut self, args: &[u32]) -> Result<Ask, CallFault>
+        ensures supplied { (ask : AskValue) → (supplies_of self.old.first self.old.next).first ≡ Some (args.now, ask)
+            → result ≡ Ok ask }
+        ensures answer { IfOk result (λ ask. next_of (A.next self.old.function) (begun args.now) ≡ Some ask) }
+        ensures after { OnOk result (supplied_activity self.new.held ≡ running (begun args.now)) }
+        ensures refused { (result ≡ Err CallFault.Args)
+            ↔ (next_of (A.next self.old.function) (begun args.now) ≡ None) }
+        ensures unchanged { OnErr result (supplied_activity self.new.held ≡ supplied_activity self.old.held) }
+        ensures same_number { self.new.function ≡ self.old.function }
+        ensures same_meaning { A.next self.new.function ≡ A.next self.old.function }
+    {
         let Some(First { args: given, ask }) = self.first.take() else {
             return Err(CallFault::Busy);
         };

@@ -2,8 +2,8 @@
 //! Nothing runs them.
 #![tactic(auto)]
 
+mod handing;
 mod one_row;
-mod supplied;
 
+pub use handing::{registry, supplied};
 pub use one_row::OneRow;
-pub use supplied::supplied;
