@@ -1,6 +1,6 @@
 //! A function that is handed what it asks.
-ghost use Rattle.std.specs.Prelude.{◌≡◌, ◌∷◌, [], IfOk};
-ghost use Rattle.txc_registry.specs.Objects.{numbers_of, AllIdle};
+ghost use Rattle.std.specs.Prelude.{◌≡◌, [], IfOk};
+ghost use Rattle.txc_registry.specs.Objects.{AllIdle};
 
 use crate::one_row::OneRow;
 use anyhow::Result;
@@ -20,13 +20,20 @@ pub fn registry(alloc: Global) -> Result<Registry<OneRow, Supplied<OneRow>>>
     Ok(Registry::new(objects)?)
 }
 
+/// What a function gives that is done with no bytes.
+fn nothing(alloc: Global) -> Ask
+    ensures { result ≡ Ask.Done [] }
+{
+    Ask::Done(Bytes::new(Vec::new(alloc)))
+}
+
 /// A function that asks what it is handed, and is done with what it is handed after the answer.
 pub fn supplied(alloc: Global) -> Result<bool> {
     let mut registry = registry(alloc)?;
     let first = Ask::Query(Query::ById(Table::new(1).unwrap(), 7));
     registry.supply_first(7, Vec::new(alloc), first)?;
     let answer = Answer::Rows(Rows::new(Vec::new(alloc)));
-    let done = Ask::Done(Bytes::new(Vec::new(alloc)));
+    let done = nothing(alloc);
     registry.supply_next(7, answer, done)?;
     registry.release(7);
     Ok(registry.has(7))
