@@ -1,8 +1,6 @@
 -- The plain ports of a caller: a database, a pincushion and one node.
 use Rattle.std.specs.Prelude.{◌≡◌, ◌⊎◌, ℕ, Option, Some, None, Result, Ok, Err}
-use Rattle.std.specs.Option.{option_map}
 use Rattle.txc_tags.specs.Keys.{Call}
-use Rattle.txc_rows.specs.declared.query.Query.{Query}
 use Rattle.txc_node.specs.Cache.{lookup_answer}
 use Rattle.txc_node.specs.declared.entry.Entry.{Entry}
 use Rattle.txc_node.specs.declared.hit.Shown.{Shown}

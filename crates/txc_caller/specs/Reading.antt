@@ -1,5 +1,5 @@
 -- What callers see of a caller's transaction that only reads.
-use Rattle.std.specs.Prelude.{◌≡◌, ◌≢◌, ◌×◌, ℕ, List, [], ◌∷◌, ◌++◌, Option, Some, None, Result, Ok, Err, IsSome, IsNone}
+use Rattle.std.specs.Prelude.{◌≡◌, ◌≢◌, ℕ, List, [], ◌∷◌, ◌++◌, Option, Some, None, Result, Ok, Err, IsSome, IsNone}
 use Rattle.std.specs.Option.{ForSome, option_map}
 use Rattle.txc_tags.specs.Keys.{Call}
 use Rattle.txc_app.specs.Eval.{Next}

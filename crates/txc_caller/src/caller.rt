@@ -1,5 +1,5 @@
 //! Who computes his functions himself, at rest.
-ghost use Rattle.std.specs.Prelude.{◌≡◌, ◌≤◌, ◌×◌, [], All, IfErr, IfOk, None, OnErr, map, true};
+ghost use Rattle.std.specs.Prelude.{◌≡◌, ◌≤◌, [], All, IfErr, IfOk, None, OnErr, map, true};
 ghost use Rattle.txc_app.specs.Eval.{Next};
 ghost use Rattle.txc_cushion.specs.Cushion.{after_fresh, empty_cushion, handed_out};
 ghost use Rattle.txc_db.specs.DatabaseValue.{front_of};
