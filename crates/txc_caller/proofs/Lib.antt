@@ -1,0 +1,3 @@
+pub mod Turning
+pub mod Acted
+pub mod Fresh

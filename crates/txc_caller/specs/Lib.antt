@@ -1,0 +1,5 @@
+pub mod Ports
+pub mod Standing
+pub mod Given
+pub mod Acting
+pub mod Reading

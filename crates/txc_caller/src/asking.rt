@@ -1,0 +1,82 @@
+//! What a function of the caller asks, handed over, and what it is answered.
+ghost use Rattle.std.specs.Prelude.{◌≡◌, ◌≢◌, ◌∷◌, [], IfOk, Some, OnErr, OnOk};
+ghost use Rattle.txc_caller.specs.Standing.{asks_next};
+ghost use Rattle.std.specs.List.{list_any};
+ghost use Rattle.txc_pinset.specs.Members.{is_held_by};
+ghost use Rattle.txc_caller.specs.Given.{counted, IsGivenBy};
+
+use crate::step::CallerError;
+use std::alloc::{AllocError, Global};
+use txc_app::{Answer, App, Ask, Rows};
+use txc_cushion::Pin;
+use txc_ports::PortReply;
+use txc_registry::Suppliable;
+use txc_rows::Row;
+use txc_stamp::Reach;
+use txc_tags::Key;
+use txc_txn::RunningTxn;
+
+/// Hands over what the function of this call asks next.
+pub(crate) fn supply<A: App, C: Suppliable>(
+    alloc: Global,
+    txn: &mut RunningTxn<A, C>,
+    key: &Key,
+    given: Option<Answer>,
+    ask: Ask,
+) -> Result<(), CallerError>
+    requires { asks_next A.next txn.old.objects key.now given ≡ Some ask }
+    ensures unchanged { txn.new ≡ txn.old }
+{
+    match given {
+        None => {
+            let args = Vec::from_slice(alloc, key.args())?;
+            txn.supply_first(key.function(), args, ask)?;
+        }
+        Some(answer) => txn.supply_next(key.function(), answer, ask)?,
+    }
+    Ok(())
+}
+
+// Equal rows.
+fn copied(alloc: Global, rows: &[Row]) -> Result<Vec<Row>, AllocError>
+    ensures { IfOk result (λ copies. copies.items ≡ rows.now) }
+{
+    let mut copies = Vec::new(alloc);
+    for row in rows {
+        copies.push(row.copy(alloc)?)?;
+    }
+    Ok(copies)
+}
+
+/// What the reply gives the function that asked; none where it gives no answer.
+pub(crate) fn given_by(alloc: Global, reply: &PortReply) -> Result<Option<Answer>, AllocError>
+    ensures { IfOk result (IsGivenBy reply.now) }
+{
+    match reply {
+        PortReply::Lookup(Some(hit)) => Ok(Some(Answer::Value(hit.answer.value.copy(alloc)?))),
+        PortReply::Query(Ok(found)) => {
+            let rows = copied(alloc, &found.answer.rows)?;
+            Ok(Some(Answer::Rows(Rows::new(rows))))
+        }
+        _ => Ok(None),
+    }
+}
+
+// Whether the reach holds one of the members.
+fn holds_any(reach: Reach, members: &[Pin]) -> bool
+    ensures { result ≡ list_any (is_held_by reach) members.now }
+{
+    members.iter().any(|pin| reach.holds(pin.stamp))
+}
+
+/// The reply, but that a hit which holds no member is a miss.
+pub(crate) fn counted(reply: PortReply, members: &[Pin]) -> PortReply
+    ensures { result ≡ counted members.now reply }
+{
+    match reply {
+        PortReply::Lookup(Some(hit)) if !holds_any(hit.answer.reach, members) => {
+            PortReply::Lookup(None)
+        }
+        reply => reply,
+    }
+}

@@ -1,0 +1,224 @@
+//! A caller's transaction that only reads.
+ghost use Rattle.std.specs.Prelude.{◌≡◌, ◌≢◌, ◌∷◌, [], Err, IfErr, IfOk, IsNone, IsOk, IsSome, MatchOption, None, Ok, Some};
+ghost use Rattle.txc_registry.specs.Objects.{numbers_of, AllIdle};
+ghost use Rattle.txc_txn.specs.Core.{receipt_pin, Explains};
+ghost use Rattle.txc_txn.specs.Kept.{IsTxn};
+ghost use Rattle.txc_txn.specs.Sessions.{IsAtLeast};
+ghost use Rattle.txc_caller.specs.Acting.{IsStepOf};
+ghost use Rattle.txc_caller.specs.Reading.{caller_of, top_or, AsksNext, KeepsReading};
+
+use crate::acted::Acted;
+use crate::acting::{call_first, call_inside, finish_inside, give_up_inside, query_inside};
+use crate::caller::Caller;
+use crate::frames::OpenCall;
+use crate::ports::Ports;
+use crate::step::{CallerError, Step};
+use std::alloc::Global;
+use std::marker::Model;
+use txc_app::{Answer, App};
+use txc_cushion::Pin;
+use txc_ports::Recorded;
+use txc_registry::Suppliable;
+use txc_rows::Query;
+use txc_tags::Key;
+use txc_txn::{Receipt, RunningTxn};
+
+/// A transaction that only reads, whose functions the caller computes. Whatever function `A.next` gives what the
+/// caller says that his functions ask and give, the receipt explains each answer by it.
+///
+/// It must be spent, by [`CallerTxn::commit`] or [`CallerTxn::abort`], which return the caller.
+pub struct CallerTxn<A: App, C: Suppliable> {
+    pub(crate) ports: Ports<A>,
+    pub(crate) renew_after: u64,
+    pub(crate) txn: RunningTxn<A, C>,
+    pub(crate) doing: Option<OpenCall>,
+}
+
+impl<A: App, C: Suppliable> Model for CallerTxn<A, C> {
+    ghost use Rattle.txc_caller.specs.Reading.{ReadingValue, IsReading};
+
+    ghost Value = { ReadingValue };
+
+    ghost view = { λ r. record { ports = r.ports; renew_after = r.renew_after; txn = r.txn; doing = r.doing } };
+
+    ghost invariant = { λ r. IsReading A.next
+        (record { ports = r.ports; renew_after = r.renew_after; txn = r.txn; doing = r.doing }) };
+}
+
+impl<A: App, C: Suppliable> CallerTxn<A, C> {
+    ghost use Rattle.txc_app.specs.declared.ask.Ask.TheVariants as asks;
+
+    /// Asks for the value of a call: by no function the outermost one, else by the function that is computed.
+    /// [`Step::Compute`] says that the caller is to compute its function.
+    pub fn call(&mut self, alloc: Global, key: Key) -> Result<Step, CallerError>
+        requires asks { AsksNext A.next self.old (asks.Call key) }
+        ensures step { IsStepOf self.old.txn.core.recorded (top_or self.old.doing key)
+            self.new.txn.core.recorded self.new.doing result }
+        ensures keeps { KeepsReading self.old self.new }
+        ensures meant { IsTxn A.next self.new.txn }
+    {
+        let Acted { doing, step } = match self.doing.take() {
+            None => call_first(alloc, &mut self.ports, &mut self.txn, key),
+            Some(call) => call_inside(alloc, &mut self.ports, &mut self.txn, call, key),
+        };
+        self.doing = doing;
+        self.txn.is_kept();
+        step
+    }
+
+    /// Asks for the rows of a query, by the function that is computed.
+    pub fn query(&mut self, alloc: Global, query: Query) -> Result<Step, CallerError>
+        requires asks { AsksNext A.next self.old (asks.Query query) }
+        ensures step { MatchOption self.old.doing (result ≡ Err CallerError.NoFunction)
+            (λ o. IsStepOf self.old.txn.core.recorded o.frames.top self.new.txn.core.recorded self.new.doing result) }
+        ensures keeps { KeepsReading self.old self.new }
+        ensures meant { IsTxn A.next self.new.txn }
+    {
+        let Some(call) = self.doing.take() else {
+            self.txn.is_kept();
+            return Err(CallerError::NoFunction);
+        };
+        let Acted { doing, step } = query_inside(
+            alloc,
+            &mut self.ports,
+            &mut self.txn,
+            call,
+            query,
+        );
+        self.doing = doing;
+        self.txn.is_kept();
+        step
+    }
+
+    /// Says that the function that is computed gives these bytes. They are kept at the node, under its call, with
+    /// the reach and the tags of what it was answered, where that depends on a row.
+    pub fn finish(&mut self, alloc: Global, bytes: Vec<u8>) -> Result<Step, CallerError>
+        requires asks { AsksNext A.next self.old (asks.Done bytes.items) }
+        ensures step { MatchOption self.old.doing (result ≡ Err CallerError.NoFunction)
+            (λ o. IsStepOf self.old.txn.core.recorded o.frames.top self.new.txn.core.recorded self.new.doing result) }
+        ensures keeps { KeepsReading self.old self.new }
+        ensures meant { IsTxn A.next self.new.txn }
+    {
+        let Some(call) = self.doing.take() else {
+            self.txn.is_kept();
+            return Err(CallerError::NoFunction);
+        };
+        let Acted { doing, step } = finish_inside(
+            alloc,
+            &mut self.ports,
+            &mut self.txn,
+            call,
+            bytes,
+        );
+        self.doing = doing;
+        self.txn.is_kept();
+        step
+    }
+
+    /// Gives the open call up; the transaction stays open, and its answers are as before.
+    pub fn give_up(&mut self, alloc: Global) -> Result<Step, CallerError>
+        ensures step { MatchOption self.old.doing (result ≡ Err CallerError.NoFunction)
+            (λ o. IsStepOf self.old.txn.core.recorded o.frames.top self.new.txn.core.recorded self.new.doing result) }
+        ensures keeps { KeepsReading self.old self.new }
+        ensures meant { IsTxn A.next self.new.txn }
+    {
+        let Some(call) = self.doing.take() else {
+            self.txn.is_kept();
+            return Err(CallerError::NoFunction);
+        };
+        let Acted { doing, step } = give_up_inside(alloc, &mut self.ports, &mut self.txn, call);
+        self.doing = doing;
+        self.txn.is_kept();
+        step
+    }
+
+    /// What the function that is computed was answered last; none where it has asked nothing yet, or none is
+    /// computed.
+    pub fn answer(&self) -> Option<&Answer>
+        ensures { MatchOption result
+            (MatchOption self.now.doing (self.now.doing ≡ None) (λ o. o.given ≡ None))
+            (λ answer. MatchOption self.now.doing (self.now.doing ≢ None) (λ o. o.given ≡ Some answer.now)) }
+    {
+        match &self.doing {
+            Some(call) => call.given.as_ref(),
+            None => None,
+        }
+    }
+
+    /// The pins where it may still be serialised, the newest first.
+    pub fn members(&self) -> &[Pin]
+        ensures { result.now ≡ self.now.txn.core.pins.members }
+    {
+        self.txn.core().members()
+    }
+
+    /// The calls that were answered, with their values, in order.
+    pub fn answers(&self) -> &[Recorded]
+        ensures { result.now ≡ self.now.txn.core.recorded }
+    {
+        self.txn.core().answers()
+    }
+
+    /// Ends the transaction, and returns what explains its answers, and the caller. Its pin, where it has one, is
+    /// not below the stamp that the bounds name. In the middle of a call it is refused, and handed back as it was.
+    pub fn commit(self) -> Result<(Receipt, Caller<A, C>), CallerTxn<A, C>>
+        ensures answers { IfOk result (λ it. it.0.answers.items ≡ self.entry.txn.core.recorded) }
+        ensures pin { IfOk result (λ it. it.0.pin
+            ≡ receipt_pin self.entry.txn.core.recorded self.entry.txn.core.pins.members) }
+        ensures explained { IfOk result (λ it. Explains A.next it.0.seen.history self.entry.txn.core.bounds it.0.pin
+            it.0.answers.items) }
+        ensures not_before { IfOk result (λ it. IsAtLeast self.entry.txn.core.bounds.at_least it.0.pin) }
+        ensures seen { IfOk result (λ it. it.0.seen ≡ self.entry.txn.core.seen) }
+        ensures row { IfOk result (λ it. it.0.seen.events ≡ it.1.ports.database.events) }
+        ensures caller { IfOk result (λ it. it.1
+            ≡ record (caller_of self.entry) { ports = record self.entry.ports { cushion = it.1.ports.cushion } }) }
+        ensures only_if { IsOk result → self.entry.doing ≡ None }
+        ensures handed_back { IfErr result (λ it. (it ≡ self.entry) × IsSome self.entry.doing) }
+    {
+        if self.doing.is_some() {
+            return Err(self);
+        }
+        let CallerTxn {
+            ports,
+            renew_after,
+            txn,
+            doing: _,
+        } = self;
+        let (receipt, pins, registry) = txn.finish();
+        let mut ports = ports;
+        ports.give_back(&pins);
+        let caller = Caller {
+            ports,
+            renew_after,
+            registry,
+        };
+        Ok((receipt, caller))
+    }
+
+    /// Gives the transaction up, in the middle of a call too, and returns the caller. It takes no memory.
+    pub fn abort(self) -> Caller<A, C>
+        ensures functions { numbers_of result.objects ≡ numbers_of self.entry.txn.objects }
+        ensures history { result.ports.database.history ≡ self.entry.ports.database.history }
+        ensures row { result.ports.database.events ≡ self.entry.ports.database.events }
+        ensures node { result.ports.node ≡ self.entry.ports.node }
+        ensures renew_after { result.renew_after ≡ self.entry.renew_after }
+    {
+        let CallerTxn {
+            ports,
+            renew_after,
+            txn,
+            doing: _,
+        } = self;
+        let (left, registry) = txn.cancel();
+        let mut ports = ports;
+        ports.give_back(&left.give_back);
+        if let Some(stamp) = left.unpin {
+            ports.unpin(stamp);
+        }
+        Caller {
+            ports,
+            renew_after,
+            registry,
+        }
+    }
+}

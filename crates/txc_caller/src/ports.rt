@@ -1,0 +1,256 @@
+//! The plain ports of a caller, for one thread.
+ghost use Rattle.std.specs.Prelude.{◌≡◌, ◌≤◌, ◌⊎◌, [], All, IfErr, IfOk, IfSome, OnErr, OnOk};
+ghost use Rattle.txc_app.specs.Claims.{IsTrueIn, entry_shown};
+ghost use Rattle.txc_cushion.specs.Cushion.{after_give_back, handed_out};
+ghost use Rattle.txc_db.specs.History.{IsAllowed};
+ghost use Rattle.txc_db.specs.Refusals.{IsWant};
+ghost use Rattle.txc_node.specs.declared.node.TheConstants.{MAX_CAPACITY, MAX_RECENT};
+ghost use Rattle.txc_stream.specs.declared.row.TheConstants.{MAX_CAPACITY as MAX_ROW};
+ghost use Rattle.txc_shared.specs.Nodes.{start_of};
+ghost use Rattle.txc_db.specs.Calls.{IsPinRefused, IsQueryRefused};
+ghost use Rattle.txc_db.specs.DatabaseValue.{after_pin, after_unpin, front_of};
+ghost use Rattle.txc_ports.specs.Asking.{IsFoundOver};
+ghost use Rattle.txc_shared.specs.Passes.{shown_of_entry};
+ghost use Rattle.txc_caller.specs.Ports.{AddLeads, InsertLeads, LookupLeads};
+
+use std::alloc::{AllocError, Global};
+use std::marker::Model;
+use txc_app::App;
+use txc_app::laws::found_rows_give_true_entries;
+use txc_cushion::{AddError, CushionCore, Pins};
+use txc_db::{Answered, DbCore, DbError, HistoryFront, Pinned};
+use txc_node::{Entry, Shown};
+use txc_ports::{PortReply, PortRequest};
+use txc_rows::Query;
+use txc_shared::{Finding, NodeSettings, StoredNode};
+use txc_stamp::Stamp;
+use txc_stream::Pen;
+use txc_tags::Key;
+use txc_validity::Found;
+
+/// A database, its pincushion, and one node that takes its events. None has a lock.
+#[derive(Drop)]
+pub(crate) struct Ports<A: App> {
+    pub(crate) database: DbCore,
+    pub(crate) cushion: CushionCore,
+    pub(crate) node: StoredNode<A>,
+}
+
+impl<A: App> Model for Ports<A> {
+    ghost use Rattle.std.specs.Prelude.{◌≡◌};
+    ghost use Rattle.txc_caller.specs.Ports.{PortsValue, ArePorts};
+
+    ghost Value = { PortsValue };
+
+    ghost view = { λ p. record { database = p.database; cushion = p.cushion; node = p.node } };
+
+    ghost invariant = { λ p. ArePorts (record { database = p.database; cushion = p.cushion; node = p.node }) };
+}
+
+// What a finding shows of its call, with the history in which it is true.
+fn shown_by<A: App>(finding: Finding<A>) -> Answered<Shown>
+    ensures answer { result.answer ≡ shown_of_entry finding.entry }
+    ensures front { result.front ≡ finding.front }
+    ensures is_true { IsTrueIn A.next finding.front.history finding.entry }
+{
+    let Finding { entry, front, .. } = finding;
+    let Entry {
+        key: _,
+        value,
+        reach,
+        tags,
+    } = entry;
+    Answered {
+        answer: Shown { reach, value, tags },
+        front,
+    }
+}
+
+impl<A: App> Ports<A> {
+    ghost use Rattle.txc_caller.specs.Ports.{ExchangeLeads};
+    ghost use Rattle.txc_ports.specs.Asking.{IsOfRow, IsReplyTo, MayAsk};
+    ghost use Rattle.txc_ports.specs.Exchanges.{IsExchange};
+
+    // A pin of the moment `now`.
+    fn pin(&mut self, alloc: Global, now: u64, at_least: Stamp) -> Result<Pinned, DbError>
+        ensures after { OnOk result (self.new ≡ record self.old { database = after_pin self.old.database now }) }
+        ensures same { self.new ≡ record self.old { database = self.new.database } }
+        ensures events { self.new.database.events ≡ self.old.database.events }
+        ensures moment { IfOk result (λ pinned. pinned.moment ≡ now) }
+        ensures late { IfOk result (λ pinned. at_least ≤ pinned.stamp) }
+        ensures front { IfOk result (λ pinned. pinned.front ≡ front_of self.new.database) }
+        ensures refused { IfErr result (IsPinRefused self.old.database at_least) }
+    {
+        self.database.pin(alloc, now, at_least)
+    }
+
+    // What the database finds for the query at the stamp, with a front of the whole history.
+    fn find(
+        &mut self,
+        alloc: Global,
+        query: &Query,
+        stamp: Stamp,
+    ) -> Result<Answered<Found>, DbError>
+        ensures same { self.new ≡ self.old }
+        ensures answer { IfOk result (λ found. IsFoundOver found.front.history query.now stamp found.answer) }
+        ensures front { IfOk result (λ found. found.front ≡ front_of self.old.database) }
+        ensures refused { IfErr result (IsQueryRefused self.old.database query.now stamp) }
+    {
+        found_rows_give_true_entries();
+        let answer = self.database.query(alloc, query, stamp)?;
+        let front = self.database.front()?;
+        Ok(Answered { answer, front })
+    }
+
+    // What the node has of the call at the stamps from `lo` to `hi`. A node that refuses has nothing.
+    fn look_up(&mut self, alloc: Global, key: &Key, lo: Stamp, hi: Stamp) -> Option<Answered<Shown>>
+        ensures same { self.new ≡ record self.old { node = self.new.node } }
+        ensures leads { LookupLeads key.now lo hi self.old.node self.new.node result }
+        ensures right { IfSome result (λ hit.
+            IsTrueIn A.next hit.front.history (entry_shown key.now hit.answer)) }
+    {
+        match self.node.lookup(alloc, 0, key, lo, hi) {
+            Ok(Some(finding)) => Some(shown_by(finding)),
+            Ok(None) => None,
+            Err(_) => None,
+        }
+    }
+
+    // Gives the node an entry to keep. A node that refuses keeps nothing.
+    fn insert(&mut self, alloc: Global, entry: Entry, seen: &HistoryFront)
+        requires row { seen.now.events ≡ self.old.database.events }
+        requires is_true { IsTrueIn A.next seen.now.history entry }
+        ensures same { self.new ≡ record self.old { node = self.new.node } }
+        ensures leads { InsertLeads seen.now entry self.old.node self.new.node }
+    {
+        match self.node.insert(alloc, 0, entry, seen) {
+            Ok(_) => (),
+            Err(_) => (),
+        }
+    }
+
+    // Adds a pin to the pincushion.
+    fn add(&mut self, pinned: &Pinned) -> Result<(), AddError>
+        requires { pinned.now.front.events ≡ self.old.database.events }
+        ensures leads { AddLeads pinned.now self.old self.new result }
+        ensures same { self.new ≡ record self.old { cushion = self.new.cushion } }
+    {
+        self.cushion.add(pinned)
+    }
+
+    /// Takes one hold of the stamp away, where there is one.
+    pub(crate) fn unpin(&mut self, stamp: Stamp)
+        ensures leads { (self.new ≡ record self.old { database = after_unpin self.old.database stamp })
+            ⊎ (self.new ≡ self.old) }
+    {
+        match self.database.unpin(stamp) {
+            Ok(()) => (),
+            Err(_) => (),
+        }
+    }
+
+    /// An empty database with room for so many events, an empty pincushion and an empty node.
+    pub(crate) fn new(
+        alloc: Global,
+        capacity: usize,
+        settings: NodeSettings,
+    ) -> Result<Ports<A>, DbError>
+        requires least { 1 ≤ capacity }
+        requires most { capacity ≤ MAX_ROW }
+        requires node { (1 ≤ settings.capacity) × (settings.capacity ≤ MAX_CAPACITY) }
+        requires recent { (1 ≤ settings.recent) × (settings.recent ≤ MAX_RECENT) }
+        ensures history { IfOk result (λ ports. ports.database.history ≡ []) }
+        ensures cushion { IfOk result (λ ports. ports.cushion.entries ≡ []) }
+        ensures node { IfOk result (λ ports. ports.node.cache ≡ start_of settings) }
+        ensures refused { IfErr result IsWant }
+    {
+        let database = DbCore::new(alloc, capacity)?;
+        let cushion = CushionCore::new(alloc, database.reader()?);
+        let mut node = StoredNode::unstored(alloc, settings, Pen::new(), database.reader()?)?;
+        // The one pass of a new node, number 0.
+        let Ok(_pass) = node.pass() else {
+            return Err(DbError::Memory);
+        };
+        Ok(Ports {
+            database,
+            cushion,
+            node,
+        })
+    }
+
+    /// The newest of the pins that the bounds allow, each with one user more.
+    pub(crate) fn fresh(
+        &mut self,
+        alloc: Global,
+        now: u64,
+        staleness: u64,
+        at_least: Stamp,
+    ) -> Result<Pins, AllocError>
+        ensures pins { IfOk result (λ pins. pins.pins.items ≡ handed_out self.old.cushion now staleness at_least) }
+        ensures allowed { IfOk result (λ pins. All (λ pin. IsAllowed pins.front.history pin.stamp now staleness at_least) pins.pins.items) }
+        ensures row { IfOk result (λ pins. pins.front.events ≡ self.old.database.events) }
+        ensures same { self.new ≡ record self.old { cushion = self.new.cushion } }
+    {
+        self.cushion.fresh(alloc, now, staleness, at_least)
+    }
+
+    /// Gives the pins back, one user of each. It takes no memory.
+    pub(crate) fn give_back(&mut self, stamps: &[Stamp])
+        ensures same { self.new ≡ record self.old { cushion = self.new.cushion } }
+        ensures after { (self.new.cushion ≡ after_give_back self.old.cushion stamps.now) ⊎ (self.new ≡ self.old) }
+    {
+        match self.cushion.give_back(stamps) {
+            Ok(()) => (),
+            Err(_) => (),
+        }
+    }
+
+    /// Gives one user of each of the pins back. It takes no memory.
+    pub(crate) fn give_back_each(&mut self, pins: &Pins)
+        ensures same { self.new ≡ record self.old { cushion = self.new.cushion } }
+    {
+        for pin in &pins.pins {
+            self.give_back(&[pin.stamp]);
+        }
+    }
+
+    /// Asks what a transaction asks, in one call. It has seen that much of the history.
+    pub(crate) fn ask(
+        &mut self,
+        alloc: Global,
+        seen: &HistoryFront,
+        request: PortRequest,
+    ) -> PortReply
+        requires row { seen.now.events ≡ self.old.database.events }
+        requires may { MayAsk A.next self.old.database.events 1 seen.now.history request }
+        ensures answer { IsReplyTo A.next request result }
+        ensures row { IsOfRow self.old.database.events result }
+        ensures leads { IsExchange (ExchangeLeads seen.now self.old self.new) request result }
+        ensures events { self.new.database.events ≡ self.old.database.events }
+    {
+        match request {
+            PortRequest::Pin { now, at_least } => PortReply::Pin(self.pin(alloc, now, at_least)),
+            PortRequest::AddPin(pinned) => {
+                let added = self.add(&pinned);
+                PortReply::AddPin(pinned, added)
+            }
+            PortRequest::Unpin(stamp) => {
+                self.unpin(stamp);
+                PortReply::Unpin
+            }
+            PortRequest::Lookup {
+                node: _,
+                key,
+                lo,
+                hi,
+            } => { PortReply::Lookup(self.look_up(alloc, &key, lo, hi)) }
+            PortRequest::Query { query, stamp } => {
+                PortReply::Query(self.find(alloc, &query, stamp))
+            }
+            PortRequest::Insert { node: _, entry } => {
+                self.insert(alloc, entry, seen);
+                PortReply::Insert
+            }
+        }
+    }
+}
