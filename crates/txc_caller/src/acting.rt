@@ -18,7 +18,7 @@ use crate::step::{CallerError, Step};
 use std::alloc::Global;
 use txc_app::{Answer, App, Ask, Bytes};
 use txc_node::Value;
-use txc_ports::PortReply;
+use txc_ports::{PortReply, TxnError};
 use txc_registry::Suppliable;
 use txc_rows::Query;
 use txc_tags::Key;
@@ -85,8 +85,30 @@ fn is_hit(reply: &PortReply) -> bool {
     }
 }
 
-// The innermost function has its answer, of which the caller gets a copy. Out of memory, the call is given up: its
-// object is handed nothing.
+// The call was refused.
+fn ended(error: TxnError) -> Acted
+    ensures { (next : Next) (k : Call) (t : TxnValue) → IsIdle t.core
+        → HasActed next t.core.recorded k t result }
+{
+    Acted {
+        doing: None,
+        step: Err(CallerError::Txn(error)),
+    }
+}
+
+/// Gives the open call up: its functions end.
+pub(crate) fn end_call<A: App, C: Suppliable>(ports: &mut Ports<A>, txn: &mut RunningTxn<A, C>)
+    ensures idle { IsIdle txn.new.core }
+    ensures recorded { txn.new.core.recorded ≡ txn.old.core.recorded }
+    ensures keeps { KeepsOn txn.old txn.new }
+    ensures events { ports.new.database.events ≡ ports.old.database.events }
+{
+    if let Some(stamp) = txn.give_up() {
+        ports.unpin(stamp);
+    }
+}
+
+// The innermost function has its answer, of which the caller gets a copy. Out of memory, the call is refused.
 fn answered<A: App, C: Suppliable>(
     alloc: Global,
     ports: &mut Ports<A>,
@@ -96,27 +118,20 @@ fn answered<A: App, C: Suppliable>(
 ) -> Acted
     requires kept { IsKept A.next txn.old kept }
     requires top { open_call txn.old.core ≡ Some frames.top }
-    requires row { txn.old.core.seen.events ≡ ports.old.database.events }
-    requires nodes { txn.old.core.nodes ≡ 1 }
     ensures acted { HasActed A.next txn.old.core.recorded frames.top txn.new result }
     ensures keeps { KeepsOn txn.old txn.new }
     ensures events { ports.new.database.events ≡ ports.old.database.events }
 {
-    match given_by(alloc, &kept) {
-        Ok(given) => {
-            let Frames { top, inner, outer } = frames;
-            let inner = Called {
-                key: inner.key,
-                reached: true,
-            };
-            let frames = Frames { top, inner, outer };
-            standing(Stand::Kept(kept), frames, given)
-        }
-        Err(_) => {
-            let stand = feed(alloc, ports, txn, kept);
-            standing(stand, frames, None)
-        }
-    }
+    let Ok(given) = given_by(alloc, &kept) else {
+        end_call(ports, txn);
+        return ended(TxnError::Memory);
+    };
+    let Frames { top, inner, outer } = frames;
+    let inner = Called {
+        key: inner.key,
+        reached: true,
+    };
+    standing(Stand::Kept(kept), Frames { top, inner, outer }, given)
 }
 
 /// The outermost call begins.
@@ -334,28 +349,4 @@ pub(crate) fn finish_inside<A: App, C: Suppliable>(
         }
         _ => conclude(alloc, ports, txn, Frames { top, inner, outer }, kept),
     }
-}
-
-/// The call is given up: its objects are handed nothing, and so it is refused.
-pub(crate) fn give_up_inside<A: App, C: Suppliable>(
-    alloc: Global,
-    ports: &mut Ports<A>,
-    txn: &mut RunningTxn<A, C>,
-    call: OpenCall,
-) -> Acted
-    requires kept { IsKept A.next txn.old call.kept }
-    requires top { open_call txn.old.core ≡ Some call.frames.top }
-    requires row { txn.old.core.seen.events ≡ ports.old.database.events }
-    requires nodes { txn.old.core.nodes ≡ 1 }
-    ensures acted { HasActed A.next txn.old.core.recorded call.frames.top txn.new result }
-    ensures keeps { KeepsOn txn.old txn.new }
-    ensures events { ports.new.database.events ≡ ports.old.database.events }
-{
-    let OpenCall {
-        frames,
-        given: _,
-        kept,
-    } = call;
-    let stand = feed(alloc, ports, txn, kept);
-    standing(stand, frames, None)
 }

@@ -1,5 +1,5 @@
 //! A caller's transaction that only reads.
-ghost use Rattle.std.specs.Prelude.{◌≡◌, ◌≢◌, ◌∷◌, [], Err, IfErr, IfOk, IsNone, IsOk, IsSome, MatchOption, None, Ok, Some};
+ghost use Rattle.std.specs.Prelude.{◌≡◌, ◌≢◌, ◌↔◌, ◌∷◌, [], Err, IfErr, IfOk, IsNone, IsOk, IsSome, IsTrue, MatchOption, None, Ok, Some};
 ghost use Rattle.txc_registry.specs.Objects.{numbers_of, AllIdle};
 ghost use Rattle.txc_txn.specs.Core.{receipt_pin, Explains};
 ghost use Rattle.txc_txn.specs.Kept.{IsTxn};
@@ -8,7 +8,7 @@ ghost use Rattle.txc_caller.specs.Acting.{IsStepOf};
 ghost use Rattle.txc_caller.specs.Reading.{caller_of, top_or, AsksNext, KeepsReading};
 
 use crate::acted::Acted;
-use crate::acting::{call_first, call_inside, finish_inside, give_up_inside, query_inside};
+use crate::acting::{call_first, call_inside, end_call, finish_inside, query_inside};
 use crate::caller::Caller;
 use crate::frames::OpenCall;
 use crate::ports::Ports;
@@ -115,21 +115,20 @@ impl<A: App, C: Suppliable> CallerTxn<A, C> {
         step
     }
 
-    /// Gives the open call up; the transaction stays open, and its answers are as before.
-    pub fn give_up(&mut self, alloc: Global) -> Result<Step, CallerError>
-        ensures step { MatchOption self.old.doing (result ≡ Err CallerError.NoFunction)
-            (λ o. IsStepOf self.old.txn.core.recorded o.frames.top self.new.txn.core.recorded self.new.doing result) }
+    /// Gives the open call up, if one is, and returns whether one was. The transaction stays open, and its answers
+    /// are as before.
+    pub fn give_up(&mut self) -> bool
+        ensures answer { IsTrue result ↔ IsSome self.old.doing }
+        ensures none { self.new.doing ≡ None }
+        ensures recorded { self.new.txn.core.recorded ≡ self.old.txn.core.recorded }
         ensures keeps { KeepsReading self.old self.new }
         ensures meant { IsTxn A.next self.new.txn }
     {
-        let Some(call) = self.doing.take() else {
-            self.txn.is_kept();
-            return Err(CallerError::NoFunction);
-        };
-        let Acted { doing, step } = give_up_inside(alloc, &mut self.ports, &mut self.txn, call);
-        self.doing = doing;
+        let was_open = self.doing.is_some();
+        self.doing = None;
+        end_call(&mut self.ports, &mut self.txn);
         self.txn.is_kept();
-        step
+        was_open
     }
 
     /// What the function that is computed was answered last; none where it has asked nothing yet, or none is

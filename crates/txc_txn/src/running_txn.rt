@@ -1,5 +1,5 @@
 //! A core with the registry of its functions, which keeps what its pin set means.
-ghost use Rattle.std.specs.Prelude.{◌≡◌, IsOk, Some};
+ghost use Rattle.std.specs.Prelude.{◌≡◌, IsOk, None, Some};
 ghost use Rattle.std.specs.Option.{ForSome};
 ghost use Rattle.txc_registry.specs.Activity.{answered, begun, next_of};
 ghost use Rattle.txc_registry.specs.Objects.{activation_of, numbers_of, AllIdle};
@@ -11,7 +11,7 @@ use std::alloc::Global;
 use std::marker::Model;
 use txc_app::{Answer, App, Ask};
 use txc_db::states_stay;
-use txc_ports::{PortReply, Turn};
+use txc_ports::{PortReply, Turn, TxnError};
 use txc_registry::{Cacheable, OtherAsk, Registry, Suppliable};
 use txc_stamp::Stamp;
 use txc_tags::Key;
@@ -78,6 +78,22 @@ impl<A: App, C: Cacheable> RunningTxn<A, C> {
     {
         states_stay();
         self.core.next(alloc, &mut self.registry, reply)
+    }
+
+    /// Gives the open call up, if one is, and returns a stamp that was pinned and not added: its hold is to be taken
+    /// away. The transaction is open still, with its answers. It takes no memory.
+    pub fn give_up(&mut self) -> Option<Stamp>
+        ensures unpin { result ≡ left_pin self.old.core.pinning }
+        ensures idle { IsIdle self.new.core }
+        ensures functions { numbers_of self.new.objects ≡ numbers_of self.old.objects }
+        ensures same { self.new.core ≡ record self.old.core { call = self.new.core.call; pinning = None } }
+    {
+        let unpin = match &self.core.pinning {
+            Some(pinning) => pinning.left(),
+            None => None,
+        };
+        self.core.give_up(&mut self.registry, TxnError::Memory);
+        unpin
     }
 
     /// Ends the transaction, and returns what explains its answers, the pins to be given back, by their
