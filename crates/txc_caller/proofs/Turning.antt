@@ -12,7 +12,9 @@ use Rattle.txc_node.specs.declared.hit.Shown.{Shown}
 use Rattle.txc_cushion.specs.declared.pin.Pin.{Pin}
 use Rattle.txc_pinset.specs.Members.{is_held_by}
 use Rattle.txc_app.specs.Eval.{Next}
+use Rattle.txc_registry.specs.Objects.{numbers_of}
 use Rattle.txc_ports.specs.declared.recorded.Recorded.{Recorded}
+use Rattle.txc_ports.specs.declared.request.PortRequest.{PortRequest}
 use Rattle.txc_ports.specs.declared.reply.PortReply.{PortReply}
 use Rattle.txc_ports.specs.declared.reply.PortReply.TheVariants as replies
 use Rattle.txc_ports.specs.declared.turn.Turn.{Turn}
@@ -23,7 +25,7 @@ use Rattle.txc_txn.specs.Core.{CoreValue, open_call, recorded_after, IsIdle, IsN
 use Rattle.txc_txn.specs.Kept.{TxnValue, HasBegunCall, HasGoneOn, IsShownRight}
 use Rattle.txc_txn.proofs.Offered.{adds_next, adds_none}
 use Rattle.txc_caller.specs.Given.{counted}
-use Rattle.txc_caller.specs.Standing.{IsGoing, IsKept, IsOfCall, IsStanding, KeepsOn}
+use Rattle.txc_caller.specs.Standing.{HasPassed, IsGoing, IsKept, IsOfCall, IsStanding, KeepsOn}
 use Rattle.txc_caller.specs.declared.stand.Stand.TheVariants as stands
 
 -- ---- what is kept
@@ -48,6 +50,20 @@ keeps_then a b c one two = record {
   events = two.events ∙ one.events;
 }
 
+-- a call that was given up
+pub keeps_given_up : (old new : TxnValue) → numbers_of new.objects ≡ numbers_of old.objects → new.core ≡ record old.core { call = new.core.call; pinning = None }
+    → KeepsOn old new
+keeps_given_up old new functions same = record {
+  settings = record {
+    bounds = ap (λ (c : CoreValue). c.bounds) same;
+    renew_after = ap (λ (c : CoreValue). c.renew_after) same;
+    nodes = ap (λ (c : CoreValue). c.nodes) same;
+  };
+  functions = functions;
+  longer = subst (λ (L : History). IsPrefix old.core.seen.history L) (sym (ap (λ (c : CoreValue). c.seen.history) same)) (prefix_self old.core.seen.history);
+  events = ap (λ (c : CoreValue). c.seen.events) same;
+}
+
 -- ---- a call goes on
 
 module _ (next : Next) (row : List ℕ) (old new : TxnValue) (reply : PortReply) (turn : Turn) (on : HasGoneOn next old reply new turn) where
@@ -67,6 +83,29 @@ module _ (next : Next) (row : List ℕ) (old new : TxnValue) (reply : PortReply)
 
   pub keeps_next : KeepsOn old new
   keeps_next = record { settings = on.settings; functions = on.functions; longer = on.longer; events = on.events }
+
+-- ---- a request is passed
+
+-- a turn that stays
+pub passed_self : (row : List ℕ) (t : TxnValue) (turn : Turn) → IsGoing row t.core turn → HasPassed row t turn t turn
+passed_self row t turn going = record { going = going; of_call = λ before k of. of; keeps = keeps_self t }
+
+pub passed_then : (row : List ℕ) (a b c : TxnValue) (x y z : Turn) → HasPassed row a x b y → HasPassed row b y c z → HasPassed row a x c z
+passed_then row a b c x y z one two = record {
+  going = two.going;
+  of_call = λ before k of. two.of_call before k (one.of_call before k of);
+  keeps = keeps_then a b c one.keeps two.keeps;
+}
+
+-- a request that was made, and gone on with
+pub passed_next : (next : Next) (row : List ℕ) (old new : TxnValue) (request : PortRequest) (reply : PortReply) (turn : Turn) → HasGoneOn next old reply new turn
+    → ForSome (front_of_reply reply) (λ (f : FrontValue). f.events ≡ row) → old.core.seen.events ≡ row → old.core.nodes ≡ 1
+    → HasPassed row old (Ask request) new turn
+passed_next next row old new request reply turn on of events nodes = record {
+  going = going_next next row old new reply turn on of events nodes;
+  of_call = λ before k h. of_call_next next row old new reply turn on before k (h.begins tt) h.recorded;
+  keeps = keeps_next next row old new reply turn on;
+}
 
 -- ---- a call begins
 

@@ -45,6 +45,13 @@ pub record KeepsOn (old new : TxnValue) : Type 0 where
   pub longer : IsPrefix old.core.seen.history new.core.seen.history
   pub events : new.core.seen.events ≡ old.core.seen.events
 
+-- what comes of a turn whose request was made, if it was one about the pin of the present: another turn of the same
+-- call
+pub record HasPassed (row : List ℕ) (old : TxnValue) (turn : Turn) (new : TxnValue) (after : Turn) : Type 0 where
+  pub going : IsGoing row new.core after
+  pub of_call : (before : List Recorded) (k : Call) → IsOfCall before k old.core turn → IsOfCall before k new.core after
+  pub keeps : KeepsOn old new
+
 -- How the call stands, before which these values were recorded: a reply is kept back, and the call is open; or
 -- its value is recorded beside them; or it was refused, and nothing is.
 abbrev pub IsStanding : Next → List Recorded → Call → TxnValue → Stand → Type 0

@@ -1,5 +1,5 @@
 //! What a caller does in an open call, and how the call stands after it.
-ghost use Rattle.std.specs.Prelude.{◌≡◌, List, Some};
+ghost use Rattle.std.specs.Prelude.{◌≡◌, ◌<◌, ◌++◌, ◌∷◌, [], List, Some, vec_capacity, vec_len};
 ghost use Rattle.txc_app.specs.Eval.{Next};
 ghost use Rattle.txc_tags.specs.Keys.{Call};
 ghost use Rattle.txc_ports.specs.declared.recorded.Recorded.{Recorded};
@@ -11,7 +11,7 @@ ghost use Rattle.txc_caller.specs.Standing.{asks_next, IsKept, IsStanding, Keeps
 use crate::acted::Acted;
 use crate::asking::{counted, given_by, supply};
 use crate::engine::{feed, start};
-use crate::frames::{Called, Frames, OpenCall};
+use crate::frames::{Frames, OpenCall};
 use crate::ports::Ports;
 use crate::stand::Stand;
 use crate::step::{CallerError, Step};
@@ -24,6 +24,8 @@ use txc_rows::Query;
 use txc_tags::Key;
 use txc_txn::RunningTxn;
 
+// ---- how a call stands
+
 // What the caller does in an open call: he computes a function, or goes on with its answer.
 fn step_with(given: &Option<Answer>) -> Step
     ensures { result ≡ step_with given.now }
@@ -34,35 +36,23 @@ fn step_with(given: &Option<Answer>) -> Step
     }
 }
 
-// The call as it stands: open, with this answer, or ended.
-fn standing(stand: Stand, frames: Frames, given: Option<Answer>) -> Acted
-    ensures { (next : Next) (before : List Recorded) (t : TxnValue)
-        → IsStanding next before frames.top t stand → HasActed next before frames.top t result }
+// The call is open, and its innermost function has this answer.
+fn stays(frames: Frames, given: Option<Answer>, kept: PortReply) -> Acted
+    ensures { (next : Next) (t : TxnValue) → IsKept next t kept → open_call t.core ≡ Some frames.top
+        → HasActed next t.core.recorded frames.top t result }
 {
-    match stand {
-        Stand::Kept(kept) => {
-            let step = step_with(&given);
-            Acted {
-                doing: Some(OpenCall {
-                    frames,
-                    given,
-                    kept,
-                }),
-                step: Ok(step),
-            }
-        }
-        Stand::Value(value) => Acted {
-            doing: None,
-            step: Ok(Step::Value(value)),
-        },
-        Stand::Refused(error) => Acted {
-            doing: None,
-            step: Err(CallerError::Txn(error)),
-        },
+    let step = step_with(&given);
+    Acted {
+        doing: Some(OpenCall {
+            frames,
+            given,
+            kept,
+        }),
+        step: Ok(step),
     }
 }
 
-// The call stays open, and the caller is told why.
+// The call is open, and the caller is told why it does not go on.
 fn refused(frames: Frames, given: Option<Answer>, kept: PortReply, error: CallerError) -> Acted
     ensures { (next : Next) (t : TxnValue) → IsKept next t kept → open_call t.core ≡ Some frames.top
         → HasActed next t.core.recorded frames.top t result }
@@ -77,22 +67,53 @@ fn refused(frames: Frames, given: Option<Answer>, kept: PortReply, error: Caller
     }
 }
 
-// Whether the reply is a hit.
-fn is_hit(reply: &PortReply) -> bool {
-    match reply {
-        PortReply::Lookup(Some(_)) => true,
-        _ => false,
+// The same, for want of memory: all is as it was.
+fn out_of_memory(frames: Frames, given: Option<Answer>, kept: PortReply) -> Acted
+    ensures { (next : Next) (t : TxnValue) → IsKept next t kept → open_call t.core ≡ Some frames.top
+        → HasActed next t.core.recorded frames.top t result }
+{
+    refused(frames, given, kept, CallerError::Memory)
+}
+
+// The call has its value.
+fn valued(value: Value) -> Acted
+    ensures { (next : Next) (before : List Recorded) (k : Call) (t : TxnValue) → IsIdle t.core
+        → t.core.recorded ≡ before ++ record { key = k; value = value } ∷ [] → HasActed next before k t result }
+{
+    Acted {
+        doing: None,
+        step: Ok(Step::Value(value)),
     }
 }
 
 // The call was refused.
 fn ended(error: TxnError) -> Acted
-    ensures { (next : Next) (k : Call) (t : TxnValue) → IsIdle t.core
-        → HasActed next t.core.recorded k t result }
+    ensures { (next : Next) (before : List Recorded) (k : Call) (t : TxnValue) → IsIdle t.core
+        → t.core.recorded ≡ before → HasActed next before k t result }
 {
     Acted {
         doing: None,
         step: Err(CallerError::Txn(error)),
+    }
+}
+
+// The call as it stands.
+fn standing(stand: Stand, frames: Frames, given: Option<Answer>) -> Acted
+    ensures { (next : Next) (before : List Recorded) (t : TxnValue)
+        → IsStanding next before frames.top t stand → HasActed next before frames.top t result }
+{
+    match stand {
+        Stand::Kept(kept) => stays(frames, given, kept),
+        Stand::Value(value) => valued(value),
+        Stand::Refused(error) => ended(error),
+    }
+}
+
+// Whether the reply is a hit.
+fn is_hit(reply: &PortReply) -> bool {
+    match reply {
+        PortReply::Lookup(Some(_)) => true,
+        _ => false,
     }
 }
 
@@ -103,10 +124,13 @@ pub(crate) fn end_call<A: App, C: Suppliable>(ports: &mut Ports<A>, txn: &mut Ru
     ensures keeps { KeepsOn txn.old txn.new }
     ensures events { ports.new.database.events ≡ ports.old.database.events }
 {
-    if let Some(stamp) = txn.give_up() {
-        ports.unpin(stamp);
+    match txn.give_up() {
+        Some(stamp) => ports.unpin(stamp),
+        None => (),
     }
 }
+
+// ---- replies
 
 // The innermost function has its answer, of which the caller gets a copy. Out of memory, the call is refused.
 fn answered<A: App, C: Suppliable>(
@@ -122,17 +146,63 @@ fn answered<A: App, C: Suppliable>(
     ensures keeps { KeepsOn txn.old txn.new }
     ensures events { ports.new.database.events ≡ ports.old.database.events }
 {
-    let Ok(given) = given_by(alloc, &kept) else {
-        end_call(ports, txn);
-        return ended(TxnError::Memory);
-    };
-    let Frames { top, inner, outer } = frames;
-    let inner = Called {
-        key: inner.key,
-        reached: true,
-    };
-    standing(Stand::Kept(kept), Frames { top, inner, outer }, given)
+    match given_by(alloc, &kept) {
+        Ok(given) => stays(frames.reach(), given, kept),
+        Err(_) => {
+            end_call(ports, txn);
+            ended(TxnError::Memory)
+        }
+    }
 }
+
+// The outermost call was looked up: a hit is its value.
+fn first_reply<A: App, C: Suppliable>(
+    alloc: Global,
+    ports: &mut Ports<A>,
+    txn: &mut RunningTxn<A, C>,
+    frames: Frames,
+    kept: PortReply,
+) -> Acted
+    requires kept { IsKept A.next txn.old kept }
+    requires top { open_call txn.old.core ≡ Some frames.top }
+    requires row { txn.old.core.seen.events ≡ ports.old.database.events }
+    requires nodes { txn.old.core.nodes ≡ 1 }
+    ensures acted { HasActed A.next txn.old.core.recorded frames.top txn.new result }
+    ensures keeps { KeepsOn txn.old txn.new }
+    ensures events { ports.new.database.events ≡ ports.old.database.events }
+{
+    let reply = counted(kept, txn.core().members());
+    if is_hit(&reply) {
+        let stand = feed(alloc, ports, txn, reply);
+        return standing(stand, frames, None);
+    }
+    stays(frames, None, reply)
+}
+
+// A call of the innermost function was looked up: a hit is its answer.
+fn inner_reply<A: App, C: Suppliable>(
+    alloc: Global,
+    ports: &mut Ports<A>,
+    txn: &mut RunningTxn<A, C>,
+    frames: Frames,
+    kept: PortReply,
+    key: Key,
+) -> Acted
+    requires kept { IsKept A.next txn.old kept }
+    requires top { open_call txn.old.core ≡ Some frames.top }
+    requires room { vec_len frames.outer < vec_capacity frames.outer }
+    ensures acted { HasActed A.next txn.old.core.recorded frames.top txn.new result }
+    ensures keeps { KeepsOn txn.old txn.new }
+    ensures events { ports.new.database.events ≡ ports.old.database.events }
+{
+    let reply = counted(kept, txn.core().members());
+    if is_hit(&reply) {
+        return answered(alloc, ports, txn, frames, reply);
+    }
+    stays(frames.enter(key), None, reply)
+}
+
+// ---- calls
 
 /// The outermost call begins.
 pub(crate) fn call_first<A: App, C: Suppliable>(
@@ -148,24 +218,36 @@ pub(crate) fn call_first<A: App, C: Suppliable>(
     ensures keeps { KeepsOn txn.old txn.new }
     ensures events { ports.new.database.events ≡ ports.old.database.events }
 {
-    let frames = Frames {
-        top: key.copy(),
-        inner: Called {
-            key: key.copy(),
-            reached: false,
-        },
-        outer: Vec::new(alloc),
-    };
+    let frames = Frames::of(alloc, &key);
     match start(alloc, ports, txn, key) {
-        Stand::Kept(reply) => {
-            let reply = counted(reply, txn.core().members());
-            if is_hit(&reply) {
-                let stand = feed(alloc, ports, txn, reply);
-                return standing(stand, frames, None);
-            }
-            standing(Stand::Kept(reply), frames, None)
-        }
-        stand => standing(stand, frames, None),
+        Stand::Kept(kept) => first_reply(alloc, ports, txn, frames, kept),
+        Stand::Value(value) => valued(value),
+        Stand::Refused(error) => ended(error),
+    }
+}
+
+// What the innermost function asks, a call, was handed over.
+fn go_on_to_call<A: App, C: Suppliable>(
+    alloc: Global,
+    ports: &mut Ports<A>,
+    txn: &mut RunningTxn<A, C>,
+    frames: Frames,
+    kept: PortReply,
+    key: Key,
+) -> Acted
+    requires kept { IsKept A.next txn.old kept }
+    requires top { open_call txn.old.core ≡ Some frames.top }
+    requires row { txn.old.core.seen.events ≡ ports.old.database.events }
+    requires nodes { txn.old.core.nodes ≡ 1 }
+    requires room { vec_len frames.outer < vec_capacity frames.outer }
+    ensures acted { HasActed A.next txn.old.core.recorded frames.top txn.new result }
+    ensures keeps { KeepsOn txn.old txn.new }
+    ensures events { ports.new.database.events ≡ ports.old.database.events }
+{
+    match feed(alloc, ports, txn, kept) {
+        Stand::Kept(reply) => inner_reply(alloc, ports, txn, frames, reply, key),
+        Stand::Value(value) => valued(value),
+        Stand::Refused(error) => ended(error),
     }
 }
 
@@ -187,37 +269,41 @@ pub(crate) fn call_inside<A: App, C: Suppliable>(
     ensures events { ports.new.database.events ≡ ports.old.database.events }
 {
     let OpenCall {
-        frames,
+        mut frames,
         given,
         kept,
     } = call;
-    let Frames { top, inner, outer } = frames;
-    let mut outer = outer;
-    if outer.reserve(1).is_err() {
-        return refused(
-            Frames { top, inner, outer },
-            given,
-            kept,
-            CallerError::Memory,
-        );
+    if frames.make_room().is_err() {
+        return out_of_memory(frames, given, kept);
     }
-    if let Err(error) = supply(alloc, txn, &inner.key, given, Ask::Call(key.copy())) {
-        return refused(Frames { top, inner, outer }, None, kept, error);
+    match supply(alloc, txn, &frames.inner.key, given, Ask::Call(key.copy())) {
+        Ok(()) => go_on_to_call(alloc, ports, txn, frames, kept, key),
+        Err(error) => refused(frames, None, kept, error),
     }
+}
+
+// ---- queries
+
+// What the innermost function asks, a query, was handed over.
+fn go_on_to_query<A: App, C: Suppliable>(
+    alloc: Global,
+    ports: &mut Ports<A>,
+    txn: &mut RunningTxn<A, C>,
+    frames: Frames,
+    kept: PortReply,
+) -> Acted
+    requires kept { IsKept A.next txn.old kept }
+    requires top { open_call txn.old.core ≡ Some frames.top }
+    requires row { txn.old.core.seen.events ≡ ports.old.database.events }
+    requires nodes { txn.old.core.nodes ≡ 1 }
+    ensures acted { HasActed A.next txn.old.core.recorded frames.top txn.new result }
+    ensures keeps { KeepsOn txn.old txn.new }
+    ensures events { ports.new.database.events ≡ ports.old.database.events }
+{
     match feed(alloc, ports, txn, kept) {
-        Stand::Kept(reply) => {
-            let reply = counted(reply, txn.core().members());
-            if is_hit(&reply) {
-                return answered(alloc, ports, txn, Frames { top, inner, outer }, reply);
-            }
-            outer.push_reserved(inner);
-            let inner = Called {
-                key,
-                reached: false,
-            };
-            standing(Stand::Kept(reply), Frames { top, inner, outer }, None)
-        }
-        stand => standing(stand, Frames { top, inner, outer }, None),
+        Stand::Kept(reply) => answered(alloc, ports, txn, frames, reply),
+        Stand::Value(value) => valued(value),
+        Stand::Refused(error) => ended(error),
     }
 }
 
@@ -243,17 +329,15 @@ pub(crate) fn query_inside<A: App, C: Suppliable>(
         given,
         kept,
     } = call;
-    if let Err(error) = supply(alloc, txn, &frames.inner.key, given, Ask::Query(query)) {
-        return refused(frames, None, kept, error);
-    }
-    match feed(alloc, ports, txn, kept) {
-        Stand::Kept(reply) => answered(alloc, ports, txn, frames, reply),
-        stand => standing(stand, frames, None),
+    match supply(alloc, txn, &frames.inner.key, given, Ask::Query(query)) {
+        Ok(()) => go_on_to_query(alloc, ports, txn, frames, kept),
+        Err(error) => refused(frames, None, kept, error),
     }
 }
 
-// The outermost function is done, or its value is too long: the call has its value, or is refused. A value that
-// depends on a row is kept at the node first.
+// ---- values
+
+// The outermost function is done: the call has its value, which is kept at the node first where it depends on a row.
 fn conclude<A: App, C: Suppliable>(
     alloc: Global,
     ports: &mut Ports<A>,
@@ -274,7 +358,8 @@ fn conclude<A: App, C: Suppliable>(
             let stand = feed(alloc, ports, txn, inserted);
             standing(stand, frames, None)
         }
-        stand => standing(stand, frames, None),
+        Stand::Value(value) => valued(value),
+        Stand::Refused(error) => ended(error),
     }
 }
 
@@ -300,10 +385,37 @@ fn close<A: App, C: Suppliable>(
 {
     let given = Some(Answer::Value(value));
     if !is_reached {
-        return standing(Stand::Kept(kept), frames, given);
+        return stays(frames, given, kept);
     }
     let stand = feed(alloc, ports, txn, kept);
     standing(stand, frames, given)
+}
+
+// What the innermost function gives was handed over. A call whose value is too long is refused.
+fn go_on_to_value<A: App, C: Suppliable>(
+    alloc: Global,
+    ports: &mut Ports<A>,
+    txn: &mut RunningTxn<A, C>,
+    frames: Frames,
+    kept: PortReply,
+    bytes: Vec<u8>,
+) -> Acted
+    requires kept { IsKept A.next txn.old kept }
+    requires top { open_call txn.old.core ≡ Some frames.top }
+    requires row { txn.old.core.seen.events ≡ ports.old.database.events }
+    requires nodes { txn.old.core.nodes ≡ 1 }
+    ensures acted { HasActed A.next txn.old.core.recorded frames.top txn.new result }
+    ensures keeps { KeepsOn txn.old txn.new }
+    ensures events { ports.new.database.events ≡ ports.old.database.events }
+{
+    let Some(value) = Value::new(bytes) else {
+        let stand = feed(alloc, ports, txn, kept);
+        return standing(stand, frames, None);
+    };
+    match frames.leave() {
+        Ok((around, is_reached)) => close(alloc, ports, txn, around, kept, is_reached, value),
+        Err(outermost) => conclude(alloc, ports, txn, outermost, kept),
+    }
 }
 
 /// The function is done, with these bytes.
@@ -329,24 +441,11 @@ pub(crate) fn finish_inside<A: App, C: Suppliable>(
         kept,
     } = call;
     let Ok(copy) = Vec::from_slice(alloc, &bytes) else {
-        return refused(frames, given, kept, CallerError::Memory);
+        return out_of_memory(frames, given, kept);
     };
     let done = Ask::Done(Bytes::new(bytes));
-    if let Err(error) = supply(alloc, txn, &frames.inner.key, given, done) {
-        return refused(frames, None, kept, error);
-    }
-    let Frames { top, inner, outer } = frames;
-    let mut outer = outer;
-    match (outer.pop(), Value::new(copy)) {
-        (Some(around), Some(value)) => {
-            let is_reached = inner.reached;
-            let inner = Called {
-                key: around.key,
-                reached: around.reached || is_reached,
-            };
-            let frames = Frames { top, inner, outer };
-            close(alloc, ports, txn, frames, kept, is_reached, value)
-        }
-        _ => conclude(alloc, ports, txn, Frames { top, inner, outer }, kept),
+    match supply(alloc, txn, &frames.inner.key, given, done) {
+        Ok(()) => go_on_to_value(alloc, ports, txn, frames, kept, copy),
+        Err(error) => refused(frames, None, kept, error),
     }
 }

@@ -62,11 +62,18 @@ pub(crate) fn given_by(alloc: Global, reply: &PortReply) -> Result<Option<Answer
     }
 }
 
-// Whether the reach holds one of the members.
-fn holds_any(reach: Reach, members: &[Pin]) -> bool
+// Whether the reach holds the stamp of the pin.
+fn is_held(reach: Reach, pin: &Pin) -> bool
+    ensures { result ≡ is_held_by reach pin.now }
+{
+    reach.holds(pin.stamp)
+}
+
+// Whether the reach holds a member.
+fn holds_one(reach: Reach, members: &[Pin]) -> bool
     ensures { result ≡ list_any (is_held_by reach) members.now }
 {
-    members.iter().any(|pin| reach.holds(pin.stamp))
+    members.iter().any(|pin| is_held(reach, pin))
 }
 
 /// The reply, but that a hit which holds no member is a miss.
@@ -74,7 +81,7 @@ pub(crate) fn counted(reply: PortReply, members: &[Pin]) -> PortReply
     ensures { result ≡ counted members.now reply }
 {
     match reply {
-        PortReply::Lookup(Some(hit)) if !holds_any(hit.answer.reach, members) => {
+        PortReply::Lookup(Some(hit)) if !holds_one(hit.answer.reach, members) => {
             PortReply::Lookup(None)
         }
         reply => reply,

@@ -48,27 +48,23 @@ impl<A: App, C: Suppliable> Model for CallerTxn<A, C> {
 impl<A: App, C: Suppliable> CallerTxn<A, C> {
     ghost use Rattle.txc_app.specs.declared.ask.Ask.TheVariants as asks;
 
-    /// Asks for the value of a call: by no function the outermost one, else by the function that is computed.
-    /// [`Step::Compute`] says that the caller is to compute its function.
-    pub fn call(&mut self, alloc: Global, key: Key) -> Result<Step, CallerError>
-        requires asks { AsksNext A.next self.old (asks.Call key) }
-        ensures step { IsStepOf self.old.txn.core.recorded (top_or self.old.doing key)
-            self.new.txn.core.recorded self.new.doing result }
+    // Asks for the value of the outermost call.
+    fn call_outermost(&mut self, alloc: Global, key: Key) -> Result<Step, CallerError>
+        requires { self.old.doing ≡ None }
+        ensures step { IsStepOf self.old.txn.core.recorded key self.new.txn.core.recorded self.new.doing result }
         ensures keeps { KeepsReading self.old self.new }
         ensures meant { IsTxn A.next self.new.txn }
     {
-        let Acted { doing, step } = match self.doing.take() {
-            None => call_first(alloc, &mut self.ports, &mut self.txn, key),
-            Some(call) => call_inside(alloc, &mut self.ports, &mut self.txn, call, key),
-        };
+        let acted = call_first(alloc, &mut self.ports, &mut self.txn, key);
+        let Acted { doing, step } = acted;
         self.doing = doing;
         self.txn.is_kept();
         step
     }
 
-    /// Asks for the rows of a query, by the function that is computed.
-    pub fn query(&mut self, alloc: Global, query: Query) -> Result<Step, CallerError>
-        requires asks { AsksNext A.next self.old (asks.Query query) }
+    // Asks for the value of a call, by the function that is computed.
+    fn call_by_function(&mut self, alloc: Global, key: Key) -> Result<Step, CallerError>
+        requires { AsksNext A.next self.old (asks.Call key) }
         ensures step { MatchOption self.old.doing (result ≡ Err CallerError.NoFunction)
             (λ o. IsStepOf self.old.txn.core.recorded o.frames.top self.new.txn.core.recorded self.new.doing result) }
         ensures keeps { KeepsReading self.old self.new }
@@ -78,13 +74,42 @@ impl<A: App, C: Suppliable> CallerTxn<A, C> {
             self.txn.is_kept();
             return Err(CallerError::NoFunction);
         };
-        let Acted { doing, step } = query_inside(
-            alloc,
-            &mut self.ports,
-            &mut self.txn,
-            call,
-            query,
-        );
+        let acted = call_inside(alloc, &mut self.ports, &mut self.txn, call, key);
+        let Acted { doing, step } = acted;
+        self.doing = doing;
+        self.txn.is_kept();
+        step
+    }
+
+    /// Asks for the value of a call: by no function the outermost one, else by the function that is computed.
+    /// [`Step::Compute`] says that the caller is to compute its function.
+    pub fn call(&mut self, alloc: Global, key: Key) -> Result<Step, CallerError>
+        requires { AsksNext A.next self.old (asks.Call key) }
+        ensures step { IsStepOf self.old.txn.core.recorded (top_or self.old.doing key)
+            self.new.txn.core.recorded self.new.doing result }
+        ensures keeps { KeepsReading self.old self.new }
+        ensures meant { IsTxn A.next self.new.txn }
+    {
+        if self.doing.is_none() {
+            return self.call_outermost(alloc, key);
+        }
+        self.call_by_function(alloc, key)
+    }
+
+    /// Asks for the rows of a query, by the function that is computed.
+    pub fn query(&mut self, alloc: Global, query: Query) -> Result<Step, CallerError>
+        requires { AsksNext A.next self.old (asks.Query query) }
+        ensures step { MatchOption self.old.doing (result ≡ Err CallerError.NoFunction)
+            (λ o. IsStepOf self.old.txn.core.recorded o.frames.top self.new.txn.core.recorded self.new.doing result) }
+        ensures keeps { KeepsReading self.old self.new }
+        ensures meant { IsTxn A.next self.new.txn }
+    {
+        let Some(call) = self.doing.take() else {
+            self.txn.is_kept();
+            return Err(CallerError::NoFunction);
+        };
+        let acted = query_inside(alloc, &mut self.ports, &mut self.txn, call, query);
+        let Acted { doing, step } = acted;
         self.doing = doing;
         self.txn.is_kept();
         step
@@ -93,7 +118,7 @@ impl<A: App, C: Suppliable> CallerTxn<A, C> {
     /// Says that the function that is computed gives these bytes. They are kept at the node, under its call, with
     /// the reach and the tags of what it was answered, where that depends on a row.
     pub fn finish(&mut self, alloc: Global, bytes: Vec<u8>) -> Result<Step, CallerError>
-        requires asks { AsksNext A.next self.old (asks.Done bytes.items) }
+        requires { AsksNext A.next self.old (asks.Done bytes.items) }
         ensures step { MatchOption self.old.doing (result ≡ Err CallerError.NoFunction)
             (λ o. IsStepOf self.old.txn.core.recorded o.frames.top self.new.txn.core.recorded self.new.doing result) }
         ensures keeps { KeepsReading self.old self.new }
@@ -103,13 +128,8 @@ impl<A: App, C: Suppliable> CallerTxn<A, C> {
             self.txn.is_kept();
             return Err(CallerError::NoFunction);
         };
-        let Acted { doing, step } = finish_inside(
-            alloc,
-            &mut self.ports,
-            &mut self.txn,
-            call,
-            bytes,
-        );
+        let acted = finish_inside(alloc, &mut self.ports, &mut self.txn, call, bytes);
+        let Acted { doing, step } = acted;
         self.doing = doing;
         self.txn.is_kept();
         step

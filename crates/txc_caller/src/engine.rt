@@ -3,7 +3,7 @@ ghost use Rattle.std.specs.Prelude.{◌≡◌, ◌∷◌, ◌++◌, List, Some};
 ghost use Rattle.txc_tags.specs.Keys.{Call};
 ghost use Rattle.txc_ports.specs.declared.recorded.Recorded.{Recorded};
 ghost use Rattle.txc_txn.specs.Core.{open_call, IsIdle};
-ghost use Rattle.txc_caller.specs.Standing.{IsGoing, IsKept, IsOfCall, IsStanding, KeepsOn};
+ghost use Rattle.txc_caller.specs.Standing.{HasPassed, IsGoing, IsKept, IsOfCall, IsStanding, KeepsOn};
 
 use crate::ports::Ports;
 use crate::stand::Stand;
@@ -29,7 +29,7 @@ fn asked<A: App, C: Cacheable>(
     txn: &RunningTxn<A, C>,
     request: PortRequest,
 ) -> PortReply
-    requires going { IsGoing ports.old.database.events txn.now.core (Turn.Ask request) }
+    requires { IsGoing ports.old.database.events txn.now.core (Turn.Ask request) }
     ensures kept { IsKept A.next txn.now result }
     ensures events { ports.new.database.events ≡ ports.old.database.events }
 {
@@ -37,26 +37,54 @@ fn asked<A: App, C: Cacheable>(
     ports.ask(alloc, txn.core().seen(), request)
 }
 
-// Makes a request about the pin of the present, and goes on. Any other turn stays.
+// Makes the request, and goes on with the reply.
+fn pass<A: App, C: Cacheable>(
+    alloc: Global,
+    ports: &mut Ports<A>,
+    txn: &mut RunningTxn<A, C>,
+    request: PortRequest,
+) -> Turn
+    requires { IsGoing ports.old.database.events txn.old.core (Turn.Ask request) }
+    ensures passed { HasPassed ports.old.database.events txn.old (Turn.Ask request) txn.new result }
+    ensures events { ports.new.database.events ≡ ports.old.database.events }
+{
+    let reply = asked(alloc, ports, txn, request);
+    txn.next(alloc, reply)
+}
+
+// Makes a request about the pin of the present, and goes on. Any other stays.
+fn pass_request<A: App, C: Cacheable>(
+    alloc: Global,
+    ports: &mut Ports<A>,
+    txn: &mut RunningTxn<A, C>,
+    request: PortRequest,
+) -> Turn
+    requires { IsGoing ports.old.database.events txn.old.core (Turn.Ask request) }
+    ensures passed { HasPassed ports.old.database.events txn.old (Turn.Ask request) txn.new result }
+    ensures events { ports.new.database.events ≡ ports.old.database.events }
+{
+    if is_of_pin(&request) {
+        return pass(alloc, ports, txn, request);
+    }
+    Turn::Ask(request)
+}
+
+// Makes a request about the pin of the present, if the turn is one, and goes on. Any other turn stays.
 fn pass_pin<A: App, C: Cacheable>(
     alloc: Global,
     ports: &mut Ports<A>,
     txn: &mut RunningTxn<A, C>,
     turn: Turn,
 ) -> Turn
-    requires going { IsGoing ports.old.database.events txn.old.core turn }
-    ensures going { IsGoing ports.new.database.events txn.new.core result }
-    ensures of_call { (before : List Recorded) (k : Call) → IsOfCall before k txn.old.core turn
-        → IsOfCall before k txn.new.core result }
-    ensures keeps { KeepsOn txn.old txn.new }
+    requires { IsGoing ports.old.database.events txn.old.core turn }
+    ensures passed { HasPassed ports.old.database.events txn.old turn txn.new result }
     ensures events { ports.new.database.events ≡ ports.old.database.events }
 {
     match turn {
-        Turn::Ask(request) if is_of_pin(&request) => {
-            let reply = asked(alloc, ports, txn, request);
-            txn.next(alloc, reply)
-        }
-        turn => turn,
+        Turn::Ask(request) => pass_request(alloc, ports, txn, request),
+        Turn::Value(value) => Turn::Value(value),
+        Turn::Rows(rows) => Turn::Rows(rows),
+        Turn::Refused(error) => Turn::Refused(error),
     }
 }
 
@@ -67,7 +95,7 @@ fn stop<A: App, C: Cacheable>(
     txn: &RunningTxn<A, C>,
     turn: Turn,
 ) -> Stand
-    requires going { IsGoing ports.old.database.events txn.now.core turn }
+    requires { IsGoing ports.old.database.events txn.now.core turn }
     ensures stands { (before : List Recorded) (k : Call) → IsOfCall before k txn.now.core turn
         → IsStanding A.next before k txn.now result }
     ensures events { ports.new.database.events ≡ ports.old.database.events }
@@ -87,17 +115,17 @@ fn lead<A: App, C: Cacheable>(
     txn: &mut RunningTxn<A, C>,
     turn: Turn,
 ) -> Stand
-    requires going { IsGoing ports.old.database.events txn.old.core turn }
+    requires { IsGoing ports.old.database.events txn.old.core turn }
     ensures stands { (before : List Recorded) (k : Call) → IsOfCall before k txn.old.core turn
         → IsStanding A.next before k txn.new result }
     ensures keeps { KeepsOn txn.old txn.new }
     ensures events { ports.new.database.events ≡ ports.old.database.events }
 {
     // A pin, the addition of it, and, where that is refused, the end of its hold.
-    let turn = pass_pin(alloc, ports, txn, turn);
-    let turn = pass_pin(alloc, ports, txn, turn);
-    let turn = pass_pin(alloc, ports, txn, turn);
-    stop(alloc, ports, txn, turn)
+    let first = pass_pin(alloc, ports, txn, turn);
+    let second = pass_pin(alloc, ports, txn, first);
+    let third = pass_pin(alloc, ports, txn, second);
+    stop(alloc, ports, txn, third)
 }
 
 /// Begins a call.

@@ -12,6 +12,7 @@ mod caller;
 mod caller_txn;
 mod engine;
 mod frames;
+mod nodes;
 mod ports;
 mod stand;
 mod step;

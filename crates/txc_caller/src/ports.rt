@@ -1,18 +1,16 @@
 //! The plain ports of a caller, for one thread.
-ghost use Rattle.std.specs.Prelude.{◌≡◌, ◌≤◌, ◌⊎◌, [], All, IfErr, IfOk, IfSome, OnErr, OnOk};
+ghost use Rattle.std.specs.Prelude.{◌≡◌, ◌≤◌, ◌⊎◌, [], All, IfErr, IfOk, IfSome};
 ghost use Rattle.txc_app.specs.Claims.{IsTrueIn, entry_shown};
 ghost use Rattle.txc_cushion.specs.Cushion.{after_give_back, handed_out};
 ghost use Rattle.txc_db.specs.History.{IsAllowed};
 ghost use Rattle.txc_db.specs.Refusals.{IsWant};
+ghost use Rattle.txc_db.specs.Seen.{FrontValue};
 ghost use Rattle.txc_node.specs.declared.node.TheConstants.{MAX_CAPACITY, MAX_RECENT};
 ghost use Rattle.txc_stream.specs.declared.row.TheConstants.{MAX_CAPACITY as MAX_ROW};
 ghost use Rattle.txc_shared.specs.Nodes.{start_of};
-ghost use Rattle.txc_db.specs.Calls.{IsPinRefused, IsQueryRefused};
-ghost use Rattle.txc_db.specs.DatabaseValue.{after_pin, after_unpin, front_of};
-ghost use Rattle.txc_ports.specs.Asking.{IsFoundOver};
-ghost use Rattle.txc_shared.specs.Passes.{shown_of_entry};
-ghost use Rattle.txc_caller.specs.Ports.{AddLeads, InsertLeads, LookupLeads};
+ghost use Rattle.txc_caller.specs.Ports.{AddLeads, FindLeads, InsertLeads, LookupLeads, PinLeads, UnpinLeads};
 
+use crate::nodes;
 use std::alloc::{AllocError, Global};
 use std::marker::Model;
 use txc_app::App;
@@ -22,7 +20,7 @@ use txc_db::{Answered, DbCore, DbError, HistoryFront, Pinned};
 use txc_node::{Entry, Shown};
 use txc_ports::{PortReply, PortRequest};
 use txc_rows::Query;
-use txc_shared::{Finding, NodeSettings, StoredNode};
+use txc_shared::{NodeSettings, StoredNode};
 use txc_stamp::Stamp;
 use txc_stream::Pen;
 use txc_tags::Key;
@@ -47,41 +45,17 @@ impl<A: App> Model for Ports<A> {
     ghost invariant = { λ p. ArePorts (record { database = p.database; cushion = p.cushion; node = p.node }) };
 }
 
-// What a finding shows of its call, with the history in which it is true.
-fn shown_by<A: App>(finding: Finding<A>) -> Answered<Shown>
-    ensures answer { result.answer ≡ shown_of_entry finding.entry }
-    ensures front { result.front ≡ finding.front }
-    ensures is_true { IsTrueIn A.next finding.front.history finding.entry }
-{
-    let Finding { entry, front, .. } = finding;
-    let Entry {
-        key: _,
-        value,
-        reach,
-        tags,
-    } = entry;
-    Answered {
-        answer: Shown { reach, value, tags },
-        front,
-    }
-}
-
 impl<A: App> Ports<A> {
-    ghost use Rattle.txc_caller.specs.Ports.{ExchangeLeads};
-    ghost use Rattle.txc_ports.specs.Asking.{IsOfRow, IsReplyTo, MayAsk};
-    ghost use Rattle.txc_ports.specs.Exchanges.{IsExchange};
+    ghost use Rattle.txc_caller.specs.Ports.{HasAsked};
+    ghost use Rattle.txc_ports.specs.Asking.{MayAsk};
 
     // A pin of the moment `now`.
     fn pin(&mut self, alloc: Global, now: u64, at_least: Stamp) -> Result<Pinned, DbError>
-        ensures after { OnOk result (self.new ≡ record self.old { database = after_pin self.old.database now }) }
-        ensures same { self.new ≡ record self.old { database = self.new.database } }
+        ensures leads { PinLeads now at_least self.old self.new result }
         ensures events { self.new.database.events ≡ self.old.database.events }
-        ensures moment { IfOk result (λ pinned. pinned.moment ≡ now) }
-        ensures late { IfOk result (λ pinned. at_least ≤ pinned.stamp) }
-        ensures front { IfOk result (λ pinned. pinned.front ≡ front_of self.new.database) }
-        ensures refused { IfErr result (IsPinRefused self.old.database at_least) }
     {
-        self.database.pin(alloc, now, at_least)
+        let pinned = self.database.pin(alloc, now, at_least)?;
+        Ok(pinned)
     }
 
     // What the database finds for the query at the stamp, with a front of the whole history.
@@ -92,9 +66,7 @@ impl<A: App> Ports<A> {
         stamp: Stamp,
     ) -> Result<Answered<Found>, DbError>
         ensures same { self.new ≡ self.old }
-        ensures answer { IfOk result (λ found. IsFoundOver found.front.history query.now stamp found.answer) }
-        ensures front { IfOk result (λ found. found.front ≡ front_of self.old.database) }
-        ensures refused { IfErr result (IsQueryRefused self.old.database query.now stamp) }
+        ensures leads { FindLeads query.now stamp self.old.database result }
     {
         found_rows_give_true_entries();
         let answer = self.database.query(alloc, query, stamp)?;
@@ -102,31 +74,25 @@ impl<A: App> Ports<A> {
         Ok(Answered { answer, front })
     }
 
-    // What the node has of the call at the stamps from `lo` to `hi`. A node that refuses has nothing.
+    // What the node has of the call at the stamps from `lo` to `hi`, both included.
     fn look_up(&mut self, alloc: Global, key: &Key, lo: Stamp, hi: Stamp) -> Option<Answered<Shown>>
         ensures same { self.new ≡ record self.old { node = self.new.node } }
         ensures leads { LookupLeads key.now lo hi self.old.node self.new.node result }
         ensures right { IfSome result (λ hit.
             IsTrueIn A.next hit.front.history (entry_shown key.now hit.answer)) }
+        ensures row { IfSome result (λ hit. hit.front.events ≡ self.old.database.events) }
     {
-        match self.node.lookup(alloc, 0, key, lo, hi) {
-            Ok(Some(finding)) => Some(shown_by(finding)),
-            Ok(None) => None,
-            Err(_) => None,
-        }
+        nodes::look_up(alloc, &mut self.node, key, lo, hi)
     }
 
-    // Gives the node an entry to keep. A node that refuses keeps nothing.
+    // Gives the node an entry to keep.
     fn insert(&mut self, alloc: Global, entry: Entry, seen: &HistoryFront)
         requires row { seen.now.events ≡ self.old.database.events }
         requires is_true { IsTrueIn A.next seen.now.history entry }
         ensures same { self.new ≡ record self.old { node = self.new.node } }
         ensures leads { InsertLeads seen.now entry self.old.node self.new.node }
     {
-        match self.node.insert(alloc, 0, entry, seen) {
-            Ok(_) => (),
-            Err(_) => (),
-        }
+        nodes::insert(alloc, &mut self.node, entry, seen);
     }
 
     // Adds a pin to the pincushion.
@@ -135,13 +101,18 @@ impl<A: App> Ports<A> {
         ensures leads { AddLeads pinned.now self.old self.new result }
         ensures same { self.new ≡ record self.old { cushion = self.new.cushion } }
     {
-        self.cushion.add(pinned)
+        match self.cushion.add(pinned) {
+            Ok(()) => Ok(()),
+            Err(refusal) => Err(refusal),
+        }
     }
 
     /// Takes one hold of the stamp away, where there is one.
     pub(crate) fn unpin(&mut self, stamp: Stamp)
-        ensures leads { (self.new ≡ record self.old { database = after_unpin self.old.database stamp })
-            ⊎ (self.new ≡ self.old) }
+        ensures leads { UnpinLeads stamp self.old self.new }
+        ensures history { self.new.database.history ≡ self.old.database.history }
+        ensures events { self.new.database.events ≡ self.old.database.events }
+        ensures same { self.new ≡ record self.old { database = self.new.database } }
     {
         match self.database.unpin(stamp) {
             Ok(()) => (),
@@ -214,7 +185,69 @@ impl<A: App> Ports<A> {
         }
     }
 
-    /// Asks what a transaction asks, in one call. It has seen that much of the history.
+    fn ask_pin(&mut self, alloc: Global, now: u64, at_least: Stamp) -> PortReply
+        ensures { (seen : FrontValue) → HasAsked A.next seen (PortRequest.Pin now at_least) self.old self.new result }
+    {
+        let pinned = self.pin(alloc, now, at_least);
+        PortReply::Pin(pinned)
+    }
+
+    fn ask_add(&mut self, pinned: Pinned) -> PortReply
+        requires { pinned.front.events ≡ self.old.database.events }
+        ensures { (seen : FrontValue) → HasAsked A.next seen (PortRequest.AddPin pinned) self.old self.new result }
+    {
+        let added = self.add(&pinned);
+        PortReply::AddPin(pinned, added)
+    }
+
+    fn ask_unpin(&mut self, stamp: Stamp) -> PortReply
+        ensures { (seen : FrontValue) → HasAsked A.next seen (PortRequest.Unpin stamp) self.old self.new result }
+    {
+        self.unpin(stamp);
+        PortReply::Unpin
+    }
+
+    fn ask_lookup(
+        &mut self,
+        alloc: Global,
+        node: usize,
+        key: &Key,
+        lo: Stamp,
+        hi: Stamp,
+    ) -> PortReply
+        ensures { (seen : FrontValue) → HasAsked A.next seen (PortRequest.Lookup node key.now lo hi)
+            self.old self.new result }
+    {
+        let _node = node;
+        let hit = self.look_up(alloc, key, lo, hi);
+        PortReply::Lookup(hit)
+    }
+
+    fn ask_query(&mut self, alloc: Global, query: &Query, stamp: Stamp) -> PortReply
+        ensures { (seen : FrontValue) → HasAsked A.next seen (PortRequest.Query query.now stamp)
+            self.old self.new result }
+    {
+        let found = self.find(alloc, query, stamp);
+        PortReply::Query(found)
+    }
+
+    fn ask_insert(
+        &mut self,
+        alloc: Global,
+        node: usize,
+        entry: Entry,
+        seen: &HistoryFront,
+    ) -> PortReply
+        requires row { seen.now.events ≡ self.old.database.events }
+        requires is_true { IsTrueIn A.next seen.now.history entry }
+        ensures { HasAsked A.next seen.now (PortRequest.Insert node entry) self.old self.new result }
+    {
+        let _node = node;
+        self.insert(alloc, entry, seen);
+        PortReply::Insert
+    }
+
+    /// Asks what a transaction asks. It has seen that much of the history.
     pub(crate) fn ask(
         &mut self,
         alloc: Global,
@@ -223,34 +256,15 @@ impl<A: App> Ports<A> {
     ) -> PortReply
         requires row { seen.now.events ≡ self.old.database.events }
         requires may { MayAsk A.next self.old.database.events 1 seen.now.history request }
-        ensures answer { IsReplyTo A.next request result }
-        ensures row { IsOfRow self.old.database.events result }
-        ensures leads { IsExchange (ExchangeLeads seen.now self.old self.new) request result }
-        ensures events { self.new.database.events ≡ self.old.database.events }
+        ensures { HasAsked A.next seen.now request self.old self.new result }
     {
         match request {
-            PortRequest::Pin { now, at_least } => PortReply::Pin(self.pin(alloc, now, at_least)),
-            PortRequest::AddPin(pinned) => {
-                let added = self.add(&pinned);
-                PortReply::AddPin(pinned, added)
-            }
-            PortRequest::Unpin(stamp) => {
-                self.unpin(stamp);
-                PortReply::Unpin
-            }
-            PortRequest::Lookup {
-                node: _,
-                key,
-                lo,
-                hi,
-            } => { PortReply::Lookup(self.look_up(alloc, &key, lo, hi)) }
-            PortRequest::Query { query, stamp } => {
-                PortReply::Query(self.find(alloc, &query, stamp))
-            }
-            PortRequest::Insert { node: _, entry } => {
-                self.insert(alloc, entry, seen);
-                PortReply::Insert
-            }
+            PortRequest::Pin { now, at_least } => self.ask_pin(alloc, now, at_least),
+            PortRequest::AddPin(pinned) => self.ask_add(pinned),
+            PortRequest::Unpin(stamp) => self.ask_unpin(stamp),
+            PortRequest::Lookup { node, key, lo, hi } => self.ask_lookup(alloc, node, &key, lo, hi),
+            PortRequest::Query { query, stamp } => self.ask_query(alloc, &query, stamp),
+            PortRequest::Insert { node, entry } => self.ask_insert(alloc, node, entry, seen),
         }
     }
 }

@@ -3,5 +3,5 @@ use Rattle.txc_caller.proofs.Acted.{acted_back}
 use Rattle.txc_caller.proofs.acting.refused.Goals as goal
 
 pub returns : goal.returns
-returns g c = λ next t kept top.
+returns c = λ next t kept top.
     acted_back next t.core.recorded t (record { frames = c.args.frames; given = c.args.given; kept = c.args.kept }) c.args.error kept top refl

@@ -1,0 +1,18 @@
+use Rattle.std.proofs.Common.{◌≡◌, ◌∙◌, Option, Some, refl, sym, ap, subst}
+use Rattle.txc_tags.specs.Keys.{Call}
+use Rattle.txc_txn.specs.Core.{open_call}
+use Rattle.txc_caller.specs.Acting.{HasActed}
+use Rattle.txc_caller.proofs.Turning.{keeps_self}
+use Rattle.txc_caller.proofs.acting.answered.Goals as goal
+
+pub returns-in-Ok-clause-acted : goal.returns-in-Ok-clause-acted
+returns-in-Ok-clause-acted g c =
+    subst (λ (k : Call). HasActed g.A.App.next c.args.txn.now.core.recorded k c.args.txn.now c.stays.result) c.reach.ensures
+    (c.stays.ensures g.A.App.next c.args.txn.now c.requires.kept (c.requires.top ∙ sym (ap (λ (k : Call). Some k) c.reach.ensures)))
+
+pub returns-in-Ok-clause-keeps : goal.returns-in-Ok-clause-keeps
+returns-in-Ok-clause-keeps g c = keeps_self c.args.txn.now
+
+pub returns-in-Err-clause-acted : goal.returns-in-Err-clause-acted
+returns-in-Err-clause-acted g c =
+    c.ended.ensures g.A.App.next c.args.txn.now.core.recorded c.args.frames.top c.end_call.new.txn c.end_call.ensures.idle c.end_call.ensures.recorded
