@@ -26,7 +26,8 @@ use txc_txn::{Receipt, RunningTxn};
 /// A transaction that only reads, whose functions the caller computes. Whatever function `A.next` gives what the
 /// caller says that his functions ask and give, the receipt explains each answer by it.
 ///
-/// It must be spent, by [`CallerTxn::commit`] or [`CallerTxn::abort`], which return the caller.
+/// [`CallerTxn::commit`] and [`CallerTxn::abort`] return the caller. Who lets it go lets the caller go too.
+#[derive(Drop)]
 pub struct CallerTxn<A: App, C: Suppliable> {
     pub(crate) ports: Ports<A>,
     pub(crate) renew_after: u64,
