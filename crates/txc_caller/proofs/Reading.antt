@@ -7,10 +7,10 @@ use Rattle.txc_app.specs.Eval.{Next}
 use Rattle.txc_ports.specs.declared.recorded.Recorded.{Recorded}
 use Rattle.txc_txn.specs.Core.{open_call, IsIdle}
 use Rattle.txc_txn.specs.Kept.{TxnValue}
-use Rattle.txc_caller.specs.Acting.{HasActed, IsStepOf}
-use Rattle.txc_caller.specs.Ports.{PortsValue}
-use Rattle.txc_caller.specs.Reading.{top_or, IsReading, KeepsReading, ReadingValue}
-use Rattle.txc_caller.specs.Standing.{IsKept, KeepsOn}
+use Rattle.txc_caller.specs.Acting.{IsActOf, IsStepOf}
+use Rattle.txc_caller.specs.Ports.{CallerPorts}
+use Rattle.txc_caller.specs.Reading.{top_or, IsCallerReading, KeepsReading, CallerReading}
+use Rattle.txc_caller.specs.Standing.{IsKeptBack, KeepsOn}
 use Rattle.txc_caller.specs.declared.acted.Acted.{Acted}
 use Rattle.txc_caller.specs.declared.frames.OpenCall.{OpenCall}
 use Rattle.txc_caller.specs.declared.step.CallerError.{CallerError}
@@ -18,32 +18,32 @@ use Rattle.txc_caller.specs.declared.step.CallerError.TheVariants.{NoFunction}
 use Rattle.txc_caller.specs.declared.step.Step.{Step}
 use Rattle.txc_caller.proofs.Turning.{keeps_self}
 
-module _ (next : Next) (old new : ReadingValue) (keeps : KeepsOn old.txn new.txn) (events : new.ports.database.events ≡ old.ports.database.events)
+module _ (next : Next) (old new : CallerReading) (keeps : KeepsOn old.txn new.txn) (events : new.ports.database.events ≡ old.ports.database.events)
     (renew : new.renew_after ≡ old.renew_after) where
   -- it is what it was
-  pub reading_after : (before : List Recorded) (k : Call) (acted : Acted) → new.doing ≡ acted.doing → HasActed next before k new.txn acted
-      → IsReading next old → IsReading next new
+  pub reading_after : (before : List Recorded) (k : Call) (acted : Acted) → new.doing ≡ acted.doing → IsActOf next before k new.txn acted
+      → IsCallerReading next old → IsCallerReading next new
   reading_after before k acted is has was = record {
     row = keeps.events ∙ (was.row ∙ sym events);
     nodes = keeps.settings.nodes ∙ was.nodes;
     renew_after = keeps.settings.renew_after ∙ (was.renew_after ∙ sym renew);
     idle = λ none. has.idle (sym is ∙ none);
-    kept = subst (λ (d : Option OpenCall). ForSome d (λ (o : OpenCall). IsKept next new.txn o.kept)) (sym is) has.kept;
+    kept = subst (λ (d : Option OpenCall). ForSome d (λ (o : OpenCall). IsKeptBack next new.txn o.kept)) (sym is) has.kept;
     top = subst (λ (d : Option OpenCall). ForSome d (λ (o : OpenCall). open_call new.txn.core ≡ Some o.frames.top)) (sym is) has.top;
   }
 
   -- and without an open call
-  pub reading_closed : new.doing ≡ None → IsIdle new.txn.core → IsReading next old → IsReading next new
+  pub reading_closed : new.doing ≡ None → IsIdle new.txn.core → IsCallerReading next old → IsCallerReading next new
   reading_closed none idle was = record {
     row = keeps.events ∙ (was.row ∙ sym events);
     nodes = keeps.settings.nodes ∙ was.nodes;
     renew_after = keeps.settings.renew_after ∙ (was.renew_after ∙ sym renew);
     idle = λ is. idle;
-    kept = subst (λ (d : Option OpenCall). ForSome d (λ (o : OpenCall). IsKept next new.txn o.kept)) (sym none) (λ y is. absurd (cc is));
+    kept = subst (λ (d : Option OpenCall). ForSome d (λ (o : OpenCall). IsKeptBack next new.txn o.kept)) (sym none) (λ y is. absurd (cc is));
     top = subst (λ (d : Option OpenCall). ForSome d (λ (o : OpenCall). open_call new.txn.core ≡ Some o.frames.top)) (sym none) (λ y is. absurd (cc is));
   }
 
-pub keeps_reading_self : (r : ReadingValue) → KeepsReading r r
+pub keeps_reading_self : (r : CallerReading) → KeepsReading r r
 keeps_reading_self r = record { txn = keeps_self r.txn; row = refl; renew_after = refl }
 
 -- which call the step is of

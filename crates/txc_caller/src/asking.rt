@@ -3,7 +3,7 @@ ghost use Rattle.std.specs.Prelude.{◌≡◌, ◌≢◌, ◌∷◌, [], IfOk, S
 ghost use Rattle.txc_caller.specs.Standing.{asks_next};
 ghost use Rattle.std.specs.List.{list_any};
 ghost use Rattle.txc_pinset.specs.Members.{is_held_by};
-ghost use Rattle.txc_caller.specs.Given.{counted, IsGivenBy};
+ghost use Rattle.txc_caller.specs.Given.{counted_reply, IsGivenBy};
 
 use crate::step::CallerError;
 use std::alloc::{AllocError, Global};
@@ -78,7 +78,7 @@ fn holds_one(reach: Reach, members: &[Pin]) -> bool
 
 /// The reply, but that a hit which holds no member is a miss.
 pub(crate) fn counted(reply: PortReply, members: &[Pin]) -> PortReply
-    ensures { result ≡ counted members.now reply }
+    ensures { result ≡ counted_reply members.now reply }
 {
     match reply {
         PortReply::Lookup(Some(hit)) if !holds_one(hit.answer.reach, members) => {

@@ -36,13 +36,13 @@ pub struct CallerTxn<A: App, C: Suppliable> {
 }
 
 impl<A: App, C: Suppliable> Model for CallerTxn<A, C> {
-    ghost use Rattle.txc_caller.specs.Reading.{ReadingValue, IsReading};
+    ghost use Rattle.txc_caller.specs.Reading.{CallerReading, IsCallerReading};
 
-    ghost Value = { ReadingValue };
+    ghost Value = { CallerReading };
 
     ghost view = { λ r. record { ports = r.ports; renew_after = r.renew_after; txn = r.txn; doing = r.doing } };
 
-    ghost invariant = { λ r. IsReading A.next
+    ghost invariant = { λ r. IsCallerReading A.next
         (record { ports = r.ports; renew_after = r.renew_after; txn = r.txn; doing = r.doing }) };
 }
 

@@ -1,6 +1,6 @@
 use Rattle.std.proofs.Common.{◌∙◌, Some, ap, sym, subst}
 use Rattle.txc_tags.specs.Keys.{Call}
-use Rattle.txc_caller.specs.Acting.{HasActed}
+use Rattle.txc_caller.specs.Acting.{IsActOf}
 use Rattle.txc_caller.proofs.acting.go_on_to_value.Goals as goal
 
 pub returns-in_default-clause-acted : goal.returns-in_default-clause-acted
