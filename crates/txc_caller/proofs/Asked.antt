@@ -22,14 +22,8 @@ use Rattle.txc_shared.specs.Nodes.{NodeValue, after_call}
 use Rattle.txc_shared.specs.Refusals.{IsNodeLeft}
 use Rattle.txc_ports.specs.declared.request.PortRequest.TheVariants as requests
 use Rattle.txc_ports.specs.declared.reply.PortReply.TheVariants as replies
+use Rattle.txc_caller.proofs.Acts.{for_none, for_this}
 use Rattle.txc_caller.specs.Ports.{CallerPorts, AreCallerPorts, CallerAddLeads, CallerFindLeads, HasAskedPorts, CallerInsertLeads, KeepsNode, CallerLookupLeads, CallerPinLeads, CallerUnpinLeads}
-
--- what holds of a value holds of the one that there is
-for_this : {X : Type 0} (P : X → Type 0) (x : X) → P x → ForSome (Some x) P
-for_this P x h y is = let same : x ≡ y = cc in subst P same h
-
-for_none : {X : Type 0} (P : X → Type 0) → ForSome None P
-for_none P y is = absurd (cc is)
 
 -- ---- the node
 

@@ -2,6 +2,7 @@
 use Rattle.std.proofs.Common.{◌≡◌, ◌∙◌, ℕ, List, [], ◌∷◌, ◌++◌, Bool, true, false, Option, Some, None, refl, ap, sym, subst}
 use Rattle.std.specs.Option.{ForSome}
 use Rattle.std.specs.List.{list_any}
+use Rattle.std.specs.Prelude.{if◌then◌else◌}
 use mathlib.Core.List.{IsPrefix}
 use Rattle.txc_stream.proofs.Offered.{prefix_self, prefix_trans}
 use Rattle.txc_tags.specs.Keys.{Call}
@@ -154,13 +155,14 @@ module _ (next : Next) (t : TxnValue) where
 
   -- what counts is a reply still
   pub kept_counted : (members : List Pin) (reply : PortReply) → IsKeptBack next t reply → IsKeptBack next t (counted_reply members reply)
-  kept_counted_reply members (replies.Lookup (Some hit)) kept = elim (list_any (is_held_by hit.answer.reach) members) [
-    | true ↦ kept
-    | false ↦ missed hit kept
-  ]
-  kept_counted_reply members (replies.Lookup None) kept = kept
-  kept_counted_reply members (replies.Pin pinned) kept = kept
-  kept_counted_reply members (replies.AddPin pinned added) kept = kept
-  kept_counted_reply members replies.Unpin kept = kept
-  kept_counted_reply members (replies.Query found) kept = kept
-  kept_counted_reply members replies.Insert kept = kept
+  kept_counted members (replies.Lookup (Some hit)) kept =
+      elim (list_any (is_held_by hit.answer.reach) members) as (λ (b : Bool). IsKeptBack next t (if b then replies.Lookup (Some hit) else replies.Lookup None)) [
+        | true ↦ kept
+        | false ↦ missed hit kept
+      ]
+  kept_counted members (replies.Lookup None) kept = kept
+  kept_counted members (replies.Pin pinned) kept = kept
+  kept_counted members (replies.AddPin pinned added) kept = kept
+  kept_counted members replies.Unpin kept = kept
+  kept_counted members (replies.Query found) kept = kept
+  kept_counted members replies.Insert kept = kept

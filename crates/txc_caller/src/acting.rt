@@ -11,7 +11,7 @@ ghost use Rattle.txc_caller.specs.Standing.{asks_next, IsKeptBack, IsStanding, K
 use crate::acted::Acted;
 use crate::asking::{counted, given_by, supply};
 use crate::engine::{feed, start};
-use crate::frames::{Frames, OpenCall};
+use crate::frames::{Around, Frames, OpenCall};
 use crate::ports::Ports;
 use crate::stand::Stand;
 use crate::step::{CallerError, Step};
@@ -260,6 +260,32 @@ fn go_on_to_call<A: App, C: Suppliable>(
     }
 }
 
+// Hands over that the innermost function asks for the call, and goes on.
+fn hand_call<A: App, C: Suppliable>(
+    alloc: Global,
+    ports: &mut Ports<A>,
+    txn: &mut RunningTxn<A, C>,
+    frames: Frames,
+    given: Option<Answer>,
+    kept: PortReply,
+    key: Key,
+) -> Acted
+    requires asks { asks_next A.next txn.old.objects frames.inner.key given ≡ Some (Ask.Call key) }
+    requires kept { IsKeptBack A.next txn.old kept }
+    requires top { open_call txn.old.core ≡ Some frames.top }
+    requires row { txn.old.core.seen.events ≡ ports.old.database.events }
+    requires nodes { txn.old.core.nodes ≡ 1 }
+    requires room { vec_len frames.outer < vec_capacity frames.outer }
+    ensures acted { IsActOf A.next txn.old.core.recorded frames.top txn.new result }
+    ensures keeps { KeepsOn txn.old txn.new }
+    ensures events { ports.new.database.events ≡ ports.old.database.events }
+{
+    match supply(alloc, txn, &frames.inner.key, given, Ask::Call(key.copy())) {
+        Ok(()) => go_on_to_call(alloc, ports, txn, frames, kept, key),
+        Err(error) => refused(frames, None, kept, error),
+    }
+}
+
 /// The function asks for the value of another call.
 pub(crate) fn call_inside<A: App, C: Suppliable>(
     alloc: Global,
@@ -282,13 +308,10 @@ pub(crate) fn call_inside<A: App, C: Suppliable>(
         given,
         kept,
     } = call;
-    if frames.make_room().is_err() {
+    let Ok(()) = frames.make_room() else {
         return out_of_memory(frames, given, kept);
-    }
-    match supply(alloc, txn, &frames.inner.key, given, Ask::Call(key.copy())) {
-        Ok(()) => go_on_to_call(alloc, ports, txn, frames, kept, key),
-        Err(error) => refused(frames, None, kept, error),
-    }
+    };
+    hand_call(alloc, ports, txn, frames, given, kept, key)
 }
 
 // ---- queries
@@ -379,19 +402,19 @@ fn close<A: App, C: Suppliable>(
     alloc: Global,
     ports: &mut Ports<A>,
     txn: &mut RunningTxn<A, C>,
-    frames: Frames,
+    around: Around,
     kept: PortReply,
-    is_reached: bool,
     value: Value,
 ) -> Acted
     requires kept { IsKeptBack A.next txn.old kept }
-    requires top { open_call txn.old.core ≡ Some frames.top }
+    requires top { open_call txn.old.core ≡ Some around.frames.top }
     requires row { txn.old.core.seen.events ≡ ports.old.database.events }
     requires nodes { txn.old.core.nodes ≡ 1 }
-    ensures acted { IsActOf A.next txn.old.core.recorded frames.top txn.new result }
+    ensures acted { IsActOf A.next txn.old.core.recorded around.frames.top txn.new result }
     ensures keeps { KeepsOn txn.old txn.new }
     ensures events { ports.new.database.events ≡ ports.old.database.events }
 {
+    let Around { frames, is_reached } = around;
     let given = Some(Answer::Value(value));
     if !is_reached {
         return stays(frames, given, kept);
@@ -422,9 +445,51 @@ fn go_on_to_value<A: App, C: Suppliable>(
         return standing(stand, frames, None);
     };
     match frames.leave() {
-        Ok((around, is_reached)) => close(alloc, ports, txn, around, kept, is_reached, value),
+        Ok(around) => close(alloc, ports, txn, around, kept, value),
         Err(outermost) => conclude(alloc, ports, txn, outermost, kept),
     }
+}
+
+// Hands over what the innermost function gives, of which there is a copy, and goes on.
+fn hand_value<A: App, C: Suppliable>(
+    alloc: Global,
+    ports: &mut Ports<A>,
+    txn: &mut RunningTxn<A, C>,
+    call: OpenCall,
+    bytes: Bytes,
+    copy: Vec<u8>,
+) -> Acted
+    requires asks { asks_next A.next txn.old.objects call.frames.inner.key call.given ≡ Some (Ask.Done bytes) }
+    requires kept { IsKeptBack A.next txn.old call.kept }
+    requires top { open_call txn.old.core ≡ Some call.frames.top }
+    requires row { txn.old.core.seen.events ≡ ports.old.database.events }
+    requires nodes { txn.old.core.nodes ≡ 1 }
+    ensures acted { IsActOf A.next txn.old.core.recorded call.frames.top txn.new result }
+    ensures keeps { KeepsOn txn.old txn.new }
+    ensures events { ports.new.database.events ≡ ports.old.database.events }
+{
+    let OpenCall {
+        frames,
+        given,
+        kept,
+    } = call;
+    match supply(alloc, txn, &frames.inner.key, given, Ask::Done(bytes)) {
+        Ok(()) => go_on_to_value(alloc, ports, txn, frames, kept, copy),
+        Err(error) => refused(frames, None, kept, error),
+    }
+}
+
+// The open call, as it was, for want of memory.
+fn unmoved(call: OpenCall) -> Acted
+    ensures { (next : Next) (t : TxnValue) → IsKeptBack next t call.kept → open_call t.core ≡ Some call.frames.top
+        → IsActOf next t.core.recorded call.frames.top t result }
+{
+    let OpenCall {
+        frames,
+        given,
+        kept,
+    } = call;
+    out_of_memory(frames, given, kept)
 }
 
 /// The function is done, with these bytes.
@@ -444,17 +509,8 @@ pub(crate) fn finish_inside<A: App, C: Suppliable>(
     ensures keeps { KeepsOn txn.old txn.new }
     ensures events { ports.new.database.events ≡ ports.old.database.events }
 {
-    let OpenCall {
-        frames,
-        given,
-        kept,
-    } = call;
     let Ok(copy) = Vec::from_slice(alloc, &bytes) else {
-        return out_of_memory(frames, given, kept);
+        return unmoved(call);
     };
-    let done = Ask::Done(Bytes::new(bytes));
-    match supply(alloc, txn, &frames.inner.key, given, done) {
-        Ok(()) => go_on_to_value(alloc, ports, txn, frames, kept, copy),
-        Err(error) => refused(frames, None, kept, error),
-    }
+    hand_value(alloc, ports, txn, call, Bytes::new(bytes), copy)
 }

@@ -33,3 +33,6 @@ pub returns-in-Refused-clause-acted : goal.returns-in-Refused-clause-acted
 returns-in-Refused-clause-acted g c =
     let it = subst (λ (s : Stand). IsStanding g.A.App.next c.args.txn.now.core.recorded c.args.frames.top c.feed.new.txn s) c.in-Refused.is (c.feed.ensures.stands c.args.frames.top c.requires.top) in
     c.ended.ensures g.A.App.next c.args.txn.now.core.recorded c.args.frames.top c.feed.new.txn it.0 it.1
+
+pub returns-in-Kept-clause-events : goal.returns-in-Kept-clause-events
+returns-in-Kept-clause-events g c = c.answered.ensures.events ∙ c.feed.ensures.events
