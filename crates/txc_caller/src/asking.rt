@@ -114,17 +114,31 @@ fn holds_one(reach: Reach, members: &[Pin]) -> bool
     members.iter().any(|pin| is_held(reach, pin))
 }
 
-// The hit, if its reach holds a member.
-fn counted_hit(hit: Option<Answered<Shown>>, members: &[Pin]) -> Option<Answered<Shown>>
-    ensures { PortReply.Lookup result ≡ counted_reply members.now (PortReply.Lookup hit) }
+// Whether the reach of the hit holds a member.
+fn is_of_member(hit: &Answered<Shown>, members: &[Pin]) -> bool
+    ensures { result ≡ list_any (is_held_by hit.now.answer.reach) members.now }
 {
-    let Some(hit) = hit else {
-        return None;
-    };
-    if holds_one(hit.answer.reach, members) {
+    holds_one(hit.answer.reach, members)
+}
+
+// The hit, if its reach holds a member.
+fn counted_hit(hit: Answered<Shown>, members: &[Pin]) -> Option<Answered<Shown>>
+    ensures { PortReply.Lookup result ≡ counted_reply members.now (PortReply.Lookup (Some hit)) }
+{
+    if is_of_member(&hit, members) {
         return Some(hit);
     }
     None
+}
+
+// The same of what a node has.
+fn counted_lookup(hit: Option<Answered<Shown>>, members: &[Pin]) -> Option<Answered<Shown>>
+    ensures { PortReply.Lookup result ≡ counted_reply members.now (PortReply.Lookup hit) }
+{
+    match hit {
+        Some(hit) => counted_hit(hit, members),
+        None => None,
+    }
 }
 
 /// The reply, but that a hit which holds no member is a miss.
@@ -132,7 +146,7 @@ pub(crate) fn counted(reply: PortReply, members: &[Pin]) -> PortReply
     ensures { result ≡ counted_reply members.now reply }
 {
     match reply {
-        PortReply::Lookup(hit) => PortReply::Lookup(counted_hit(hit, members)),
+        PortReply::Lookup(hit) => PortReply::Lookup(counted_lookup(hit, members)),
         PortReply::Pin(pinned) => PortReply::Pin(pinned),
         PortReply::AddPin(pinned, added) => PortReply::AddPin(pinned, added),
         PortReply::Unpin => PortReply::Unpin,
