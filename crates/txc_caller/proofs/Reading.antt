@@ -1,12 +1,16 @@
 -- A transaction that only reads, after an act.
-use Rattle.std.proofs.Common.{◌≡◌, ◌∙◌, List, Option, Some, None, refl, ap, sym, subst}
-use Rattle.std.specs.Prelude.{MatchOption, Result, Err}
+use Rattle.std.proofs.Common.{◌≡◌, ◌∙◌, false, List, Option, Some, None, refl, ap, sym, subst}
+use Rattle.std.specs.Prelude.{MatchOption, Result, Err, is_some}
 use Rattle.std.specs.Option.{ForSome}
 use Rattle.txc_tags.specs.Keys.{Call}
 use Rattle.txc_app.specs.Eval.{Next}
+use Rattle.txc_cushion.specs.declared.pin.Pin.{Pin}
+use Rattle.txc_db.specs.History.{History}
+use Rattle.txc_ports.specs.declared.bounds.Bounds.{Bounds}
 use Rattle.txc_ports.specs.declared.recorded.Recorded.{Recorded}
-use Rattle.txc_txn.specs.Core.{open_call, IsIdle}
+use Rattle.txc_txn.specs.Core.{open_call, Explains, IsIdle}
 use Rattle.txc_txn.specs.Kept.{TxnValue}
+use Rattle.txc_txn.specs.Sessions.{IsAtLeast}
 use Rattle.txc_caller.specs.Acting.{IsActOf, IsStepOf}
 use Rattle.txc_caller.specs.Ports.{CallerPorts}
 use Rattle.txc_caller.specs.Reading.{top_or, IsCallerReading, KeepsReading, CallerReading}
@@ -52,3 +56,12 @@ pub step_of_top : (before recorded : List Recorded) (was doing : Option OpenCall
     → IsStepOf before (top_or was k) recorded doing result
 step_of_top before recorded (Some p) doing k result o is h = h
 step_of_top before recorded None doing k result o is h = absurd (cc is)
+
+pub none_is : (o : Option OpenCall) → is_some o ≡ false → o ≡ None
+none_is None h = refl
+none_is (Some o) h = absurd (cc h)
+
+-- what explains answers is not before the stamp that the bounds name
+pub at_least_of : (next : Next) (L : History) (bounds : Bounds) (pin : Option Pin) (answers : List Recorded) → Explains next L bounds pin answers → IsAtLeast bounds.at_least pin
+at_least_of next L bounds None answers h = tt
+at_least_of next L bounds (Some pin) answers h = h.1.allowed.late
