@@ -1,0 +1,137 @@
+-- What comes of a transaction's requests at the plain ports.
+use Rattle.std.proofs.Common.{◌≡◌, ◌∙◌, inl, inr, ℕ, List, Result, Ok, Err, Option, Some, None, refl, ap, sym, subst}
+use Rattle.std.specs.Prelude.{IfSome}
+use Rattle.std.specs.Option.{ForSome}
+use Rattle.txc_tags.specs.Keys.{Call}
+use Rattle.txc_rows.specs.declared.query.Query.{Query}
+use Rattle.txc_validity.specs.declared.answer.Found.{Found}
+use Rattle.txc_db.specs.declared.answered.Answered.{Answered}
+use Rattle.txc_db.specs.declared.error.DbError.{DbError}
+use Rattle.txc_db.specs.declared.pinned.Pinned.{Pinned}
+use Rattle.txc_db.specs.Seen.{FrontValue}
+use Rattle.txc_node.specs.declared.entry.Entry.{Entry}
+use Rattle.txc_node.specs.declared.hit.Shown.{Shown}
+use Rattle.txc_node.specs.declared.op.Op.{Op}
+use Rattle.txc_node.specs.declared.op.Op.TheVariants.{Lookup, Insert}
+use Rattle.txc_cushion.specs.declared.error.AddError.{AddError}
+use Rattle.txc_app.specs.Claims.{IsTrueIn, entry_shown}
+use Rattle.txc_app.specs.Eval.{Next}
+use Rattle.txc_shared.specs.declared.error.NodeError.{NodeError}
+use Rattle.txc_shared.specs.declared.error.NodeError.TheVariants as errors
+use Rattle.txc_shared.specs.Nodes.{NodeValue, after_call}
+use Rattle.txc_shared.specs.Refusals.{IsNodeLeft}
+use Rattle.txc_ports.specs.declared.request.PortRequest.TheVariants as requests
+use Rattle.txc_ports.specs.declared.reply.PortReply.TheVariants as replies
+use Rattle.txc_caller.proofs.Acts.{for_none, for_this}
+use Rattle.txc_caller.specs.Ports.{CallerPorts, AreCallerPorts, CallerAddLeads, CallerFindLeads, HasAskedPorts, CallerInsertLeads, KeepsNode, CallerLookupLeads, CallerPinLeads, CallerUnpinLeads}
+
+-- ---- the node
+
+node_same : (old new : NodeValue) → new ≡ old → KeepsNode old new
+node_same old new is = record { row = ap (λ (n : NodeValue). n.seen.events) is; passes = ap (λ (n : NodeValue). n.passes) is }
+
+node_after : (old new : NodeValue) (op : Op) → new ≡ after_call old 0 op → KeepsNode old new
+node_after old new op is = record { row = ap (λ (n : NodeValue). n.seen.events) is; passes = ap (λ (n : NodeValue). n.passes) is }
+
+pub node_left : (old new : NodeValue) (e : NodeError) → IsNodeLeft old new e → KeepsNode old new
+node_left old new errors.Broken (inl same) = node_same old new same.0
+node_left old new errors.Broken (inr broke) = record { row = broke.events; passes = ap (λ (n : NodeValue). n.passes) broke.is }
+node_left old new errors.EmptyRange same = node_same old new same
+node_left old new errors.HistoryFull same = node_same old new same
+node_left old new errors.PassesFull same = node_same old new same
+node_left old new errors.Memory same = node_same old new same
+
+pub node_looked_up : (old new : NodeValue) (key : Call) (lo hi : ℕ) (hit : Option (Answered Shown)) → CallerLookupLeads key lo hi old new hit → KeepsNode old new
+node_looked_up old new key lo hi (Some hit) leads = node_after old new (Lookup key lo hi) leads.0
+node_looked_up old new key lo hi None (inl leads) = node_after old new (Lookup key lo hi) leads.0
+node_looked_up old new key lo hi None (inr refused) = node_left old new refused.0 refused.2
+
+pub node_inserted : (old new : NodeValue) (seen : FrontValue) (entry : Entry) → CallerInsertLeads seen entry old new → KeepsNode old new
+node_inserted old new seen entry (inl has) = record { row = has.longer.events; passes = ap (λ (n : NodeValue). n.passes) has.after }
+node_inserted old new seen entry (inr refused) = node_left old new refused.0 refused.2
+
+-- the ports with the node after such a step
+pub ports_with_node : (p : CallerPorts) (node : NodeValue) → AreCallerPorts p → KeepsNode p.node node → AreCallerPorts (record p { node = node })
+ports_with_node p node are keeps = record { cushion = are.cushion; node = keeps.row ∙ are.node; pass = keeps.passes ∙ are.pass }
+
+-- what a hit shows is of the row
+pub hit_row : (old new : NodeValue) (key : Call) (lo hi : ℕ) (hit : Option (Answered Shown)) (row : List ℕ) → old.seen.events ≡ row → CallerLookupLeads key lo hi old new hit
+    → IfSome hit (λ h. h.front.events ≡ row)
+hit_row old new key lo hi (Some hit) row is leads = ap (λ (f : FrontValue). f.events) leads.2 ∙ is
+hit_row old new key lo hi None row is leads = tt
+
+-- ---- requests
+
+module _ (next : Next) (seen : FrontValue) (old new : CallerPorts) where
+  pub asked_pin : (now at_least : ℕ) (pinned : Result Pinned DbError) → new.database.events ≡ old.database.events → CallerPinLeads now at_least old new pinned
+      → HasAskedPorts next seen (requests.Pin now at_least) old new (replies.Pin pinned)
+  asked_pin now at_least (Ok pinned) events h = record {
+    answer = (h.moment, h.late, h.shown);
+    row = for_this (λ (f : FrontValue). f.events ≡ old.database.events) pinned.front (ap (λ (f : FrontValue). f.events) h.front ∙ events);
+    leads = h;
+    events = events;
+  }
+  asked_pin now at_least (Err e) events h = record {
+    answer = tt;
+    row = for_none (λ (f : FrontValue). f.events ≡ old.database.events);
+    leads = h;
+    events = events;
+  }
+
+  pub asked_add : (pinned : Pinned) (added : Result (Unit {0}) AddError) → pinned.front.events ≡ old.database.events → new ≡ record old { cushion = new.cushion }
+      → CallerAddLeads pinned old new added → HasAskedPorts next seen (requests.AddPin pinned) old new (replies.AddPin pinned added)
+  asked_add pinned added of same h = record {
+    answer = refl;
+    row = for_this (λ (f : FrontValue). f.events ≡ old.database.events) pinned.front of;
+    leads = h;
+    events = ap (λ (p : CallerPorts). p.database.events) same;
+  }
+
+  pub asked_unpin : (stamp : ℕ) → new.database.events ≡ old.database.events → CallerUnpinLeads stamp old new
+      → HasAskedPorts next seen (requests.Unpin stamp) old new replies.Unpin
+  asked_unpin stamp events h = record {
+    answer = tt;
+    row = for_none (λ (f : FrontValue). f.events ≡ old.database.events);
+    leads = h;
+    events = events;
+  }
+
+  pub asked_lookup : (node : ℕ) (key : Call) (lo hi : ℕ) (hit : Option (Answered Shown)) → new ≡ record old { node = new.node }
+      → CallerLookupLeads key lo hi old.node new.node hit → IfSome hit (λ h. IsTrueIn next h.front.history (entry_shown key h.answer))
+      → IfSome hit (λ h. h.front.events ≡ old.database.events) → HasAskedPorts next seen (requests.Lookup node key lo hi) old new (replies.Lookup hit)
+  asked_lookup node key lo hi (Some hit) same h right of = record {
+    answer = right;
+    row = for_this (λ (f : FrontValue). f.events ≡ old.database.events) hit.front of;
+    leads = (same, h);
+    events = ap (λ (p : CallerPorts). p.database.events) same;
+  }
+  asked_lookup node key lo hi None same h right of = record {
+    answer = tt;
+    row = for_none (λ (f : FrontValue). f.events ≡ old.database.events);
+    leads = (same, h);
+    events = ap (λ (p : CallerPorts). p.database.events) same;
+  }
+
+  pub asked_query : (query : Query) (stamp : ℕ) (found : Result (Answered Found) DbError) → new ≡ old → CallerFindLeads query stamp old.database found
+      → HasAskedPorts next seen (requests.Query query stamp) old new (replies.Query found)
+  asked_query query stamp (Ok found) same h = record {
+    answer = h.over;
+    row = for_this (λ (f : FrontValue). f.events ≡ old.database.events) found.front (ap (λ (f : FrontValue). f.events) h.front);
+    leads = (same, h);
+    events = ap (λ (p : CallerPorts). p.database.events) same;
+  }
+  asked_query query stamp (Err e) same h = record {
+    answer = tt;
+    row = for_none (λ (f : FrontValue). f.events ≡ old.database.events);
+    leads = (same, h);
+    events = ap (λ (p : CallerPorts). p.database.events) same;
+  }
+
+  pub asked_insert : (node : ℕ) (entry : Entry) → new ≡ record old { node = new.node } → CallerInsertLeads seen entry old.node new.node
+      → HasAskedPorts next seen (requests.Insert node entry) old new replies.Insert
+  asked_insert node entry same h = record {
+    answer = tt;
+    row = for_none (λ (f : FrontValue). f.events ≡ old.database.events);
+    leads = (same, h);
+    events = ap (λ (p : CallerPorts). p.database.events) same;
+  }

@@ -1,0 +1,203 @@
+//! Who computes his functions himself, at rest.
+ghost use Rattle.std.specs.Prelude.{◌≡◌, ◌≤◌, [], All, IfErr, IfOk, IfSome, None, OnErr, OnOk, map, true};
+ghost use Rattle.txc_app.specs.Eval.{Next};
+ghost use Rattle.txc_cushion.specs.Cushion.{after_fresh, empty_cushion, handed_out};
+ghost use Rattle.txc_db.specs.Calls.{IsCommitRefused, IsLeft, IsQueryRefused};
+ghost use Rattle.txc_db.specs.DatabaseValue.{after_commit, front_of, newest};
+ghost use Rattle.txc_db.specs.History.{state_at};
+ghost use Rattle.txc_rows.specs.States.{answer};
+ghost use Rattle.txc_db.specs.Refusals.{IsWant};
+ghost use Rattle.txc_registry.specs.Objects.{AllIdle, Objects};
+ghost use Rattle.txc_shared.specs.Nodes.{start_of};
+ghost use Rattle.txc_txn.specs.Core.{value_of, CoreHolds, IsCore, IsIdle};
+ghost use Rattle.txc_txn.specs.Kept.{IsTxn};
+ghost use Rattle.txc_node.specs.declared.node.TheConstants.{MAX_CAPACITY, MAX_RECENT};
+ghost use Rattle.txc_stream.specs.declared.row.TheConstants.{MAX_CAPACITY as MAX_ROW};
+ghost use Rattle.txc_caller.specs.Reading.{caller_of};
+
+use crate::caller_txn::CallerTxn;
+use crate::ports::Ports;
+use std::alloc::{AllocError, Global};
+use std::marker::Model;
+use txc_app::App;
+use txc_cushion::CushionCore;
+use txc_db::{DbCore, DbError};
+use txc_ports::Bounds;
+use txc_registry::{Registry, Suppliable};
+use txc_rows::{Change, Query, Row};
+use txc_shared::{NodeSettings, StoredNode};
+use txc_stamp::Stamp;
+use txc_stream::Pen;
+use txc_txn::{RunningTxn, TxnCore};
+
+/// A database, its pincushion and one node of a caller in one thread, and the objects of the functions that he
+/// computes himself. No transaction is open.
+#[derive(Drop)]
+pub struct Caller<A: App, C: Suppliable> {
+    pub(crate) ports: Ports<A>,
+    pub(crate) renew_after: u64,
+    pub(crate) registry: Registry<A, C>,
+}
+
+impl<A: App, C: Suppliable> Model for Caller<A, C> {
+    ghost use Rattle.txc_registry.specs.Objects.{AllIdle};
+    ghost use Rattle.txc_caller.specs.Reading.{CallerValue};
+
+    ghost Value = { CallerValue };
+
+    ghost view = { λ c. record { ports = c.ports; renew_after = c.renew_after; objects = c.registry } };
+
+    ghost invariant = { λ c. AllIdle c.registry };
+}
+
+// A core with the pins that the pincushion hands out for its bounds. Out of memory, they are given back.
+fn begun<A: App>(
+    alloc: Global,
+    ports: &mut Ports<A>,
+    renew_after: u64,
+    bounds: Bounds,
+) -> Result<TxnCore, AllocError>
+    ensures fits { IfOk result (λ core. (next : Next) (objects : Objects) → AllIdle objects
+        → IsCore next objects (value_of core)) }
+    ensures holds { IfOk result (λ core. (next : Next) (objects : Objects)
+        → CoreHolds next (value_of core).seen.history objects (value_of core)) }
+    ensures idle { IfOk result (λ core. IsIdle (value_of core)) }
+    ensures row { IfOk result (λ core. (value_of core).seen.events ≡ ports.old.database.events) }
+    ensures bounds { IfOk result (λ core. (value_of core).bounds ≡ bounds) }
+    ensures renew_after { IfOk result (λ core. (value_of core).renew_after ≡ renew_after) }
+    ensures nodes { IfOk result (λ core. (value_of core).nodes ≡ 1) }
+    ensures recorded { IfOk result (λ core. (value_of core).recorded ≡ []) }
+    ensures members { IfOk result (λ core. (value_of core).pins.members
+        ≡ handed_out ports.old.cushion bounds.now bounds.staleness bounds.at_least) }
+    ensures present { IfOk result (λ core. (value_of core).pins.has_present ≡ true) }
+    ensures same { ports.new ≡ record ports.old { cushion = ports.new.cushion } }
+{
+    let Bounds {
+        now,
+        staleness,
+        at_least,
+    } = bounds;
+    let pins = ports.fresh(alloc, now, staleness, at_least)?;
+    match TxnCore::begin(alloc, 1, renew_after, bounds, pins) {
+        Ok(core) => Ok(core),
+        Err(pins) => {
+            ports.give_back_each(&pins);
+            Err(AllocError)
+        }
+    }
+}
+
+impl<A: App, C: Suppliable> Caller<A, C> {
+    /// An empty database with room for so many events, an empty pincushion and an empty node, for the functions of the
+    /// registry.
+    pub fn new(
+        alloc: Global,
+        capacity: usize,
+        node: NodeSettings,
+        renew_after: u64,
+        registry: Registry<A, C>,
+    ) -> Result<Caller<A, C>, DbError>
+        requires least { 1 ≤ capacity }
+        requires most { capacity ≤ MAX_ROW }
+        requires node { (1 ≤ node.capacity) × (node.capacity ≤ MAX_CAPACITY) }
+        requires recent { (1 ≤ node.recent) × (node.recent ≤ MAX_RECENT) }
+        requires idle { AllIdle registry }
+        ensures history { IfOk result (λ caller. caller.ports.database.history ≡ []) }
+        ensures cushion { IfOk result (λ caller. caller.ports.cushion.entries ≡ []) }
+        ensures node { IfOk result (λ caller. caller.ports.node.cache ≡ start_of node) }
+        ensures renew_after { IfOk result (λ caller. caller.renew_after ≡ renew_after) }
+        ensures functions { IfOk result (λ caller. caller.objects ≡ registry) }
+        ensures refused { IfErr result IsWant }
+    {
+        let ports = Ports::new(alloc, capacity, node)?;
+        Ok(Caller {
+            ports,
+            renew_after,
+            registry,
+        })
+    }
+
+    /// Begins a transaction that only reads, with the newest of the pins that its bounds allow, and the present. Out
+    /// of memory, the caller is handed back.
+    pub fn begin(self, alloc: Global, bounds: Bounds) -> Result<CallerTxn<A, C>, Caller<A, C>>
+        ensures bounds { IfOk result (λ txn. txn.txn.core.bounds ≡ bounds) }
+        ensures recorded { IfOk result (λ txn. txn.txn.core.recorded ≡ []) }
+        ensures meant { IfOk result (λ txn. IsTxn A.next txn.txn) }
+        ensures members { IfOk result (λ txn. txn.txn.core.pins.members
+            ≡ handed_out self.ports.cushion bounds.now bounds.staleness bounds.at_least) }
+        ensures present { IfOk result (λ txn. txn.txn.core.pins.has_present ≡ true) }
+        ensures none { IfOk result (λ txn. txn.doing ≡ None) }
+        ensures caller { IfOk result (λ txn. caller_of txn
+            ≡ record self { ports = record self.ports { cushion = txn.ports.cushion } }) }
+        ensures handed_back { IfErr result (λ caller. caller
+            ≡ record self { ports = record self.ports { cushion = caller.ports.cushion } }) }
+    {
+        let Caller {
+            ports,
+            renew_after,
+            registry,
+        } = self;
+        let mut ports = ports;
+        match begun(alloc, &mut ports, renew_after, bounds) {
+            Ok(core) => Ok(CallerTxn {
+                ports,
+                renew_after,
+                txn: RunningTxn::new(core, registry),
+                doing: None,
+            }),
+            Err(_) => Err(Caller {
+                ports,
+                renew_after,
+                registry,
+            }),
+        }
+    }
+
+    // The newest stamp; None where it is out of memory.
+    pub(crate) fn newest(&self) -> Option<Stamp>
+        ensures { IfSome result (λ stamp. stamp ≡ newest self.now.ports.database) }
+    {
+        self.ports.newest()
+    }
+
+    // The rows that the query gives at the stamp.
+    pub(crate) fn rows_at(
+        &mut self,
+        alloc: Global,
+        query: &Query,
+        stamp: Stamp,
+    ) -> Result<Vec<Row>, DbError>
+        ensures answer { IfOk result (λ rows.
+            rows.items ≡ answer query.now (state_at self.old.ports.database.history stamp)) }
+        ensures refused { IfErr result (IsQueryRefused self.old.ports.database query.now stamp) }
+        ensures same { self.new ≡ self.old }
+    {
+        self.ports.rows_at(alloc, query, stamp)
+    }
+
+    // Commits the changes with nothing read.
+    pub(crate) fn commit_at(
+        &mut self,
+        alloc: Global,
+        base: Stamp,
+        changes: &[Change],
+    ) -> Result<Stamp, DbError>
+        ensures after { OnOk result
+            (self.new.ports.database ≡ after_commit self.old.ports.database changes.now) }
+        ensures answer { IfOk result (λ stamp. stamp ≡ newest self.new.ports.database) }
+        ensures refused { IfErr result (IsCommitRefused self.old.ports.database base [] changes.now) }
+        ensures left { IfErr result (IsLeft self.old.ports.database self.new.ports.database) }
+        ensures same { self.new ≡ record self.old {
+          ports = record self.old.ports { database = self.new.ports.database };
+        } }
+    {
+        self.ports.commit(alloc, base, changes)
+    }
+
+    // Has the node take the events that it has not taken yet.
+    pub(crate) fn take_events(&mut self, alloc: Global)
+        ensures { self.new ≡ record self.old { ports = record self.old.ports { node = self.new.ports.node } } }
+    {
+        self.ports.take_events(alloc);
+    }
+}

@@ -1,0 +1,274 @@
+//! A caller's transaction that only reads.
+ghost use Rattle.std.specs.Prelude.{◌≡◌, ◌≢◌, ◌↔◌, ◌∷◌, [], Err, IfErr, IfOk, IsNone, IsOk, IsSome, IsTrue, MatchOption, None, Ok, Some};
+ghost use Rattle.txc_registry.specs.Objects.{numbers_of, AllIdle};
+ghost use Rattle.txc_txn.specs.Core.{receipt_pin, Explains};
+ghost use Rattle.txc_txn.specs.Kept.{IsTxn};
+ghost use Rattle.txc_txn.specs.Sessions.{IsAtLeast};
+ghost use Rattle.txc_caller.specs.Acting.{IsStepOf};
+ghost use Rattle.txc_caller.specs.Reading.{caller_of, top_or, AsksNext, KeepsReading};
+
+use crate::acted::Acted;
+use crate::acting::{call_first, call_inside, end_call, finish_inside, query_inside};
+use crate::caller::Caller;
+use crate::frames::OpenCall;
+use crate::ports::Ports;
+use crate::step::{CallerError, Step};
+use std::alloc::Global;
+use std::marker::Model;
+use txc_app::{Answer, App};
+use txc_cushion::Pin;
+use txc_ports::Recorded;
+use txc_registry::Suppliable;
+use txc_rows::Query;
+use txc_tags::Key;
+use txc_txn::{Receipt, RunningTxn};
+
+/// A transaction that only reads, whose functions the caller computes. Whatever function `A.next` gives what the
+/// caller says that his functions ask and give, the receipt explains each answer by it.
+///
+/// [`CallerTxn::commit`] and [`CallerTxn::abort`] return the caller. Who lets it go lets the caller go too.
+#[derive(Drop)]
+pub struct CallerTxn<A: App, C: Suppliable> {
+    pub(crate) ports: Ports<A>,
+    pub(crate) renew_after: u64,
+    pub(crate) txn: RunningTxn<A, C>,
+    pub(crate) doing: Option<OpenCall>,
+}
+
+impl<A: App, C: Suppliable> Model for CallerTxn<A, C> {
+    ghost use Rattle.txc_caller.specs.Reading.{CallerReading, IsCallerReading};
+
+    ghost Value = { CallerReading };
+
+    ghost view = { λ r. record { ports = r.ports; renew_after = r.renew_after; txn = r.txn; doing = r.doing } };
+
+    ghost invariant = { λ r. IsCallerReading A.next
+        (record { ports = r.ports; renew_after = r.renew_after; txn = r.txn; doing = r.doing }) };
+}
+
+impl<A: App, C: Suppliable> CallerTxn<A, C> {
+    ghost use Rattle.txc_app.specs.declared.ask.Ask.TheVariants as asks;
+
+    // Asks for the value of the outermost call.
+    fn call_outermost(&mut self, alloc: Global, key: Key) -> Result<Step, CallerError>
+        requires { self.old.doing ≡ None }
+        ensures step { IsStepOf self.old.txn.core.recorded key self.new.txn.core.recorded self.new.doing result }
+        ensures keeps { KeepsReading self.old self.new }
+        ensures meant { IsTxn A.next self.new.txn }
+    {
+        let acted = call_first(alloc, &mut self.ports, &mut self.txn, key);
+        let Acted { doing, step } = acted;
+        self.doing = doing;
+        self.txn.is_kept();
+        step
+    }
+
+    // Asks for the value of a call, by the function that is computed.
+    fn call_by_function(&mut self, alloc: Global, key: Key) -> Result<Step, CallerError>
+        requires some { IsSome self.old.doing }
+        requires asks { AsksNext A.next self.old (asks.Call key) }
+        ensures step { MatchOption self.old.doing (result ≡ Err CallerError.NoFunction)
+            (λ o. IsStepOf self.old.txn.core.recorded o.frames.top self.new.txn.core.recorded self.new.doing result) }
+        ensures keeps { KeepsReading self.old self.new }
+        ensures meant { IsTxn A.next self.new.txn }
+    {
+        let Some(call) = self.doing.take() else {
+            unreachable!()
+        };
+        let acted = call_inside(alloc, &mut self.ports, &mut self.txn, call, key);
+        let Acted { doing, step } = acted;
+        self.doing = doing;
+        self.txn.is_kept();
+        step
+    }
+
+    // Asks for the rows of a query, by the function that is computed.
+    fn query_by_function(&mut self, alloc: Global, query: Query) -> Result<Step, CallerError>
+        requires some { IsSome self.old.doing }
+        requires asks { AsksNext A.next self.old (asks.Query query) }
+        ensures step { MatchOption self.old.doing (result ≡ Err CallerError.NoFunction)
+            (λ o. IsStepOf self.old.txn.core.recorded o.frames.top self.new.txn.core.recorded self.new.doing result) }
+        ensures keeps { KeepsReading self.old self.new }
+        ensures meant { IsTxn A.next self.new.txn }
+    {
+        let Some(call) = self.doing.take() else {
+            unreachable!()
+        };
+        let acted = query_inside(alloc, &mut self.ports, &mut self.txn, call, query);
+        let Acted { doing, step } = acted;
+        self.doing = doing;
+        self.txn.is_kept();
+        step
+    }
+
+    // The function that is computed gives these bytes.
+    fn finish_function(&mut self, alloc: Global, bytes: Vec<u8>) -> Result<Step, CallerError>
+        requires some { IsSome self.old.doing }
+        requires asks { AsksNext A.next self.old (asks.Done bytes.items) }
+        ensures step { MatchOption self.old.doing (result ≡ Err CallerError.NoFunction)
+            (λ o. IsStepOf self.old.txn.core.recorded o.frames.top self.new.txn.core.recorded self.new.doing result) }
+        ensures keeps { KeepsReading self.old self.new }
+        ensures meant { IsTxn A.next self.new.txn }
+    {
+        let Some(call) = self.doing.take() else {
+            unreachable!()
+        };
+        let acted = finish_inside(alloc, &mut self.ports, &mut self.txn, call, bytes);
+        let Acted { doing, step } = acted;
+        self.doing = doing;
+        self.txn.is_kept();
+        step
+    }
+
+    /// Asks for the value of a call: by no function the outermost one, else by the function that is computed.
+    /// [`Step::Compute`] says that the caller is to compute its function.
+    pub fn call(&mut self, alloc: Global, key: Key) -> Result<Step, CallerError>
+        requires { AsksNext A.next self.old (asks.Call key) }
+        ensures step { IsStepOf self.old.txn.core.recorded (top_or self.old.doing key)
+            self.new.txn.core.recorded self.new.doing result }
+        ensures keeps { KeepsReading self.old self.new }
+        ensures meant { IsTxn A.next self.new.txn }
+    {
+        if self.doing.is_none() {
+            return self.call_outermost(alloc, key);
+        }
+        self.call_by_function(alloc, key)
+    }
+
+    /// Asks for the rows of a query, by the function that is computed.
+    pub fn query(&mut self, alloc: Global, query: Query) -> Result<Step, CallerError>
+        requires { AsksNext A.next self.old (asks.Query query) }
+        ensures step { MatchOption self.old.doing (result ≡ Err CallerError.NoFunction)
+            (λ o. IsStepOf self.old.txn.core.recorded o.frames.top self.new.txn.core.recorded self.new.doing result) }
+        ensures keeps { KeepsReading self.old self.new }
+        ensures meant { IsTxn A.next self.new.txn }
+    {
+        if self.doing.is_none() {
+            self.txn.is_kept();
+            return Err(CallerError::NoFunction);
+        }
+        self.query_by_function(alloc, query)
+    }
+
+    /// Says that the function that is computed gives these bytes. They are kept at the node, under its call, with
+    /// the reach and the tags of what it was answered, where that depends on a row.
+    pub fn finish(&mut self, alloc: Global, bytes: Vec<u8>) -> Result<Step, CallerError>
+        requires { AsksNext A.next self.old (asks.Done bytes.items) }
+        ensures step { MatchOption self.old.doing (result ≡ Err CallerError.NoFunction)
+            (λ o. IsStepOf self.old.txn.core.recorded o.frames.top self.new.txn.core.recorded self.new.doing result) }
+        ensures keeps { KeepsReading self.old self.new }
+        ensures meant { IsTxn A.next self.new.txn }
+    {
+        if self.doing.is_none() {
+            self.txn.is_kept();
+            return Err(CallerError::NoFunction);
+        }
+        self.finish_function(alloc, bytes)
+    }
+
+    /// Gives the open call up, if one is, and returns whether one was. The transaction stays open, and its answers
+    /// are as before.
+    pub fn give_up(&mut self) -> bool
+        ensures answer { IsTrue result ↔ IsSome self.old.doing }
+        ensures none { self.new.doing ≡ None }
+        ensures recorded { self.new.txn.core.recorded ≡ self.old.txn.core.recorded }
+        ensures keeps { KeepsReading self.old self.new }
+        ensures meant { IsTxn A.next self.new.txn }
+    {
+        let was_open = self.doing.is_some();
+        self.doing = None;
+        end_call(&mut self.ports, &mut self.txn);
+        self.txn.is_kept();
+        was_open
+    }
+
+    /// What the function that is computed was answered last; none where it has asked nothing yet, or none is
+    /// computed.
+    pub fn answer(&self) -> Option<&Answer>
+        ensures { MatchOption result
+            (MatchOption self.now.doing (self.now.doing ≡ None) (λ o. o.given ≡ None))
+            (λ answer. MatchOption self.now.doing (self.now.doing ≢ None) (λ o. o.given ≡ Some answer.now)) }
+    {
+        match &self.doing {
+            Some(call) => call.given.as_ref(),
+            None => None,
+        }
+    }
+
+    /// The pins where it may still be serialised, the newest first.
+    pub fn members(&self) -> &[Pin]
+        ensures { result.now ≡ self.now.txn.core.pins.members }
+    {
+        self.txn.core().members()
+    }
+
+    /// The calls that were answered, with their values, in order.
+    pub fn answers(&self) -> &[Recorded]
+        ensures { result.now ≡ self.now.txn.core.recorded }
+    {
+        self.txn.core().answers()
+    }
+
+    /// Ends the transaction, and returns what explains its answers, and the caller. Its pin, where it has one, is
+    /// not below the stamp that the bounds name. In the middle of a call it is refused, and handed back as it was.
+    pub fn commit(self) -> Result<(Receipt, Caller<A, C>), CallerTxn<A, C>>
+        ensures answers { IfOk result (λ it. it.0.answers.items ≡ self.txn.core.recorded) }
+        ensures pin { IfOk result (λ it. it.0.pin
+            ≡ receipt_pin self.txn.core.recorded self.txn.core.pins.members) }
+        ensures explained { IfOk result (λ it. Explains A.next it.0.seen.history self.txn.core.bounds it.0.pin
+            it.0.answers.items) }
+        ensures not_before { IfOk result (λ it. IsAtLeast self.txn.core.bounds.at_least it.0.pin) }
+        ensures seen { IfOk result (λ it. it.0.seen ≡ self.txn.core.seen) }
+        ensures row { IfOk result (λ it. it.0.seen.events ≡ it.1.ports.database.events) }
+        ensures caller { IfOk result (λ it. it.1
+            ≡ record (caller_of self) { ports = record self.ports { cushion = it.1.ports.cushion } }) }
+        ensures only_if { IsOk result → self.doing ≡ None }
+        ensures handed_back { IfErr result (λ it. (it ≡ self) × IsSome self.doing) }
+    {
+        if self.doing.is_some() {
+            return Err(self);
+        }
+        let CallerTxn {
+            ports,
+            renew_after,
+            txn,
+            doing: _,
+        } = self;
+        let (receipt, pins, registry) = txn.finish();
+        let mut ports = ports;
+        ports.give_back(&pins);
+        let caller = Caller {
+            ports,
+            renew_after,
+            registry,
+        };
+        Ok((receipt, caller))
+    }
+
+    /// Gives the transaction up, in the middle of a call too, and returns the caller. It takes no memory.
+    pub fn abort(self) -> Caller<A, C>
+        ensures functions { numbers_of result.objects ≡ numbers_of self.txn.objects }
+        ensures history { result.ports.database.history ≡ self.ports.database.history }
+        ensures row { result.ports.database.events ≡ self.ports.database.events }
+        ensures node { result.ports.node ≡ self.ports.node }
+        ensures renew_after { result.renew_after ≡ self.renew_after }
+    {
+        let CallerTxn {
+            ports,
+            renew_after,
+            txn,
+            doing: _,
+        } = self;
+        let (left, registry) = txn.cancel();
+        let mut ports = ports;
+        ports.give_back(&left.give_back);
+        if let Some(stamp) = left.unpin {
+            ports.unpin(stamp);
+        }
+        Caller {
+            ports,
+            renew_after,
+            registry,
+        }
+    }
+}

@@ -1,0 +1,166 @@
+//! A call, led on to the next reply that has to wait for the caller.
+ghost use Rattle.std.specs.Prelude.{◌≡◌, ◌∷◌, ◌++◌, List, Some};
+ghost use Rattle.txc_tags.specs.Keys.{Call};
+ghost use Rattle.txc_ports.specs.declared.recorded.Recorded.{Recorded};
+ghost use Rattle.txc_txn.specs.Core.{open_call, IsIdle};
+ghost use Rattle.txc_caller.specs.Standing.{HasPassed, IsGoing, IsKeptBack, IsTurnOf, IsStanding, KeepsOn};
+
+use crate::ports::Ports;
+use crate::stand::Stand;
+use std::alloc::Global;
+use txc_app::App;
+use txc_ports::{PortReply, PortRequest, Turn};
+use txc_registry::Cacheable;
+use txc_tags::Key;
+use txc_txn::RunningTxn;
+
+// Whether the request is about the pin of the present.
+fn is_of_pin(request: &PortRequest) -> bool {
+    match request {
+        PortRequest::Pin { .. } | PortRequest::AddPin(_) | PortRequest::Unpin(_) => true,
+        _ => false,
+    }
+}
+
+// Asks, and returns the reply.
+fn asked<A: App, C: Cacheable>(
+    alloc: Global,
+    ports: &mut Ports<A>,
+    txn: &RunningTxn<A, C>,
+    request: PortRequest,
+) -> PortReply
+    requires { IsGoing ports.old.database.events txn.now.core (Turn.Ask request) }
+    ensures kept { IsKeptBack A.next txn.now result }
+    ensures events { ports.new.database.events ≡ ports.old.database.events }
+{
+    txn.is_kept();
+    ports.ask(alloc, txn.core().seen(), request)
+}
+
+// Makes the request, and goes on with the reply.
+fn pass<A: App, C: Cacheable>(
+    alloc: Global,
+    ports: &mut Ports<A>,
+    txn: &mut RunningTxn<A, C>,
+    request: PortRequest,
+) -> Turn
+    requires { IsGoing ports.old.database.events txn.old.core (Turn.Ask request) }
+    ensures passed { HasPassed ports.old.database.events txn.old (Turn.Ask request) txn.new result }
+    ensures events { ports.new.database.events ≡ ports.old.database.events }
+{
+    let reply = asked(alloc, ports, txn, request);
+    txn.next(alloc, reply)
+}
+
+// Makes a request about the pin of the present, and goes on. Any other stays.
+fn pass_request<A: App, C: Cacheable>(
+    alloc: Global,
+    ports: &mut Ports<A>,
+    txn: &mut RunningTxn<A, C>,
+    request: PortRequest,
+) -> Turn
+    requires { IsGoing ports.old.database.events txn.old.core (Turn.Ask request) }
+    ensures passed { HasPassed ports.old.database.events txn.old (Turn.Ask request) txn.new result }
+    ensures events { ports.new.database.events ≡ ports.old.database.events }
+{
+    if is_of_pin(&request) {
+        return pass(alloc, ports, txn, request);
+    }
+    Turn::Ask(request)
+}
+
+// Makes a request about the pin of the present, if the turn is one, and goes on. Any other turn stays.
+fn pass_pin<A: App, C: Cacheable>(
+    alloc: Global,
+    ports: &mut Ports<A>,
+    txn: &mut RunningTxn<A, C>,
+    turn: Turn,
+) -> Turn
+    requires { IsGoing ports.old.database.events txn.old.core turn }
+    ensures passed { HasPassed ports.old.database.events txn.old turn txn.new result }
+    ensures events { ports.new.database.events ≡ ports.old.database.events }
+{
+    match turn {
+        Turn::Ask(request) => pass_request(alloc, ports, txn, request),
+        Turn::Value(value) => Turn::Value(value),
+        Turn::Rows(rows) => Turn::Rows(rows),
+        Turn::Refused(error) => Turn::Refused(error),
+    }
+}
+
+// Makes the request that is asked, and keeps the reply; or the call has ended.
+fn stop<A: App, C: Cacheable>(
+    alloc: Global,
+    ports: &mut Ports<A>,
+    txn: &RunningTxn<A, C>,
+    turn: Turn,
+) -> Stand
+    requires { IsGoing ports.old.database.events txn.now.core turn }
+    ensures stands { (before : List Recorded) (k : Call) → IsTurnOf before k txn.now.core turn
+        → IsStanding A.next before k txn.now result }
+    ensures events { ports.new.database.events ≡ ports.old.database.events }
+{
+    match turn {
+        Turn::Ask(request) => Stand::Kept(asked(alloc, ports, txn, request)),
+        Turn::Value(value) => Stand::Value(value),
+        Turn::Refused(error) => Stand::Refused(error),
+        Turn::Rows(_) => unreachable!(),
+    }
+}
+
+// Leads the call on: the present is pinned where that is asked, and the reply to what is asked then is kept.
+fn lead<A: App, C: Cacheable>(
+    alloc: Global,
+    ports: &mut Ports<A>,
+    txn: &mut RunningTxn<A, C>,
+    turn: Turn,
+) -> Stand
+    requires { IsGoing ports.old.database.events txn.old.core turn }
+    ensures stands { (before : List Recorded) (k : Call) → IsTurnOf before k txn.old.core turn
+        → IsStanding A.next before k txn.new result }
+    ensures keeps { KeepsOn txn.old txn.new }
+    ensures events { ports.new.database.events ≡ ports.old.database.events }
+{
+    // A pin, the addition of it, and, where that is refused, the end of its hold.
+    let first = pass_pin(alloc, ports, txn, turn);
+    let second = pass_pin(alloc, ports, txn, first);
+    let third = pass_pin(alloc, ports, txn, second);
+    stop(alloc, ports, txn, third)
+}
+
+/// Begins a call.
+pub(crate) fn start<A: App, C: Cacheable>(
+    alloc: Global,
+    ports: &mut Ports<A>,
+    txn: &mut RunningTxn<A, C>,
+    key: Key,
+) -> Stand
+    requires idle { IsIdle txn.old.core }
+    requires row { txn.old.core.seen.events ≡ ports.old.database.events }
+    requires nodes { txn.old.core.nodes ≡ 1 }
+    ensures stands { IsStanding A.next txn.old.core.recorded key txn.new result }
+    ensures keeps { KeepsOn txn.old txn.new }
+    ensures events { ports.new.database.events ≡ ports.old.database.events }
+{
+    let turn = txn.start(alloc, key);
+    lead(alloc, ports, txn, turn)
+}
+
+/// Goes on with the reply that was kept back.
+pub(crate) fn feed<A: App, C: Cacheable>(
+    alloc: Global,
+    ports: &mut Ports<A>,
+    txn: &mut RunningTxn<A, C>,
+    reply: PortReply,
+) -> Stand
+    requires kept { IsKeptBack A.next txn.old reply }
+    requires row { txn.old.core.seen.events ≡ ports.old.database.events }
+    requires nodes { txn.old.core.nodes ≡ 1 }
+    ensures stands { (k : Call) → open_call txn.old.core ≡ Some k
+        → IsStanding A.next txn.old.core.recorded k txn.new result }
+    ensures keeps { KeepsOn txn.old txn.new }
+    ensures events { ports.new.database.events ≡ ports.old.database.events }
+{
+    let turn = txn.next(alloc, reply);
+    lead(alloc, ports, txn, turn)
+}

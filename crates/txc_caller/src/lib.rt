@@ -1,0 +1,25 @@
+//! Transactions whose functions the caller computes: the caller asks for calls, is told which functions to compute,
+//! and says what each asks and what it gives.
+//!
+//! A [`Caller`] has a database, a pincushion and a node in one thread. Its transaction, a [`CallerTxn`], keeps the
+//! reply of a port back until the caller has said what his function asks next, since the core goes on at once.
+#![tactic(auto)]
+
+mod acted;
+mod acting;
+mod asking;
+mod caller;
+mod caller_txn;
+mod caller_write;
+mod engine;
+mod frames;
+mod nodes;
+mod ports;
+mod stand;
+mod step;
+
+pub use caller::Caller;
+pub use caller_txn::CallerTxn;
+pub use caller_write::{CallerWrite, MAX_CHANGES};
+pub use frames::{Called, Frames, OpenCall};
+pub use step::{CallerError, Step};

@@ -1,0 +1,91 @@
+//! Steps at the node, for one thread.
+ghost use Rattle.std.specs.Prelude.{◌≡◌, IfSome};
+ghost use Rattle.txc_app.specs.Claims.{IsTrueIn, entry_shown};
+ghost use Rattle.txc_shared.specs.Passes.{shown_of_entry};
+ghost use Rattle.txc_caller.specs.Ports.{CallerInsertLeads, KeepsNode, CallerLookupLeads};
+
+use std::alloc::Global;
+use txc_app::App;
+use txc_db::{Answered, HistoryFront};
+use txc_node::{Entry, Shown};
+use txc_shared::{Advanced, Finding, StoredNode};
+use txc_stamp::Stamp;
+use txc_tags::Key;
+
+// What a finding shows of its call, with the history in which it is true.
+fn shown_by<A: App>(finding: Finding<A>) -> Answered<Shown>
+    ensures answer { result.answer ≡ shown_of_entry finding.entry }
+    ensures front { result.front ≡ finding.front }
+    ensures is_true { IsTrueIn A.next finding.front.history finding.entry }
+{
+    let Finding { entry, front, .. } = finding;
+    let Entry {
+        key: _,
+        value,
+        reach,
+        tags,
+    } = entry;
+    Answered {
+        answer: Shown { reach, value, tags },
+        front,
+    }
+}
+
+/// What the node has of the call at the stamps from `lo` to `hi`, both included. A node that refuses has
+/// nothing.
+pub(crate) fn look_up<A: App>(
+    alloc: Global,
+    node: &mut StoredNode<A>,
+    key: &Key,
+    lo: Stamp,
+    hi: Stamp,
+) -> Option<Answered<Shown>>
+    requires { node.old.passes ≡ 1 }
+    ensures leads { CallerLookupLeads key.now lo hi node.old node.new result }
+    ensures right { IfSome result (λ hit.
+        IsTrueIn A.next hit.front.history (entry_shown key.now hit.answer)) }
+{
+    match node.lookup(alloc, 0, key, lo, hi) {
+        Ok(Some(finding)) => Some(shown_by(finding)),
+        Ok(None) => None,
+        Err(_) => None,
+    }
+}
+
+/// Gives the node an entry to keep, which is true in what the front shows. A node that refuses keeps nothing.
+pub(crate) fn insert<A: App>(
+    alloc: Global,
+    node: &mut StoredNode<A>,
+    entry: Entry,
+    seen: &HistoryFront,
+)
+    requires pass { node.old.passes ≡ 1 }
+    requires row { seen.now.events ≡ node.old.seen.events }
+    requires is_true { IsTrueIn A.next seen.now.history entry }
+    ensures { CallerInsertLeads seen.now entry node.old node.new }
+{
+    match node.insert(alloc, 0, entry, seen) {
+        Ok(_) => (),
+        Err(_) => (),
+    }
+}
+
+/// Has the node take the next event of the history that it or the front has seen, and says whether it took one.
+pub(crate) fn take_event<A: App>(
+    alloc: Global,
+    node: &mut StoredNode<A>,
+    front: &HistoryFront,
+) -> bool
+    requires pass { node.old.passes ≡ 1 }
+    requires row { front.now.events ≡ node.old.seen.events }
+    ensures { KeepsNode node.old node.new }
+{
+    match node.advance(alloc, 0, front) {
+        Ok(Advanced::Taken { .. }) => true,
+        Ok(Advanced::Idle) => false,
+        Err(refusal) => {
+            let _refusal = refusal;
+            false
+        }
+    }
+}

@@ -1,0 +1,339 @@
+//! The plain ports of a caller, for one thread.
+ghost use Rattle.std.specs.Prelude.{◌≡◌, ◌≤◌, ◌⊎◌, [], All, IfErr, IfOk, IfSome, OnOk};
+ghost use Rattle.txc_app.specs.Claims.{IsTrueIn, entry_shown};
+ghost use Rattle.txc_cushion.specs.Cushion.{after_give_back, handed_out};
+ghost use Rattle.txc_db.specs.Calls.{IsCommitRefused, IsLeft, IsQueryRefused};
+ghost use Rattle.txc_db.specs.DatabaseValue.{after_commit, newest};
+ghost use Rattle.txc_db.specs.History.{state_at, IsAllowed};
+ghost use Rattle.txc_rows.specs.States.{answer};
+ghost use Rattle.txc_db.specs.Refusals.{IsWant};
+ghost use Rattle.txc_db.specs.Seen.{FrontValue};
+ghost use Rattle.txc_node.specs.declared.node.TheConstants.{MAX_CAPACITY, MAX_RECENT};
+ghost use Rattle.txc_stream.specs.declared.row.TheConstants.{MAX_CAPACITY as MAX_ROW};
+ghost use Rattle.txc_shared.specs.Nodes.{start_of};
+ghost use Rattle.txc_caller.specs.Ports.{CallerAddLeads, CallerFindLeads, CallerInsertLeads, CallerLookupLeads, CallerPinLeads, CallerUnpinLeads};
+
+use crate::nodes;
+use std::alloc::{AllocError, Global};
+use std::marker::Model;
+use txc_app::App;
+use txc_app::laws::found_rows_give_true_entries;
+use txc_cushion::{AddError, CushionCore, Pins};
+use txc_db::{Answered, DbCore, DbError, HistoryFront, Pinned};
+use txc_node::{Entry, Shown};
+use txc_ports::{PortReply, PortRequest};
+use txc_rows::{Change, Query, Row};
+use txc_shared::{NodeSettings, StoredNode};
+use txc_stamp::Stamp;
+use txc_stream::Pen;
+use txc_tags::{Key, TagSet};
+use txc_validity::Found;
+
+/// A database, its pincushion, and one node that takes its events. None has a lock.
+#[derive(Drop)]
+pub(crate) struct Ports<A: App> {
+    pub(crate) database: DbCore,
+    pub(crate) cushion: CushionCore,
+    pub(crate) node: StoredNode<A>,
+}
+
+impl<A: App> Model for Ports<A> {
+    ghost use Rattle.std.specs.Prelude.{◌≡◌};
+    ghost use Rattle.txc_caller.specs.Ports.{CallerPorts, AreCallerPorts};
+
+    ghost Value = { CallerPorts };
+
+    ghost view = { λ p. record { database = p.database; cushion = p.cushion; node = p.node } };
+
+    ghost invariant = { λ p. AreCallerPorts (record { database = p.database; cushion = p.cushion; node = p.node }) };
+}
+
+impl<A: App> Ports<A> {
+    ghost use Rattle.txc_caller.specs.Ports.{HasAskedPorts};
+    ghost use Rattle.txc_ports.specs.Asking.{MayAsk};
+
+    // A pin of the moment `now`.
+    fn pin(&mut self, alloc: Global, now: u64, at_least: Stamp) -> Result<Pinned, DbError>
+        ensures leads { CallerPinLeads now at_least self.old self.new result }
+        ensures events { self.new.database.events ≡ self.old.database.events }
+    {
+        let pinned = self.database.pin(alloc, now, at_least)?;
+        Ok(pinned)
+    }
+
+    // What the database finds for the query at the stamp, with a front of the whole history.
+    fn find(
+        &mut self,
+        alloc: Global,
+        query: &Query,
+        stamp: Stamp,
+    ) -> Result<Answered<Found>, DbError>
+        ensures same { self.new ≡ self.old }
+        ensures leads { CallerFindLeads query.now stamp self.old.database result }
+    {
+        found_rows_give_true_entries();
+        let answer = self.database.query(alloc, query, stamp)?;
+        let front = self.database.front()?;
+        Ok(Answered { answer, front })
+    }
+
+    /// The newest stamp; None where it is out of memory.
+    pub(crate) fn newest(&self) -> Option<Stamp>
+        ensures { IfSome result (λ stamp. stamp ≡ newest self.now.database) }
+    {
+        match self.database.front() {
+            Ok(front) => Some(front.newest()),
+            Err(_) => None,
+        }
+    }
+
+    /// The rows that the query gives at the stamp.
+    pub(crate) fn rows_at(
+        &mut self,
+        alloc: Global,
+        query: &Query,
+        stamp: Stamp,
+    ) -> Result<Vec<Row>, DbError>
+        ensures answer { IfOk result (λ rows.
+            rows.items ≡ answer query.now (state_at self.old.database.history stamp)) }
+        ensures refused { IfErr result (IsQueryRefused self.old.database query.now stamp) }
+        ensures same { self.new ≡ self.old }
+    {
+        let found = self.database.query(alloc, query, stamp)?;
+        Ok(found.rows)
+    }
+
+    /// Commits the changes with nothing read.
+    pub(crate) fn commit(
+        &mut self,
+        alloc: Global,
+        base: Stamp,
+        changes: &[Change],
+    ) -> Result<Stamp, DbError>
+        ensures after { OnOk result (self.new.database ≡ after_commit self.old.database changes.now) }
+        ensures answer { IfOk result (λ stamp. stamp ≡ newest self.new.database) }
+        ensures refused { IfErr result (IsCommitRefused self.old.database base [] changes.now) }
+        ensures left { IfErr result (IsLeft self.old.database self.new.database) }
+        ensures same { self.new ≡ record self.old { database = self.new.database } }
+    {
+        let read = TagSet::new(alloc);
+        let stamp = self.database.commit(alloc, base, &read, changes)?;
+        Ok(stamp)
+    }
+
+    // Has the node take the next event that the front shows, and says whether it took one.
+    fn take_event(&mut self, alloc: Global, front: &HistoryFront) -> bool
+        requires { front.now.events ≡ self.old.database.events }
+        ensures { self.new ≡ record self.old { node = self.new.node } }
+    {
+        nodes::take_event(alloc, &mut self.node, front)
+    }
+
+    /// Has the node take the events that it has not taken yet, as far as it does.
+    pub(crate) fn take_events(&mut self, alloc: Global)
+        ensures { self.new ≡ record self.old { node = self.new.node } }
+    {
+        let Ok(front) = self.database.front() else {
+            return;
+        };
+        for number in 0..front.len() {
+            if !self.take_event(alloc, &front) {
+                return;
+            }
+        }
+    }
+
+    // What the node has of the call at the stamps from `lo` to `hi`, both included.
+    fn look_up(&mut self, alloc: Global, key: &Key, lo: Stamp, hi: Stamp) -> Option<Answered<Shown>>
+        ensures same { self.new ≡ record self.old { node = self.new.node } }
+        ensures leads { CallerLookupLeads key.now lo hi self.old.node self.new.node result }
+        ensures right { IfSome result (λ hit.
+            IsTrueIn A.next hit.front.history (entry_shown key.now hit.answer)) }
+        ensures row { IfSome result (λ hit. hit.front.events ≡ self.old.database.events) }
+    {
+        nodes::look_up(alloc, &mut self.node, key, lo, hi)
+    }
+
+    // Gives the node an entry to keep.
+    fn insert(&mut self, alloc: Global, entry: Entry, seen: &HistoryFront)
+        requires row { seen.now.events ≡ self.old.database.events }
+        requires is_true { IsTrueIn A.next seen.now.history entry }
+        ensures same { self.new ≡ record self.old { node = self.new.node } }
+        ensures leads { CallerInsertLeads seen.now entry self.old.node self.new.node }
+    {
+        nodes::insert(alloc, &mut self.node, entry, seen);
+    }
+
+    // Adds a pin to the pincushion.
+    fn add(&mut self, pinned: &Pinned) -> Result<(), AddError>
+        requires { pinned.now.front.events ≡ self.old.database.events }
+        ensures leads { CallerAddLeads pinned.now self.old self.new result }
+        ensures same { self.new ≡ record self.old { cushion = self.new.cushion } }
+    {
+        match self.cushion.add(pinned) {
+            Ok(()) => Ok(()),
+            Err(refusal) => Err(refusal),
+        }
+    }
+
+    /// Takes one hold of the stamp away, where there is one.
+    pub(crate) fn unpin(&mut self, stamp: Stamp)
+        ensures leads { CallerUnpinLeads stamp self.old self.new }
+        ensures history { self.new.database.history ≡ self.old.database.history }
+        ensures events { self.new.database.events ≡ self.old.database.events }
+        ensures same { self.new ≡ record self.old { database = self.new.database } }
+    {
+        match self.database.unpin(stamp) {
+            Ok(()) => (),
+            Err(_) => (),
+        }
+    }
+
+    /// An empty database with room for so many events, an empty pincushion and an empty node.
+    pub(crate) fn new(
+        alloc: Global,
+        capacity: usize,
+        settings: NodeSettings,
+    ) -> Result<Ports<A>, DbError>
+        requires least { 1 ≤ capacity }
+        requires most { capacity ≤ MAX_ROW }
+        requires node { (1 ≤ settings.capacity) × (settings.capacity ≤ MAX_CAPACITY) }
+        requires recent { (1 ≤ settings.recent) × (settings.recent ≤ MAX_RECENT) }
+        ensures history { IfOk result (λ ports. ports.database.history ≡ []) }
+        ensures cushion { IfOk result (λ ports. ports.cushion.entries ≡ []) }
+        ensures node { IfOk result (λ ports. ports.node.cache ≡ start_of settings) }
+        ensures refused { IfErr result IsWant }
+    {
+        let database = DbCore::new(alloc, capacity)?;
+        let cushion = CushionCore::new(alloc, database.reader()?);
+        let mut node = StoredNode::unstored(alloc, settings, Pen::new(), database.reader()?)?;
+        // The one pass of a new node, number 0.
+        let Ok(_pass) = node.pass() else {
+            return Err(DbError::Memory);
+        };
+        Ok(Ports {
+            database,
+            cushion,
+            node,
+        })
+    }
+
+    /// The newest of the pins that the bounds allow, each with one user more.
+    pub(crate) fn fresh(
+        &mut self,
+        alloc: Global,
+        now: u64,
+        staleness: u64,
+        at_least: Stamp,
+    ) -> Result<Pins, AllocError>
+        ensures pins { IfOk result (λ pins. pins.pins.items ≡ handed_out self.old.cushion now staleness at_least) }
+        ensures allowed { IfOk result (λ pins. All (λ pin. IsAllowed pins.front.history pin.stamp now staleness at_least) pins.pins.items) }
+        ensures row { IfOk result (λ pins. pins.front.events ≡ self.old.database.events) }
+        ensures same { self.new ≡ record self.old { cushion = self.new.cushion } }
+    {
+        self.cushion.fresh(alloc, now, staleness, at_least)
+    }
+
+    /// Gives the pins back, one user of each. It takes no memory.
+    pub(crate) fn give_back(&mut self, stamps: &[Stamp])
+        ensures same { self.new ≡ record self.old { cushion = self.new.cushion } }
+        ensures after { (self.new.cushion ≡ after_give_back self.old.cushion stamps.now) ⊎ (self.new ≡ self.old) }
+    {
+        match self.cushion.give_back(stamps) {
+            Ok(()) => (),
+            Err(_) => (),
+        }
+    }
+
+    /// Gives one user of each of the pins back. It takes no memory.
+    pub(crate) fn give_back_each(&mut self, pins: &Pins)
+        ensures same { self.new ≡ record self.old { cushion = self.new.cushion } }
+    {
+        for pin in &pins.pins {
+            self.give_back(&[pin.stamp]);
+        }
+    }
+
+    fn ask_pin(&mut self, alloc: Global, now: u64, at_least: Stamp) -> PortReply
+        ensures { (seen : FrontValue) → HasAskedPorts A.next seen (PortRequest.Pin now at_least) self.old self.new result }
+    {
+        let pinned = self.pin(alloc, now, at_least);
+        PortReply::Pin(pinned)
+    }
+
+    fn ask_add(&mut self, pinned: Pinned) -> PortReply
+        requires { pinned.front.events ≡ self.old.database.events }
+        ensures { (seen : FrontValue) → HasAskedPorts A.next seen (PortRequest.AddPin pinned) self.old self.new result }
+    {
+        let added = self.add(&pinned);
+        PortReply::AddPin(pinned, added)
+    }
+
+    fn ask_unpin(&mut self, stamp: Stamp) -> PortReply
+        ensures { (seen : FrontValue) → HasAskedPorts A.next seen (PortRequest.Unpin stamp) self.old self.new result }
+    {
+        self.unpin(stamp);
+        PortReply::Unpin
+    }
+
+    fn ask_lookup(
+        &mut self,
+        alloc: Global,
+        node: usize,
+        key: &Key,
+        lo: Stamp,
+        hi: Stamp,
+    ) -> PortReply
+        ensures { (seen : FrontValue) → HasAskedPorts A.next seen (PortRequest.Lookup node key.now lo hi)
+            self.old self.new result }
+    {
+        let _node = node;
+        let hit = self.look_up(alloc, key, lo, hi);
+        PortReply::Lookup(hit)
+    }
+
+    fn ask_query(&mut self, alloc: Global, query: &Query, stamp: Stamp) -> PortReply
+        ensures { (seen : FrontValue) → HasAskedPorts A.next seen (PortRequest.Query query.now stamp)
+            self.old self.new result }
+    {
+        let found = self.find(alloc, query, stamp);
+        PortReply::Query(found)
+    }
+
+    fn ask_insert(
+        &mut self,
+        alloc: Global,
+        node: usize,
+        entry: Entry,
+        seen: &HistoryFront,
+    ) -> PortReply
+        requires row { seen.now.events ≡ self.old.database.events }
+        requires is_true { IsTrueIn A.next seen.now.history entry }
+        ensures { HasAskedPorts A.next seen.now (PortRequest.Insert node entry) self.old self.new result }
+    {
+        let _node = node;
+        self.insert(alloc, entry, seen);
+        PortReply::Insert
+    }
+
+    /// Asks what a transaction asks. It has seen that much of the history.
+    pub(crate) fn ask(
+        &mut self,
+        alloc: Global,
+        seen: &HistoryFront,
+        request: PortRequest,
+    ) -> PortReply
+        requires row { seen.now.events ≡ self.old.database.events }
+        requires may { MayAsk A.next self.old.database.events 1 seen.now.history request }
+        ensures { HasAskedPorts A.next seen.now request self.old self.new result }
+    {
+        match request {
+            PortRequest::Pin { now, at_least } => self.ask_pin(alloc, now, at_least),
+            PortRequest::AddPin(pinned) => self.ask_add(pinned),
+            PortRequest::Unpin(stamp) => self.ask_unpin(stamp),
+            PortRequest::Lookup { node, key, lo, hi } => self.ask_lookup(alloc, node, &key, lo, hi),
+            PortRequest::Query { query, stamp } => self.ask_query(alloc, &query, stamp),
+            PortRequest::Insert { node, entry } => self.ask_insert(alloc, node, entry, seen),
+        }
+    }
+}
