@@ -1,7 +1,8 @@
 -- What comes of a transaction's requests at the plain ports.
-use Rattle.std.proofs.Common.{◌≡◌, ◌∙◌, inl, inr, ℕ, List, Result, Ok, Err, Option, Some, None, refl, ap, sym, subst}
+use Rattle.std.proofs.Common.{◌≡◌, ◌∙◌, inl, inr, ℕ, Result, Ok, Err, Option, Some, None, refl, ap, sym, subst}
 use Rattle.std.specs.Prelude.{IfSome}
 use Rattle.std.specs.Option.{ForSome}
+use Rattle.txc_stream.specs.Names.{Name}
 use Rattle.txc_tags.specs.Keys.{Call}
 use Rattle.txc_rows.specs.declared.query.Query.{Query}
 use Rattle.txc_validity.specs.declared.answer.Found.{Found}
@@ -20,6 +21,7 @@ use Rattle.txc_shared.specs.declared.error.NodeError.{NodeError}
 use Rattle.txc_shared.specs.declared.error.NodeError.TheVariants as errors
 use Rattle.txc_shared.specs.Nodes.{NodeValue, after_call}
 use Rattle.txc_shared.specs.Refusals.{IsNodeLeft}
+use Rattle.txc_ports.specs.declared.kept.Kept.{Kept}
 use Rattle.txc_ports.specs.declared.request.PortRequest.TheVariants as requests
 use Rattle.txc_ports.specs.declared.reply.PortReply.TheVariants as replies
 use Rattle.txc_caller.proofs.Acts.{for_none, for_this}
@@ -46,16 +48,16 @@ node_looked_up old new key lo hi (Some hit) leads = node_after old new (Lookup k
 node_looked_up old new key lo hi None (inl leads) = node_after old new (Lookup key lo hi) leads.0
 node_looked_up old new key lo hi None (inr refused) = node_left old new refused.0 refused.2
 
-pub node_inserted : (old new : NodeValue) (seen : FrontValue) (entry : Entry) → CallerInsertLeads seen entry old new → KeepsNode old new
-node_inserted old new seen entry (inl has) = record { row = has.longer.events; passes = ap (λ (n : NodeValue). n.passes) has.after }
-node_inserted old new seen entry (inr refused) = node_left old new refused.0 refused.2
+pub node_inserted : (old new : NodeValue) (seen : FrontValue) (entry : Entry) (kept : Option Kept) → CallerInsertLeads seen entry old new kept → KeepsNode old new
+node_inserted old new seen entry (Some kept) has = record { row = has.longer.events; passes = ap (λ (n : NodeValue). n.passes) has.after }
+node_inserted old new seen entry None refused = node_left old new refused.0 refused.2
 
 -- the ports with the node after such a step
 pub ports_with_node : (p : CallerPorts) (node : NodeValue) → AreCallerPorts p → KeepsNode p.node node → AreCallerPorts (record p { node = node })
 ports_with_node p node are keeps = record { cushion = are.cushion; node = keeps.row ∙ are.node; pass = keeps.passes ∙ are.pass }
 
 -- what a hit shows is of the row
-pub hit_row : (old new : NodeValue) (key : Call) (lo hi : ℕ) (hit : Option (Answered Shown)) (row : List ℕ) → old.seen.events ≡ row → CallerLookupLeads key lo hi old new hit
+pub hit_row : (old new : NodeValue) (key : Call) (lo hi : ℕ) (hit : Option (Answered Shown)) (row : Name) → old.seen.events ≡ row → CallerLookupLeads key lo hi old new hit
     → IfSome hit (λ h. h.front.events ≡ row)
 hit_row old new key lo hi (Some hit) row is leads = ap (λ (f : FrontValue). f.events) leads.2 ∙ is
 hit_row old new key lo hi None row is leads = tt
@@ -87,9 +89,9 @@ module _ (next : Next) (seen : FrontValue) (old new : CallerPorts) where
     events = ap (λ (p : CallerPorts). p.database.events) same;
   }
 
-  pub asked_unpin : (stamp : ℕ) → new.database.events ≡ old.database.events → CallerUnpinLeads stamp old new
-      → HasAskedPorts next seen (requests.Unpin stamp) old new replies.Unpin
-  asked_unpin stamp events h = record {
+  pub asked_unpin : (stamp : ℕ) (unpinned : Result (Unit {0}) DbError) → new.database.events ≡ old.database.events → CallerUnpinLeads stamp old new unpinned
+      → HasAskedPorts next seen (requests.Unpin stamp) old new (replies.Unpin unpinned)
+  asked_unpin stamp unpinned events h = record {
     answer = tt;
     row = for_none (λ (f : FrontValue). f.events ≡ old.database.events);
     leads = h;
@@ -127,9 +129,9 @@ module _ (next : Next) (seen : FrontValue) (old new : CallerPorts) where
     events = ap (λ (p : CallerPorts). p.database.events) same;
   }
 
-  pub asked_insert : (node : ℕ) (entry : Entry) → new ≡ record old { node = new.node } → CallerInsertLeads seen entry old.node new.node
-      → HasAskedPorts next seen (requests.Insert node entry) old new replies.Insert
-  asked_insert node entry same h = record {
+  pub asked_insert : (node : ℕ) (entry : Entry) (kept : Option Kept) → new ≡ record old { node = new.node }
+      → CallerInsertLeads seen entry old.node new.node kept → HasAskedPorts next seen (requests.Insert node entry) old new (replies.Insert kept)
+  asked_insert node entry kept same h = record {
     answer = tt;
     row = for_none (λ (f : FrontValue). f.events ≡ old.database.events);
     leads = (same, h);

@@ -1,9 +1,10 @@
 -- What the turns of a call leave, and what a kept reply is.
-use Rattle.std.proofs.Common.{◌≡◌, ◌∙◌, ℕ, List, [], ◌∷◌, ◌++◌, Bool, true, false, Option, Some, None, refl, ap, sym, subst}
+use Rattle.std.proofs.Common.{◌≡◌, ◌∙◌, List, [], ◌∷◌, ◌++◌, Bool, true, false, Option, Some, None, Ok, Err, refl, ap, sym, subst}
 use Rattle.std.specs.Option.{ForSome}
 use Rattle.std.specs.List.{list_any}
 use Rattle.std.specs.Prelude.{if◌then◌else◌}
 use mathlib.Core.List.{IsPrefix}
+use Rattle.txc_stream.specs.Names.{Name}
 use Rattle.txc_stream.proofs.Offered.{prefix_self, prefix_trans}
 use Rattle.txc_tags.specs.Keys.{Call}
 use Rattle.txc_db.specs.History.{History}
@@ -18,10 +19,9 @@ use Rattle.txc_ports.specs.declared.recorded.Recorded.{Recorded}
 use Rattle.txc_ports.specs.declared.request.PortRequest.{PortRequest}
 use Rattle.txc_ports.specs.declared.reply.PortReply.{PortReply}
 use Rattle.txc_ports.specs.declared.reply.PortReply.TheVariants as replies
-use Rattle.txc_ports.specs.declared.turn.Turn.{Turn}
-use Rattle.txc_ports.specs.declared.turn.Turn.TheVariants.{Ask, Value, Rows, Refused}
+use Rattle.txc_ports.specs.declared.turn.Turn.TheVariants.{Ask, Ended}
 use Rattle.txc_ports.specs.Fronts.{front_of_reply}
-use Rattle.txc_ports.specs.Turns.{IsAsk}
+use Rattle.txc_ports.specs.Turns.{PortTurn}
 use Rattle.txc_txn.specs.Core.{CoreValue, open_call, recorded_after, IsIdle, IsNoValue, IsTurn, KeepsSettings}
 use Rattle.txc_txn.specs.Kept.{TxnValue, HasBegunCall, HasGoneOn, IsShownRight}
 use Rattle.txc_txn.proofs.Offered.{adds_next, adds_none}
@@ -67,7 +67,7 @@ keeps_given_up old new functions same = record {
 
 -- ---- a call goes on
 
-module _ (next : Next) (row : List ℕ) (old new : TxnValue) (reply : PortReply) (turn : Turn) (on : HasGoneOn next old reply new turn) where
+module _ (next : Next) (row : Name) (old new : TxnValue) (reply : PortReply) (turn : PortTurn) (on : HasGoneOn next old reply new turn) where
   pub going_next : ForSome (front_of_reply reply) (λ (f : FrontValue). f.events ≡ row) → old.core.seen.events ≡ row → old.core.nodes ≡ 1 → IsGoing row new.core turn
   going_next of events nodes = record {
     fits = on.turn_fits;
@@ -88,10 +88,10 @@ module _ (next : Next) (row : List ℕ) (old new : TxnValue) (reply : PortReply)
 -- ---- a request is passed
 
 -- a turn that stays
-pub passed_self : (row : List ℕ) (t : TxnValue) (turn : Turn) → IsGoing row t.core turn → HasPassed row t turn t turn
+pub passed_self : (row : Name) (t : TxnValue) (turn : PortTurn) → IsGoing row t.core turn → HasPassed row t turn t turn
 passed_self row t turn going = record { going = going; of_call = λ before k of. of; keeps = keeps_self t }
 
-pub passed_then : (row : List ℕ) (a b c : TxnValue) (x y z : Turn) → HasPassed row a x b y → HasPassed row b y c z → HasPassed row a x c z
+pub passed_then : (row : Name) (a b c : TxnValue) (x y z : PortTurn) → HasPassed row a x b y → HasPassed row b y c z → HasPassed row a x c z
 passed_then row a b c x y z one two = record {
   going = two.going;
   of_call = λ before k of. two.of_call before k (one.of_call before k of);
@@ -99,7 +99,7 @@ passed_then row a b c x y z one two = record {
 }
 
 -- a request that was made, and gone on with
-pub passed_next : (next : Next) (row : List ℕ) (old new : TxnValue) (request : PortRequest) (reply : PortReply) (turn : Turn) → HasGoneOn next old reply new turn
+pub passed_next : (next : Next) (row : Name) (old new : TxnValue) (request : PortRequest) (reply : PortReply) (turn : PortTurn) → HasGoneOn next old reply new turn
     → ForSome (front_of_reply reply) (λ (f : FrontValue). f.events ≡ row) → old.core.seen.events ≡ row → old.core.nodes ≡ 1
     → HasPassed row old (Ask request) new turn
 passed_next next row old new request reply turn on of events nodes = record {
@@ -110,13 +110,12 @@ passed_next next row old new request reply turn on of events nodes = record {
 
 -- ---- a call begins
 
-no_value : (recorded : List Recorded) (turn : Turn) (k : Option Call) → IsNoValue turn → recorded_after recorded turn k ≡ recorded
+no_value : (recorded : List Recorded) (turn : PortTurn) (k : Option Call) → IsNoValue turn → recorded_after recorded turn k ≡ recorded
 no_value recorded (Ask request) k none = refl
-no_value recorded (Value value) k none = absurd none
-no_value recorded (Rows rows) k none = refl
-no_value recorded (Refused error) k none = refl
+no_value recorded (Ended (Ok value)) k none = absurd none
+no_value recorded (Ended (Err error)) k none = refl
 
-module _ (row : List ℕ) (old new : TxnValue) (k : Call) (turn : Turn) (on : HasBegunCall old k new turn) where
+module _ (row : Name) (old new : TxnValue) (k : Call) (turn : PortTurn) (on : HasBegunCall old k new turn) where
   pub going_begun : old.core.seen.events ≡ row → old.core.nodes ≡ 1 → IsGoing row new.core turn
   going_begun events nodes = record {
     fits = on.turn_fits;
@@ -163,6 +162,6 @@ module _ (next : Next) (t : TxnValue) where
   kept_counted members (replies.Lookup None) kept = kept
   kept_counted members (replies.Pin pinned) kept = kept
   kept_counted members (replies.AddPin pinned added) kept = kept
-  kept_counted members replies.Unpin kept = kept
+  kept_counted members (replies.Unpin unpinned) kept = kept
   kept_counted members (replies.Query found) kept = kept
-  kept_counted members replies.Insert kept = kept
+  kept_counted members (replies.Insert stored) kept = kept

@@ -1,16 +1,16 @@
 -- The plain ports of a caller: a database, a pincushion and one node.
-use Rattle.std.specs.Prelude.{◌≡◌, ◌⊎◌, ◌≤◌, ℕ, Option, Some, None, Result, Ok, Err, [], ◌∷◌, List}
+use Rattle.std.specs.Prelude.{◌≡◌, ◌⊎◌, ◌≤◌, ℕ, true, Option, Some, None, Result, Ok, Err, [], ◌∷◌}
 use Rattle.txc_tags.specs.Keys.{Call}
 use Rattle.txc_rows.specs.declared.query.Query.{Query as RowQuery}
 use Rattle.txc_rows.specs.RowTags.{query_tag}
 use Rattle.txc_validity.specs.declared.answer.Found.{Found}
 use Rattle.txc_validity.specs.Answers.{IsAnswer}
-use Rattle.txc_node.specs.Cache.{lookup_answer}
+use Rattle.txc_node.specs.Cache.{lookup_answer, outcome}
 use Rattle.txc_node.specs.declared.entry.Entry.{Entry}
 use Rattle.txc_node.specs.declared.hit.Shown.{Shown}
 use Rattle.txc_node.specs.declared.op.Op.TheVariants.{Insert, Lookup}
-use Rattle.txc_db.specs.Calls.{IsLeft, IsQueryRefused, IsPinRefused}
-use Rattle.txc_db.specs.DatabaseValue.{DatabaseValue, after_pin, after_unpin, front_of, newest}
+use Rattle.txc_db.specs.Calls.{IsLeft, IsQueryRefused, IsPinRefused, IsUnpinRefused}
+use Rattle.txc_db.specs.DatabaseValue.{DatabaseValue, after_pin, after_unpin, front_of, is_held, newest}
 use Rattle.txc_db.specs.History.{moment_at, state_at}
 use Rattle.txc_db.specs.Seen.{FrontValue}
 use Rattle.txc_db.specs.declared.answered.Answered.{Answered}
@@ -20,9 +20,13 @@ use Rattle.txc_cushion.specs.declared.error.AddError.{AddError}
 use Rattle.txc_cushion.specs.Cushion.{CushionValue, after_add}
 use Rattle.txc_cushion.specs.Refusals.{IsAddRefused}
 use Rattle.txc_app.specs.Eval.{Next}
-use Rattle.txc_shared.specs.Nodes.{NodeValue, after_call, seeing, IsLonger}
+use Rattle.txc_shared.specs.Nodes.{NodeValue, after_call, seeing, insertion_of, IsLonger}
 use Rattle.txc_shared.specs.Refusals.{IsLookupRefused, IsNodeLeft, IsStepRefused}
 use Rattle.txc_shared.specs.declared.error.NodeError.{NodeError}
+use Rattle.txc_shared.specs.declared.insertion.Insertion.{Insertion}
+use Rattle.txc_shared.specs.declared.insertion.Insertion.TheVariants as insertions
+use Rattle.txc_ports.specs.declared.kept.Kept.{Kept}
+use Rattle.txc_ports.specs.declared.kept.Kept.TheVariants as kepts
 use Rattle.txc_ports.specs.Asking.{IsFoundOver, IsOfRow, IsReplyTo}
 use Rattle.txc_ports.specs.declared.request.PortRequest.{PortRequest}
 use Rattle.txc_ports.specs.declared.reply.PortReply.{PortReply}
@@ -67,9 +71,11 @@ abbrev pub CallerAddLeads : {A : Type 0} → Pinned → CallerPorts → CallerPo
 CallerAddLeads pinned old new (Ok added) = new ≡ record old { cushion = after_add old.cushion pinned }
 CallerAddLeads pinned old new (Err e) = (new ≡ old) × IsAddRefused old.cushion pinned.stamp e
 
--- there is one hold of the stamp fewer; or there was none, and nothing has changed
-abbrev pub CallerUnpinLeads : ℕ → CallerPorts → CallerPorts → Type 0
-CallerUnpinLeads stamp old new = (new ≡ record old { database = after_unpin old.database stamp }) ⊎ (new ≡ old)
+-- there is one hold of the stamp fewer; or the database refused, and nothing has changed
+abbrev pub CallerUnpinLeads : {A : Type 0} → ℕ → CallerPorts → CallerPorts → Result A DbError → Type 0
+CallerUnpinLeads stamp old new (Ok unpinned) = (new ≡ record old { database = after_unpin old.database stamp })
+    × (is_held stamp old.database.holds ≡ true)
+CallerUnpinLeads stamp old new (Err e) = (new ≡ old) × IsUnpinRefused old.database stamp e
 
 -- ---- the database
 
@@ -99,18 +105,25 @@ CallerLookupLeads key lo hi old new None =
     ((new ≡ after_call old 0 (Lookup key lo hi)) × (lookup_answer old.cache key lo hi ≡ None))
     ⊎ HasRefusedLookup old lo hi new
 
--- the node has seen what the front shows, and then made the step of the insertion
-pub record HasTakenEntry (seen : FrontValue) (entry : Entry) (old new : NodeValue) : Type 0 where
+-- what a node keeps that made the insertion
+abbrev pub kept_as : Insertion → Kept
+kept_as (insertions.Stored reach) = kepts.Stored reach
+kept_as insertions.Kept = kepts.Earlier
+
+-- the node has seen what the front shows, and then made the step of the insertion, which answers what it keeps
+pub record HasTakenEntry (seen : FrontValue) (entry : Entry) (old new : NodeValue) (kept : Kept) : Type 0 where
   pub longer : IsLonger old.seen seen new.seen
   pub after : new ≡ after_call (seeing old new.seen) 0 (Insert entry)
+  pub answer : kept ≡ kept_as (insertion_of (outcome old.cache entry))
 
 -- the node refused the step
 abbrev pub HasRefusedStep : NodeValue → NodeValue → Type 0
 HasRefusedStep old new = (e : NodeError) × IsStepRefused old e × IsNodeLeft old new e
 
 -- the node takes the entry, as it is; or it refuses, and keeps nothing
-abbrev pub CallerInsertLeads : FrontValue → Entry → NodeValue → NodeValue → Type 0
-CallerInsertLeads seen entry old new = HasTakenEntry seen entry old new ⊎ HasRefusedStep old new
+abbrev pub CallerInsertLeads : FrontValue → Entry → NodeValue → NodeValue → Option Kept → Type 0
+CallerInsertLeads seen entry old new (Some kept) = HasTakenEntry seen entry old new kept
+CallerInsertLeads seen entry old new None = HasRefusedStep old new
 
 -- a step keeps the row of the node, and its passes
 pub record KeepsNode (old new : NodeValue) : Type 0 where
@@ -124,13 +137,13 @@ pub record KeepsNode (old new : NodeValue) : Type 0 where
 abbrev pub CallerExchangeLeads : FrontValue → CallerPorts → CallerPorts → Exchange → Type 0
 CallerExchangeLeads seen old new (exchanges.Pin now at_least pinned) = CallerPinLeads now at_least old new pinned
 CallerExchangeLeads seen old new (exchanges.AddPin pinned given added) = CallerAddLeads pinned old new added
-CallerExchangeLeads seen old new (exchanges.Unpin stamp) = CallerUnpinLeads stamp old new
+CallerExchangeLeads seen old new (exchanges.Unpin stamp unpinned) = CallerUnpinLeads stamp old new unpinned
 CallerExchangeLeads seen old new (exchanges.Lookup node key lo hi hit) =
     (new ≡ record old { node = new.node }) × CallerLookupLeads key lo hi old.node new.node hit
 CallerExchangeLeads seen old new (exchanges.Query query stamp found) =
     (new ≡ old) × CallerFindLeads query stamp old.database found
-CallerExchangeLeads seen old new (exchanges.Insert node entry) =
-    (new ≡ record old { node = new.node }) × CallerInsertLeads seen entry old.node new.node
+CallerExchangeLeads seen old new (exchanges.Insert node entry kept) =
+    (new ≡ record old { node = new.node }) × CallerInsertLeads seen entry old.node new.node kept
 
 -- The reply is one to the request, and right in the history that it shows, which is of the row; and so much comes of
 -- the request. The row stays.

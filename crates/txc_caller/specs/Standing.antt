@@ -1,8 +1,9 @@
 -- How a call stands whose functions the caller computes.
-use Rattle.std.specs.Prelude.{◌≡◌, ℕ, List, [], ◌∷◌, ◌++◌, Option, Some, None}
+use Rattle.std.specs.Prelude.{◌≡◌, List, [], ◌∷◌, ◌++◌, Option, Some, None}
 use Rattle.std.specs.Option.{ForSome}
 use mathlib.Core.List.{IsPrefix}
 use Rattle.txc_tags.specs.Keys.{Call}
+use Rattle.txc_stream.specs.Names.{Name}
 use Rattle.txc_app.specs.Eval.{Next}
 use Rattle.txc_app.specs.declared.ask.Ask.{Ask}
 use Rattle.txc_app.specs.declared.ask.Answer.{Answer}
@@ -10,11 +11,9 @@ use Rattle.txc_registry.specs.Activity.{answered, begun, next_of}
 use Rattle.txc_registry.specs.Objects.{Objects, activation_of, numbers_of}
 use Rattle.txc_ports.specs.declared.recorded.Recorded.{Recorded}
 use Rattle.txc_ports.specs.declared.reply.PortReply.{PortReply}
-use Rattle.txc_ports.specs.declared.turn.Turn.{Turn}
-use Rattle.txc_ports.specs.declared.turn.Turn.TheVariants as turns
-use Rattle.txc_ports.specs.Asking.{AddsSuch}
+use Rattle.txc_ports.specs.Asking.{TurnAddsSuch}
 use Rattle.txc_ports.specs.Fronts.{front_of_reply}
-use Rattle.txc_ports.specs.Turns.{IsAsk}
+use Rattle.txc_ports.specs.Turns.{PortTurn, IsAsk}
 use Rattle.txc_txn.specs.Core.{CoreValue, open_call, recorded_after, IsAnswered, IsIdle, IsTurn, KeepsSettings}
 use Rattle.txc_txn.specs.Kept.{TxnValue, IsShownRight}
 use Rattle.txc_caller.specs.declared.stand.Stand.{Stand}
@@ -27,14 +26,14 @@ pub record IsKeptBack (next : Next) (t : TxnValue) (reply : PortReply) : Type 0 
   pub right : IsShownRight next t reply
 
 -- the turn is one of the core's, a pin that it asks to add is of the row, and there is one node
-pub record IsGoing (row : List ℕ) (c : CoreValue) (turn : Turn) : Type 0 where
+pub record IsGoing (row : Name) (c : CoreValue) (turn : PortTurn) : Type 0 where
   pub fits : IsTurn c turn
-  pub adds : AddsSuch (λ front. front.events ≡ row) turn
+  pub adds : TurnAddsSuch (λ front. front.events ≡ row) turn
   pub events : c.seen.events ≡ row
   pub nodes : c.nodes ≡ 1
 
 -- the turn is of this call, before which these values were recorded
-pub record IsTurnOf (before : List Recorded) (k : Call) (c : CoreValue) (turn : Turn) : Type 0 where
+pub record IsTurnOf (before : List Recorded) (k : Call) (c : CoreValue) (turn : PortTurn) : Type 0 where
   pub begins : IsAsk turn → open_call c ≡ Some k
   pub recorded : c.recorded ≡ recorded_after before turn (Some k)
 
@@ -47,7 +46,7 @@ pub record KeepsOn (old new : TxnValue) : Type 0 where
 
 -- what comes of a turn whose request was made, if it was one about the pin of the present: another turn of the same
 -- call
-pub record HasPassed (row : List ℕ) (old : TxnValue) (turn : Turn) (new : TxnValue) (after : Turn) : Type 0 where
+pub record HasPassed (row : Name) (old : TxnValue) (turn : PortTurn) (new : TxnValue) (after : PortTurn) : Type 0 where
   pub going : IsGoing row new.core after
   pub of_call : (before : List Recorded) (k : Call) → IsTurnOf before k old.core turn → IsTurnOf before k new.core after
   pub keeps : KeepsOn old new

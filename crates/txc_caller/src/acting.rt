@@ -125,7 +125,9 @@ pub(crate) fn end_call<A: App, C: Suppliable>(ports: &mut Ports<A>, txn: &mut Ru
     ensures events { ports.new.database.events ≡ ports.old.database.events }
 {
     match txn.give_up() {
-        Some(stamp) => ports.unpin(stamp),
+        Some(stamp) => {
+            let _ = ports.unpin(stamp);
+        }
         None => (),
     }
 }

@@ -95,8 +95,8 @@ pub(crate) fn given_by(alloc: Global, reply: &PortReply) -> Result<Option<Answer
         PortReply::Query(Err(_)) => Ok(None),
         PortReply::Pin(_) => Ok(None),
         PortReply::AddPin(_, _) => Ok(None),
-        PortReply::Unpin => Ok(None),
-        PortReply::Insert => Ok(None),
+        PortReply::Unpin(_) => Ok(None),
+        PortReply::Insert(_) => Ok(None),
     }
 }
 
@@ -149,8 +149,8 @@ pub(crate) fn counted(reply: PortReply, members: &[Pin]) -> PortReply
         PortReply::Lookup(hit) => PortReply::Lookup(counted_lookup(hit, members)),
         PortReply::Pin(pinned) => PortReply::Pin(pinned),
         PortReply::AddPin(pinned, added) => PortReply::AddPin(pinned, added),
-        PortReply::Unpin => PortReply::Unpin,
+        PortReply::Unpin(unpinned) => PortReply::Unpin(unpinned),
         PortReply::Query(found) => PortReply::Query(found),
-        PortReply::Insert => PortReply::Insert,
+        PortReply::Insert(kept) => PortReply::Insert(kept),
     }
 }

@@ -263,7 +263,7 @@ impl<A: App, C: Suppliable> CallerTxn<A, C> {
         let mut ports = ports;
         ports.give_back(&left.give_back);
         if let Some(stamp) = left.unpin {
-            ports.unpin(stamp);
+            let _ = ports.unpin(stamp);
         }
         Caller {
             ports,

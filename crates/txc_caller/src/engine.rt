@@ -9,6 +9,7 @@ use crate::ports::Ports;
 use crate::stand::Stand;
 use std::alloc::Global;
 use txc_app::App;
+use txc_node::Value;
 use txc_ports::{PortReply, PortRequest, Turn};
 use txc_registry::Cacheable;
 use txc_tags::Key;
@@ -43,7 +44,7 @@ fn pass<A: App, C: Cacheable>(
     ports: &mut Ports<A>,
     txn: &mut RunningTxn<A, C>,
     request: PortRequest,
-) -> Turn
+) -> Turn<PortRequest, Value>
     requires { IsGoing ports.old.database.events txn.old.core (Turn.Ask request) }
     ensures passed { HasPassed ports.old.database.events txn.old (Turn.Ask request) txn.new result }
     ensures events { ports.new.database.events ≡ ports.old.database.events }
@@ -58,7 +59,7 @@ fn pass_request<A: App, C: Cacheable>(
     ports: &mut Ports<A>,
     txn: &mut RunningTxn<A, C>,
     request: PortRequest,
-) -> Turn
+) -> Turn<PortRequest, Value>
     requires { IsGoing ports.old.database.events txn.old.core (Turn.Ask request) }
     ensures passed { HasPassed ports.old.database.events txn.old (Turn.Ask request) txn.new result }
     ensures events { ports.new.database.events ≡ ports.old.database.events }
@@ -74,17 +75,15 @@ fn pass_pin<A: App, C: Cacheable>(
     alloc: Global,
     ports: &mut Ports<A>,
     txn: &mut RunningTxn<A, C>,
-    turn: Turn,
-) -> Turn
+    turn: Turn<PortRequest, Value>,
+) -> Turn<PortRequest, Value>
     requires { IsGoing ports.old.database.events txn.old.core turn }
     ensures passed { HasPassed ports.old.database.events txn.old turn txn.new result }
     ensures events { ports.new.database.events ≡ ports.old.database.events }
 {
     match turn {
         Turn::Ask(request) => pass_request(alloc, ports, txn, request),
-        Turn::Value(value) => Turn::Value(value),
-        Turn::Rows(rows) => Turn::Rows(rows),
-        Turn::Refused(error) => Turn::Refused(error),
+        Turn::Ended(result) => Turn::Ended(result),
     }
 }
 
@@ -93,7 +92,7 @@ fn stop<A: App, C: Cacheable>(
     alloc: Global,
     ports: &mut Ports<A>,
     txn: &RunningTxn<A, C>,
-    turn: Turn,
+    turn: Turn<PortRequest, Value>,
 ) -> Stand
     requires { IsGoing ports.old.database.events txn.now.core turn }
     ensures stands { (before : List Recorded) (k : Call) → IsTurnOf before k txn.now.core turn
@@ -102,9 +101,8 @@ fn stop<A: App, C: Cacheable>(
 {
     match turn {
         Turn::Ask(request) => Stand::Kept(asked(alloc, ports, txn, request)),
-        Turn::Value(value) => Stand::Value(value),
-        Turn::Refused(error) => Stand::Refused(error),
-        Turn::Rows(_) => unreachable!(),
+        Turn::Ended(Ok(value)) => Stand::Value(value),
+        Turn::Ended(Err(error)) => Stand::Refused(error),
     }
 }
 
@@ -113,7 +111,7 @@ fn lead<A: App, C: Cacheable>(
     alloc: Global,
     ports: &mut Ports<A>,
     txn: &mut RunningTxn<A, C>,
-    turn: Turn,
+    turn: Turn<PortRequest, Value>,
 ) -> Stand
     requires { IsGoing ports.old.database.events txn.old.core turn }
     ensures stands { (before : List Recorded) (k : Call) → IsTurnOf before k txn.old.core turn

@@ -2,13 +2,14 @@
 ghost use Rattle.std.specs.Prelude.{◌≡◌, IfSome};
 ghost use Rattle.txc_app.specs.Claims.{IsTrueIn, entry_shown};
 ghost use Rattle.txc_shared.specs.Passes.{shown_of_entry};
-ghost use Rattle.txc_caller.specs.Ports.{CallerInsertLeads, KeepsNode, CallerLookupLeads};
+ghost use Rattle.txc_caller.specs.Ports.{kept_as, CallerInsertLeads, KeepsNode, CallerLookupLeads};
 
 use std::alloc::Global;
 use txc_app::App;
 use txc_db::{Answered, HistoryFront};
 use txc_node::{Entry, Shown};
-use txc_shared::{Advanced, Finding, StoredNode};
+use txc_ports::Kept;
+use txc_shared::{Advanced, Finding, Insertion, StoredNode};
 use txc_stamp::Stamp;
 use txc_tags::Key;
 
@@ -52,21 +53,31 @@ pub(crate) fn look_up<A: App>(
     }
 }
 
+// What a node keeps that made the insertion.
+fn kept_as(insertion: Insertion) -> Kept
+    ensures { result ≡ kept_as insertion }
+{
+    match insertion {
+        Insertion::Stored(reach) => Kept::Stored(reach),
+        Insertion::Kept => Kept::Earlier,
+    }
+}
+
 /// Gives the node an entry to keep, which is true in what the front shows. A node that refuses keeps nothing.
 pub(crate) fn insert<A: App>(
     alloc: Global,
     node: &mut StoredNode<A>,
     entry: Entry,
     seen: &HistoryFront,
-)
+) -> Option<Kept>
     requires pass { node.old.passes ≡ 1 }
     requires row { seen.now.events ≡ node.old.seen.events }
     requires is_true { IsTrueIn A.next seen.now.history entry }
-    ensures { CallerInsertLeads seen.now entry node.old node.new }
+    ensures { CallerInsertLeads seen.now entry node.old node.new result }
 {
     match node.insert(alloc, 0, entry, seen) {
-        Ok(_) => (),
-        Err(_) => (),
+        Ok(insertion) => Some(kept_as(insertion)),
+        Err(_) => None,
     }
 }
 

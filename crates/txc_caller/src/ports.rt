@@ -21,7 +21,7 @@ use txc_app::laws::found_rows_give_true_entries;
 use txc_cushion::{AddError, CushionCore, Pins};
 use txc_db::{Answered, DbCore, DbError, HistoryFront, Pinned};
 use txc_node::{Entry, Shown};
-use txc_ports::{PortReply, PortRequest};
+use txc_ports::{Kept, PortReply, PortRequest};
 use txc_rows::{Change, Query, Row};
 use txc_shared::{NodeSettings, StoredNode};
 use txc_stamp::Stamp;
@@ -155,13 +155,13 @@ impl<A: App> Ports<A> {
     }
 
     // Gives the node an entry to keep.
-    fn insert(&mut self, alloc: Global, entry: Entry, seen: &HistoryFront)
+    fn insert(&mut self, alloc: Global, entry: Entry, seen: &HistoryFront) -> Option<Kept>
         requires row { seen.now.events ≡ self.old.database.events }
         requires is_true { IsTrueIn A.next seen.now.history entry }
         ensures same { self.new ≡ record self.old { node = self.new.node } }
-        ensures leads { CallerInsertLeads seen.now entry self.old.node self.new.node }
+        ensures leads { CallerInsertLeads seen.now entry self.old.node self.new.node result }
     {
-        nodes::insert(alloc, &mut self.node, entry, seen);
+        nodes::insert(alloc, &mut self.node, entry, seen)
     }
 
     // Adds a pin to the pincushion.
@@ -176,16 +176,16 @@ impl<A: App> Ports<A> {
         }
     }
 
-    /// Takes one hold of the stamp away, where there is one.
-    pub(crate) fn unpin(&mut self, stamp: Stamp)
-        ensures leads { CallerUnpinLeads stamp self.old self.new }
+    /// Takes one hold of the stamp away.
+    pub(crate) fn unpin(&mut self, stamp: Stamp) -> Result<(), DbError>
+        ensures leads { CallerUnpinLeads stamp self.old self.new result }
         ensures history { self.new.database.history ≡ self.old.database.history }
         ensures events { self.new.database.events ≡ self.old.database.events }
         ensures same { self.new ≡ record self.old { database = self.new.database } }
     {
         match self.database.unpin(stamp) {
-            Ok(()) => (),
-            Err(_) => (),
+            Ok(()) => Ok(()),
+            Err(refusal) => Err(refusal),
         }
     }
 
@@ -272,8 +272,8 @@ impl<A: App> Ports<A> {
     fn ask_unpin(&mut self, stamp: Stamp) -> PortReply
         ensures { (seen : FrontValue) → HasAskedPorts A.next seen (PortRequest.Unpin stamp) self.old self.new result }
     {
-        self.unpin(stamp);
-        PortReply::Unpin
+        let unpinned = self.unpin(stamp);
+        PortReply::Unpin(unpinned)
     }
 
     fn ask_lookup(
@@ -312,8 +312,8 @@ impl<A: App> Ports<A> {
         ensures { HasAskedPorts A.next seen.now (PortRequest.Insert node entry) self.old self.new result }
     {
         let _node = node;
-        self.insert(alloc, entry, seen);
-        PortReply::Insert
+        let kept = self.insert(alloc, entry, seen);
+        PortReply::Insert(kept)
     }
 
     /// Asks what a transaction asks. It has seen that much of the history.

@@ -1,19 +1,20 @@
-use Rattle.std.proofs.Common.{◌∙◌, List, ℕ, subst, sym}
+use Rattle.std.proofs.Common.{◌∙◌, subst, sym}
+use Rattle.txc_stream.specs.Names.{Name}
 use Rattle.txc_caller.specs.Standing.{IsGoing}
 use Rattle.txc_caller.proofs.Turning.{keeps_then}
 use Rattle.txc_caller.proofs.engine.lead.Goals as goal
 
 pub pass_pin-second-requires : goal.pass_pin-second-requires
 pass_pin-second-requires g c =
-    subst (λ (row : List ℕ). IsGoing row c.pass_pin-first.new.txn.core c.pass_pin-first.result) (sym c.pass_pin-first.ensures.events) c.pass_pin-first.ensures.passed.going
+    subst (λ (row : Name). IsGoing row c.pass_pin-first.new.txn.core c.pass_pin-first.result) (sym c.pass_pin-first.ensures.events) c.pass_pin-first.ensures.passed.going
 
 pub pass_pin-third-requires : goal.pass_pin-third-requires
 pass_pin-third-requires g c =
-    subst (λ (row : List ℕ). IsGoing row c.pass_pin-second.new.txn.core c.pass_pin-second.result) (sym c.pass_pin-second.ensures.events) c.pass_pin-second.ensures.passed.going
+    subst (λ (row : Name). IsGoing row c.pass_pin-second.new.txn.core c.pass_pin-second.result) (sym c.pass_pin-second.ensures.events) c.pass_pin-second.ensures.passed.going
 
 pub stop-requires : goal.stop-requires
 stop-requires g c =
-    subst (λ (row : List ℕ). IsGoing row c.pass_pin-third.new.txn.core c.pass_pin-third.result) (sym c.pass_pin-third.ensures.events) c.pass_pin-third.ensures.passed.going
+    subst (λ (row : Name). IsGoing row c.pass_pin-third.new.txn.core c.pass_pin-third.result) (sym c.pass_pin-third.ensures.events) c.pass_pin-third.ensures.passed.going
 
 pub returns-clause-stands : goal.returns-clause-stands
 returns-clause-stands g c = λ before k of.

@@ -9,8 +9,8 @@ insert-requires-clause-row g c = c.requires.row ∙ sym (c.self.invariant.node �
 pub invariant_of-self : goal.invariant_of-self
 invariant_of-self g c =
     let p : CallerPorts = record { database = c.self.inside.database; cushion = c.self.inside.cushion; node = c.self.inside.node } in
-    ports_with_node p c.insert.new.node c.self.invariant (node_inserted p.node c.insert.new.node c.args.seen.now c.args.entry c.insert.ensures)
+    ports_with_node p c.insert.new.node c.self.invariant (node_inserted p.node c.insert.new.node c.args.seen.now c.args.entry c.insert.result c.insert.ensures)
 
 pub returns-clause-leads : goal.returns-clause-leads
 returns-clause-leads g c =
-    subst (λ (p : CallerPorts). CallerInsertLeads c.args.seen.now c.args.entry p.node c.insert.new.node) c.self.view_is c.insert.ensures
+    subst (λ (p : CallerPorts). CallerInsertLeads c.args.seen.now c.args.entry p.node c.insert.new.node c.insert.result) c.self.view_is c.insert.ensures
