@@ -1,4 +1,4 @@
-use Rattle.std.proofs.Common.{◌≡◌, ◌∙◌, rules, Bool, true, false, List, Option, Some, None, ap, subst, sym}
+use Rattle.std.proofs.Common.{◌≡◌, ◌∙◌, true, false, List, Option, Some, None, refl, ap, subst, sym}
 use Rattle.std.specs.Prelude.{MatchOption, Result, Err, is_some, not}
 use Rattle.txc_tags.specs.Keys.{Call}
 use Rattle.txc_ports.specs.declared.recorded.Recorded.{Recorded}
@@ -12,7 +12,7 @@ use Rattle.txc_caller.proofs.caller_txn.CallerTxn.call.Goals as goal
 
 -- without an open call the step is of this one
 top_alone : (doing : Option OpenCall) (k : Call) → is_some doing ≡ false → top_or doing k ≡ k
-top_alone None k none = search rules
+top_alone None k none = refl
 top_alone (Some o) k none = absurd (cc none)
 
 -- else of the outermost
