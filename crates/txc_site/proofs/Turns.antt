@@ -70,7 +70,7 @@ next_so room numbers gs g (generations.Ended error) h = absurd h
 next_so room numbers gs g (generations.Carry error) h = (gs, g, refl, h)
 next_so room numbers gs g generations.Memory h = tt
 
-module _ {T : Type 0} (plan : Plan) (count : ℕ) (numbers : List ℕ) (gives : Plan → List ℕ → ℕ → T → Type 0) (goes : Generation T → Bool → Type 0)
+module _ {T : Type 0} (plan : Plan) (count : ℕ) (numbers : List ℕ) (gives : Plan → Name → ℕ → T → Type 0) (goes : Generation T → Bool → Type 0)
     (opened : FrontValue) where
   -- After each of the generations that came, the visitors wanted another. One that begins with this front comes next.
   pub record HaveGoneOn (came : List (Vec T Global)) (begun : FrontValue) : Type 0 where

@@ -5,6 +5,7 @@ ghost use Rattle.txc_cushion.specs.Shared.{CushionMayAnswer};
 ghost use Rattle.txc_db.specs.Calls.{IsHoldRefused, IsPinRefused, IsVacuumRefused};
 ghost use Rattle.txc_db.specs.History.{event_at, pin_event};
 ghost use Rattle.txc_db.specs.DatabaseValue.{next_horizon};
+ghost use Rattle.txc_db.specs.Room.{events_room};
 ghost use Rattle.txc_db.specs.Shared.{MayAnswer, MayRefuse};
 ghost use Rattle.txc_site.specs.Keeping.{HasKeptNode, HasSwept, HasTakenEvents, HaveKept, ok_of};
 ghost use Rattle.txc_site.specs.Plans.{nodes_of};
@@ -269,7 +270,7 @@ impl<'a, A: App, J: Naming> Keeper<'a, A, J> {
     ) -> (Result<Kept<J>, DbError>, Self)
         ensures row { IfOk result.0 (λ kept. kept.seen.events ≡ J.database_history) }
         ensures events_left { IfOk result.0 (λ kept.
-            kept.events_left + length kept.seen.history ≡ length J.database_history) }
+            kept.events_left + length kept.seen.history ≡ events_room J.database_history) }
         ensures pinned { IfOk result.0 (λ kept. IfOk kept.pinned (λ stamp.
             event_at kept.seen.history stamp ≡ Some (pin_event now))) }
         ensures not_pinned { IfOk result.0 (λ kept. IfErr kept.pinned
