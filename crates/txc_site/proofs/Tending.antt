@@ -1,6 +1,6 @@
 -- What the keeper of a site that keeps itself did, one keep more.
 use Rattle.std.proofs.Common.{◌≡◌, ℕ, List, [], ◌∷◌, Option, Some, None, refl, sym, subst}
-use Rattle.std.specs.Prelude.{Result, Ok, Err, IfOk, IfErr, OnErr}
+use Rattle.std.specs.Prelude.{Result, Ok, Err, IfOk, IfErr}
 use Rattle.txc_shared.specs.declared.settings.NodeSettings.{NodeSettings}
 use Rattle.txc_stream.specs.Names.{Name}
 use Rattle.txc_site.specs.declared.error.SiteError.{SiteError}
@@ -33,9 +33,6 @@ ok_at {T} {E} P r x is h = subst (λ (s : Result T E). IfOk s P) is h
 
 pub err_at : {T E : Type 0} (P : E → Type 0) (r : Result T E) (e : E) → r ≡ Err e → IfErr r P → P e
 err_at {T} {E} P r e is h = subst (λ (s : Result T E). IfErr s P) is h
-
-pub on_err_at : {T E : Type 0} (P : Type 0) (r : Result T E) (e : E) → r ≡ Err e → OnErr r P → P
-on_err_at {T} {E} P r e is h = subst (λ (s : Result T E). OnErr s P) is h
 
 -- what a site's own keeper came to, as its plan says
 module _ (plan : Plan) (tells : ℕ → Type 0) (row : Name) where

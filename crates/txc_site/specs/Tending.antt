@@ -1,25 +1,14 @@
 -- What the keeper of a site that keeps itself did.
-use Rattle.std.specs.Prelude.{◌≡◌, ◌⊎◌, ℕ, List, [], ◌∷◌, All, IfErr, IfOk, None, Option, Result, Some, Vec, map}
-use Rattle.std.specs.declared.alloc.AllocError.{AllocError}
-use Rattle.std.specs.declared.alloc.Global.{Global}
-use Rattle.txc_cushion.specs.Cushion.{retired}
-use Rattle.txc_cushion.specs.Shared.{CushionMayAnswer}
+use Rattle.std.specs.Prelude.{◌≡◌, ◌⊎◌, ℕ, List, [], ◌∷◌, All, IfErr, IfOk, None, Option, Result, Some, map}
 use Rattle.txc_db.specs.declared.error.DbError.{DbError}
-use Rattle.txc_db.specs.declared.error.DbError.TheVariants as databases
-use Rattle.txc_db.specs.Calls.{IsHoldRefused, IsPinRefused, IsVacuumRefused}
-use Rattle.txc_db.specs.DatabaseValue.{next_horizon}
-use Rattle.txc_db.specs.History.{event_at, pin_event}
-use Rattle.txc_db.specs.Seen.{FrontValue}
-use Rattle.txc_db.specs.Shared.{MayAnswer, MayRefuse}
 use Rattle.txc_shared.specs.declared.settings.NodeSettings.{NodeSettings}
 use Rattle.txc_stream.specs.Names.{Name}
 use Rattle.txc_site.specs.Counted.{counted_again}
 use Rattle.txc_site.specs.declared.error.SiteError.{SiteError}
-use Rattle.txc_site.specs.declared.keeper.KeptNode.{KeptNode}
 use Rattle.txc_site.specs.declared.keeping.Keeping.{Keeping}
 use Rattle.txc_site.specs.declared.keeping.Tended.{Tended}
 use Rattle.txc_site.specs.declared.plan.Plan.{Plan}
-use Rattle.txc_site.specs.Keeping.{HaveKept, ok_of}
+use Rattle.txc_site.specs.Keeps.{IsKeep, IsNoKeep, KeepTold}
 use Rattle.txc_site.specs.Plans.{nodes_of}
 use Rattle.txc_site.specs.Sites.{IsKeeperRefused}
 use Rattle.txc_site.specs.Stations.{StationValue}
@@ -34,29 +23,6 @@ pub record IsNewOwnKeeper (all : List NodeSettings) (own : OwnKeeperValue) : Typ
   pub nodes : map (λ s. s.pass.settings) own.stations ≡ all
   pub records : All (λ s. s.pass.records ≡ []) own.stations
   pub tended : own.tended ≡ record { keeps = 0; refused = None }
-
--- what a keep that was not refused tells
-pub record KeepTold : Type 0 where
-  pub seen : FrontValue
-  pub pinned : Result ℕ DbError
-  pub retired : Result (Vec ℕ Global) AllocError
-  pub horizon : Result ℕ DbError
-  pub nodes : List KeptNode
-
--- it was of this moment, took away pins older than this age, and did so with the nodes
-pub record IsKeep (row : Name) (histories : ℕ → Name) (now age : ℕ) (old : List StationValue) (told : KeepTold) (new : List StationValue) : Type 0 where
-  pub seen : told.seen.events ≡ row
-  pub pinned : IfOk told.pinned (λ stamp. event_at told.seen.history stamp ≡ Some (pin_event now))
-  pub not_pinned : IfErr told.pinned (MayRefuse row (λ d. IsPinRefused d 0))
-  pub retired : IfOk told.retired (CushionMayAnswer row (λ c stamps. stamps.items ≡ retired c now age))
-  pub horizon : IfOk told.horizon (MayAnswer row (λ d horizon. horizon ≡ next_horizon d))
-  pub no_horizon : IfErr told.horizon (MayRefuse row IsVacuumRefused)
-  pub nodes : HaveKept histories (ok_of told.horizon) old told.nodes new
-
--- a keep did nothing, for this reason
-pub record IsNoKeep (row : Name) (old : List StationValue) (error : DbError) (new : List StationValue) : Type 0 where
-  pub refused : (error ≡ databases.Memory) ⊎ MayRefuse row IsHoldRefused error
-  pub same : new ≡ old
 
 -- what a keeper came to, with one keep more
 abbrev pub tended_after : Tended → Option DbError → Tended
