@@ -19,7 +19,7 @@ use Rattle.txc_txn.specs.Sessions.{IsAtLeast}
 use Rattle.txc_client.specs.Laws.{asks, own_records, AreLeftBy, HasAdded}
 use Rattle.txc_client.specs.Ports.{HaveGrown}
 use Rattle.txc_client.specs.Run.{HasRun}
-use Rattle.txc_client.specs.Txn.{ClientValue, RoTxnValue, client_of, HasBegunCore}
+use Rattle.txc_client.specs.Txn.{ClientValue, RoTxnValue, client_of}
 pub use Rattle.txc_client.proofs.Grown.{have_grown_self, have_grown_then}
 use Rattle.txc_client.proofs.Standing.{calls_stand_once}
 use Rattle.txc_site.specs.declared.error.ReadError.TheVariants as reads
@@ -32,16 +32,16 @@ settings_stay a b c h k = record { bounds = k.bounds ∙ h.bounds; renew_after =
 module _ (next : Next) (row : Name) (histories : ℕ → Name) where
   module _ (client : ClientValue) (bounds : Bounds) where
     -- no call was made
-    pub none_called : (t : RoTxnValue) (c : ClientValue) (b : Bounds) → client_of t ≡ c → c ≡ client → HasBegunCore row b t.txn.core → b ≡ bounds
-        → HasCalled next row histories client bounds t
-    none_called t c b of its begun same = record {
+    pub none_called : (t : RoTxnValue) (c : ClientValue) (b : Bounds) → client_of t ≡ c → c ≡ client → t.txn.core.bounds ≡ b → b ≡ bounds
+        → t.txn.core.recorded ≡ [] → HasCalled next row histories client bounds t
+    none_called t c b of its limited same none = record {
       first = t;
       calls = [];
       began = of ∙ its;
-      bounded = begun.bounds ∙ same;
-      none = begun.recorded;
+      bounded = limited ∙ same;
+      none = none;
       made = refl;
-      answered = begun.recorded;
+      answered = none;
       settings = record { bounds = refl; renew_after = refl; nodes = refl };
       functions = refl;
     }

@@ -50,7 +50,3 @@ module _ (plan : Plan) (tells : ℕ → Type 0) (row : Name) where
   pub tended_at : (events : Name) (came : Option (Result Tended SiteError)) → events ≡ row → IsTendedAsPlanned plan tells row came
       → IsTendedAsPlanned plan tells events came
   tended_at events came same h = subst (λ (rows : Name). IsTendedAsPlanned plan tells rows came) (sym same) h
-
-  pub tended_on : (events : Name) (came : Option (Result Tended SiteError)) → row ≡ events → IsTendedAsPlanned plan tells row came
-      → IsTendedAsPlanned plan tells events came
-  tended_on events came same h = subst (λ (rows : Name). IsTendedAsPlanned plan tells rows came) same h

@@ -57,7 +57,7 @@ fn whole_front(core: &DbCore, seen: &HistoryFront) -> Result<HistoryFront, DbErr
 }
 
 /// One generation: it begins with this database, and ends once all threads have.
-#[tactic(auto, using(crate::proofs::Tending::tended_on))]
+#[tactic(auto, using(crate::proofs::Tending::tended_at))]
 fn generation<A, D, V, C, R>(
     rt: &R,
     alloc: Global,
