@@ -1,4 +1,4 @@
-use Rattle.std.proofs.Common.{◌≡◌, inl, inr, rules, subst}
+use Rattle.std.proofs.Common.{inl, inr, rules, subst}
 use Rattle.txc_site.specs.Keeps.{keep_told, IsKeep, IsNoKeep}
 use Rattle.txc_site.specs.Tending.{OwnKeeperValue}
 use Rattle.txc_site.proofs.Tending.{ok_at, err_at}
