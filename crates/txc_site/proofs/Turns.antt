@@ -1,11 +1,13 @@
 -- One generation more.
 use Rattle.std.proofs.Common.{◌≡◌, ◌⊎◌, inl, inr, ◌∙◌, ℕ, ◌+◌, ◌≤◌, Bool, true, false, List, [], ◌∷◌, ◌++◌, Result, Ok, Err, map, length, refl, sym, ap, subst, append-nil, length-append, arith}
-use Rattle.std.specs.Prelude.{All, Vec}
+use Rattle.std.specs.Prelude.{All, IfErr, Vec}
 use Rattle.std.specs.Result.{IsErrAnd}
 use Rattle.std.specs.declared.alloc.Global.{Global}
 use Rattle.std.proofs.lemmas.List.{length-map, map-append}
 use Rattle.std.proofs.lemmas.List.Elements.{All-nil, All-push}
 use mathlib.Core.List.{IsPrefix}
+use Rattle.txc_db.specs.declared.error.DbError.{DbError}
+use Rattle.txc_db.specs.declared.error.DbError.TheVariants as databases
 use Rattle.txc_db.specs.DatabaseValue.{DatabaseValue, after_vacuum, front_of}
 use Rattle.txc_db.specs.Seen.{FrontValue}
 use Rattle.txc_stream.specs.Names.{Name}
@@ -54,6 +56,18 @@ module _ {T : Type 0} where
 pub is_error : {U E : Type 0} (end : Result U E) (error : E) → IsErrAnd end (λ e. e ≡ error) → end ≡ Err error
 is_error (Ok u) error h = absurd h
 is_error {U} {E} (Err e) error h = ap (λ (x : E). Err x) h
+
+-- a database gave no front of its whole history
+pub no_front : {U : Type 0} (numbers : List ℕ) (end : Result U GenerationError) (error : DbError) → IsErrAnd end (λ e. e ≡ generations.Ended error)
+    → (error ≡ databases.Memory) ⊎ (error ≡ databases.Broken) → IfErr end (IsGenerationRefused numbers)
+no_front numbers (Ok u) error is h = tt
+no_front numbers (Err e) error is h = subst (IsGenerationRefused numbers) (sym is) h
+
+-- nor was there memory for that of the next one
+pub no_next_front : {U : Type 0} (room : ℕ) (ended : FrontValue) (end : Result U GenerationError) → IsErrAnd end (λ e. e ≡ generations.Memory)
+    → IfErr end (IsNextRefused room ended)
+no_next_front room ended (Ok u) is = tt
+no_next_front room ended (Err e) is = subst (IsNextRefused room ended) (sym is) tt
 
 -- what ends a generation ends all
 end_so : {T : Type 0} (room : ℕ) (numbers : List ℕ) (gs : List (Generation T)) (error : GenerationError) → IsGenerationRefused numbers error

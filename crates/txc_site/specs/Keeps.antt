@@ -27,8 +27,8 @@ pub record KeepTold : Type 0 where
   pub horizon : Result ℕ DbError
   pub nodes : List KeptNode
 
-abbrev pub told_of : {J : Type 0} → Kept J → KeepTold
-told_of kept = record {
+abbrev pub keep_told : {J : Type 0} → Kept J → KeepTold
+keep_told kept = record {
   seen = kept.seen;
   events_left = kept.events_left;
   pinned = kept.pinned;

@@ -6,7 +6,7 @@ ghost use Rattle.txc_db.specs.Calls.{IsHoldRefused, IsPinRefused};
 ghost use Rattle.txc_db.specs.History.{event_at, pin_event};
 ghost use Rattle.txc_db.specs.Shared.{MayRefuse};
 ghost use Rattle.txc_site.specs.Keeping.{HasKeptNode, HasSwept, HasTakenEvents, HaveKept, ok_of};
-ghost use Rattle.txc_site.specs.Keeps.{told_of, IsKeep, IsNoKeep};
+ghost use Rattle.txc_site.specs.Keeps.{keep_told, IsKeep, IsNoKeep};
 ghost use Rattle.txc_site.specs.Plans.{nodes_of};
 ghost use Rattle.txc_site.specs.Sites.{IsKeeperRefused};
 ghost use Rattle.txc_site.specs.Stations.{IsSamePass};
@@ -237,7 +237,7 @@ fn keep_stations<'a, A: App, J: Naming>(
     age: u64,
 ) -> (Result<Kept<J>, DbError>, Vec<Station<'a, A, J>>)
     ensures kept { IfOk result.0 (λ kept. IsKeep J.database_history J.node_histories now age
-        stations.entry.items (told_of kept) result.1.items) }
+        stations.entry.items (keep_told kept) result.1.items) }
     ensures refused { IfErr result.0 (λ error.
         IsNoKeep J.database_history stations.entry.items error result.1.items) }
 {
@@ -306,7 +306,7 @@ impl<'a, A: App, J: Naming> Keeper<'a, A, J> {
         age: u64,
     ) -> (Result<Kept<J>, DbError>, Self)
         ensures kept { IfOk result.0 (λ kept.
-            IsKeep J.database_history J.node_histories now age self.entry (told_of kept) result.1) }
+            IsKeep J.database_history J.node_histories now age self.entry (keep_told kept) result.1) }
         ensures refused { IfErr result.0 (λ error.
             IsNoKeep J.database_history self.entry error result.1) }
     {

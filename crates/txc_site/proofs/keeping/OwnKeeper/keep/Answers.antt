@@ -1,12 +1,12 @@
-use Rattle.std.proofs.Common.{◌≡◌, inl, inr, rules, subst}
-use Rattle.txc_site.specs.Keeps.{told_of, IsKeep, IsNoKeep}
+use Rattle.std.proofs.Common.{inl, inr, rules, subst}
+use Rattle.txc_site.specs.Keeps.{keep_told, IsKeep, IsNoKeep}
 use Rattle.txc_site.specs.Tending.{OwnKeeperValue}
 use Rattle.txc_site.proofs.Tending.{ok_at, err_at}
 use Rattle.txc_site.proofs.keeping.OwnKeeper.keep.Goals as goal
 
 pub returns-in-Ok : goal.returns-in-Ok
 returns-in-Ok g c =
-    let told = told_of c.in-Ok._kept in
+    let told = keep_told c.in-Ok._kept in
     let row = g.J.Naming.database_history in
     let histories = g.J.Naming.node_histories in
     let left = c.keep-kept.result.1 in
