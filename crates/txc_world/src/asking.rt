@@ -1,6 +1,6 @@
 //! What a transaction asks, put to the plain ports, and what is told of it.
-ghost use Rattle.std.specs.Prelude.{◌≡◌, ◌<◌, length, map, IfOk, OnErr};
-ghost use Rattle.txc_world.specs.Asks.{kept_after, kept_by, AnswersRows, DoesTell, IsTold, IsToldOf};
+ghost use Rattle.std.specs.Prelude.{◌≡◌, ◌<◌, length, map, IfOk, OnErr, Some};
+ghost use Rattle.txc_world.specs.Asks.{kept_after, AnswersRows, DoesTell, IsTold, IsToldOf};
 
 use crate::did::{Did, RowsFound};
 use crate::nodes;
@@ -76,7 +76,7 @@ pub(crate) fn told(alloc: Global, reply: PortReply) -> (Did, PortReply)
 
 // What a node keeps that made the insertion.
 fn kept_by(insertion: Insertion) -> Kept
-    ensures { result ≡ kept_by insertion }
+    ensures { Some result ≡ kept_after (Some insertion) }
 {
     match insertion {
         Insertion::Stored(reach) => Kept::Stored(reach),

@@ -1,7 +1,9 @@
-use Rattle.std.proofs.Common.{◌≡◌, ◌∙◌, sym, subst, rules}
+use Rattle.std.proofs.Common.{◌≡◌, ◌∙◌, length, sym, subst, rules}
 use Rattle.txc_db.specs.Seen.{FrontValue}
+use Rattle.txc_ports.specs.Asking.{MayAsk}
 use Rattle.txc_ports.specs.Fronts.{front_of_reply}
-use Rattle.txc_txn.proofs.Offered.{adds_next, is_answered, is_right}
+use Rattle.txc_ports.specs.declared.turn.Turn.TheVariants.{Ask}
+use Rattle.txc_txn.proofs.Offered.{adds_next, adds_weaker, is_answered, is_right, may_ask}
 use Rattle.txc_world.proofs.AskLemmas.{still_asked, told_history}
 use Rattle.txc_world.proofs.Turning.{asked_at, counted_in, seen_next}
 use Rattle.txc_world.specs.Asks.{PortRequestLeads}
@@ -11,6 +13,19 @@ use Rattle.txc_world.specs.Books.{account_of_core, HasLost}
 use Rattle.txc_world.proofs.Fairness.{fair_gone_on, loss_counted, loss_port}
 use Rattle.txc_world.proofs.Losing.{drops_next, reply_lost, told_lost}
 use Rattle.txc_world.proofs.acting.go_on.Goals as goal
+
+pub ask-reply-requires : goal.ask-reply-requires
+ask-reply-requires g c =
+    let whole = whole_of c.args.ports.now in
+    let seen : c.seen.result.now ≡ c.args.txn.now.core.seen = search rules in
+    let adds = adds_weaker (IsPartOf whole) (λ front. front.events ≡ whole.events) (λ front part. part.row) (Ask c.args.request) c.requires.adds in
+    record {
+      own = c.requires.own;
+      seen = subst (IsPartOf whole) (sym seen) c.requires.seen;
+      may = subst (λ (f : FrontValue). MayAsk g.A.App.next whole.events (length c.args.ports.now.nodes) f.history c.args.request) (sym seen)
+          (may_ask g.A.App.next whole.events c.args.txn.now c.is_kept.ensures (length c.args.ports.now.nodes) c.requires.nodes c.args.request c.requires.asks adds);
+      shown = c.requires.adds;
+    }
 
 pub next-turn-requires : goal.next-turn-requires
 next-turn-requires g c =
