@@ -1,5 +1,5 @@
 -- What a transaction may ask of the ports, and what they answer.
-use Rattle.std.specs.Prelude.{◌≡◌, ℕ, ◌<◌, ◌≤◌, List, Some, Ok}
+use Rattle.std.specs.Prelude.{◌≡◌, ℕ, ◌<◌, ◌≤◌, Some, Ok}
 use Rattle.std.specs.Option.{ForSome}
 use Rattle.txc_stamp.specs.Interval.{Holds}
 use Rattle.txc_rows.specs.declared.query.Query.{Query}

@@ -97,7 +97,7 @@ same_found reply one other is is' =
 -- ---- runs
 
 -- the database refused what the call needs
-abbrev pub IsAskRefused : List ℕ → ℕ → CallTurn → QueryTurn → Type 0
+abbrev pub IsAskRefused : Name → ℕ → CallTurn → QueryTurn → Type 0
 IsAskRefused row base (Ok standing) (Ended (Err error)) = (q : Query) × (standing.need ≡ Some (needs.Query q)) × IsQueryRefusedAt row base q error
 IsAskRefused row base stands turn = ⊥
 

@@ -6,6 +6,7 @@ use Rattle.txc_stream.proofs.Offered.{prefix_push, push_get}
 use Rattle.txc_tags.specs.declared.tag.Tag.{Tag}
 use Rattle.txc_tags.specs.Tags.{sets_match}
 use Rattle.txc_rows.specs.declared.query.Change.{Change}
+use Rattle.txc_rows.specs.declared.query.Query.{Query}
 use Rattle.txc_rows.specs.Net.{net_changes}
 use Rattle.txc_rows.specs.States.{State}
 use Rattle.txc_db.specs.Facts.{EventValue}
@@ -133,6 +134,6 @@ module _ (next : Next) (objects : Objects) (c : RwValue) (d : DatabaseValue) (h 
       explained_commit new.database.history stamp due is leads.1
 
 -- and where no call is open, it is all that is told
-pub explained_open : (next : Next) (L : History) (count : ℕ) (c : RwValue) (stamp : ℕ) (call : Option OpenCall) → call ≡ None → CommitExplains next L count (told_writing c) stamp
+pub explained_open : (next : Next) (L : History) (count : ℕ) (c : RwValue) (stamp : ℕ) (call : Option (OpenCall Query)) → call ≡ None → CommitExplains next L count (told_writing c) stamp
     → CommitExplains next L count (record { base = c.base; call = option_map (λ k. k.key) call; answers = told_answers call c.answers; changes = c.changes }) stamp
 explained_open next L count c stamp call none h = rw none h

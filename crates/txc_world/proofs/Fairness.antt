@@ -5,6 +5,9 @@ use Rattle.std.proofs.lemmas.List.{drop_all}
 use Rattle.std.proofs.lemmas.List.Elements.{All-head}
 use Rattle.std.specs.Prelude.{if◌then◌else◌}
 use Rattle.std.specs.List.{AllByRecursion}
+use Rattle.txc_stream.specs.Names.{Name, stored, unstored}
+use Rattle.txc_tags.specs.declared.tag.Tag.{Tag}
+use Rattle.txc_rows.specs.declared.query.Change.{Change}
 use Rattle.txc_rows.specs.declared.query.Query.{Query}
 use Rattle.txc_validity.specs.declared.answer.Found.{Found}
 use Rattle.txc_db.specs.declared.answered.Answered.{Answered}
@@ -13,7 +16,8 @@ use Rattle.txc_db.specs.declared.error.DbError.TheVariants as errors
 use Rattle.txc_db.specs.declared.pinned.Pinned.{Pinned}
 use Rattle.txc_db.specs.History.{pin_event}
 use Rattle.txc_db.specs.DatabaseValue.{after_pin, newest, DatabaseValue, IsReadable}
-use Rattle.txc_db.specs.Calls.{IsLeft, IsPinRefused, IsQueryRefused, IsUnpinRefused}
+use Rattle.txc_db.specs.Calls.{IsCommitRefused, IsHoldRefused, IsLeft, IsPinRefused, IsQueryRefused, IsUnpinRefused}
+use Rattle.txc_db.specs.Room.{AreTagsGone}
 use Rattle.txc_cushion.specs.declared.error.AddError.{AddError}
 use Rattle.txc_cushion.specs.declared.pin.Pin.{Pin}
 use Rattle.txc_cushion.specs.Entries.{times}
@@ -120,6 +124,21 @@ module _ (p : PortsValue) (right : CountRight p) where
   gone_query query stamp (errors.SnapshotGone horizon) h =
       none_held stamp p.database.horizon (newest p.database) p.database.holds h.1 (right.sound h.0).held
   gone_query query stamp e h = tt
+
+  -- the tags of the events after a base are gone only where the base is below the horizon
+  pub gone_commit : (base : ℕ) (read : List Tag) (changes : List Change) (e : DbError) → IsCommitRefused p.database base read changes e
+      → IfGone e (times base p.database.holds ≡ 0)
+  gone_commit base read changes (errors.SnapshotGone horizon) h =
+      none_held base p.database.horizon (newest p.database) p.database.holds (below p.database.events p.database.horizon h.1.0) (right.sound h.0).held
+    where
+      below : (name : Name) (horizon : ℕ) → AreTagsGone name horizon base → base < horizon
+      below (stored cells) horizon gone = absurd gone
+      below (unstored number) horizon gone = gone
+  gone_commit base read changes e h = tt
+
+pub gone_hold : (p : PortsValue) (e : DbError) → IsHoldRefused p.database e → IfGone e ⊥
+gone_hold p (errors.SnapshotGone horizon) h = h
+gone_hold p e h = tt
 
 gone_pin : (p : PortsValue) (at_least : ℕ) (e : DbError) → IsPinRefused p.database at_least e → IfGone e ⊥
 gone_pin p at_least (errors.SnapshotGone horizon) h = h

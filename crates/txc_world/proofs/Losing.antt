@@ -88,6 +88,7 @@ module _ (P Q : Type 0) (leads : P → Q) where
   reply_so (replies.Asked did end) h = (did_so did h.0, end_so end h.1)
   reply_so (replies.Ended result) h = result_so result h
   reply_so (replies.Refused (refusals.Transaction error)) h = lost_so error h
+  reply_so (replies.Refused (refusals.Database error)) h = gone_so error h
   reply_so reply h = tt
 
 -- what never comes loses nothing

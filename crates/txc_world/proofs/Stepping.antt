@@ -5,6 +5,7 @@ use Rattle.std.proofs.lemmas.Option.{slice_get-map}
 use Rattle.std.proofs.lemmas.List.{map-set}
 use Rattle.std.proofs.lemmas.List.Elements.{All-set, All-weaker}
 use Rattle.txc_app.specs.Eval.{Next}
+use Rattle.txc_ports.specs.declared.request.PortRequest.{PortRequest}
 use Rattle.txc_txn.specs.Core.{CoreValue}
 use Rattle.txc_txn.proofs.Offered.{adds_weaker}
 use Rattle.txc_rw.specs.Laws.{HoldsInLonger}
@@ -38,7 +39,7 @@ module _ {X : Type 0} where
 -- ---- what an actor keeps while others step
 
 module _ (old new : PortsValue) (keeps : KeepsRow old new) where
-  call_later : (c : CoreValue) (call : Option OpenCall) → HasCall (whole_of old) c call → HasCall (whole_of new) c call
+  call_later : (c : CoreValue) (call : Option (OpenCall PortRequest)) → HasCall (whole_of old) c call → HasCall (whole_of new) c call
   call_later c None h = h
   call_later c (Some call) h = record { turn = h.turn; no_value = h.no_value; key = h.key; adds = adds_weaker (IsPartOf (whole_of old)) (IsPartOf (whole_of new)) (λ front part. part_kept old new front keeps part) call.turn h.adds; not_lost = h.not_lost; drops = h.drops }
 

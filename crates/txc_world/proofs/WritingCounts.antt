@@ -7,6 +7,7 @@ use Rattle.txc_rows.specs.declared.query.Change.{Change}
 use Rattle.txc_rows.specs.declared.query.Query.{Query}
 use Rattle.txc_validity.specs.declared.answer.Found.{Found}
 use Rattle.txc_db.specs.declared.error.DbError.{DbError}
+use Rattle.txc_db.specs.Calls.{IsCommitRefused, IsHoldRefused}
 use Rattle.txc_db.specs.History.{commit_event}
 use Rattle.txc_db.specs.DatabaseValue.{after_event_of, newest_net, newest_state}
 use Rattle.txc_cushion.specs.Entries.{times}
@@ -27,7 +28,7 @@ use Rattle.txc_world.specs.Losing.{IfDidLose, IfGone, IfLost, IfReplyLost, IfRes
 use Rattle.txc_world.specs.Keeping.{CommitLeads}
 use Rattle.txc_world.specs.Writing.{FindLeadsRw, HasAskedRw}
 use Rattle.txc_world.proofs.Balance.{committed_holds}
-use Rattle.txc_world.proofs.Fairness.{counts_itself, fair_hold, fair_same, gone_query, left_holds}
+use Rattle.txc_world.proofs.Fairness.{counts_itself, fair_hold, fair_same, gone_commit, gone_hold, gone_query, left_holds}
 use Rattle.txc_world.proofs.Losing.{gone_so, request_lost, rw_not_lost}
 use Rattle.txc_world.proofs.Times.{times_there}
 
@@ -61,7 +62,15 @@ module _ (p : PortsValue) (base : ℕ) where
   loss_found query (Err e) right (inr refused) =
       rw refused.2 (request_lost (HasLost p (based base)) refused.0 (gone_lost refused.0 (gone_query p right query base refused.0 refused.1)))
 
--- a write is not refused so
+  -- of its commit
+  pub loss_commit : (read : List Tag) (changes : List Change) (e : DbError) → CountRight p → IsCommitRefused p.database base read changes e → IfGone e (HasLost p (based base))
+  loss_commit read changes e right refused = gone_lost e (gone_commit p right base read changes e refused)
+
+-- a hold is not refused so
+pub loss_hold : (p : PortsValue) (P : Type 0) (e : DbError) → IsHoldRefused p.database e → IfGone e P
+loss_hold p P e refused = gone_so ⊥ P (λ no. absurd no) e (gone_hold p e refused)
+
+-- nor is a write
 pub loss_write : (P : Type 0) (count : ℕ) (e : TxnError) → IsWriteRefused count e → IfLost e P
 loss_write P count (txns.SnapshotLost horizon) refused = absurd refused
 loss_write P count e refused = tt

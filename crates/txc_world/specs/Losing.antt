@@ -12,7 +12,7 @@ use Rattle.txc_world.specs.declared.did.Did.{Did}
 use Rattle.txc_world.specs.declared.did.Did.TheVariants as dids
 use Rattle.txc_world.specs.declared.reply.Reply.{Reply}
 use Rattle.txc_world.specs.declared.reply.Reply.TheVariants.{Asked, Ended, Refused}
-use Rattle.txc_world.specs.declared.reply.Refusal.TheVariants.{Transaction}
+use Rattle.txc_world.specs.declared.reply.Refusal.TheVariants.{Database, Transaction}
 
 -- this is so, where the database refused for a snapshot that is gone
 abbrev pub IfGone : DbError → Type 0 → Type 0
@@ -52,9 +52,10 @@ IfEndLost (Some result) P = IfResultLost result P
 IfEndLost None P = Unit {0}
 
 -- This is so, where the reply tells of a snapshot that is gone: of a request that a port refused so, of a call
--- that has ended so, or of a query of the transaction's own.
+-- that has ended so, of a query of the transaction's own, or of its commit.
 abbrev pub IfReplyLost : Reply → Type 0 → Type 0
 IfReplyLost (Asked did end) P = IfDidLose did P × IfEndLost end P
 IfReplyLost (Ended result) P = IfResultLost result P
 IfReplyLost (Refused (Transaction error)) P = IfLost error P
+IfReplyLost (Refused (Database error)) P = IfGone error P
 IfReplyLost reply P = Unit {0}

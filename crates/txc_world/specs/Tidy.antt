@@ -70,7 +70,7 @@ AreTidy purse (step ∷ steps) (reply ∷ replies) =
 
 -- ---- what comes of it
 
--- nothing is refused for a snapshot that is gone: no request, no call, and no query of the transaction's own
+-- nothing is refused for a snapshot that is gone: no request, no call, no query of the transaction's own, and no commit
 abbrev pub LosesNothing : Reply → Type 0
 LosesNothing reply = IfReplyLost reply ⊥
 

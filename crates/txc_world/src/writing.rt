@@ -266,6 +266,7 @@ fn commit<A: App, C: Cacheable>(
     ensures leads { WritingLeads A.next Act.Commit ports.old ports.new (writing_value current)
         (actor_value result.0) result.1 }
 {
+    ports.count_right();
     answers_are_right();
     let mut current = current;
     let base = current.core.base();

@@ -1,9 +1,11 @@
-use Rattle.std.proofs.Common.{ap, refl, sym, rules, arith}
+use Rattle.std.proofs.Common.{ℕ, ap, refl, sym, subst, rules, arith}
 use Rattle.std.proofs.lemmas.Grind.{common_steps}
 use Rattle.txc_world.specs.Told.{leaving}
+use Rattle.txc_world.specs.Books.{HasLost}
+use Rattle.txc_world.specs.Losing.{IfGone}
 use Rattle.txc_world.specs.Ports.{PortsValue}
 use Rattle.txc_world.proofs.CommitLemmas.{explained_lent, explained_open}
-use Rattle.txc_world.proofs.WritingCounts.{fair_commit, fair_not_committed}
+use Rattle.txc_world.proofs.WritingCounts.{based, fair_commit, fair_not_committed, loss_commit}
 use Rattle.txc_rw.proofs.Holding.{holds_in_longer}
 use Rattle.txc_db.proofs.Histories.{states_stay, tags_stay}
 use Rattle.txc_world.proofs.writing.commit.Goals as goal
@@ -44,4 +46,6 @@ returns-in-Ok-clause-acted g c =
 pub returns-in-Err-clause-acted : goal.returns-in-Err-clause-acted
 returns-in-Err-clause-acted g c =
     let fair = fair_not_committed c.args.ports.now c.commit.new.self c.base-base.result c.args.current.core.base _ _ c.in-Err.refusal c.in-Err.ensures.leads in
-    search (rules, c.requires.no_call, fair)
+    let lost = subst (λ (b : ℕ). IfGone c.in-Err.refusal (HasLost c.args.ports.now (based b))) c.base-base.ensures
+    (loss_commit c.args.ports.now c.base-base.result _ _ c.in-Err.refusal c.count_right.ensures c.in-Err.ensures.leads.1) in
+    search (rules, c.requires.no_call, fair, lost)
