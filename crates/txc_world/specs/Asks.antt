@@ -115,10 +115,14 @@ DoesTellFound (Err e) did = did ≡ dids.Refused e
 
 -- ---- requests
 
--- what a node keeps that made the insertion; nothing where it refused
+-- what a node keeps that made the insertion
+abbrev pub kept_by : Insertion → Kept
+kept_by (insertions.Stored reach) = kepts.Stored reach
+kept_by insertions.Kept = kepts.Earlier
+
+-- nothing where it refused
 abbrev pub kept_after : Option Insertion → Option Kept
-kept_after (Some (insertions.Stored reach)) = Some (kepts.Stored reach)
-kept_after (Some insertions.Kept) = Some kepts.Earlier
+kept_after (Some insertion) = Some (kept_by insertion)
 kept_after None = None
 
 -- what is told of a port is its reply to the transaction; of rows found, their ids with their reach and tags

@@ -1,6 +1,6 @@
 //! What a transaction asks, put to the plain ports, and what is told of it.
 ghost use Rattle.std.specs.Prelude.{◌≡◌, ◌<◌, length, map, IfOk, OnErr};
-ghost use Rattle.txc_world.specs.Asks.{kept_after, AnswersRows, DoesTell, IsTold, IsToldOf};
+ghost use Rattle.txc_world.specs.Asks.{kept_after, kept_by, AnswersRows, DoesTell, IsTold, IsToldOf};
 
 use crate::did::{Did, RowsFound};
 use crate::nodes;
@@ -74,13 +74,22 @@ pub(crate) fn told(alloc: Global, reply: PortReply) -> (Did, PortReply)
     }
 }
 
-// What a node keeps that made the insertion; nothing where it refused.
+// What a node keeps that made the insertion.
+fn kept_by(insertion: Insertion) -> Kept
+    ensures { result ≡ kept_by insertion }
+{
+    match insertion {
+        Insertion::Stored(reach) => Kept::Stored(reach),
+        Insertion::Kept => Kept::Earlier,
+    }
+}
+
+// The same; nothing where it refused.
 fn kept_after(made: Option<Insertion>) -> Option<Kept>
     ensures { result ≡ kept_after made }
 {
     match made {
-        Some(Insertion::Stored(reach)) => Some(Kept::Stored(reach)),
-        Some(Insertion::Kept) => Some(Kept::Earlier),
+        Some(insertion) => Some(kept_by(insertion)),
         None => None,
     }
 }

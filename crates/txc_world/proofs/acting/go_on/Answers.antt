@@ -1,8 +1,10 @@
-use Rattle.std.proofs.Common.{◌∙◌, sym}
+use Rattle.std.proofs.Common.{◌≡◌, ◌∙◌, sym, subst, rules}
+use Rattle.txc_db.specs.Seen.{FrontValue}
 use Rattle.txc_ports.specs.Fronts.{front_of_reply}
 use Rattle.txc_txn.proofs.Offered.{adds_next, is_answered, is_right}
 use Rattle.txc_world.proofs.AskLemmas.{still_asked, told_history}
 use Rattle.txc_world.proofs.Turning.{asked_at, counted_in, seen_next}
+use Rattle.txc_world.specs.Asks.{PortRequestLeads}
 use Rattle.txc_world.specs.Parts.{IsPartOf}
 use Rattle.txc_world.specs.Ports.{whole_of}
 use Rattle.txc_world.specs.Books.{account_of_core, HasLost}
@@ -22,13 +24,14 @@ next-turn-requires g c =
 pub returns-clause-asks : goal.returns-clause-asks
 returns-clause-asks g c =
     let asked = still_asked g.A.App.next c.args.pass _ c.args.ports.now c.ask-reply.new.self c.args.request c.ask-reply.result c.told-did.result.1 c.told-did.ensures.same c.ask-reply.ensures in
+    let seen : c.seen.result.now ≡ c.args.txn.now.core.seen = search rules in
     record {
       reply = c.told-did.result.1;
       port = c.told-did.result.0;
       right = asked.to;
       tells = c.told-did.ensures.tells;
-      leads = asked.leads;
-      counts = c.counted-did.ensures;
+      leads = subst (λ (f : FrontValue). PortRequestLeads c.args.pass f c.args.request c.args.ports.now c.ask-reply.new.self c.told-did.result.1) seen asked.leads;
+      counts = search rules;
       went = c.next-turn.ensures;
     }
 
