@@ -13,7 +13,7 @@ returns-clause-tells c = elim c.match-reply.branch [
   | in-Unpin-Err w ↦ search rules
   | in-Lookup-Some w ↦ search rules
   | in-Lookup-None w ↦ search rules
-  | in-Query-Ok+in_ok-rows_found-in-Query-Ok w ↦ rw w.in-Query-Ok.is (w.in_ok-rows_found-in-Query-Ok.field-0, w.did-is, w.in_ok-rows_found-in-Query-Ok.ensures)
+  | in-Query-Ok+in_ok-rows_found-in-Query-Ok w ↦ rw (w.in-Query-Ok.is, w.in-Query-Ok.field-0-is) (w.in_ok-rows_found-in-Query-Ok.field-0, w.did-is, w.in_ok-rows_found-in-Query-Ok.ensures)
   | in-Query-Err w ↦ search rules
   | in-Insert-Some-Stored w ↦ search rules
   | in-Insert-Some-Earlier w ↦ search rules
