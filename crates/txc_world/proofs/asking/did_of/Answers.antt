@@ -1,5 +1,5 @@
 use Rattle.std.proofs.Common.{rules}
-use Rattle.txc_world.proofs.asking.did_of.Goals.{in-Pin-Ok, in-Pin-Err, in-AddPin-default-Ok, in-AddPin-default-Err, in-Unpin-Ok, in-Unpin-Err, in-Lookup-Some, in-Lookup-None, in-Query-Ok+in_ok-rows_found-in-Query-Ok, in-Query-Err, in-Insert-Some-Stored, in-Insert-Some-Earlier, in-Insert-None}
+use Rattle.txc_world.proofs.asking.did_of.Goals.{in-Pin-Ok, in-Pin-Err, in-AddPin-default-Ok, in-AddPin-default-Err, in-Unpin-Ok, in-Unpin-Err, in-Lookup-Some, in-Lookup-None, in-Query+in_ok-did-in-Query, in-Insert-Some-Stored, in-Insert-Some-Earlier, in-Insert-None}
 use Rattle.txc_world.proofs.asking.did_of.Goals as goal
 
 -- by what it is told of
@@ -13,8 +13,7 @@ returns-clause-tells c = elim c.match-reply.branch [
   | in-Unpin-Err w ↦ search rules
   | in-Lookup-Some w ↦ search rules
   | in-Lookup-None w ↦ search rules
-  | in-Query-Ok+in_ok-rows_found-in-Query-Ok w ↦ rw (w.in-Query-Ok.is, w.in-Query-Ok.field-0-is) (w.in_ok-rows_found-in-Query-Ok.field-0, w.did-is, w.in_ok-rows_found-in-Query-Ok.ensures)
-  | in-Query-Err w ↦ search rules
+  | in-Query+in_ok-did-in-Query w ↦ search rules
   | in-Insert-Some-Stored w ↦ search rules
   | in-Insert-Some-Earlier w ↦ search rules
   | in-Insert-None w ↦ search rules
