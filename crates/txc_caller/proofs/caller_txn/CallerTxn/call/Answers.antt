@@ -25,15 +25,15 @@ step_of_open before recorded None doing k result some h = absurd (cc some)
 pub returns-then-is_none-clause-step : goal.returns-then-is_none-clause-step
 returns-then-is_none-clause-step g c =
     let none : is_some c.args.self.now.doing ≡ false =
-        sym (ap (λ (r : CallerReading). is_some r.doing) c.self.view_is) ∙ (c.is_none.ensures ∙ ap not c.if-is_none.true) in
+    sym (ap (λ (r : CallerReading). is_some r.doing) c.self.view_is) ∙ (c.is_none.ensures ∙ ap not c.if-is_none.true) in
     let step : IsStepOf c.args.self.now.txn.core.recorded c.args.key c.call_outermost.new.self.txn.core.recorded c.call_outermost.new.self.doing c.call_outermost.result =
-        c.call_outermost.ensures.step in
+    c.call_outermost.ensures.step in
     subst (λ (k : Call). IsStepOf c.args.self.now.txn.core.recorded k c.call_outermost.new.self.txn.core.recorded c.call_outermost.new.self.doing c.call_outermost.result)
     (sym (top_alone c.args.self.now.doing c.args.key none)) step
 
 pub returns-clause-step : goal.returns-clause-step
 returns-clause-step g c =
     let some : is_some c.args.self.now.doing ≡ true =
-        sym (ap (λ (r : CallerReading). is_some r.doing) c.self.view_is) ∙ (c.is_none.ensures ∙ ap not c.if-is_none.false) in
+    sym (ap (λ (r : CallerReading). is_some r.doing) c.self.view_is) ∙ (c.is_none.ensures ∙ ap not c.if-is_none.false) in
     step_of_open c.args.self.now.txn.core.recorded c.call_by_function.new.self.txn.core.recorded c.args.self.now.doing c.call_by_function.new.self.doing c.args.key
-        c.call_by_function.result some c.call_by_function.ensures.step
+    c.call_by_function.result some c.call_by_function.ensures.step
