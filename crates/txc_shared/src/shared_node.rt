@@ -215,8 +215,8 @@ impl<J: Naming> NodePass<J> {
         insertion
     }
 
-    /// Takes the next event of the database's history. Where it is idle, the pass has seen as many events
-    /// as were taken.
+    /// Takes the next event of the database's history. Where it is idle, each event that the pass has seen was taken
+    /// or came before the node.
     pub fn advance<A: App>(
         &mut self,
         rt: &impl Wait,
