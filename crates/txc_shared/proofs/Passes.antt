@@ -33,7 +33,7 @@ legal_over (unstored number) L settings rs from begun low legal = (from, low, le
 -- such a node that took each event that was seen
 pub none_left : (row : Name) (p : PassValue) (from : ℕ) → from ≡ taken_at_start row from → from + events_of p.records ≡ length p.history
     → IsLegal p.history (start_of p.settings from) p.records → HasNoneLeft row p
-none_left (stored cells) p from begun count legal = omega (arith, begun, count)
+none_left (stored cells) p from begun count legal = let none : from ≡ 0 = begun in omega (arith, none, count)
 none_left (unstored number) p from begun count legal = (from, count, legal)
 
 pub none_is_over : NoRecordIsLegal → (row : Name) (L : History) (settings : NodeSettings) → IsLegalOver row L settings []
