@@ -34,9 +34,9 @@ pub record LogValue : Type 0 where
   pub records : List Record
   pub passes : ℕ
 
--- a node: its settings, and how many events came before it; what its history is called, its records, and how many
--- passes there are; its cache; what it has seen of the database's history; and whether another record was found in
--- its row
+-- A node: its settings, and how many events came before it; what its history is called, its records, and how many
+-- passes there are. Its cache; what it has seen of the database's history; and whether another record was found in
+-- its row.
 pub record NodeValue : Type 0 where
   pub settings : NodeSettings
   pub from : ℕ
