@@ -1,5 +1,5 @@
 -- What passes show.
-use Rattle.std.proofs.Common.{◌≡◌, ◌⊎◌, inl, inr, ℕ, ◌≤◌, List, [], length, length-append, refl, ap, sym, subst, ◌∙◌, arith}
+use Rattle.std.proofs.Common.{◌≡◌, ◌⊎◌, inl, inr, ℕ, ◌≤◌, List, length, length-append, refl, ap, sym, subst, ◌∙◌, arith}
 use mathlib.Core.List.{IsPrefix}
 use Rattle.txc_stream.proofs.Offered.{longer_is}
 use Rattle.txc_stream.specs.Names.{Name, stored, unstored}
@@ -11,7 +11,7 @@ use Rattle.txc_shared.specs.declared.settings.NodeSettings.{NodeSettings}
 use Rattle.txc_shared.specs.Histories.{IsLegal, events_of}
 use Rattle.txc_shared.specs.Nodes.{start_of}
 use Rattle.txc_shared.specs.Passes.{PassValue, IsLegalOver, HasNoneLeft}
-use Rattle.txc_shared.specs.Laws.{LegalInLonger, NoRecordIsLegal}
+use Rattle.txc_shared.specs.Laws.{LegalInLonger}
 
 -- what a front shows that took over a longer one, where both are known by other names
 pub taken_over : {A : Type 0} (was other now old all : List A) → was ≡ old → other ≡ all → IsPrefix old all → (now ≡ was) ⊎ (now ≡ other) → IsPrefix other now → now ≡ all
@@ -36,9 +36,10 @@ pub none_left : (row : Name) (p : PassValue) (from : ℕ) → from ≡ taken_at_
 none_left (stored cells) p from begun count legal = let none : from ≡ 0 = begun in omega (arith, none, count)
 none_left (unstored number) p from begun count legal = (from, count, legal)
 
-pub none_is_over : NoRecordIsLegal → (row : Name) (L : History) (settings : NodeSettings) → IsLegalOver row L settings []
-none_is_over none (stored cells) L settings = none L (start_of settings 0)
-none_is_over none (unstored number) L settings = (0, omega arith, none L (start_of settings 0))
+-- what begins at a feed's beginning begins where a feed does
+pub begun_with : (row : Name) (events taken from : ℕ) → taken ≡ taken_at_start row events → from ≡ taken → from ≡ taken_at_start row from
+begun_with (stored cells) events taken from is same = same ∙ is
+begun_with (unstored number) events taken from is same = refl
 
 pub over_longer : LegalInLonger → (row : Name) (L M : History) (settings : NodeSettings) (rs : List Record) → IsPrefix L M → IsLegalOver row L settings rs
     → IsLegalOver row M settings rs

@@ -95,6 +95,7 @@ impl<A: App, J: Naming> SharedNode<A, J> {
     }
 
     // A node of that history under its lock, which begins where a feed of the database does.
+    #[tactic(auto, using(crate::proofs::Passes::begun_with))]
     fn of(
         rt: &impl Wait,
         alloc: Global,
