@@ -1,5 +1,5 @@
 -- The steps of the cache in the words of their rules.
-use Rattle.std.proofs.Common.{◌≡◌, ℕ, ◌+◌, ◌-◌, ◌<◌, ◌≤◌, Bool, true, false, not, ◌&&◌, leb, cond, max, suc, zero, List, [], ◌∷◌, ◌++◌, length, get_or, take, map, Option, Some, None, refl, subst, sym, ap, ◌∙◌, arith, Decides, All, Contains, length-append, length-drop}
+use Rattle.std.proofs.Common.{◌≡◌, ℕ, ◌+◌, ◌-◌, ◌<◌, ◌≤◌, Bool, true, false, not, ◌&&◌, leb, cond, max, suc, zero, List, [], ◌∷◌, ◌++◌, length, get_or, take, map, Option, Some, None, refl, subst, sym, ap, ◌∙◌, arith, Decides, All, Contains, length-append, length-drop, min}
 use Rattle.std.specs.List.{find, list_all, remove}
 use Rattle.std.proofs.lemmas.Bool.{false≢true}
 use Rattle.std.proofs.lemmas.Bool.Decides.{nat_tests, Decides-eqb, Decides-ltb, Decides-like, Decides-not, Decides-and, Decides-or, Decides-by_and}

@@ -1,5 +1,5 @@
 -- What a sweep leaves.
-use Rattle.std.proofs.Common.{◌≡◌, ℕ, ◌<◌, ◌≤◌, Bool, true, false, not, ◌&&◌, cond, leb, ltb, suc, zero, List, [], ◌∷◌, length, get_or, Some, Contains, refl, subst, sym, ap, ◌∙◌, arith}
+use Rattle.std.proofs.Common.{◌≡◌, ℕ, ◌<◌, ◌≤◌, Bool, true, false, not, ◌&&◌, cond, leb, ltb, suc, zero, List, [], ◌∷◌, length, get_or, Some, Contains, refl, subst, sym, ap, ◌∙◌, arith, min}
 use Rattle.std.specs.List.{filter, find, list_all}
 use Rattle.std.specs.Option.{option_map}
 use Rattle.std.proofs.lemmas.Bool.{false≢true}
