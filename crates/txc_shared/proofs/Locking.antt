@@ -1,5 +1,5 @@
 -- What calls under the lock leave of the node, and what they show a pass.
-use Rattle.std.proofs.Common.{◌≡◌, ℕ, ◌+◌, ◌<◌, List, [], ◌∷◌, ◌++◌, length, false, Option, Some, None, sym, ap, subst, ◌∙◌, arith}
+use Rattle.std.proofs.Common.{◌≡◌, ℕ, ◌+◌, ◌<◌, ◌≤◌, List, [], ◌∷◌, ◌++◌, length, false, Option, Some, None, sym, ap, subst, ◌∙◌, arith}
 use Rattle.std.specs.Prelude.{IfSome}
 use Rattle.std.specs.Option.{option_map}
 use mathlib.Core.List.{IsPrefix}
@@ -8,7 +8,7 @@ use Rattle.txc_stream.specs.Names.{Name}
 use Rattle.txc_tags.specs.Keys.{Call}
 use Rattle.txc_tags.specs.declared.tag.Tag.{Tag}
 use Rattle.txc_db.specs.History.{History, tags_at}
-use Rattle.txc_db.specs.Seen.{FrontValue}
+use Rattle.txc_db.specs.Seen.{FrontValue, taken_at_start}
 use Rattle.txc_node.specs.declared.entry.Entry.{Entry}
 use Rattle.txc_node.specs.declared.hit.Shown.{Shown}
 use Rattle.txc_node.specs.declared.op.Op.{Op}
@@ -25,11 +25,12 @@ use Rattle.txc_shared.specs.declared.advanced.Advanced.TheVariants.{Taken, Idle}
 use Rattle.txc_shared.specs.declared.settings.NodeSettings.{NodeSettings}
 use Rattle.txc_shared.specs.Runs.{IsNode}
 use Rattle.txc_shared.specs.Laws.{EventsAreTaken}
-use Rattle.txc_shared.specs.Histories.{cache_after, records_of, events_of, next_record}
+use Rattle.txc_shared.specs.Histories.{cache_after, records_of, events_of, next_record, IsLegal}
 use Rattle.txc_shared.specs.Nodes.{NodeValue, IsHistoryFull, start_of, after_call, seeing, next_event, HasTags, HasAdvanced}
-use Rattle.txc_shared.specs.Passes.{PassValue, HasSeen, GrowsByOthers, HasMade, HasFound, HasTaken}
+use Rattle.txc_shared.specs.Passes.{PassValue, IsLegalOver, HasSeen, GrowsByOthers, HasMade, HasFound, HasTaken}
 use Rattle.txc_shared.specs.Locked.{IsAhead, IsAdmitted}
 use Rattle.txc_shared.proofs.Histories.{records_of-append}
+use Rattle.txc_shared.proofs.Passes.{legal_as, legal_over, none_left}
 
 -- ---- a step of an admitted pass
 
@@ -76,29 +77,48 @@ ahead_seeing n m k p seen more op h is sees =
     let a = ahead_after n m p seen op h is in
     subst (λ (j : NodeValue). IsAhead j p) (sym sees) (record { whole = a.whole; settings = a.settings; own = a.own; records = a.records })
 
+-- what a whole node shows is a legal history
+pub shown_legal : EventsAreTaken → (row : Name) (next : Next) (n : NodeValue) (p : PassValue) → n.from ≡ taken_at_start row n.from
+    → IsNode next n.seen.history (start_of n.settings n.from) n.records n.cache n.broken → IsAhead n p → IsLegalOver row n.seen.history p.settings n.records
+shown_legal events row next n p begun node ahead =
+    let run = node.run ahead.whole in
+    let start = start_of n.settings n.from in
+    let count : (cache_after start n.records).processed ≡ n.from + events_of n.records = events n.seen.history start n.records run.legal in
+    let made : n.cache.processed ≡ (cache_after start n.records).processed = ap (λ (c : Cache). c.processed) run.is in
+    let within = node.is_true.within in
+    let low : n.from ≤ length n.seen.history = omega (arith, count, made, within) in
+    subst (λ (s : NodeSettings). IsLegalOver row n.seen.history s n.records) (sym ahead.settings)
+    (legal_over row n.seen.history n.settings n.records n.from begun low run.legal)
+
 -- what an advance did
-pub has_taken : EventsAreTaken → (next : Next) (n m : NodeValue) (p q : PassValue) (advanced : Advanced) → IsAdmitted n p
-    → HasAdvanced (seeing n m.seen) p.pass m advanced → IsNode next m.seen.history (start_of m.settings) m.records m.cache m.broken
-    → IsPrefix p.history m.seen.history → HasSeen p m.records m.seen.history q → HasTaken p q advanced
-has_taken events next n m p q (Taken stamp closed) h a node begins s =
+pub has_taken : EventsAreTaken → (row : Name) (next : Next) (n m : NodeValue) (p q : PassValue) (advanced : Advanced) → n.from ≡ taken_at_start row n.from
+    → IsAdmitted n p → HasAdvanced (seeing n m.seen) p.pass m advanced
+    → IsNode next m.seen.history (start_of m.settings m.from) m.records m.cache m.broken
+    → IsPrefix p.history m.seen.history → HasSeen p m.records m.seen.history q → HasTaken row p q advanced
+has_taken events row next n m p q (Taken stamp closed) begun h a node begins s =
     let tags = tags_at m.seen.history stamp in
     let op_is : ◌≡◌ {A = Op} (next_event (seeing n m.seen)) (ops.Event stamp tags) = λ i. ops.Event (sym a.1 i) (tags_at m.seen.history (sym a.1 i)) in (
       tags,
       then_own n m p q m.seen (ops.Event stamp tags) (replies.Closed closed) h
           (a.0 ∙ ap (after_call (seeing n m.seen) p.pass) op_is) s.records (ap replies.Closed a.3),
     )
-has_taken events next n m p q Idle h a node begins s =
+has_taken events row next n m p q Idle begun h a node begins s =
     let whole : m.broken ≡ false = ap (λ (k : NodeValue). k.broken) a.0 ∙ h.ahead.whole in
     let run = node.run whole in
-    let count = events m.seen.history (start_of m.settings) m.records run.legal in
+    let start = start_of m.settings m.from in
+    let count : (cache_after start m.records).processed ≡ m.from + events_of m.records = events m.seen.history start m.records run.legal in
     let taken : m.cache.processed ≡ length m.seen.history = ap (λ (k : NodeValue). k.cache.processed) a.0 ∙ a.1 in
-    let made : m.cache.processed ≡ (cache_after (start_of m.settings) m.records).processed = ap (λ (c : Cache). c.processed) run.is in
+    let made : m.cache.processed ≡ (cache_after start m.records).processed = ap (λ (c : Cache). c.processed) run.is in
     let seen : q.history ≡ m.seen.history = longer_is p.history m.seen.history q.history begins s.either s.history in
     let shown : events_of q.records ≡ events_of m.records = ap events_of s.records in
     let long : length q.history ≡ length m.seen.history = ap length seen in
-    let records : m.records ≡ n.records = ap (λ (k : NodeValue). k.records) a.0 in (
+    let records : m.records ≡ n.records = ap (λ (k : NodeValue). k.records) a.0 in
+    let from : m.from ≡ n.from = ap (λ (k : NodeValue). k.from) a.0 in
+    let settings : q.settings ≡ m.settings = ap (λ (x : PassValue). x.settings) s.grown.is ∙ (h.ahead.settings ∙ sym (ap (λ (k : NodeValue). k.settings) a.0)) in
+    let legal : IsLegal q.history (start_of q.settings m.from) q.records =
+    legal_as q.history m.seen.history (start_of q.settings m.from) start q.records m.records seen (ap (λ (x : NodeSettings). start_of x m.from) settings) s.records run.legal in (
       subst (GrowsByOthers p.pass p.records) (sym (s.records ∙ records)) (others_did p.pass p.records n.records h.ahead.records h.turn),
-      omega (arith, count, taken, made, shown, long),
+      none_left row q m.from (from ∙ (begun ∙ ap (taken_at_start row) (sym from))) (omega (arith, count, taken, made, shown, long)) legal,
     )
 
 -- a lookup that found these entries

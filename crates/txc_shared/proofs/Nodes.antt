@@ -88,13 +88,14 @@ searched_replied c d key lo hi from to found is same first last =
 pub called : (n : NodeValue) (seen : FrontValue) (pass : ℕ) (op : Op) (r : Record) (log : LogValue) (cache : Cache)
     → r ≡ next_record pass n.records op (step_reply n.cache op)
     → log ≡ record { name = n.name; records = n.records ++ r ∷ []; passes = n.passes } → cache ≡ after_step n.cache op
-    → record { settings = n.settings; name = log.name; records = log.records; passes = log.passes; cache = cache; seen = seen; broken = n.broken }
+    → record { settings = n.settings; from = n.from; name = log.name; records = log.records; passes = log.passes; cache = cache; seen = seen; broken = n.broken }
     ≡ after_call (seeing n seen) pass op
 called n seen pass op r log cache r_is log_is cache_is =
     let records : log.records ≡ n.records ++ next_record pass n.records op (step_reply n.cache op) ∷ [] =
     ap (λ (l : LogValue). l.records) log_is ∙ ap (λ (x : Record). n.records ++ x ∷ []) r_is in
     λ i. record {
       settings = n.settings;
+      from = n.from;
       name = (log_is i).name;
       records = records i;
       passes = (log_is i).passes;

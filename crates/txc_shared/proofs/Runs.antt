@@ -14,7 +14,7 @@ use Rattle.txc_node.specs.declared.refusal.Refusal.{Refusal}
 use Rattle.txc_node.specs.declared.refusal.Refusal.TheVariants as refusals
 use Rattle.txc_node.specs.declared.record.Record.{Record}
 use Rattle.txc_node.specs.Entries.{is_best, others}
-use Rattle.txc_node.specs.Cache.{Cache, empty_cache, found, shown_of, after_use, is_kept, entries_with, entry_after, after_event}
+use Rattle.txc_node.specs.Cache.{Cache, empty_cache_at, found, shown_of, after_use, is_kept, entries_with, entry_after, after_event}
 use Rattle.txc_node.specs.Laws.{FindsTheLongest}
 use Rattle.txc_node.specs.Steps.{refusal_of, step_reply, after_step}
 use Rattle.txc_app.specs.Eval.{Next}
@@ -183,9 +183,9 @@ node_breaks event replay next L start rs c broken op h may = record {
 }
 
 pub node_begins : NodeBegins
-node_begins next L capacity depth = record {
-  is_true = record { entries = tt; recent = record { before = 0; upto = refl; tags = tt }; within = omega arith };
-  run = λ whole. record { is = refl; legal = record { each = each_none (IsNext L (empty_cache capacity depth)) } };
+node_begins next L capacity depth from seen = record {
+  is_true = record { entries = tt; recent = record { before = from; upto = omega arith; tags = tt }; within = seen };
+  run = λ whole. record { is = refl; legal = record { each = each_none (IsNext L (empty_cache_at capacity depth from)) } };
 }
 
 -- ---- answers

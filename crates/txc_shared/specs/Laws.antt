@@ -7,7 +7,7 @@ use Rattle.txc_node.specs.declared.entry.Entry.{Entry}
 use Rattle.txc_node.specs.declared.hit.Shown.{Shown}
 use Rattle.txc_node.specs.declared.op.Op.{Op}
 use Rattle.txc_node.specs.declared.record.Record.{Record}
-use Rattle.txc_node.specs.Cache.{Cache, empty_cache, entry_after, replayed_entry, lookup_answer}
+use Rattle.txc_node.specs.Cache.{Cache, empty_cache_at, entry_after, replayed_entry, lookup_answer}
 use Rattle.txc_node.specs.Steps.{refusal_of, step_reply, after_step}
 use Rattle.txc_app.specs.Eval.{Next}
 use Rattle.txc_app.specs.Claims.{IsTrueIn}
@@ -30,10 +30,10 @@ TrueAfterReplay = (next : Next) (L : History) (c : Cache) (e : Entry)
 
 -- ---- histories of a node
 
--- a node without records and entries
+-- a node without records and entries, after events that it has seen
 abbrev pub NodeBegins : Type 0
-NodeBegins = (next : Next) (L : History) (capacity depth : ℕ)
-    → IsNode next L (empty_cache capacity depth) [] (empty_cache capacity depth) false
+NodeBegins = (next : Next) (L : History) (capacity depth from : ℕ)
+    → from ≤ length L → IsNode next L (empty_cache_at capacity depth from) [] (empty_cache_at capacity depth from) false
 
 -- the step may be made: the cache does not refuse it, its event is the history's, and what it hands in is
 -- true

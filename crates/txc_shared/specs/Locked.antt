@@ -2,6 +2,7 @@
 use Rattle.std.specs.Prelude.{◌≡◌, ℕ, ◌+◌, ◌^◌, ◌<◌, false, List, length}
 use mathlib.Core.List.{IsPrefix}
 use Rattle.txc_stream.specs.Names.{Name, HasRow}
+use Rattle.txc_db.specs.Seen.{taken_at_start}
 use Rattle.txc_node.specs.declared.hit.Shown.{Shown}
 use Rattle.txc_node.specs.declared.record.Record.{Record}
 use Rattle.txc_node.specs.declared.reply.Reply.{Reply}
@@ -14,11 +15,12 @@ use Rattle.txc_shared.specs.Histories.{records_of}
 use Rattle.txc_shared.specs.Nodes.{NodeValue, IsHistoryFull, HasRecordRoom}
 use Rattle.txc_shared.specs.Passes.{PassValue}
 
--- what lies under a node's lock: the node's history and the database's row are the named ones, and, unless it is
--- broken, as many events were taken from the feed as it took
+-- what lies under a node's lock: the node's history and the database's row are the named ones; it began where a feed
+-- does; and, unless it is broken, as many events were taken from the feed as it took
 pub record LiesUnderLock (histories : ℕ → Name) (row : Name) (taken : ℕ) (n : NodeValue) : Type 0 where
   pub name : n.name ≡ histories n.settings.number
   pub events : n.seen.events ≡ row
+  pub begun : n.from ≡ taken_at_start row n.from
   pub in_step : n.broken ≡ false → taken ≡ n.cache.processed
 
 -- a whole node of the pass, which has all records that the pass has seen

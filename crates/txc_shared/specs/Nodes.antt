@@ -10,7 +10,7 @@ use Rattle.txc_node.specs.declared.node.Inserted.TheVariants as inserts
 use Rattle.txc_node.specs.declared.op.Op.{Op}
 use Rattle.txc_node.specs.declared.op.Op.TheVariants.{Event}
 use Rattle.txc_node.specs.declared.record.Record.{Record}
-use Rattle.txc_node.specs.Cache.{Cache, empty_cache, closed_count}
+use Rattle.txc_node.specs.Cache.{Cache, empty_cache_at, closed_count}
 use Rattle.txc_node.specs.Steps.{step_reply, after_step}
 use Rattle.txc_shared.specs.declared.advanced.Advanced.{Advanced}
 use Rattle.txc_shared.specs.declared.advanced.Advanced.TheVariants.{Taken, Idle}
@@ -19,9 +19,9 @@ use Rattle.txc_shared.specs.declared.insertion.Insertion.TheVariants.{Stored, Ke
 use Rattle.txc_shared.specs.declared.settings.NodeSettings.{NodeSettings}
 use Rattle.txc_shared.specs.Histories.{next_record}
 
--- the cache of a node at the start
-abbrev pub start_of : NodeSettings → Cache
-start_of settings = empty_cache settings.capacity settings.recent
+-- the cache of a node at the start, where so many events came before it
+abbrev pub start_of : NodeSettings → ℕ → Cache
+start_of settings from = empty_cache_at settings.capacity settings.recent from
 
 -- what the history of a node is called, and the first records of it that were seen
 pub record NodeFrontValue : Type 0 where
@@ -34,10 +34,12 @@ pub record LogValue : Type 0 where
   pub records : List Record
   pub passes : ℕ
 
--- a node: its settings; what its history is called, its records, and how many passes there are;
--- its cache; what it has seen of the database's history; and whether another record was found in its row
+-- A node: its settings, and how many events came before it; what its history is called, its records, and how many
+-- passes there are. Its cache; what it has seen of the database's history; and whether another record was found in
+-- its row.
 pub record NodeValue : Type 0 where
   pub settings : NodeSettings
+  pub from : ℕ
   pub name : Name
   pub records : List Record
   pub passes : ℕ

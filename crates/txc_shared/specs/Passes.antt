@@ -1,7 +1,7 @@
 -- Passes through a node, and what their calls leave.
-use Rattle.std.specs.Prelude.{◌≡◌, ◌⊎◌, ℕ, ◌<◌, ◌≤◌, List, [], ◌∷◌, ◌++◌, length, Option, Some, None}
+use Rattle.std.specs.Prelude.{◌≡◌, ◌⊎◌, ℕ, ◌+◌, ◌<◌, ◌≤◌, List, [], ◌∷◌, ◌++◌, length, Option, Some, None}
 use mathlib.Core.List.{IsPrefix}
-use Rattle.txc_stream.specs.Names.{Name}
+use Rattle.txc_stream.specs.Names.{Name, stored, unstored}
 use Rattle.txc_tags.specs.declared.tag.Tag.{Tag}
 use Rattle.txc_db.specs.History.{History}
 use Rattle.txc_node.specs.declared.entry.Entry.{Entry}
@@ -18,8 +18,8 @@ use Rattle.txc_shared.specs.declared.error.NodeError.{NodeError}
 use Rattle.txc_shared.specs.declared.error.NodeError.TheVariants.{HistoryFull}
 use Rattle.txc_shared.specs.declared.insertion.Insertion.{Insertion}
 use Rattle.txc_shared.specs.declared.settings.NodeSettings.{NodeSettings}
-use Rattle.txc_shared.specs.Histories.{records_of, next_record, events_of}
-use Rattle.txc_shared.specs.Nodes.{NodeValue, IsHistoryFull, insertion_of}
+use Rattle.txc_shared.specs.Histories.{records_of, next_record, events_of, IsLegal}
+use Rattle.txc_shared.specs.Nodes.{NodeValue, start_of, IsHistoryFull, insertion_of}
 
 -- a pass: the settings of its node, its number, the records that its own last call showed it, those that it
 -- has seen, and what it has seen of the database's history
@@ -29,6 +29,19 @@ pub record PassValue : Type 0 where
   pub own : List Record
   pub records : List Record
   pub history : History
+
+-- The records are a legal history of a node of these settings. Where the database's history is stored, the node began
+-- before its first event; else after some of the events that were seen.
+abbrev pub IsLegalOver : Name → History → NodeSettings → List Record → Type 0
+IsLegalOver (stored cells) L settings rs = IsLegal L (start_of settings 0) rs
+IsLegalOver (unstored number) L settings rs =
+    (from : ℕ) × (from ≤ length L) × IsLegal L (start_of settings from) rs
+
+-- as many events were taken as it has seen, beside those before the node began
+abbrev pub HasNoneLeft : Name → PassValue → Type 0
+HasNoneLeft (stored cells) p = events_of p.records ≡ length p.history
+HasNoneLeft (unstored number) p =
+    (from : ℕ) × (from + events_of p.records ≡ length p.history) × IsLegal p.history (start_of p.settings from) p.records
 
 -- the pass, having seen no less than before
 pub record HasGrown (old new : PassValue) : Type 0 where
@@ -90,12 +103,11 @@ pub record HasInserted (old new : PassValue) (e : Entry) (insertion : Insertion)
   pub made : HasMade old new (Insert e) (replies.Inserted inserted)
   pub answer : insertion ≡ insertion_of inserted
 
--- it took the event of the stamp, which closed so many entries; or as many events were taken as it has seen
-abbrev pub HasTaken : PassValue → PassValue → Advanced → Type 0
-HasTaken old new (Taken stamp closed) =
+-- it took the event of the stamp, which closed so many entries; or there is none left to take
+abbrev pub HasTaken : Name → PassValue → PassValue → Advanced → Type 0
+HasTaken row old new (Taken stamp closed) =
     (tags : List Tag) × HasMade old new (Event stamp tags) (replies.Closed closed)
-HasTaken old new Idle =
-    GrowsByOthers old.pass old.records new.records × (events_of new.records ≡ length new.history)
+HasTaken row old new Idle = GrowsByOthers old.pass old.records new.records × HasNoneLeft row new
 
 -- what a refusal leaves: a full history is seen up to the last of the row's cells; any other leaves the
 -- pass as it was

@@ -2,6 +2,7 @@
 ghost use Rattle.std.specs.Prelude.{◌≡◌, ◌+◌, ◌<◌, ◌⊎◌, ◌↔◌, [], true, false, length, Some, None, Ok, Err, IfOk, OnOk, OnErr, IfErr, IfSome};
 ghost use Rattle.std.specs.Option.{option_map};
 ghost use mathlib.Core.List.{IsPrefix};
+ghost use Rattle.txc_db.specs.Seen.{taken_at_start};
 ghost use Rattle.txc_node.specs.declared.op.Op.TheVariants.{Lookup, Insert, Sweep};
 ghost use Rattle.txc_node.specs.declared.reply.Reply.TheVariants.{Swept};
 ghost use Rattle.txc_node.specs.Counts.{AreCountsOf};
@@ -49,17 +50,14 @@ impl<A: App, J: Naming> Model for Held<A, J> {
 }
 
 impl<A: App, J: Naming> Held<A, J> {
-    /// The named node, which has taken no event. It is broken where the feed begins after events, of whose tags
-    /// nothing is known any more.
-    pub(crate) fn new(mut node: StoredNode<A>, feed: Feed<J>) -> Held<A, J>
+    /// The named node, which begins where the feed does.
+    pub(crate) fn new(node: StoredNode<A>, feed: Feed<J>) -> Held<A, J>
         requires name { node.name ≡ J.node_histories node.settings.number }
         requires events { node.seen.events ≡ J.database_history }
-        requires none { node.cache.processed ≡ 0 }
-        ensures { result ≡ record node { broken = result.broken } }
+        requires begun { node.from ≡ taken_at_start J.database_history node.from }
+        requires in_step { feed.taken ≡ node.cache.processed }
+        ensures { result ≡ node }
     {
-        if feed.taken() != 0 {
-            node.set_broken();
-        }
         Held { node, feed }
     }
 
@@ -113,6 +111,7 @@ impl<A: App, J: Naming> Held<A, J> {
         requires { IsAhead self.now pass.old }
         ensures { HasSeen pass.old self.now.records self.now.seen.history pass.new }
     {
+        legal_histories();
         self.node.is_sound();
         let turn = self.node.turn(pass.pass);
         pass.see(self.node.front(), self.node.seen(), turn);
@@ -260,7 +259,7 @@ impl<A: App, J: Naming> Held<A, J> {
         ensures unchanged { IfErr result (IsNodeLeft self.old self.new) }
         ensures refused { IfErr result (IsRefusedThrough IsTakingRefused self.old pass.old) }
         ensures longer { HasGrown pass.old pass.new }
-        ensures taken { IfOk result (HasTaken pass.old pass.new) }
+        ensures taken { IfOk result (HasTaken J.database_history pass.old pass.new) }
         ensures left { IfErr result (IsPassLeft (J.node_histories pass.old.settings.number) pass.old pass.new) }
     {
         legal_histories();

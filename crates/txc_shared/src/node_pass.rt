@@ -3,9 +3,8 @@ ghost use Rattle.std.specs.Prelude.{◌≡◌, ◌+◌, ◌<◌, ◌≤◌, ◌�
 ghost use mathlib.Core.List.{IsPrefix};
 ghost use Rattle.txc_stream.specs.Names.{stored, HasRow};
 ghost use Rattle.txc_node.specs.Counts.{AreCountsOf};
-ghost use Rattle.txc_shared.specs.Histories.{records_of, IsLegal};
-ghost use Rattle.txc_shared.specs.Nodes.{start_of};
-ghost use Rattle.txc_shared.specs.Passes.{PassValue, HasSeen};
+ghost use Rattle.txc_shared.specs.Histories.{records_of};
+ghost use Rattle.txc_shared.specs.Passes.{PassValue, IsLegalOver, HasSeen};
 
 use crate::laws::legal_histories;
 use crate::node_front::NodeFront;
@@ -35,9 +34,8 @@ pub struct NodePass<J: Naming> {
 impl<J: Naming> Model for NodePass<J> {
     ghost use Rattle.std.specs.Prelude.{◌≡◌};
     ghost use mathlib.Core.List.{IsPrefix};
-    ghost use Rattle.txc_shared.specs.Histories.{records_of, IsLegal};
-    ghost use Rattle.txc_shared.specs.Nodes.{start_of};
-    ghost use Rattle.txc_shared.specs.Passes.{PassValue};
+    ghost use Rattle.txc_shared.specs.Histories.{records_of};
+    ghost use Rattle.txc_shared.specs.Passes.{PassValue, IsLegalOver};
 
     ghost Value = { PassValue };
 
@@ -54,7 +52,7 @@ impl<J: Naming> Model for NodePass<J> {
         × (p.events.events ≡ J.database_history)
         × (p.turn ≡ records_of p.pass p.own.list)
         × IsPrefix p.own.list p.records.records
-        × IsLegal p.events.history (start_of p.settings) p.records.records };
+        × IsLegalOver J.database_history p.events.history p.settings p.records.records };
 }
 
 impl<J: Naming> NodePass<J> {
@@ -102,7 +100,7 @@ impl<J: Naming> NodePass<J> {
     /// What it has seen is a legal history of its node, and begins with what its own last call showed it. It
     /// does nothing when it runs.
     pub fn is_legal(&self)
-        ensures legal { IsLegal self.now.history (start_of self.now.settings) self.now.records }
+        ensures legal { IsLegalOver J.database_history self.now.history self.now.settings self.now.records }
         ensures own { IsPrefix self.now.own self.now.records }
     {
         let _len = self.records.len();
@@ -131,7 +129,7 @@ impl<J: Naming> NodePass<J> {
         requires row { events.now.events ≡ J.database_history }
         requires records { IsPrefix self.old.records records.now.records }
         requires turn { turn ≡ records_of self.old.pass records.now.records }
-        requires legal { IsLegal events.now.history (start_of self.old.settings) records.now.records }
+        requires legal { IsLegalOver J.database_history events.now.history self.old.settings records.now.records }
         ensures { HasSeen self.old records.now.records events.now.history self.new }
     {
         legal_histories();
@@ -154,7 +152,7 @@ pub fn meet<J: Naming>(one: &mut NodePass<J>, other: &mut NodePass<J>)
     ensures either_history { (one.new.history ≡ one.old.history) ⊎ (one.new.history ≡ other.old.history) }
     ensures history { IsPrefix one.old.history one.new.history }
     ensures others_history { IsPrefix other.old.history one.new.history }
-    ensures legal { IsLegal one.new.history (start_of one.new.settings) one.new.records }
+    ensures legal { IsLegalOver J.database_history one.new.history one.new.settings one.new.records }
 {
     legal_histories();
     prefix_of_prefix::<Record>();

@@ -7,15 +7,14 @@ ghost use Rattle.txc_node.specs.declared.op.Op.TheVariants.{Lookup, Sweep};
 ghost use Rattle.txc_node.specs.declared.reply.Reply.TheVariants.{Swept};
 ghost use Rattle.txc_node.specs.Counts.{AreCountsOf};
 ghost use Rattle.txc_app.specs.Claims.{IsTrueIn};
-ghost use Rattle.txc_shared.specs.Histories.{IsLegal};
-ghost use Rattle.txc_shared.specs.Nodes.{start_of};
-ghost use Rattle.txc_shared.specs.Passes.{HasGrown, GrowsByOthers, HasFound, HasMade, HasInserted, HasTaken, IsPassLeft};
+ghost use Rattle.txc_shared.specs.Passes.{IsLegalOver, HasGrown, GrowsByOthers, HasFound, HasMade, HasInserted, HasTaken, IsPassLeft};
 ghost use Rattle.txc_shared.specs.Refusals.{IsLookupRefused, IsStepRefused, IsTakingRefused, IsCountRefused, IsRefusedThrough, IsNewPassRefused, NodeMayRefuse};
 
 use crate::advanced::Advanced;
 use crate::error::NodeError;
 use crate::finding::Finding;
 use crate::held::Held;
+use crate::history::History;
 use crate::insertion::Insertion;
 use crate::log::MAX_PASSES;
 use crate::node_front::NodeFront;
@@ -58,8 +57,9 @@ impl<A: App, J: Naming> Model for SharedNode<A, J> {
 }
 
 impl<A: App, J: Naming> SharedNode<A, J> {
-    /// An empty node, which will take the events of the database. Its row is the one named at its number.
-    /// Where memory is refused, the row is dropped.
+    /// An empty node, which will take the events of the database: all of them where they are stored, and else those
+    /// after the ones that are there. Its row is the one named at its number. Where memory is refused, the row is
+    /// dropped.
     pub fn new(
         rt: &impl Wait,
         alloc: Global,
@@ -72,12 +72,12 @@ impl<A: App, J: Naming> SharedNode<A, J> {
         requires named { stored row ≡ J.node_histories settings.number }
         ensures { IfOk result (λ node. node ≡ settings) }
     {
-        let node = StoredNode::new(alloc, settings, row, database.reader()?)?;
-        SharedNode::of(rt, node, database)
+        let history = History::stored(alloc, row)?;
+        SharedNode::of(rt, alloc, settings, history, database)
     }
 
-    /// An empty node, which will take the events of the database. Its history exists in the proofs alone, and
-    /// its pen is that of the one named at its number.
+    /// An empty node, which will take the same events. Its history exists in the proofs alone, and its pen is that
+    /// of the one named at its number.
     pub fn unstored(
         rt: &impl Wait,
         alloc: Global,
@@ -91,24 +91,31 @@ impl<A: App, J: Naming> SharedNode<A, J> {
         requires none { pen.list ≡ [] }
         ensures { IfOk result (λ node. node ≡ settings) }
     {
-        let node = StoredNode::unstored(alloc, settings, pen, database.reader()?)?;
-        SharedNode::of(rt, node, database)
+        SharedNode::of(rt, alloc, settings, History::unstored(pen), database)
     }
 
-    // The node under its lock.
+    // A node of that history under its lock, which begins where a feed of the database does.
+    #[tactic(auto, using(crate::proofs::Passes::begun_with))]
     fn of(
         rt: &impl Wait,
-        node: StoredNode<A>,
+        alloc: Global,
+        settings: NodeSettings,
+        history: History,
         database: &Database<J>,
     ) -> Result<SharedNode<A, J>, AllocError>
-        requires name { node.name ≡ J.node_histories node.settings.number }
-        requires events { node.seen.events ≡ J.database_history }
-        requires none { node.cache.processed ≡ 0 }
-        ensures { IfOk result (λ shared. shared ≡ node.settings) }
+        requires capacity { (1 ≤ settings.capacity) × (settings.capacity ≤ MAX_CAPACITY) }
+        requires recent { (1 ≤ settings.recent) × (settings.recent ≤ MAX_RECENT) }
+        requires named { history.name ≡ J.node_histories settings.number }
+        requires none { history.records ≡ [] }
+        ensures { IfOk result (λ node. node ≡ settings) }
     {
-        let settings = node.settings();
+        let feed = database.feed(rt)?;
+        let _most = feed.front().len();
+        let from = Stamp::after(feed.taken());
+        let seen = feed.front().again()?;
+        let node = StoredNode::of(alloc, settings, history, seen, from)?;
         let start = node.start()?;
-        let held = Held::new(node, database.feed(rt)?);
+        let held = Held::new(node, feed);
         Ok(SharedNode {
             settings,
             start,
@@ -146,7 +153,7 @@ impl<J: Naming> NodePass<J> {
         node: &SharedNode<A, J>,
     ) -> Result<Counts, NodeError>
         ensures longer { HasGrown self.old self.new }
-        ensures legal { IsLegal self.new.history (start_of self.new.settings) self.new.records }
+        ensures legal { IsLegalOver J.database_history self.new.history self.new.settings self.new.records }
         ensures others { OnOk result (GrowsByOthers self.old.pass self.old.records self.new.records) }
         ensures counts { IfOk result (AreCountsOf self.new.records) }
         ensures left { IfErr result (IsPassLeft (J.node_histories self.old.settings.number) self.old self.new) }
@@ -170,7 +177,7 @@ impl<J: Naming> NodePass<J> {
         hi: Stamp,
     ) -> Result<Option<Finding<A>>, NodeError>
         ensures longer { HasGrown self.old self.new }
-        ensures legal { IsLegal self.new.history (start_of self.new.settings) self.new.records }
+        ensures legal { IsLegalOver J.database_history self.new.history self.new.settings self.new.records }
         ensures found { IfOk result (λ found.
             HasFound self.old self.new (Lookup key.now lo hi) (option_map (λ f. f.entry) found)) }
         ensures key { IfOk result (λ found. IfSome found (λ f. f.entry.key ≡ key.now)) }
@@ -197,7 +204,7 @@ impl<J: Naming> NodePass<J> {
         requires row { front.now.events ≡ J.database_history }
         requires is_true { IsTrueIn A.next front.now.history entry }
         ensures longer { HasGrown self.old self.new }
-        ensures legal { IsLegal self.new.history (start_of self.new.settings) self.new.records }
+        ensures legal { IsLegalOver J.database_history self.new.history self.new.settings self.new.records }
         ensures made { IfOk result (HasInserted self.old self.new entry) }
         ensures shown { OnOk result (IsPrefix front.now.history self.new.history) }
         ensures left { IfErr result (IsPassLeft (J.node_histories self.old.settings.number) self.old self.new) }
@@ -209,8 +216,8 @@ impl<J: Naming> NodePass<J> {
         insertion
     }
 
-    /// Takes the next event of the database's history. Where it is idle, the pass has seen as many events
-    /// as were taken.
+    /// Takes the next event of the database's history. Where it is idle, each event that the pass has seen was taken
+    /// or came before the node.
     pub fn advance<A: App>(
         &mut self,
         rt: &impl Wait,
@@ -218,8 +225,8 @@ impl<J: Naming> NodePass<J> {
         node: &SharedNode<A, J>,
     ) -> Result<Advanced, NodeError>
         ensures longer { HasGrown self.old self.new }
-        ensures legal { IsLegal self.new.history (start_of self.new.settings) self.new.records }
-        ensures taken { IfOk result (HasTaken self.old self.new) }
+        ensures legal { IsLegalOver J.database_history self.new.history self.new.settings self.new.records }
+        ensures taken { IfOk result (HasTaken J.database_history self.old self.new) }
         ensures left { IfErr result (IsPassLeft (J.node_histories self.old.settings.number) self.old self.new) }
         ensures refused { IfErr result
             (NodeMayRefuse J.node_histories (λ n. IsRefusedThrough IsTakingRefused n self.old)) }
@@ -238,7 +245,7 @@ impl<J: Naming> NodePass<J> {
         horizon: Stamp,
     ) -> Result<usize, NodeError>
         ensures longer { HasGrown self.old self.new }
-        ensures legal { IsLegal self.new.history (start_of self.new.settings) self.new.records }
+        ensures legal { IsLegalOver J.database_history self.new.history self.new.settings self.new.records }
         ensures made { IfOk result (λ count. HasMade self.old self.new (Sweep horizon) (Swept count)) }
         ensures left { IfErr result (IsPassLeft (J.node_histories self.old.settings.number) self.old self.new) }
         ensures refused { IfErr result

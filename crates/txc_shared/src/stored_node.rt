@@ -41,6 +41,7 @@ use txc_tags::{Key, TagSet};
 #[derive(Drop)]
 pub struct StoredNode<A: App> {
     settings: NodeSettings,
+    from: Stamp,
     core: NodeCore,
     log: Log,
     counts: Counts,
@@ -59,6 +60,7 @@ impl<A: App> Model for StoredNode<A> {
 
     ghost view = { λ n. record {
       settings = n.settings;
+      from = n.from;
       name = n.log.name;
       records = n.log.records;
       passes = n.log.passes;
@@ -68,7 +70,7 @@ impl<A: App> Model for StoredNode<A> {
     } };
 
     ghost invariant = { λ n.
-        IsNode A.next n.seen.history (start_of n.settings) n.log.records n.core n.broken
+        IsNode A.next n.seen.history (start_of n.settings n.from) n.log.records n.core n.broken
         × (n.broken ≡ false → AreCountsOf n.log.records n.counts) };
 }
 
@@ -84,15 +86,16 @@ impl<A: App> StoredNode<A> {
         requires capacity { (1 ≤ settings.capacity) × (settings.capacity ≤ MAX_CAPACITY) }
         requires recent { (1 ≤ settings.recent) × (settings.recent ≤ MAX_RECENT) }
         ensures settings { IfOk result (λ n. n.settings ≡ settings) }
+        ensures from { IfOk result (λ n. n.from ≡ 0) }
         ensures name { IfOk result (λ n. n.name ≡ stored row) }
         ensures records { IfOk result (λ n. n.records ≡ []) }
         ensures passes { IfOk result (λ n. n.passes ≡ 0) }
-        ensures cache { IfOk result (λ n. n.cache ≡ start_of settings) }
+        ensures cache { IfOk result (λ n. n.cache ≡ start_of settings 0) }
         ensures seen { IfOk result (λ n. n.seen ≡ seen) }
         ensures whole { IfOk result (λ n. n.broken ≡ false) }
     {
         let history = History::stored(alloc, row)?;
-        StoredNode::of(alloc, settings, history, seen)
+        StoredNode::of(alloc, settings, history, seen, Stamp::ZERO)
     }
 
     /// An empty node, whose records the pen writes. The front shows what it has seen of the database's history.
@@ -106,41 +109,46 @@ impl<A: App> StoredNode<A> {
         requires recent { (1 ≤ settings.recent) × (settings.recent ≤ MAX_RECENT) }
         requires none { pen.list ≡ [] }
         ensures settings { IfOk result (λ n. n.settings ≡ settings) }
+        ensures from { IfOk result (λ n. n.from ≡ 0) }
         ensures name { IfOk result (λ n. n.name ≡ unstored pen.number) }
         ensures records { IfOk result (λ n. n.records ≡ []) }
         ensures passes { IfOk result (λ n. n.passes ≡ 0) }
-        ensures cache { IfOk result (λ n. n.cache ≡ start_of settings) }
+        ensures cache { IfOk result (λ n. n.cache ≡ start_of settings 0) }
         ensures seen { IfOk result (λ n. n.seen ≡ seen) }
         ensures whole { IfOk result (λ n. n.broken ≡ false) }
     {
-        StoredNode::of(alloc, settings, History::unstored(pen), seen)
+        StoredNode::of(alloc, settings, History::unstored(pen), seen, Stamp::ZERO)
     }
 
-    // An empty node of that history.
-    fn of(
+    /// An empty node of that history, which begins after the first events that the front shows.
+    pub(crate) fn of(
         alloc: Global,
         settings: NodeSettings,
         history: History,
         seen: HistoryFront,
+        from: Stamp,
     ) -> Result<StoredNode<A>, AllocError>
         requires capacity { (1 ≤ settings.capacity) × (settings.capacity ≤ MAX_CAPACITY) }
         requires recent { (1 ≤ settings.recent) × (settings.recent ≤ MAX_RECENT) }
         requires none { history.records ≡ [] }
+        requires seen { from ≤ length seen.history }
         ensures { IfOk result (λ n. n ≡ record {
           settings = settings;
+          from = from;
           name = history.name;
           records = [];
           passes = 0;
-          cache = start_of settings;
+          cache = start_of settings from;
           seen = seen;
           broken = false;
         }) }
     {
         nodes_go_on();
         let log = Log::new(alloc, history);
-        let core = NodeCore::new(alloc, settings.capacity, settings.recent)?;
+        let core = NodeCore::beginning_at(alloc, settings.capacity, settings.recent, from)?;
         Ok(StoredNode {
             settings,
+            from,
             core,
             log,
             counts: Counts::new(),
@@ -154,7 +162,7 @@ impl<A: App> StoredNode<A> {
     /// history, and, unless it is broken, it is the state after a legal history. It does nothing when it
     /// runs.
     pub fn is_sound(&self)
-        ensures { IsNode A.next self.now.seen.history (start_of self.now.settings)
+        ensures { IsNode A.next self.now.seen.history (start_of self.now.settings self.now.from)
             self.now.records self.now.cache self.now.broken }
     {
         let _whole = self.broken;
@@ -165,6 +173,13 @@ impl<A: App> StoredNode<A> {
         ensures { result ≡ self.now.settings }
     {
         self.settings
+    }
+
+    /// How many events came before it.
+    pub fn from(&self) -> Stamp
+        ensures { result ≡ self.now.from }
+    {
+        self.from
     }
 
     /// A front that shows its records.

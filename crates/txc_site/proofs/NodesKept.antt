@@ -26,38 +26,38 @@ pub same_then : (old mid new : StationValue) → IsSamePass old mid → IsSamePa
 same_then old mid new a b = record { settings = b.settings ∙ a.settings; pass = b.pass ∙ a.pass }
 
 -- one event more was taken
-pub one_taken_more : (old last new : StationValue) (stamps : List ℕ) (stamp closed : ℕ) → HasTakenEach old stamps last
-    → HasTaken last.pass new.pass (advances.Taken stamp closed) → HasNotRefused last new → HasTakenEach old (stamp ∷ stamps) new
-one_taken_more old last new stamps stamp closed before taken answered = (last, closed, before, taken, answered)
+pub one_taken_more : (row : Name) (old last new : StationValue) (stamps : List ℕ) (stamp closed : ℕ) → HasTakenEach row old stamps last
+    → HasTaken row last.pass new.pass (advances.Taken stamp closed) → HasNotRefused last new → HasTakenEach row old (stamp ∷ stamps) new
+one_taken_more row old last new stamps stamp closed before taken answered = (last, closed, before, taken, answered)
 
-one_kept_more : (histories : ℕ → Name) (h : Option ℕ) (olds : List StationValue) (all : List KeptNode) (news : List StationValue)
-    (old : StationValue) (kept : KeptNode) (new : StationValue) → HaveKept histories h olds all news → HasKeptNode histories h old kept new
-    → HaveKept histories h (olds ++ old ∷ []) (all ++ kept ∷ []) (news ++ new ∷ [])
-one_kept_more histories h [] [] [] old kept new before one = (one, tt)
-one_kept_more histories h (o ∷ olds) (k ∷ all) (n ∷ news) old kept new before one =
-    (before.0, one_kept_more histories h olds all news old kept new before.1 one)
-one_kept_more histories h [] [] (n ∷ news) old kept new before one = absurd before
-one_kept_more histories h [] (k ∷ all) news old kept new before one = absurd before
-one_kept_more histories h (o ∷ olds) [] news old kept new before one = absurd before
-one_kept_more histories h (o ∷ olds) (k ∷ all) [] old kept new before one = absurd before
+one_kept_more : (row : Name) (histories : ℕ → Name) (h : Option ℕ) (olds : List StationValue) (all : List KeptNode) (news : List StationValue)
+    (old : StationValue) (kept : KeptNode) (new : StationValue) → HaveKept row histories h olds all news → HasKeptNode row histories h old kept new
+    → HaveKept row histories h (olds ++ old ∷ []) (all ++ kept ∷ []) (news ++ new ∷ [])
+one_kept_more row histories h [] [] [] old kept new before one = (one, tt)
+one_kept_more row histories h (o ∷ olds) (k ∷ all) (n ∷ news) old kept new before one =
+    (before.0, one_kept_more row histories h olds all news old kept new before.1 one)
+one_kept_more row histories h [] [] (n ∷ news) old kept new before one = absurd before
+one_kept_more row histories h [] (k ∷ all) news old kept new before one = absurd before
+one_kept_more row histories h (o ∷ olds) [] news old kept new before one = absurd before
+one_kept_more row histories h (o ∷ olds) (k ∷ all) [] old kept new before one = absurd before
 
 -- none was kept
-pub none_kept : (histories : ℕ → Name) (h : Option ℕ) (nodes : List KeptNode) (left : List StationValue) → nodes ≡ [] → left ≡ []
-    → HaveKept histories h [] nodes left
-none_kept histories h nodes left no_node none =
-    subst (λ (all : List KeptNode). HaveKept histories h [] all left) (sym no_node)
-    (subst (λ (xs : List StationValue). HaveKept histories h [] [] xs) (sym none) tt)
+pub none_kept : (row : Name) (histories : ℕ → Name) (h : Option ℕ) (nodes : List KeptNode) (left : List StationValue) → nodes ≡ [] → left ≡ []
+    → HaveKept row histories h [] nodes left
+none_kept row histories h nodes left no_node none =
+    subst (λ (all : List KeptNode). HaveKept row histories h [] all left) (sym no_node)
+    (subst (λ (xs : List StationValue). HaveKept row histories h [] [] xs) (sym none) tt)
 
 -- one station more was kept, and is left with those that were
-pub one_left_more : (histories : ℕ → Name) (h : Option ℕ) (olds : List StationValue) (nodes more : List KeptNode)
+pub one_left_more : (row : Name) (histories : ℕ → Name) (h : Option ℕ) (olds : List StationValue) (nodes more : List KeptNode)
     (left others : List StationValue) (kept : KeptNode) (station after : StationValue)
-    → HaveKept histories h olds nodes left → HasKeptNode histories h station kept after
+    → HaveKept row histories h olds nodes left → HasKeptNode row histories h station kept after
     → more ≡ nodes ++ kept ∷ [] → others ≡ left ++ after ∷ []
-    → HaveKept histories h (olds ++ station ∷ []) more others
-one_left_more histories h olds nodes more left others kept station after before one is added =
-    subst (λ (all : List KeptNode). HaveKept histories h (olds ++ station ∷ []) all others) (sym is)
-    (subst (λ (xs : List StationValue). HaveKept histories h (olds ++ station ∷ []) (nodes ++ kept ∷ []) xs) (sym added)
-    (one_kept_more histories h olds nodes left station kept after before one))
+    → HaveKept row histories h (olds ++ station ∷ []) more others
+one_left_more row histories h olds nodes more left others kept station after before one is added =
+    subst (λ (all : List KeptNode). HaveKept row histories h (olds ++ station ∷ []) all others) (sym is)
+    (subst (λ (xs : List StationValue). HaveKept row histories h (olds ++ station ∷ []) (nodes ++ kept ∷ []) xs) (sym added)
+    (one_kept_more row histories h olds nodes left station kept after before one))
 
 -- the stations that were kept and those that are not are all
 pub one_station_less : (olds all : List StationValue) (station : StationValue) (rest before : List StationValue)

@@ -15,25 +15,25 @@ use Rattle.txc_site.specs.declared.keeper.KeptNode.{KeptNode}
 use Rattle.txc_site.specs.declared.keeper.TheConstants.{MAX_TAKEN}
 
 -- at the station, the node took one event after the other, of these stamps, the latest first
-abbrev pub HasTakenEach : StationValue → List ℕ → StationValue → Type 0
-HasTakenEach old [] new = new ≡ old
-HasTakenEach old (stamp ∷ earlier) new = (before : StationValue) × (closed : ℕ) × HasTakenEach old earlier before
-    × HasTaken before.pass new.pass (advances.Taken stamp closed) × HasNotRefused before new
+abbrev pub HasTakenEach : Name → StationValue → List ℕ → StationValue → Type 0
+HasTakenEach row old [] new = new ≡ old
+HasTakenEach row old (stamp ∷ earlier) new = (before : StationValue) × (closed : ℕ) × HasTakenEach row old earlier before
+    × HasTaken row before.pass new.pass (advances.Taken stamp closed) × HasNotRefused before new
 
 -- after so many events there was none that the node had not taken, or it had taken as many as it may at once, or it
 -- refused the next one
-abbrev pub HasStoppedTaking : (ℕ → Name) → StationValue → ℕ → Ended → StationValue → Type 0
-HasStoppedTaking histories old taken Idle new = HasTaken old.pass new.pass advances.Idle × HasNotRefused old new
-HasStoppedTaking histories old taken Paused new = (new ≡ old) × (taken ≡ MAX_TAKEN)
-HasStoppedTaking histories old taken (Refused error) new = HasBeenRefused histories IsTakingRefused old error new
+abbrev pub HasStoppedTaking : Name → (ℕ → Name) → StationValue → ℕ → Ended → StationValue → Type 0
+HasStoppedTaking row histories old taken Idle new = HasTaken row old.pass new.pass advances.Idle × HasNotRefused old new
+HasStoppedTaking row histories old taken Paused new = (new ≡ old) × (taken ≡ MAX_TAKEN)
+HasStoppedTaking row histories old taken (Refused error) new = HasBeenRefused histories IsTakingRefused old error new
 
 -- so many events were taken, and it ended so
-pub record HasTakenEvents (histories : ℕ → Name) (old : StationValue) (taken : ℕ) (ended : Ended) (new : StationValue) : Type 0 where
+pub record HasTakenEvents (row : Name) (histories : ℕ → Name) (old : StationValue) (taken : ℕ) (ended : Ended) (new : StationValue) : Type 0 where
   pub stamps : List ℕ
   pub last : StationValue
-  pub took : HasTakenEach old stamps last
+  pub took : HasTakenEach row old stamps last
   pub counted : taken ≡ length stamps
-  pub end : HasStoppedTaking histories last taken ended new
+  pub end : HasStoppedTaking row histories last taken ended new
 
 -- the node was swept, and dropped so many entries; or refused the sweep; without a horizon it was not swept
 abbrev pub HasSwept : (ℕ → Name) → StationValue → Option ℕ → Option (Result ℕ NodeError) → StationValue → Type 0
@@ -45,19 +45,19 @@ HasSwept histories old horizon swept new = ⊥
 
 -- what was done with a node at its station, whose pass is the same one, and the room that is left after what the pass
 -- has seen
-pub record HasKeptNode (histories : ℕ → Name) (horizon : Option ℕ) (old : StationValue) (kept : KeptNode) (new : StationValue) : Type 0 where
+pub record HasKeptNode (row : Name) (histories : ℕ → Name) (horizon : Option ℕ) (old : StationValue) (kept : KeptNode) (new : StationValue) : Type 0 where
   pub between : StationValue
-  pub advanced : HasTakenEvents histories old kept.taken kept.ended between
+  pub advanced : HasTakenEvents row histories old kept.taken kept.ended between
   pub swept : HasSwept histories between horizon kept.swept new
   pub same : IsSamePass old new
   pub left : IsRoomLeft (histories new.pass.settings.number) new.pass.records kept.records_left
 
 -- the same of each node, in order
-abbrev pub HaveKept : (ℕ → Name) → Option ℕ → List StationValue → List KeptNode → List StationValue → Type 0
-HaveKept histories horizon [] [] [] = Unit {0}
-HaveKept histories horizon (old ∷ olds) (kept ∷ all) (new ∷ news) =
-    HasKeptNode histories horizon old kept new × HaveKept histories horizon olds all news
-HaveKept histories horizon olds all news = ⊥
+abbrev pub HaveKept : Name → (ℕ → Name) → Option ℕ → List StationValue → List KeptNode → List StationValue → Type 0
+HaveKept row histories horizon [] [] [] = Unit {0}
+HaveKept row histories horizon (old ∷ olds) (kept ∷ all) (new ∷ news) =
+    HasKeptNode row histories horizon old kept new × HaveKept row histories horizon olds all news
+HaveKept row histories horizon olds all news = ⊥
 
 -- the horizon, if there is one
 abbrev pub ok_of : {T E : Type 0} → Result T E → Option T

@@ -46,7 +46,7 @@ pub record IsKeep (row : Name) (histories : ℕ → Name) (now age : ℕ) (old :
   pub retired : IfOk told.retired (CushionMayAnswer row (λ c stamps. stamps.items ≡ retired c now age))
   pub horizon : IfOk told.horizon (MayAnswer row (λ d horizon. horizon ≡ next_horizon d))
   pub no_horizon : IfErr told.horizon (MayRefuse row IsVacuumRefused)
-  pub nodes : HaveKept histories (ok_of told.horizon) old told.nodes new
+  pub nodes : HaveKept row histories (ok_of told.horizon) old told.nodes new
 
 -- a keep did nothing, for this reason
 pub record IsNoKeep (row : Name) (old : List StationValue) (error : DbError) (new : List StationValue) : Type 0 where

@@ -82,7 +82,7 @@ fn advance<A: App, J: Naming>(
     alloc: Global,
     station: &mut Station<'_, A, J>,
 ) -> (usize, Ended)
-    ensures did { HasTakenEvents J.node_histories station.old result.0 result.1 station.new }
+    ensures did { HasTakenEvents J.database_history J.node_histories station.old result.0 result.1 station.new }
     ensures same { IsSamePass station.old station.new }
 {
     let mut taken = 0;
@@ -138,7 +138,7 @@ fn keep_node<'a, A: App, J: Naming>(
     station: Station<'a, A, J>,
     horizon: &Result<Horizon<J>, DbError>,
 ) -> (KeptNode, Station<'a, A, J>)
-    ensures { HasKeptNode J.node_histories (ok_of horizon.now) station.entry result.0 result.1 }
+    ensures { HasKeptNode J.database_history J.node_histories (ok_of horizon.now) station.entry result.0 result.1 }
 {
     let mut station = station;
     let (taken, ended) = advance(rt, alloc, &mut station);
@@ -217,7 +217,7 @@ fn keep_all<'a, A: App, J: Naming>(
     requires none_left { left.items ≡ [] }
     requires room { vec_len stations ≤ vec_capacity nodes }
     requires room_left { vec_len stations ≤ vec_capacity left }
-    ensures { HaveKept J.node_histories (ok_of horizon.now) stations.entry.items result.0.items result.1.items }
+    ensures { HaveKept J.database_history J.node_histories (ok_of horizon.now) stations.entry.items result.0.items result.1.items }
 {
     for station in stations {
         let (kept, station) = keep_node(rt, alloc, station, horizon);

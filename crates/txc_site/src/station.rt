@@ -59,7 +59,7 @@ impl<'a, A: App, J: Naming> Station<'a, A, J> {
     #[tactic(auto, using(crate::proofs::NodesKept::same_settings, crate::proofs::NodesKept::same_pass))]
     pub(crate) fn advance(&mut self, rt: &impl Wait, alloc: Global) -> Result<Advanced, NodeError>
         ensures same { IsSamePass self.old self.new }
-        ensures taken { IfOk result (λ advanced. HasTaken self.old.pass self.new.pass advanced) }
+        ensures taken { IfOk result (λ advanced. HasTaken J.database_history self.old.pass self.new.pass advanced) }
         ensures answered { IfOk result (λ advanced. HasNotRefused self.old self.new) }
         ensures refused { IfErr result (λ error. HasBeenRefused J.node_histories IsTakingRefused self.old error self.new) }
     {

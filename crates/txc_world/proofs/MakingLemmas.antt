@@ -43,6 +43,7 @@ new_node_is : (settings : NodeSettings) (row_cap actors : ℕ) (whole : FrontVal
     → IsNodeOf whole actors n
 new_node_is settings row_cap actors whole n new = record {
   kind = subst HasRow (sym new.name) tt;
+  begun = new.begun;
   row = ap (λ (f : FrontValue). f.events) new.seen_is;
   seen = λ w. subst (IsPartOf whole) (sym new.seen_is) (part_itself whole);
   passes = new.passes_are;

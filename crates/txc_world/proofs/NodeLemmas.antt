@@ -33,6 +33,7 @@ longer_is_whole one whole longer l part =
 -- is broken, if it was before
 pub record StaysNode (whole : FrontValue) (old new : NodeValue) : Type 0 where
   pub settings : new.settings ≡ old.settings
+  pub from : new.from ≡ old.from
   pub name : new.name ≡ old.name
   pub row : old.seen.events ≡ whole.events → new.seen.events ≡ whole.events
   pub passes : new.passes ≡ old.passes
@@ -40,23 +41,24 @@ pub record StaysNode (whole : FrontValue) (old new : NodeValue) : Type 0 where
 
 pub node_stays : (whole : FrontValue) (actors : ℕ) (old new : NodeValue) → StaysNode whole old new → IsNodeOf whole actors old
     → IsNodeOf whole actors new
-node_stays whole actors old new s n = record { kind = subst HasRow (sym s.name) n.kind; row = s.row n.row; seen = s.seen n.seen; passes = s.passes ∙ n.passes }
+node_stays whole actors old new s n = record { kind = subst HasRow (sym s.name) n.kind; begun = s.from ∙ n.begun; row = s.row n.row; seen = s.seen n.seen; passes = s.passes ∙ n.passes }
 
 module _ (whole : FrontValue) where
   pub stays_itself : (n : NodeValue) → StaysNode whole n n
-  stays_itself n = record { settings = refl; name = refl; row = λ h. h; passes = refl; seen = λ h. h }
+  stays_itself n = record { settings = refl; from = refl; name = refl; row = λ h. h; passes = refl; seen = λ h. h }
 
   stays_same : (old new : NodeValue) → new ≡ old → StaysNode whole old new
   stays_same old new is = subst (λ (n : NodeValue). StaysNode whole old n) (sym is) (stays_itself old)
 
   pub stays_after : (old new : NodeValue) (pass : ℕ) (op : Op) → new ≡ after_call old pass op → StaysNode whole old new
   stays_after old new pass op is =
-      subst (λ (n : NodeValue). StaysNode whole old n) (sym is) (record { settings = refl; name = refl; row = λ h. h; passes = refl; seen = λ h. h })
+      subst (λ (n : NodeValue). StaysNode whole old n) (sym is) (record { settings = refl; from = refl; name = refl; row = λ h. h; passes = refl; seen = λ h. h })
 
   -- what was broken stays so, whatever it has seen
   stays_broken : (old new : NodeValue) → IsNodeBroken old new → StaysNode whole old new
   stays_broken old new broke = record {
     settings = ap (λ (n : NodeValue). n.settings) broke.is;
+    from = ap (λ (n : NodeValue). n.from) broke.is;
     name = ap (λ (n : NodeValue). n.name) broke.is;
     row = λ h. broke.events ∙ h;
     passes = ap (λ (n : NodeValue). n.passes) broke.is;
@@ -88,6 +90,7 @@ module _ (whole : FrontValue) where
       → IsPartOf whole seen → InsertLeads pass seen entry old new made → StaysNode whole old new
   stays_inserted old new pass seen entry (Some insertion) part has = record {
     settings = ap (λ (n : NodeValue). n.settings) has.after;
+    from = ap (λ (n : NodeValue). n.from) has.after;
     name = ap (λ (n : NodeValue). n.name) has.after;
     row = λ h. has.longer.events ∙ h;
     passes = ap (λ (n : NodeValue). n.passes) has.after;
@@ -97,12 +100,12 @@ module _ (whole : FrontValue) where
 
   stays_seeing : (old new : NodeValue) → new ≡ seeing old whole → StaysNode whole old new
   stays_seeing old new is =
-      subst (λ (n : NodeValue). StaysNode whole old n) (sym is) (record { settings = refl; name = refl; row = λ h. refl; passes = refl; seen = λ h w. part_itself whole })
+      subst (λ (n : NodeValue). StaysNode whole old n) (sym is) (record { settings = refl; from = refl; name = refl; row = λ h. refl; passes = refl; seen = λ h w. part_itself whole })
 
   pub stays_advanced : (old new : NodeValue) (pass : ℕ) (advanced : Result Advanced NodeError)
       → AdvanceLeads pass whole old new advanced → StaysNode whole old new
   stays_advanced old new pass (Ok (Taken stamp closed)) leads =
-      subst (λ (n : NodeValue). StaysNode whole old n) (sym leads.1.0) (record { settings = refl; name = refl; row = λ h. refl; passes = refl; seen = λ h w. part_itself whole })
+      subst (λ (n : NodeValue). StaysNode whole old n) (sym leads.1.0) (record { settings = refl; from = refl; name = refl; row = λ h. refl; passes = refl; seen = λ h w. part_itself whole })
   stays_advanced old new pass (Ok Idle) leads = stays_seeing old new leads.1.0
   stays_advanced old new pass (Err e) leads = stays_left old new e leads.0
 

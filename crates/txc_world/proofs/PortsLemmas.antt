@@ -66,6 +66,7 @@ module _ (p : PortsValue) (d : DatabaseValue) where
   node_grows : (n : NodeValue) → IsPartOf (front_of d) (whole_of p) → IsNodeOf (whole_of p) p.actors n → IsNodeOf (front_of d) p.actors n
   node_grows n grown is = record {
     kind = is.kind;
+    begun = is.begun;
     row = is.row ∙ grown.row;
     seen = λ w. part_then (front_of d) (whole_of p) n.seen grown (is.seen w);
     passes = is.passes;

@@ -30,11 +30,13 @@ module _ {X : Type 0} (P : X → Type 0) (xs : List X) where
 
 -- a node that has seen a part of the whole is true in the whole
 pub true_node : NodeSeesMore → (next : Next) (whole : FrontValue) (n : NodeValue) → n.seen.events ≡ whole.events
-    → IsNode next n.seen.history (start_of n.settings) n.records n.cache n.broken → (n.broken ≡ false → IsPartOf whole n.seen) → IsTrueNode next whole n
-true_node sees next whole n row is part = record {
-  row = row;
-  seen = is;
-  right = λ intact.
-      sees next n.seen.history whole.history (start_of n.settings) n.records n.cache false (part intact).begins
-      (subst (λ (b : Bool). IsNode next n.seen.history (start_of n.settings) n.records n.cache b) intact is);
-}
+    → n.from ≡ 0 → IsNode next n.seen.history (start_of n.settings n.from) n.records n.cache n.broken → (n.broken ≡ false → IsPartOf whole n.seen) → IsTrueNode next whole n
+true_node sees next whole n row begun is part =
+    let seen = subst (λ (from : ℕ). IsNode next n.seen.history (start_of n.settings from) n.records n.cache n.broken) begun is in
+    record {
+      row = row;
+      seen = seen;
+      right = λ intact.
+          sees next n.seen.history whole.history (start_of n.settings 0) n.records n.cache false (part intact).begins
+          (subst (λ (b : Bool). IsNode next n.seen.history (start_of n.settings 0) n.records n.cache b) intact seen);
+    }

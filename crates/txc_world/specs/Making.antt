@@ -12,12 +12,13 @@ use Rattle.txc_world.specs.Ports.{PortsValue, whole_of}
 pub record IsNewNode (settings : NodeSettings) (row_cap passes : ℕ) (seen : FrontValue) (n : NodeValue)
     : Type 0 where
   pub settings_are : n.settings ≡ settings
+  pub begun : n.from ≡ 0
   pub row : List ℕ
   pub name : n.name ≡ stored row
   pub cells : length row ≡ row_cap
   pub records : n.records ≡ []
   pub passes_are : n.passes ≡ passes
-  pub cache : n.cache ≡ start_of settings
+  pub cache : n.cache ≡ start_of settings 0
   pub seen_is : n.seen ≡ seen
   pub whole : n.broken ≡ false
 

@@ -25,10 +25,11 @@ pub record PortsValue : Type 0 where
 abbrev pub whole_of : PortsValue → FrontValue
 whole_of p = front_of p.database
 
--- What is true of a node: its history is stored. What it has seen is of the row, and, unless it is broken, a part of the whole;
+-- What is true of a node: its history is stored, and it began before the first event. What it has seen is of the row, and, unless it is broken, a part of the whole;
 -- each actor has a pass, by its number, and the keeper has the last one.
 pub record IsNodeOf (whole : FrontValue) (actors : ℕ) (n : NodeValue) : Type 0 where
   pub kind : HasRow n.name
+  pub begun : n.from ≡ 0
   pub row : n.seen.events ≡ whole.events
   pub seen : n.broken ≡ false → IsPartOf whole n.seen
   pub passes : n.passes ≡ actors + 1

@@ -66,8 +66,8 @@ pub record IsWorld {A C : Type 0} (next : Next) (settings : WorldSettings) (port
 -- the node is what a legal history of its records leaves.
 pub record IsTrueNode (next : Next) (whole : FrontValue) (n : NodeValue) : Type 0 where
   pub row : n.seen.events ≡ whole.events
-  pub seen : IsNode next n.seen.history (start_of n.settings) n.records n.cache n.broken
-  pub right : n.broken ≡ false → IsNode next whole.history (start_of n.settings) n.records n.cache false
+  pub seen : IsNode next n.seen.history (start_of n.settings 0) n.records n.cache n.broken
+  pub right : n.broken ≡ false → IsNode next whole.history (start_of n.settings 0) n.records n.cache false
 
 -- What is true of a world between any two steps. The history that is told of it is its database's, and the pins
 -- are those that its keeper has. It has the nodes of its settings, each of which is true.

@@ -88,6 +88,7 @@ impl<A: App> Ports<A> {
         requires { at < length self.now.nodes }
         ensures there { slice_get self.now.nodes at ≡ Some result.now }
         ensures kind { HasRow result.now.name }
+        ensures begun { result.now.from ≡ 0 }
         ensures row { result.now.seen.events ≡ self.now.database.events }
         ensures seen { result.now.broken ≡ false → IsPartOf (whole_of self.now) result.now.seen }
         ensures passes { result.now.passes ≡ self.now.actors + 1 }

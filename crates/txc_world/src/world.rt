@@ -161,7 +161,7 @@ impl<A: App, C: Cacheable> World<A, C> {
         requires { at < self.now.told.settings.nodes }
         ensures there { slice_get self.now.ports.nodes at ≡ Some result.now }
         ensures passes { result.now.passes ≡ self.now.ports.actors + 1 }
-        ensures right { result.now.broken ≡ false → IsNode A.next self.now.told.history (start_of result.now.settings)
+        ensures right { result.now.broken ≡ false → IsNode A.next self.now.told.history (start_of result.now.settings 0)
             result.now.records result.now.cache false }
     {
         nodes_go_on();

@@ -6,7 +6,7 @@ use Rattle.txc_site.proofs.keeper.advance.Given as goal
 -- the stamps of the events that were taken, the latest first
 abbrev pub invariant-loop : goal.invariant-loop
 invariant-loop g l = (stamps : List ℕ)
-    × HasTakenEach l.fn.station stamps l.station
+    × HasTakenEach g.J.Naming.database_history l.fn.station stamps l.station
     × (l.taken ≡ length stamps)
     × (l.taken ≡ l.counter)
     × IsSamePass l.fn.station l.station

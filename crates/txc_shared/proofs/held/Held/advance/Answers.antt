@@ -31,7 +31,7 @@ returns-in-Taken-clause-taken g c =
     let shown : IsPrefix c.pass.inside.events.history c.front.result.now.history = subst (IsPrefix c.pass.inside.events.history) (sym c.front.ensures.history) looked in
     let seen = prefix_trans c.pass.inside.events.history c.front.result.now.history m.seen.history shown c.in-Ok.ensures.seen.second in
     let begins : IsPrefix p.history m.seen.history = subst (λ (x : PassValue). IsPrefix x.history m.seen.history) c.pass.view_is seen in
-    has_taken c.legal_histories.ensures.events g.A.App.next n m p c.show-in-Ok.new.pass c.in-Ok.advanced admitted done c.is_sound.ensures begins c.show-in-Ok.ensures
+    has_taken c.legal_histories.ensures.events g.J.Naming.database_history g.A.App.next n m p c.show-in-Ok.new.pass c.in-Ok.advanced c.self.invariant.begun admitted done c.is_sound.ensures begins c.show-in-Ok.ensures
 
 pub returns-in_default-clause-taken : goal.returns-in_default-clause-taken
 returns-in_default-clause-taken g c =
@@ -47,7 +47,7 @@ returns-in_default-clause-taken g c =
     let shown : IsPrefix c.pass.inside.events.history c.front.result.now.history = subst (IsPrefix c.pass.inside.events.history) (sym c.front.ensures.history) looked in
     let seen = prefix_trans c.pass.inside.events.history c.front.result.now.history m.seen.history shown c.in-Ok.ensures.seen.second in
     let begins : IsPrefix p.history m.seen.history = subst (λ (x : PassValue). IsPrefix x.history m.seen.history) c.pass.view_is seen in
-    has_taken c.legal_histories.ensures.events g.A.App.next n m p c.show.new.pass c.in-Ok.advanced admitted done c.is_sound.ensures begins c.show.ensures
+    has_taken c.legal_histories.ensures.events g.J.Naming.database_history g.A.App.next n m p c.show.new.pass c.in-Ok.advanced c.self.invariant.begun admitted done c.is_sound.ensures begins c.show.ensures
 
 pub advance_by-requires-clause-posted : goal.advance_by-requires-clause-posted
 advance_by-requires-clause-posted g c =

@@ -4,9 +4,8 @@ use Rattle.txc_stream.specs.Shown.{Shown}
 use Rattle.txc_stream.proofs.Offered.{prefix_self}
 use Rattle.txc_node.specs.declared.record.Record.{Record}
 use Rattle.txc_shared.specs.Histories.{records_of}
-use Rattle.txc_shared.specs.Nodes.{start_of}
 use Rattle.txc_shared.specs.Passes.{PassValue}
-use Rattle.txc_shared.proofs.Passes.{taken_over, legal_as}
+use Rattle.txc_shared.proofs.Passes.{taken_over, over_longer, over_as}
 use Rattle.txc_shared.proofs.node_pass.NodePass.see.Goals as goal
 
 pub invariant_of-self : goal.invariant_of-self
@@ -14,15 +13,15 @@ invariant_of-self g c =
     let records = taken_over c.self.inside.records.records c.args.records.now.records c.longer.new.self.records c.args.self.now.records c.args.records.now.records
     (ap (λ (p : PassValue). p.records) c.self.view_is) refl c.requires.records c.longer.ensures.one c.longer.ensures.that in
     let own : c.again.result.list ≡ c.args.records.now.records = ap (λ (s : Shown Record). s.list) c.again.ensures ∙ c.front.ensures.records in
-    let start = start_of c.args.self.now.settings in
+    let row = g.J.Naming.database_history in
     let now = c.longer-2.new.self.history in
-    let legal = c.legal_histories.ensures.longer c.args.events.now.history now start c.args.records.now.records c.longer-2.ensures.that c.requires.legal in (
+    let legal = over_longer c.legal_histories.ensures.longer row c.args.events.now.history now c.args.self.now.settings c.args.records.now.records c.longer-2.ensures.that c.requires.legal in (
       c.longer.ensures.name ∙ c.self.invariant.0,
       c.longer-2.ensures.events ∙ c.self.invariant.1,
       c.requires.turn ∙ (λ i. records_of ((sym c.self.view_is) i).pass ((sym own) i)),
       subst (λ (l : List Record). IsPrefix l c.longer.new.self.records) (sym own) (subst (IsPrefix c.args.records.now.records) (sym records) (prefix_self c.args.records.now.records)),
-      legal_as now now (start_of c.self.inside.settings) start c.longer.new.self.records c.args.records.now.records
-          refl (ap (λ (p : PassValue). start_of p.settings) c.self.view_is) records legal,
+      over_as row now now c.self.inside.settings c.args.self.now.settings c.longer.new.self.records c.args.records.now.records
+          refl (ap (λ (p : PassValue). p.settings) c.self.view_is) records legal,
     )
 
 pub returns : goal.returns

@@ -38,8 +38,8 @@ invariant_of-self-then-not-append g c =
       | inr other ↦ tags_in_longer c.states_stay.ensures.tags c.args.front.now.history seen number tags c.longer-2.ensures.that other
     ] in
     let here : HasTags seen stamp tags = subst (λ k. HasTags seen k tags) (sym c.after-stamp.ensures) has in
-    let held = c.nodes_go_on.ensures.sees g.A.App.next c.self.inside.seen.history seen (start_of c.self.inside.settings) c.self.inside.log.records core c.self.inside.broken c.longer-2.ensures.this c.self.invariant.0 in (
-      broke g.A.App.next seen (start_of c.self.inside.settings) c.nodes_go_on.ensures.breaks c.self.inside.log.records c.append.new.self.records core c.event.new.self c.self.inside.broken
+    let held = c.nodes_go_on.ensures.sees g.A.App.next c.self.inside.seen.history seen (start_of c.self.inside.settings c.self.inside.from) c.self.inside.log.records core c.self.inside.broken c.longer-2.ensures.this c.self.invariant.0 in (
+      broke g.A.App.next seen (start_of c.self.inside.settings c.self.inside.from) c.nodes_go_on.ensures.breaks c.self.inside.log.records c.append.new.self.records core c.event.new.self c.self.inside.broken
           (Event stamp tags) held (may_take g.A.App.next seen core stamp tags (c.in-Ok.ensures.only_if.0 refl) here.0 here.1)
           (ap (λ (l : LogValue). l.records) (c.if-not-append.ensures.unchanged refl)) c.in-Ok.ensures.after,
       λ whole. absurd (true≢false whole),
@@ -58,7 +58,7 @@ invariant_of-self-else-not-append g c =
       | inr other ↦ tags_in_longer c.states_stay.ensures.tags c.args.front.now.history seen number tags c.longer-2.ensures.that other
     ] in
     let here : HasTags seen stamp tags = subst (λ k. HasTags seen k tags) (sym c.after-stamp.ensures) has in
-    let held = c.nodes_go_on.ensures.sees g.A.App.next c.self.inside.seen.history seen (start_of c.self.inside.settings) rs core c.self.inside.broken c.longer-2.ensures.this c.self.invariant.0 in
+    let held = c.nodes_go_on.ensures.sees g.A.App.next c.self.inside.seen.history seen (start_of c.self.inside.settings c.self.inside.from) rs core c.self.inside.broken c.longer-2.ensures.this c.self.invariant.0 in
     let whole : c.self.inside.broken ≡ false = ap (λ (n : NodeValue). n.broken) c.self.view_is ∙ c.in_ok-check_whole.ensures.only_if in
     let done : Reply Shown = replies.Closed c.in-Ok.closed in
     let replied : done ≡ replies.Closed (closed_count core stamp tags) = ap replies.Closed c.in-Ok.ensures.answer in
@@ -67,7 +67,7 @@ invariant_of-self-else-not-append g c =
     let next = record_in c.answered-next.result in
     let of : ◌≡◌ {A = Option ℕ} None (function_of next.op) = sym (ap (λ (r : Record). function_of r.op) record_is) in
     let alike = counts_alike done next.reply (replied ∙ sym (ap (λ (r : Record). r.reply) record_is)) in (
-      stepped g.A.App.next seen (start_of c.self.inside.settings) c.nodes_go_on.ensures.step rs c.append.new.self.records core c.event.new.self c.self.inside.broken
+      stepped g.A.App.next seen (start_of c.self.inside.settings c.self.inside.from) c.nodes_go_on.ensures.step rs c.append.new.self.records core c.event.new.self c.self.inside.broken
           c.args.pass (Event stamp tags) next held whole (may_take g.A.App.next seen core stamp tags (c.in-Ok.ensures.only_if.0 refl) here.0 here.1)
           record_is records c.in-Ok.ensures.after,
       λ kept. subst (λ (l : List Record). AreCountsOf l c.count_step.new.counts) (sym records) (c.count_step.ensures rs next (c.self.invariant.1 kept) of alike),
@@ -76,7 +76,7 @@ invariant_of-self-else-not-append g c =
 pub returns-clause-after : goal.returns-clause-after
 returns-clause-after g c =
     let inside = c.self.inside in
-    let n : NodeValue = record { settings = inside.settings; name = inside.log.name; records = inside.log.records; passes = inside.log.passes; cache = inside.core; seen = inside.seen; broken = inside.broken } in
+    let n : NodeValue = record { settings = inside.settings; from = inside.from; name = inside.log.name; records = inside.log.records; passes = inside.log.passes; cache = inside.core; seen = inside.seen; broken = inside.broken } in
     let stamp = c.after-stamp.result in
     let tags = c.in-Some.tags in
     let seen = c.longer-2.new.self.history in

@@ -28,9 +28,9 @@ invariant_of-self-then-not-append g c =
     let rs = c.self.inside.log.records in
     let core = c.self.inside.core in
     let seen = c.longer.new.self.history in
-    let held = c.nodes_go_on.ensures.sees g.A.App.next c.self.inside.seen.history seen (start_of c.self.inside.settings) rs core c.self.inside.broken c.longer.ensures.this c.self.invariant.0 in
+    let held = c.nodes_go_on.ensures.sees g.A.App.next c.self.inside.seen.history seen (start_of c.self.inside.settings c.self.inside.from) rs core c.self.inside.broken c.longer.ensures.this c.self.invariant.0 in
     let right = c.true_entries_stay.ensures g.A.App.next c.args.front.now.history seen e c.longer.ensures.that c.requires.is_true in (
-      broke g.A.App.next seen (start_of c.self.inside.settings) c.nodes_go_on.ensures.breaks rs c.append.new.self.records core c.insert.new.self c.self.inside.broken
+      broke g.A.App.next seen (start_of c.self.inside.settings c.self.inside.from) c.nodes_go_on.ensures.breaks rs c.append.new.self.records core c.insert.new.self c.self.inside.broken
           (Insert e) held (may_insert g.A.App.next seen core e c.known-known.ensures.ordered c.bytes-bytes.ensures.bound right)
           (ap (λ (l : LogValue). l.records) (c.if-not-append.ensures.unchanged refl)) c.in_ok-inserted.ensures.after,
       λ whole. absurd (true≢false whole),
@@ -42,7 +42,7 @@ invariant_of-self-else-not-append g c =
     let rs = c.self.inside.log.records in
     let core = c.self.inside.core in
     let seen = c.longer.new.self.history in
-    let held = c.nodes_go_on.ensures.sees g.A.App.next c.self.inside.seen.history seen (start_of c.self.inside.settings) rs core c.self.inside.broken c.longer.ensures.this c.self.invariant.0 in
+    let held = c.nodes_go_on.ensures.sees g.A.App.next c.self.inside.seen.history seen (start_of c.self.inside.settings c.self.inside.from) rs core c.self.inside.broken c.longer.ensures.this c.self.invariant.0 in
     let right = c.true_entries_stay.ensures g.A.App.next c.args.front.now.history seen e c.longer.ensures.that c.requires.is_true in
     let whole : c.self.inside.broken ≡ false = ap (λ (n : NodeValue). n.broken) c.self.view_is ∙ c.in_ok-check_whole.ensures.only_if in
     let done : Reply Shown = replies.Inserted c.in_ok-inserted.inserted in
@@ -52,7 +52,7 @@ invariant_of-self-else-not-append g c =
     let next = record_in c.answered-next.result in
     let of : ◌≡◌ {A = Option ℕ} (Some c.function-function.result) (function_of next.op) = ap Some c.function-function.ensures.answer ∙ sym (ap (λ (r : Record). function_of r.op) record_is) in
     let alike = counts_alike done next.reply (replied ∙ sym (ap (λ (r : Record). r.reply) record_is)) in (
-      stepped g.A.App.next seen (start_of c.self.inside.settings) c.nodes_go_on.ensures.step rs c.append.new.self.records core c.insert.new.self c.self.inside.broken
+      stepped g.A.App.next seen (start_of c.self.inside.settings c.self.inside.from) c.nodes_go_on.ensures.step rs c.append.new.self.records core c.insert.new.self c.self.inside.broken
           c.args.pass (Insert e) next held whole (may_insert g.A.App.next seen core e c.known-known.ensures.ordered c.bytes-bytes.ensures.bound right)
           record_is records c.in_ok-inserted.ensures.after,
       λ kept. subst (λ (l : List Record). AreCountsOf l c.count_step.new.counts) (sym records) (c.count_step.ensures rs next (c.self.invariant.1 kept) of alike),
@@ -62,7 +62,7 @@ pub returns-clause-after : goal.returns-clause-after
 returns-clause-after g c =
     let e = c.args.entry in
     let inside = c.self.inside in
-    let n : NodeValue = record { settings = inside.settings; name = inside.log.name; records = inside.log.records; passes = inside.log.passes; cache = inside.core; seen = inside.seen; broken = inside.broken } in
+    let n : NodeValue = record { settings = inside.settings; from = inside.from; name = inside.log.name; records = inside.log.records; passes = inside.log.passes; cache = inside.core; seen = inside.seen; broken = inside.broken } in
     let record_is = c.answered-next.ensures.answered (next_record c.args.pass n.records (Insert e) (replies.Inserted (outcome n.cache e))) c.in_ok-prepared.ensures.awaits (ap replies.Inserted c.in_ok-inserted.ensures.answer) in
     called n c.longer.new.self c.args.pass (Insert e) (record_in c.answered-next.result) c.append.new.self c.insert.new.self record_is (c.if-not-append.ensures.after refl) c.in_ok-inserted.ensures.after
     ∙ ap (λ (m : NodeValue). after_call (seeing m c.longer.new.self) c.args.pass (Insert e)) c.self.view_is

@@ -26,7 +26,7 @@ count_step-requires-clause-room g c =
 pub invariant_of-self : goal.invariant_of-self
 invariant_of-self g c =
     let next : c.mark_used.new.self ≡ after_lookup c.self.inside.core c.args.key.now c.args.lo c.args.hi = search rules in (
-      broke g.A.App.next c.self.inside.seen.history (start_of c.self.inside.settings) c.nodes_go_on.ensures.breaks c.self.inside.log.records c.append.new.self.records c.self.inside.core c.mark_used.new.self c.self.inside.broken
+      broke g.A.App.next c.self.inside.seen.history (start_of c.self.inside.settings c.self.inside.from) c.nodes_go_on.ensures.breaks c.self.inside.log.records c.append.new.self.records c.self.inside.core c.mark_used.new.self c.self.inside.broken
           (Lookup c.args.key.now c.args.lo c.args.hi) c.self.invariant.0 (may_look_up g.A.App.next c.self.inside.seen.history c.self.inside.core c.args.key.now c.args.lo c.args.hi c.in-Ok.ensures.only_if)
           (ap (λ (l : LogValue). l.records) (c.if-not-append.ensures.unchanged refl)) next,
       λ whole. absurd (true≢false whole),
@@ -49,7 +49,7 @@ invariant_of-self-else-not-append g c =
     let of : ◌≡◌ {A = Option ℕ} (Some c.function.result) (function_of step.op) = ap Some c.function.ensures.answer ∙ sym (ap (λ (r : Record). function_of r.op) record_is) in
     let alike : DoCountAlike c.reply_without_copies-reply.result step.reply =
     subst (λ (r : Reply Shown). DoCountAlike c.reply_without_copies-reply.result r) (reply ∙ sym (ap (λ (r : Record). r.reply) record_is)) c.reply_without_copies-reply.ensures in (
-      stepped g.A.App.next c.self.inside.seen.history (start_of c.self.inside.settings) c.nodes_go_on.ensures.step rs c.append.new.self.records c.self.inside.core c.mark_used.new.self c.self.inside.broken
+      stepped g.A.App.next c.self.inside.seen.history (start_of c.self.inside.settings c.self.inside.from) c.nodes_go_on.ensures.step rs c.append.new.self.records c.self.inside.core c.mark_used.new.self c.self.inside.broken
           c.args.pass op step c.self.invariant.0 whole (may_look_up g.A.App.next c.self.inside.seen.history c.self.inside.core key c.args.lo c.args.hi c.in-Ok.ensures.only_if)
           record_is records next,
       λ kept. subst (λ (l : List Record). AreCountsOf l c.count_step.new.counts) (sym records) (c.count_step.ensures rs step (c.self.invariant.1 kept) of alike),
@@ -74,7 +74,7 @@ returns-clause-after g c =
     let inside = c.self.inside in
     let rs = inside.log.records in
     let key = c.args.key.now in
-    let n : NodeValue = record { settings = inside.settings; name = inside.log.name; records = inside.log.records; passes = inside.log.passes; cache = inside.core; seen = inside.seen; broken = inside.broken } in
+    let n : NodeValue = record { settings = inside.settings; from = inside.from; name = inside.log.name; records = inside.log.records; passes = inside.log.passes; cache = inside.core; seen = inside.seen; broken = inside.broken } in
     let op = Lookup key c.args.lo c.args.hi in
     let next : c.mark_used.new.self ≡ after_lookup inside.core key c.args.lo c.args.hi = search rules in
     let shown = lookup_answer c.self.inside.core key c.args.lo c.args.hi in

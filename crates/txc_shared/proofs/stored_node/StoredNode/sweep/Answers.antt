@@ -24,7 +24,7 @@ count_step-requires-clause-room g c =
 
 pub invariant_of-self : goal.invariant_of-self
 invariant_of-self g c = (
-  broke g.A.App.next c.self.inside.seen.history (start_of c.self.inside.settings) c.nodes_go_on.ensures.breaks c.self.inside.log.records c.append.new.self.records c.self.inside.core c.sweep-dropped.new.self c.self.inside.broken
+  broke g.A.App.next c.self.inside.seen.history (start_of c.self.inside.settings c.self.inside.from) c.nodes_go_on.ensures.breaks c.self.inside.log.records c.append.new.self.records c.self.inside.core c.sweep-dropped.new.self c.self.inside.broken
       (Sweep c.args.horizon) c.self.invariant.0 (may_sweep g.A.App.next c.self.inside.seen.history c.self.inside.core c.args.horizon)
       (ap (λ (l : LogValue). l.records) (c.if-not-append.ensures.unchanged refl)) c.sweep-dropped.ensures.after,
   λ whole. absurd (true≢false whole),
@@ -42,7 +42,7 @@ invariant_of-self-else-not-append g c =
     let next = record_in c.answered-next.result in
     let of : ◌≡◌ {A = Option ℕ} None (function_of next.op) = sym (ap (λ (r : Record). function_of r.op) record_is) in
     let alike = counts_alike done next.reply (replied ∙ sym (ap (λ (r : Record). r.reply) record_is)) in (
-      stepped g.A.App.next c.self.inside.seen.history (start_of c.self.inside.settings) c.nodes_go_on.ensures.step rs c.append.new.self.records c.self.inside.core c.sweep-dropped.new.self c.self.inside.broken
+      stepped g.A.App.next c.self.inside.seen.history (start_of c.self.inside.settings c.self.inside.from) c.nodes_go_on.ensures.step rs c.append.new.self.records c.self.inside.core c.sweep-dropped.new.self c.self.inside.broken
           c.args.pass op next c.self.invariant.0 whole (may_sweep g.A.App.next c.self.inside.seen.history c.self.inside.core c.args.horizon)
           record_is records c.sweep-dropped.ensures.after,
       λ kept. subst (λ (l : List Record). AreCountsOf l c.count_step.new.counts) (sym records) (c.count_step.ensures rs next (c.self.invariant.1 kept) of alike),
@@ -59,7 +59,7 @@ append-requires-clause-suits g c = c.answered-next.ensures.suits c.self.inside.l
 pub returns-clause-after : goal.returns-clause-after
 returns-clause-after g c =
     let inside = c.self.inside in
-    let n : NodeValue = record { settings = inside.settings; name = inside.log.name; records = inside.log.records; passes = inside.log.passes; cache = inside.core; seen = inside.seen; broken = inside.broken } in
+    let n : NodeValue = record { settings = inside.settings; from = inside.from; name = inside.log.name; records = inside.log.records; passes = inside.log.passes; cache = inside.core; seen = inside.seen; broken = inside.broken } in
     let op = Sweep c.args.horizon in
     let record_is = c.answered-next.ensures.answered (next_record c.args.pass n.records op (replies.Swept (swept_count n.cache c.args.horizon))) c.in_ok-prepared.ensures.awaits (ap replies.Swept c.sweep-dropped.ensures.answer) in
     called n inside.seen c.args.pass op (record_in c.answered-next.result) c.append.new.self c.sweep-dropped.new.self record_is (c.if-not-append.ensures.after refl) c.sweep-dropped.ensures.after

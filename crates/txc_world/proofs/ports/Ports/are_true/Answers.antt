@@ -7,7 +7,7 @@ use Rattle.txc_world.proofs.ports.Ports.are_true.Goals as goal
 pub loop-at-preserved : goal.loop-at-preserved
 loop-at-preserved g c =
     all_more (IsTrueNode g.A.App.next (whole_of c.args.self.now)) c.args.self.now.nodes c.loop-at.at c.node.result.now c.node.ensures.there
-    (true_node c.nodes_go_on.ensures.sees g.A.App.next (whole_of c.args.self.now) c.node.result.now c.node.ensures.row c.is_sound.ensures c.node.ensures.seen)
+    (true_node c.nodes_go_on.ensures.sees g.A.App.next (whole_of c.args.self.now) c.node.result.now c.node.ensures.row c.node.ensures.begun c.is_sound.ensures c.node.ensures.seen)
     c.loop-at.invariant
 
 pub returns : goal.returns
