@@ -152,8 +152,9 @@ impl DbCore {
         self.told.front()
     }
 
-    /// A handle of the tags of its last event, where it is not stored.
-    pub(crate) fn last_tags(&self) -> Option<Arc<TagSet>>
+    /// A handle of the tags of its last event, for who posts it; none where the history is stored, none has come, or
+    /// memory is refused.
+    pub fn last_tags(&self) -> Option<Arc<TagSet>>
         ensures { IfSome result (λ tags. arc_value tags ≡ tags_at self.now.history (newest self.now)) }
     {
         self.told.last_tags()
