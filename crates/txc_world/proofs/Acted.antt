@@ -53,12 +53,12 @@ refused_so next act p actor refusal fits due lost = record {
 -- ---- in the middle of a call
 
 there_by_test : {X : Type 0} (o : Option X) → is_some o ≡ true → (x : X) × (o ≡ Some x)
-there_by_test None is = absurd (cc is)
+there_by_test None is = cc is
 there_by_test (Some x) is = (x, refl)
 
 pub none_by_test : {X : Type 0} (o : Option X) → is_some o ≡ false → o ≡ None
 none_by_test None is = refl
-none_by_test (Some x) is = absurd (cc is)
+none_by_test (Some x) is = cc is
 
 -- a call is open, so a read-only transaction neither starts one nor ends
 pub reading_mid_call : {A C : Type 0} → (next : Next) (pass : ℕ) (p : PortsValue) (o : OpenTxn A C) (act : Act) → is_some o.call ≡ true

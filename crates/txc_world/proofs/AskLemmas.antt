@@ -45,7 +45,7 @@ for_this : {X : Type 0} (P : X → Type 0) (x : X) → P x → ForSome (Some x) 
 for_this P x h y is = let same : x ≡ y = cc in subst P same h
 
 for_none : {X : Type 0} (P : X → Type 0) → ForSome None P
-for_none P y is = absurd (cc is)
+for_none P y is = cc is
 
 -- what a node shows that is not broken is part of the whole
 pub shown_part : (whole : FrontValue) (node : NodeValue) (hit : Option (Answered Shown)) → (node.broken ≡ false → IsPartOf whole node.seen)

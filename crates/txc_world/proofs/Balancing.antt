@@ -17,6 +17,7 @@ use Rattle.txc_world.specs.Books.{account_at, account_of, books_of, nothing, Acc
 use Rattle.txc_world.specs.Tidy.{empty_purse, purse_after, purse_by, AreBalanced, AreTidy, IsTidy, LoseNoSnapshot, LosesNoSnapshot, LosesNothing, Purse}
 use Rattle.txc_world.specs.Worlds.{value_of_world, IsBalanced, WorldValue}
 use Rattle.txc_world.proofs.Losing.{reply_so}
+use Rattle.txc_world.proofs.Paired.{paired}
 use Rattle.txc_world.proofs.Times.{sum_at, sum_set}
 
 -- ---- a new world
@@ -67,7 +68,7 @@ module _ (old new : PortsValue) (accounts : List Account) (place : ℕ) (before 
       let once = right.once old.cushion t right.cushion in
       let pins : times t (stamps_of old.cushion.entries) ≡ 0 = omega (arith, a, gone) in
       let users = once.1 pins in
-      absurd (omega (arith, a, b, c, d, e, gone, users))
+      omega (arith, a, b, c, d, e, gone, users)
 
   loses_nothing : (reply : Reply) → CountRight old → AreBalanced spare (books_of old accounts) purse → ActCounts old new before after reply → LosesNothing reply
   loses_nothing reply right h counts = reply_so (HasLost old before) ⊥ (none_lost right h) reply counts.loss
@@ -92,29 +93,24 @@ module _ {A C : Type 0} (settings : WorldSettings) (old new : PortsValue) (floor
 
 pub tidy_first : (purse : Purse) (steps : List Step) (replies : List Reply) (step : Step) (reply : Reply) → length replies ≡ length steps
     → AreTidy purse (steps ++ step ∷ []) (replies ++ reply ∷ []) → AreTidy purse steps replies × IsTidy step reply (purse_by purse steps replies)
-tidy_first purse [] [] step reply e h = (tt, h.0)
-tidy_first purse [] (r ∷ rs) step reply e h = absurd (cc e)
-tidy_first purse (s ∷ ss) [] step reply e h = absurd (cc e)
-tidy_first purse (s ∷ ss) (r ∷ rs) step reply e h =
-    let e' : length rs ≡ length ss = cc in
-    let rest = tidy_first (purse_after s r purse) ss rs step reply e' h.1 in
-    ((h.0, rest.0), rest.1)
+tidy_first purse steps replies step reply e = paired
+    (λ (ss : List Step) (rs : List Reply). (purse : Purse) → AreTidy purse (ss ++ step ∷ []) (rs ++ reply ∷ []) → AreTidy purse ss rs × IsTidy step reply (purse_by purse ss rs))
+    (λ purse h. (tt, h.0))
+    (λ s ss r rs more purse h. let rest = more (purse_after s r purse) h.1 in ((h.0, rest.0), rest.1)) steps replies e purse
 
 pub purse_more : (purse : Purse) (steps : List Step) (replies : List Reply) (step : Step) (reply : Reply) → length replies ≡ length steps
     → purse_by purse (steps ++ step ∷ []) (replies ++ reply ∷ []) ≡ purse_after step reply (purse_by purse steps replies)
-purse_more purse [] [] step reply e = refl
-purse_more purse [] (r ∷ rs) step reply e = absurd (cc e)
-purse_more purse (s ∷ ss) [] step reply e = absurd (cc e)
-purse_more purse (s ∷ ss) (r ∷ rs) step reply e =
-    let e' : length rs ≡ length ss = cc in purse_more (purse_after s r purse) ss rs step reply e'
+purse_more purse steps replies step reply e = paired
+    (λ (ss : List Step) (rs : List Reply). (purse : Purse) → purse_by purse (ss ++ step ∷ []) (rs ++ reply ∷ []) ≡ purse_after step reply (purse_by purse ss rs))
+    (λ purse. refl)
+    (λ s ss r rs more purse. more (purse_after s r purse)) steps replies e purse
 
 pub lose_more : (steps : List Step) (replies : List Reply) (step : Step) (reply : Reply) → length replies ≡ length steps
     → LoseNoSnapshot steps replies → LosesNoSnapshot step reply → LoseNoSnapshot (steps ++ step ∷ []) (replies ++ reply ∷ [])
-lose_more [] [] step reply e h k = (k, tt)
-lose_more [] (r ∷ rs) step reply e h k = absurd (cc e)
-lose_more (s ∷ ss) [] step reply e h k = absurd (cc e)
-lose_more (s ∷ ss) (r ∷ rs) step reply e h k =
-    let e' : length rs ≡ length ss = cc in (h.0, lose_more ss rs step reply e' h.1 k)
+lose_more steps replies step reply e = paired
+    (λ (ss : List Step) (rs : List Reply). LoseNoSnapshot ss rs → LosesNoSnapshot step reply → LoseNoSnapshot (ss ++ step ∷ []) (rs ++ reply ∷ []))
+    (λ h k. (k, tt))
+    (λ s ss r rs more h k. (h.0, more h.1 k)) steps replies e
 
 -- ---- the loop over the steps
 

@@ -30,7 +30,7 @@ use Rattle.txc_world.specs.Actors.{told_answers}
 
 empty_or : (net : List Change) → (net ≡ []) ⊎ (net ≢ [])
 empty_or [] = inl refl
-empty_or (c ∷ cs) = inr (λ e. let f = e in absurd cc)
+empty_or (c ∷ cs) = inr (λ e. let f = e in cc)
 
 some_is : (net : List Change) (d other : DatabaseValue) → net ≢ [] → where_some net d other ≡ other
 some_is [] d other some = absurd (some refl)

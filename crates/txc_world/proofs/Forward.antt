@@ -21,7 +21,7 @@ use Rattle.txc_world.proofs.Stepping.{set_length}
 -- ---- floors
 
 floor_set : (floors : List ℕ) (place floor : ℕ) → place < length floors → floor_at (slice_set floors place floor) place ≡ floor
-floor_set [] place floor within = absurd (omega (arith, within))
+floor_set [] place floor within = omega (arith, within)
 floor_set (f ∷ fs) zero floor within = refl
 floor_set (f ∷ fs) (suc place) floor within = floor_set fs place floor (omega (arith, within))
 
@@ -164,7 +164,7 @@ module _ (P : ℕ → Type 0) where
 
 -- what is set at a place is there
 set_there : (stories : List Story) (at : ℕ) (new story : Story) → slice_get (slice_set stories at new) at ≡ Some story → new ≡ story
-set_there [] at new story is = absurd (cc is)
+set_there [] at new story is = cc is
 set_there (s ∷ ss) zero new story is = cc is
 set_there (s ∷ ss) (suc at) new story is = set_there ss at new story is
 
@@ -216,7 +216,7 @@ begun_reads told place now staleness = go (slice_get told.actors place) refl
 
     go : (story : Option Story) → slice_get told.actors place ≡ story
         → Reads P place (act_at place (begin_at (floor_at told.floors place) now staleness) replies.Begun told story)
-    go None none = λ story is. let no : None ≡ Some story = sym none ∙ is in absurd (cc no)
+    go None none = λ story is. let no : None ≡ Some story = sym none ∙ is in cc no
     go (Some was) some = λ story is. subst (ReadsFrom P)
         (set_there told.actors place (story_after (begin_at (floor_at told.floors place) now staleness) replies.Begun was) story is) refl
 

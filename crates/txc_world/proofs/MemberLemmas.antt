@@ -23,7 +23,7 @@ use Rattle.txc_world.proofs.Stepping.{story_there}
 
 -- what is true of all is true of the one at the place
 pub all_get : {X : Type 0} (P : X → Type 0) (xs : List X) (i : ℕ) (x : X) → All P xs → slice_get xs i ≡ Some x → P x
-all_get P [] i x all is = absurd (cc is)
+all_get P [] i x all is = cc is
 all_get P (y ∷ ys) zero x all is = let same : y ≡ x = cc is in subst P same (All-head P y ys all)
 all_get P (y ∷ ys) (suc i) x all is = all_get P ys i x (All-tail P y ys all) is
 

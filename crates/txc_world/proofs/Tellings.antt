@@ -23,34 +23,33 @@ use Rattle.txc_world.specs.declared.reply.Reply.TheVariants as replies
 use Rattle.txc_world.specs.Told.{Writing, Story, reading, writing, Told, act_in, act_at, after, begin_at, commit_in, floor_at, did_in, keep_in, told_by, AreDue, AreExplained, AreExplainedIn, CommitExplains, CommitMakes, IsCommitOf, IsDue, IsExplainedIn, IsNoCommit, IsReceiptOfStory, ReplyExplains}
 use Rattle.txc_stream.proofs.Offered.{prefix_self, prefix_take, prefix_trans}
 use Rattle.txc_world.proofs.Explaining.{explained_later, state_later}
+use Rattle.txc_world.proofs.Paired.{paired}
 
 -- ---- one more step and its reply
 
 pub told_more : (told : Told) (steps : List Step) (replies : List Reply) (step : Step) (reply : Reply) → length replies ≡ length steps
     → told_by told (steps ++ step ∷ []) (replies ++ reply ∷ []) ≡ after (told_by told steps replies) step reply
-told_more told [] [] step reply e = refl
-told_more told [] (r ∷ replies) step reply e = absurd (cc)
-told_more told (s ∷ steps) [] step reply e = absurd (cc)
-told_more told (s ∷ steps) (r ∷ replies) step reply e =
-    let e' : length replies ≡ length steps = cc in told_more (after told s r) steps replies step reply e'
+told_more told steps replies step reply e = paired
+    (λ (ss : List Step) (rs : List Reply). (told : Told) → told_by told (ss ++ step ∷ []) (rs ++ reply ∷ []) ≡ after (told_by told ss rs) step reply)
+    (λ told. refl)
+    (λ s ss r rs more told. more (after told s r)) steps replies e told
 
 pub explained_more : (next : Next) (told : Told) (steps : List Step) (replies : List Reply) (step : Step) (reply : Reply)
     → length replies ≡ length steps → AreExplained next told steps replies
     → IsExplainedIn next (after (told_by told steps replies) step reply).history (told_by told steps replies) step reply
     → AreExplained next told (steps ++ step ∷ []) (replies ++ reply ∷ [])
-explained_more next told [] [] step reply e h k = (k, tt)
-explained_more next told [] (r ∷ replies) step reply e h k = absurd (cc)
-explained_more next told (s ∷ steps) [] step reply e h k = absurd (cc)
-explained_more next told (s ∷ steps) (r ∷ replies) step reply e h k =
-    let e' : length replies ≡ length steps = cc in (h.0, explained_more next (after told s r) steps replies step reply e' h.1 k)
+explained_more next told steps replies step reply e = paired
+    (λ (ss : List Step) (rs : List Reply). (told : Told) → AreExplained next told ss rs → IsExplainedIn next (after (told_by told ss rs) step reply).history (told_by told ss rs) step reply
+        → AreExplained next told (ss ++ step ∷ []) (rs ++ reply ∷ []))
+    (λ told h k. (k, tt))
+    (λ s ss r rs more told h k. (h.0, more (after told s r) h.1 k)) steps replies e told
 
 pub due_more : (told : Told) (steps : List Step) (replies : List Reply) (step : Step) (reply : Reply) → length replies ≡ length steps
     → AreDue told steps replies → IsDue (told_by told steps replies) step reply → AreDue told (steps ++ step ∷ []) (replies ++ reply ∷ [])
-due_more told [] [] step reply e h k = (k, tt)
-due_more told [] (r ∷ replies) step reply e h k = absurd (cc)
-due_more told (s ∷ steps) [] step reply e h k = absurd (cc)
-due_more told (s ∷ steps) (r ∷ replies) step reply e h k =
-    let e' : length replies ≡ length steps = cc in (h.0, due_more (after told s r) steps replies step reply e' h.1 k)
+due_more told steps replies step reply e = paired
+    (λ (ss : List Step) (rs : List Reply). (told : Told) → AreDue told ss rs → IsDue (told_by told ss rs) step reply → AreDue told (ss ++ step ∷ []) (rs ++ reply ∷ []))
+    (λ told h k. (k, tt))
+    (λ s ss r rs more told h k. (h.0, more (after told s r) h.1 k)) steps replies e told
 
 -- ---- the history goes on
 
