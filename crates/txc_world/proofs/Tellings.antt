@@ -40,7 +40,7 @@ pub explained_more : (next : Next) (told : Told) (steps : List Step) (replies : 
     → AreExplained next told (steps ++ step ∷ []) (replies ++ reply ∷ [])
 explained_more next told steps replies step reply e = paired
     (λ (ss : List Step) (rs : List Reply). (told : Told) → AreExplained next told ss rs → IsExplainedIn next (after (told_by told ss rs) step reply).history (told_by told ss rs) step reply
-        → AreExplained next told (ss ++ step ∷ []) (rs ++ reply ∷ []))
+    → AreExplained next told (ss ++ step ∷ []) (rs ++ reply ∷ []))
     (λ told h k. (k, tt))
     (λ s ss r rs more told h k. (h.0, more (after told s r) h.1 k)) steps replies e told
 
