@@ -29,10 +29,10 @@ use Rattle.txc_world.specs.declared.did.Did.TheVariants as dids
 use Rattle.txc_world.specs.Parts.{IsPartOf}
 use Rattle.txc_world.specs.Ports.{PortsValue, whole_of, KeepsRow, HasLedNode}
 use Rattle.txc_world.specs.Asks.{kept_after, AddLeads, AnswersRows, DoesTell, FindLeads, IsAsked, IsAskedAt, IsTold, PinLeads, PortRequestLeads, UnpinLeads}
-use Rattle.txc_world.specs.Books.{CountRight}
+use Rattle.txc_world.specs.Holdings.{CountRight}
 use Rattle.txc_world.specs.NodeSteps.{InsertLeads, LookupLeads}
 use Rattle.txc_world.proofs.Fairness.{counts_add, counts_pin, counts_query, counts_unpin, fair_led}
-use Rattle.txc_world.specs.Told.{did_in}
+use Rattle.txc_world.specs.Observation.{did_in}
 use Rattle.txc_world.proofs.PartLemmas.{part_itself, part_then}
 use Rattle.txc_world.proofs.PortsLemmas.{left_history}
 

@@ -21,7 +21,7 @@ use Rattle.txc_rw.specs.Core.{RwValue, RwHolds, tags_read}
 use Rattle.txc_rw.specs.Laws.{AnswersAreRight, EventCommitsAreRight, HoldsInLonger, QuietCommitsAreRight}
 use Rattle.txc_rw.specs.Outcomes.{HasChanged, HasChangedNothing}
 use Rattle.txc_world.specs.declared.actor.OpenCall.{OpenCall}
-use Rattle.txc_world.specs.Told.{Writing, CommitExplains}
+use Rattle.txc_world.specs.Observation.{Writing, CommitExplains}
 use Rattle.txc_world.specs.Ports.{PortsValue}
 use Rattle.txc_world.specs.Keeping.{CommitLeads}
 use Rattle.txc_world.specs.Actors.{told_answers}

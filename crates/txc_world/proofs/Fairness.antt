@@ -42,7 +42,7 @@ use Rattle.txc_world.specs.Asks.{AddLeads, FindLeads, FreshLeads, PinLeads, Unpi
 use Rattle.txc_world.specs.Keeping.{GiveBackLeads}
 use Rattle.txc_world.specs.declared.reply.Reply.{Reply}
 use Rattle.txc_world.specs.Actors.{counted, holds_any}
-use Rattle.txc_world.specs.Books.{account_of_core, gained, handed, nothing, spent, stamp_if_any, Account, ActCounts, AskCounts, CountRight, HasLost, IsFair, LosesOnlyUnheld}
+use Rattle.txc_world.specs.Holdings.{account_of_core, gained, handed, nothing, spent, stamp_if_any, Account, ActCounts, AskCounts, CountRight, HasLost, IsFair, LosesOnlyUnheld}
 use Rattle.txc_world.specs.Losing.{IfDidLose, IfGone, IfPortLoses, IfReplyLost}
 use Rattle.txc_world.proofs.Losing.{gone_so, port_so}
 use Rattle.txc_world.proofs.Times.{times_append, times_cons, times_off, times_one, times_there, times_without}

@@ -13,7 +13,7 @@ use Rattle.txc_cushion.specs.Refusals.{HaveUsers, IsFirstUnused}
 use Rattle.txc_world.specs.Ports.{PortsValue}
 use Rattle.txc_world.specs.Asks.{FreshLeads}
 use Rattle.txc_world.specs.Keeping.{GiveBackLeads}
-use Rattle.txc_world.specs.Books.{CountRight, GivesBack, KeepsPins}
+use Rattle.txc_world.specs.Holdings.{CountRight, GivesBack, KeepsPins}
 use Rattle.txc_world.proofs.SameEntries.{pins_back, pins_handed, same_entries}
 use Rattle.txc_world.proofs.Times.{times_cons, times_on, times_one}
 

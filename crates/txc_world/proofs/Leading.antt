@@ -18,7 +18,7 @@ use Rattle.txc_world.specs.declared.step.Act.{Act}
 use Rattle.txc_world.specs.declared.step.Step.{Step}
 use Rattle.txc_world.specs.declared.step.Step.TheVariants as steps
 use Rattle.txc_world.specs.Ports.{PortsValue}
-use Rattle.txc_world.specs.Cast.{actor_at, actor_value, reading_value, reads, ReadingValue}
+use Rattle.txc_world.specs.ActorValues.{actor_at, actor_value, reading_value, reads, ReadingValue}
 use Rattle.txc_world.specs.Actors.{IsNoted}
 use Rattle.txc_world.specs.Acts.{ActLeads, AreLed, HasStepped, StepLeads}
 use Rattle.txc_world.specs.Worlds.{value_of_world, WorldValue}

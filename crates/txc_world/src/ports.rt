@@ -55,7 +55,7 @@ impl<A: App> Model for Ports<A> {
 impl<A: App> Ports<A> {
     ghost use Rattle.txc_ports.specs.Answers.{IsFresh};
     ghost use Rattle.txc_world.specs.Asks.{AddLeads, FindLeads, FreshLeads, HoldLeads, PinLeads, UnpinLeads};
-    ghost use Rattle.txc_world.specs.Books.{handed, nothing, GivesBack, IsFair, KeepsPins};
+    ghost use Rattle.txc_world.specs.Holdings.{handed, nothing, GivesBack, IsFair, KeepsPins};
     ghost use Rattle.txc_world.specs.Parts.{IsPartOf};
     ghost use Rattle.txc_world.specs.Ports.{whole_of, KeepsRow};
 
