@@ -1,5 +1,6 @@
 use Rattle.std.proofs.Common.{◌≡◌, All, vec_len}
-use Rattle.txc_site.specs.Histories.{IsHistoryFor, IsNew, history_name}
+use Rattle.txc_carry.specs.Rooms.{IsHistoryFor}
+use Rattle.txc_site.specs.Histories.{IsNew, history_name}
 use Rattle.txc_site.proofs.node_history.new_histories.Given as goal
 
 abbrev pub invariant-loop : goal.invariant-loop
