@@ -1,0 +1,4 @@
+pub mod Guests
+pub mod Plans
+pub mod Sites
+pub mod Tended
