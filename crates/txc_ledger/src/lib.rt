@@ -14,7 +14,9 @@ mod writing;
 
 pub use change::{Change, ChangeTxn};
 pub use error::WriteError;
-pub use ledger::{Committer, Committers, Horizon, Ledger, PresentPin, RetiredPin, RetiredPins, UsedPin};
+pub use ledger::{
+    Committer, Committers, Horizon, Ledger, PresentPin, RetiredPin, RetiredPins, UsedPin,
+};
 pub use node_history::{NodeHistory, new_histories};
 pub use run_error::RunError;
 pub use writing::{Written, write_change};

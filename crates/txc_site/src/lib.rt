@@ -26,12 +26,13 @@ pub use txc_app::{Answer, App, Ask, Bytes};
 pub use txc_cushion::Pin;
 pub use txc_db::{Answered, DbError, HistoryFront, Naming};
 pub use txc_definition::{Definition, Function, InTurn, Or, Straight};
-pub use txc_keeper::{Clock, CountedClock, Ended, Keeper, Keeping, Kept, KeptNode, MAX_TAKEN};
-pub use txc_keeper::{SiteError, SystemClock, Tended, events_left, records_left};
+pub use txc_keeper::{
+    Clock, CountedClock, Ended, Keeper, Keeping, Kept, KeptNode, MAX_TAKEN, SiteError, SystemClock,
+    Tended, events_left, records_left,
+};
 pub use txc_ledger::{Change, ChangeTxn, Horizon, RunError, WriteError, Written};
 pub use txc_node::{Counts, Value};
-pub use txc_pages::laws;
-pub use txc_pages::{Begun, OneCall, Page, PageTxn, ReadError, Shown};
+pub use txc_pages::{Begun, OneCall, Page, PageTxn, ReadError, Shown, laws};
 pub use txc_ports::{Bounds, Recorded, TxnError};
 pub use txc_rows::{Query, Row, RowError};
 pub use txc_rw::{Committed, Given, RwTxn};
@@ -39,5 +40,6 @@ pub use txc_shared::NodeError;
 pub use txc_stamp::Stamp;
 pub use txc_tags::{Key, KeyError, Table};
 pub use txc_txn::Receipt;
-pub use txc_visits::{Application, LastError, LastState, MAX_NODES, Numbers, OpenError};
-pub use txc_visits::{Plan, SiteClient, Visitor};
+pub use txc_visits::{
+    Application, LastError, LastState, MAX_NODES, Numbers, OpenError, Plan, SiteClient, Visitor,
+};

@@ -17,7 +17,9 @@ use txc_definition::Definition;
 use txc_keeper::{Clock, CountedClock, SiteError, Tended};
 use txc_ledger::{Change, Ledger, Written, write_change};
 use txc_permits::PermitPool;
-use txc_visits::{Application, LastState, Numbers, OpenError, Plan, Visitor, Visits, over_new_histories, registry};
+use txc_visits::{
+    Application, LastState, Numbers, OpenError, Plan, Visitor, Visits, over_new_histories, registry,
+};
 
 /// What a site came to.
 #[derive(Drop)]

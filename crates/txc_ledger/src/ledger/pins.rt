@@ -131,12 +131,7 @@ impl<J: Naming> RetiredPins<J> {
 
 impl<J: Naming> Ledger<J> {
     /// Appends a pin of the moment `now`, and holds its stamp.
-    pub fn pin(
-        &self,
-        rt: &impl Wait,
-        alloc: Global,
-        now: u64,
-    ) -> Result<PresentPin<J>, DbError>
+    pub fn pin(&self, rt: &impl Wait, alloc: Global, now: u64) -> Result<PresentPin<J>, DbError>
         ensures row { IfOk result (λ pin. pin.front.events ≡ J.database_history) }
         ensures event { IfOk result (λ pin. event_at pin.front.history pin.stamp ≡ Some (pin_event now)) }
         ensures refused { IfErr result (MayRefuse J.database_history (λ d. IsPinRefused d 0)) }
@@ -149,11 +144,7 @@ impl<J: Naming> Ledger<J> {
     }
 
     /// Gives the pin to the pincushion, with one user; or hands it back.
-    pub fn add(
-        &self,
-        rt: &impl Wait,
-        pin: PresentPin<J>,
-    ) -> Result<UsedPin<J>, PresentPin<J>>
+    pub fn add(&self, rt: &impl Wait, pin: PresentPin<J>) -> Result<UsedPin<J>, PresentPin<J>>
         ensures added { IfOk result (λ used. used ≡ pin) }
         ensures handed_back { IfErr result (λ back. back ≡ pin) }
     {
