@@ -17,6 +17,6 @@ pub use error::WriteError;
 pub use ledger::{
     Committer, Committers, Horizon, Ledger, PresentPin, RetiredPin, RetiredPins, UsedPin,
 };
-pub use node_history::{NodeHistory, new_histories};
+pub use node_history::NodeHistory;
 pub use run_error::RunError;
 pub use writing::{Written, write_change};

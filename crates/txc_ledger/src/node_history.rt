@@ -1,9 +1,3 @@
-//! Histories that nodes begin with.
-ghost use Rattle.std.specs.Prelude.{◌≡◌, ◌≤◌, All, IfOk, IfSome, vec_len};
-ghost use Rattle.txc_stream.specs.declared.row.TheConstants.{MAX_CAPACITY as MAX_ROOM};
-ghost use Rattle.txc_ledger.specs.Histories.{IsHistoryFor, IsNew, history_name};
-
-use std::alloc::{AllocError, Global};
 use txc_node::Record;
 use txc_stream::{EventRow, Pen};
 
@@ -14,35 +8,4 @@ pub enum NodeHistory {
     Stored(EventRow<Record>),
     /// In the proofs alone, which takes no memory and has no end.
     Unstored(Pen<Record>),
-}
-
-/// A history without records, which is stored where there is to be room for so many.
-fn new_history(alloc: Global, room: Option<usize>) -> Result<NodeHistory, AllocError>
-    requires { IfSome room (λ room. (1 ≤ room) × (room ≤ MAX_ROOM)) }
-    ensures new { IfOk result IsNew }
-    ensures stored_so { IfOk result (λ history. IsHistoryFor room (history_name history)) }
-{
-    match room {
-        Some(room) => Ok(NodeHistory::Stored(EventRow::new(alloc, room)?)),
-        None => Ok(NodeHistory::Unstored(Pen::new())),
-    }
-}
-
-/// A history for each of so many nodes.
-pub fn new_histories(
-    alloc: Global,
-    nodes: usize,
-    room: Option<usize>,
-) -> Result<Vec<NodeHistory>, AllocError>
-    requires { IfSome room (λ room. (1 ≤ room) × (room ≤ MAX_ROOM)) }
-    ensures each { IfOk result (λ histories. vec_len histories ≡ nodes) }
-    ensures new { IfOk result (λ histories. All IsNew histories.items) }
-    ensures stored_so { IfOk result (λ histories.
-        All (λ history. IsHistoryFor room (history_name history)) histories.items) }
-{
-    let mut histories = Vec::with_capacity(alloc, nodes)?;
-    for _ in 0..nodes {
-        histories.push(new_history(alloc, room)?)?;
-    }
-    Ok(histories)
 }

@@ -7,7 +7,8 @@ use Rattle.txc_shared.specs.declared.settings.NodeSettings.{NodeSettings}
 use Rattle.txc_visits.specs.declared.plan.Plan.{Plan}
 use Rattle.txc_visits.specs.Plans.{settings_of_node}
 use Rattle.txc_ledger.specs.declared.node_history.NodeHistory.{NodeHistory}
-use Rattle.txc_ledger.specs.Histories.{AreHistoriesOf, IsHistoryFor, IsNew, history_name}
+use Rattle.txc_visits.specs.Histories.{AreHistoriesOf, IsHistoryFor}
+use Rattle.txc_ledger.specs.Histories.{IsNew, history_name}
 
 -- so many places later
 later_histories : (names : List Name) (name : Name) (n : ℕ) (histories : List NodeHistory) → AreHistoriesOf (λ k. get_or names k (stored [])) n histories

@@ -1,12 +1,10 @@
 -- Plans of sites.
-use Rattle.std.specs.Prelude.{◌<◌, ◌≤◌, ℕ, List, map, IfSome}
+use Rattle.std.specs.Prelude.{◌≤◌, ℕ, List, map, IfSome}
 use Rattle.std.specs.List.{range_with_len}
 use Rattle.txc_node.specs.declared.node.TheConstants.{MAX_CAPACITY, MAX_RECENT}
 use Rattle.txc_permits.specs.declared.pool.TheConstants.{MAX_PERMITS}
 use Rattle.txc_shared.specs.declared.settings.NodeSettings.{NodeSettings}
-use Rattle.txc_stream.specs.Names.{Name}
 use Rattle.txc_stream.specs.declared.row.TheConstants.{MAX_CAPACITY as MAX_ROOM}
-use Rattle.txc_ledger.specs.Histories.{IsHistoryFor}
 use Rattle.txc_visits.specs.declared.plan.Plan.{Plan}
 use Rattle.txc_visits.specs.declared.plan.TheConstants.{MAX_NODES}
 
@@ -27,7 +25,3 @@ settings_of_node p number = record { number = number; capacity = p.capacity; rec
 -- how the nodes are made, in order
 abbrev pub nodes_of : Plan → List NodeSettings
 nodes_of p = map (λ number. settings_of_node p number) (range_with_len 0 p.nodes)
-
--- the history of each node is stored as the plan says, or is not
-abbrev pub HaveHistoriesBy : Plan → (ℕ → Name) → Type 0
-HaveHistoriesBy p histories = (number : ℕ) → number < p.nodes → IsHistoryFor p.records (histories number)

@@ -4,7 +4,7 @@ ghost use Rattle.txc_db.specs.Shared.{IsDatabaseOf};
 ghost use Rattle.txc_keeper.specs.Refusals.{IsKeeperRefused};
 ghost use Rattle.txc_keeper.specs.Tending.{IsTendedBy};
 ghost use Rattle.txc_visits.specs.Plans.{nodes_of, IsPlan};
-ghost use Rattle.txc_ledger.specs.Histories.{AreHistoriesOf};
+ghost use Rattle.txc_visits.specs.Histories.{AreHistoriesOf};
 
 use crate::numbers::Tally;
 use crate::plan::Plan;

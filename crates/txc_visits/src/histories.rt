@@ -3,12 +3,13 @@ ghost use Rattle.std.specs.Prelude.{◌≡◌, ◌≤◌, IfErr, IfOk, length, v
 ghost use Rattle.txc_db.specs.Shared.{IsDatabaseOf};
 ghost use Rattle.txc_visits.specs.Sites.{IsVisitRefused, HaveCome};
 ghost use Rattle.txc_visits.specs.Plans.{IsPlan, HaveHistoriesBy};
-ghost use Rattle.txc_ledger.specs.Histories.{AreHistoriesOf};
+ghost use Rattle.txc_visits.specs.Histories.{AreHistoriesOf};
 ghost use Rattle.txc_visits.specs.Tended.{IsTendedAsPlanned};
 
 use crate::application::Application;
 use crate::error::OpenError;
 use crate::foundation::Foundation;
+use crate::node_histories::new_histories;
 use crate::numbers::Numbers;
 use crate::plan::Plan;
 use crate::visiting::{Came, visit};
@@ -20,7 +21,7 @@ use std::thread::Threads;
 use txc_db::{DbCore, Naming};
 use txc_definition::Definition;
 use txc_keeper::{Clock, SiteError, Tended};
-use txc_ledger::{NodeHistory, new_histories};
+use txc_ledger::NodeHistory;
 use txc_permits::PermitPool;
 
 /// What threads came to that visited a site, and the site's own keeper; what they did in all, and the database as

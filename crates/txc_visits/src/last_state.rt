@@ -1,7 +1,7 @@
 //! The state that a site leaves.
 ghost use Rattle.std.specs.Prelude.{◌≡◌, IfErr, IfOk, length, vec_len};
 ghost use Rattle.txc_db.specs.DatabaseValue.{front_of};
-ghost use Rattle.txc_ledger.specs.Histories.{AreHistoriesOf};
+ghost use Rattle.txc_visits.specs.Histories.{AreHistoriesOf};
 ghost use Rattle.txc_visits.specs.Plans.{HaveHistoriesBy, IsPlan};
 ghost use Rattle.txc_pages.specs.Pages.{last_bounds};
 ghost use Rattle.txc_visits.specs.Sites.{IsLastRefused};
@@ -11,6 +11,7 @@ ghost use Rattle.txc_txn.specs.Sessions.{IsAtLeast};
 use crate::application::Application;
 use crate::error::LastError;
 use crate::foundation::Foundation;
+use crate::node_histories::new_histories;
 use crate::plan::Plan;
 use crate::visiting::client;
 use std::alloc::Global;
@@ -18,7 +19,7 @@ use std::marker::{Brand, Model};
 use std::sync::Wait;
 use txc_db::{DbCore, Naming};
 use txc_definition::Definition;
-use txc_ledger::{NodeHistory, new_histories};
+use txc_ledger::NodeHistory;
 use txc_pages::{Page, Shown};
 use txc_permits::PermitPool;
 use txc_ports::Bounds;

@@ -11,6 +11,7 @@ mod error;
 mod foundation;
 mod histories;
 mod last_state;
+mod node_histories;
 mod numbers;
 mod plan;
 mod visiting;

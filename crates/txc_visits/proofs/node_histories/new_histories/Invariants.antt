@@ -1,6 +1,7 @@
 use Rattle.std.proofs.Common.{◌≡◌, All, vec_len}
-use Rattle.txc_ledger.specs.Histories.{IsHistoryFor, IsNew, history_name}
-use Rattle.txc_ledger.proofs.node_history.new_histories.Given as goal
+use Rattle.txc_visits.specs.Histories.{IsHistoryFor}
+use Rattle.txc_ledger.specs.Histories.{IsNew, history_name}
+use Rattle.txc_visits.proofs.node_histories.new_histories.Given as goal
 
 abbrev pub invariant-loop : goal.invariant-loop
 invariant-loop l = record {
