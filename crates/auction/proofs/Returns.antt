@@ -9,7 +9,7 @@ use Rattle.std.proofs.lemmas.Nat.{mul-le}
 use Rattle.std.proofs.lemmas.List.Elements.{All-head, All-map, All-tail, All-weaker}
 use Rattle.txc_site.specs.Seen.{FrontValue}
 use Rattle.txc_site.specs.declared.error.GenerationError.{GenerationError}
-use Rattle.txc_site.specs.declared.plan.Plan.{Plan}
+use Rattle.txc_site.specs.Plan.{Plan}
 use Rattle.txc_site.specs.declared.returning.Generation.{Generation}
 use Rattle.txc_site.specs.Generations.{AreInTurn, ComeAfter, GenerationsHaveEnded, HaveServed, IsGeneration}
 use Rattle.auction.proofs.Tallies.{asked_in_all, sum_of_each, torn_in_all}

@@ -137,11 +137,7 @@ fn newest_stamp(old: &DbCore) -> Result<Stamp, AllocError>
 ///
 /// The old one is vacuumed first, so that where no stamp is held each row has one version. Of the room, the new
 /// one's first events put the rows: at most one event for each row, and mostly one for several hundred.
-pub fn carry(
-    alloc: Global,
-    old: &mut DbCore,
-    room: Option<usize>,
-) -> Result<DbCore, CarryError>
+pub fn carry(alloc: Global, old: &mut DbCore, room: Option<usize>) -> Result<DbCore, CarryError>
     requires { IfSome room (λ room. (1 ≤ room) × (room ≤ MAX_CAPACITY)) }
     ensures state { IfOk result (λ new. state_at new.history (length new.history)
         ≡ state_at old.old.history (length old.old.history)) }

@@ -5,23 +5,20 @@ ghost use Rattle.txc_carry.specs.Rooms.{IsHistoryFor};
 ghost use Rattle.txc_db.specs.DatabaseValue.{front_of};
 ghost use Rattle.txc_site.specs.Generations.{HaveServed, IsGeneration, IsGenerationRefused, IsNextRefused, IsServed, last_state};
 ghost use Rattle.txc_site.specs.Opened.{IsOpenRefused};
-ghost use Rattle.txc_site.specs.Plans.{IsPlan};
+ghost use Rattle.txc_visits.specs.Plans.{IsPlan};
 
-use crate::application::Application;
-use crate::change::Change;
-use crate::clock::{Clock, CountedClock};
-use crate::error::{GenerationError, OpenError, SiteError};
-use crate::histories::{Visits, over_new_histories};
+use crate::error::GenerationError;
 use crate::opening::opened;
-use crate::plan::Plan;
 use crate::returning::{Generation, Returning};
-use crate::writing::Written;
 use std::alloc::Global;
 use std::sync::Wait;
 use std::thread::Threads;
 use txc_carry::carry;
 use txc_db::{DbCore, DbError, HistoryFront};
 use txc_definition::Definition;
+use txc_keeper::{Clock, CountedClock, SiteError};
+use txc_ledger::{Change, Written};
+use txc_visits::{Application, OpenError, Plan, Visits, over_new_histories};
 
 /// What a site came to in all its generations.
 #[derive(Drop)]
@@ -57,7 +54,7 @@ fn whole_front(core: &DbCore, seen: &HistoryFront) -> Result<HistoryFront, DbErr
 }
 
 /// One generation: it begins with this database, and ends once all threads have.
-#[tactic(auto, using(crate::proofs::Tending::tended_at))]
+#[tactic(auto, using(txc_visits::proofs::Tended::tended_at))]
 fn generation<A, D, V, C, R>(
     rt: &R,
     alloc: Global,
