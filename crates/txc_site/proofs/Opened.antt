@@ -3,7 +3,7 @@ use Rattle.std.proofs.Common.{ℕ, List}
 use Rattle.txc_ledger.specs.declared.run_error.RunError.{RunError}
 use Rattle.txc_rw.specs.Core.{RwValue}
 use Rattle.txc_stream.specs.Names.{Name}
-use Rattle.txc_db.specs.Room.{HasCapacity}
+use Rattle.txc_carry.specs.Rooms.{IsHistoryFor}
 use Rattle.txc_visits.specs.declared.error.OpenError.{OpenError}
 use Rattle.txc_visits.specs.declared.error.OpenError.TheVariants as opens
 use Rattle.txc_keeper.specs.declared.error.SiteError.{SiteError}
@@ -36,7 +36,7 @@ module _ (plan : Plan) (numbers : List ℕ) (sound : IsPlan plan) where
   client_so sites.Memory h = (sound, tt)
 
   -- the opening was refused
-  pub opening_so : {T : Type 0} (row : Name) (makes : RwValue → T → Type 0) (refuses : RunError → Type 0) (error : OpenError) → HasCapacity row plan.events
+  pub opening_so : {T : Type 0} (row : Name) (makes : RwValue → T → Type 0) (refuses : RunError → Type 0) (error : OpenError) → IsHistoryFor plan.events row
       → IsOpeningRefused numbers row makes refuses error → IsOpenRefused plan numbers makes refuses error
   opening_so row makes refuses (opens.Site error) room h = registry_so error h
   opening_so row makes refuses (opens.Opening error) room h = (sound, record { row = row; room = room; refused = h })

@@ -1,7 +1,7 @@
 -- What a site that is opened comes to.
-use Rattle.std.specs.Prelude.{◌≡◌, ℕ, List, vec_len}
+use Rattle.std.specs.Prelude.{◌≡◌, ℕ, List, Option, vec_len}
 use Rattle.txc_stream.specs.Names.{Name}
-use Rattle.txc_db.specs.Room.{HasCapacity}
+use Rattle.txc_carry.specs.Rooms.{IsHistoryFor}
 use Rattle.txc_app.specs.Eval.{Next}
 use Rattle.txc_ledger.specs.declared.run_error.RunError.{RunError}
 use Rattle.txc_rw.specs.Core.{RwValue}
@@ -14,23 +14,23 @@ use Rattle.txc_visits.specs.Plans.{IsPlan}
 use Rattle.txc_visits.specs.Sites.{HaveCome, IsRegistryRefused, IsSiteRefused}
 use Rattle.txc_ledger.specs.Writes.{IsWritten, IsSiteWriteRefused}
 
--- Over a database whose row has room for as many events as the plan says, the opening was written in its first run.
--- There are so many outputs, each of which is what the thread of its number comes to there. What is left is of that row.
+-- Over a database whose history is kept as the plan says, the opening was written in its first run.
+-- There are so many outputs, each of which is what the thread of its number comes to there. What is left is of that history.
 pub record IsVisited {O T : Type 0} (next : Next) (plan : Plan) (count : ℕ) (makes : RwValue → O → Type 0)
     (gives : Plan → Name → ℕ → T → Type 0) (visited : Visited O T) : Type 0 where
   pub row : Name
-  pub room : HasCapacity row plan.events
+  pub room : IsHistoryFor plan.events row
   pub opened : IsWritten next row makes visited.opening.output visited.opening.committed
   pub once : vec_len visited.opening.conflicts ≡ 0
   pub each : vec_len visited.outputs ≡ count
   pub came : HaveCome (gives plan row) visited.outputs.items
   pub last : visited.last.events ≡ row
 
--- a database with room for so many events refused the opening, in one try
-pub record IsUnopened {T : Type 0} (events : ℕ) (makes : RwValue → T → Type 0) (refuses : RunError → Type 0) (error : WriteError)
+-- a database whose history is kept so refused the opening, in one try
+pub record IsUnopened {T : Type 0} (events : Option ℕ) (makes : RwValue → T → Type 0) (refuses : RunError → Type 0) (error : WriteError)
     : Type 0 where
   pub row : Name
-  pub room : HasCapacity row events
+  pub room : IsHistoryFor events row
   pub refused : IsSiteWriteRefused row makes refuses 1 error
 
 -- of a site: it was not made; or its opening was refused; or there was no memory for the threads

@@ -1,7 +1,7 @@
 //! A site that goes on: one generation after the other.
 ghost use Rattle.std.specs.Prelude.{◌≡◌, ◌⊎◌, [], Err, IfErr, IfOk, length};
 ghost use mathlib.Core.List.{IsPrefix};
-ghost use Rattle.txc_db.specs.Room.{HasCapacity};
+ghost use Rattle.txc_carry.specs.Rooms.{IsHistoryFor};
 ghost use Rattle.txc_db.specs.DatabaseValue.{front_of};
 ghost use Rattle.txc_site.specs.Generations.{HaveServed, IsGeneration, IsGenerationRefused, IsNextRefused, IsServed, last_state};
 ghost use Rattle.txc_site.specs.Opened.{IsOpenRefused};
@@ -73,7 +73,7 @@ where
     R: Threads + Wait + Sync,
     requires plan { IsPlan plan }
     requires row { begun.core.events ≡ begun.front.events }
-    requires room { HasCapacity begun.front.events plan.events }
+    requires room { IsHistoryFor plan.events begun.front.events }
     ensures generation { IfOk result (λ ended.
         IsGeneration plan (C.tells clock.now) count (V.gives visitors.now) ended.0) }
     ensures number { IfOk result (λ ended. ended.0.number ≡ number) }
@@ -107,7 +107,7 @@ where
 fn next(alloc: Global, plan: Plan, mut core: DbCore) -> Result<Begun, GenerationError>
     requires { IsPlan plan }
     ensures row { IfOk result (λ begun. begun.core.events ≡ begun.front.events) }
-    ensures room { IfOk result (λ begun. HasCapacity begun.front.events plan.events) }
+    ensures room { IfOk result (λ begun. IsHistoryFor plan.events begun.front.events) }
     ensures state { IfOk result (λ begun. last_state begun.front ≡ last_state (front_of core)) }
     ensures refused { IfErr result (IsNextRefused plan.events (front_of core)) }
 {
@@ -217,7 +217,7 @@ where
     R: Threads + Wait + Sync,
     requires plan { IsPlan plan }
     requires row { begun.core.events ≡ begun.front.events }
-    requires room { HasCapacity begun.front.events plan.events }
+    requires room { IsHistoryFor plan.events begun.front.events }
     requires none { generations.old.items ≡ [] }
     ensures { HaveServed plan (C.tells clock.now) count A.numbers (V.gives visitors.now) (V.goes visitors.now)
         begun.front generations.new.items result }

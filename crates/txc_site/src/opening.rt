@@ -1,6 +1,6 @@
 //! The opening of a site.
 ghost use Rattle.std.specs.Prelude.{◌≡◌, Err, IfErr, IfOk, length, vec_len};
-ghost use Rattle.txc_db.specs.Room.{HasCapacity};
+ghost use Rattle.txc_carry.specs.Rooms.{IsHistoryFor};
 ghost use Rattle.txc_db.specs.Shared.{IsDatabaseOf};
 ghost use Rattle.txc_site.specs.Opened.{IsOpeningRefused, IsOpenRefused, IsVisited};
 ghost use Rattle.txc_visits.specs.Plans.{IsPlan};
@@ -12,6 +12,7 @@ use std::alloc::Global;
 use std::marker::Brand;
 use std::sync::Wait;
 use std::thread::Threads;
+use txc_carry::new_database;
 use txc_db::{DbCore, Naming};
 use txc_definition::Definition;
 use txc_keeper::{Clock, CountedClock, SiteError, Tended};
@@ -39,10 +40,10 @@ pub struct Visited<O, T> {
 /// A new database, as the plan says.
 fn new_core(alloc: Global, plan: Plan) -> Result<DbCore, SiteError>
     requires { IsPlan plan }
-    ensures room { IfOk result (λ core. HasCapacity core.events plan.events) }
+    ensures room { IfOk result (λ core. IsHistoryFor plan.events core.events) }
     ensures refused { IfErr result IsDatabaseRefused }
 {
-    Ok(DbCore::new(alloc, plan.events)?)
+    Ok(new_database(alloc, plan.events)?)
 }
 
 /// Opens a site as [`with_clock`] does, at a clock that counts how often it was looked at.
@@ -141,7 +142,7 @@ where
     requires { IsPlan plan }
     ensures opened { IfOk result (λ opened. IsWritten A.next opened.1.events (O.makes opening.now)
         opened.0.output opened.0.committed) }
-    ensures room { IfOk result (λ opened. HasCapacity opened.1.events plan.events) }
+    ensures room { IfOk result (λ opened. IsHistoryFor plan.events opened.1.events) }
     ensures once { IfOk result (λ opened. vec_len opened.0.conflicts ≡ 0) }
     ensures refused { IfErr result
         (IsOpenRefused plan A.numbers (O.makes opening.now) (O.refuses opening.now)) }

@@ -7,7 +7,8 @@ use Rattle.txc_shared.specs.declared.settings.NodeSettings.{NodeSettings}
 use Rattle.txc_visits.specs.declared.plan.Plan.{Plan}
 use Rattle.txc_visits.specs.Plans.{settings_of_node}
 use Rattle.txc_ledger.specs.declared.node_history.NodeHistory.{NodeHistory}
-use Rattle.txc_visits.specs.Histories.{AreHistoriesOf, IsHistoryFor}
+use Rattle.txc_carry.specs.Rooms.{IsHistoryFor}
+use Rattle.txc_visits.specs.Histories.{AreHistoriesOf}
 use Rattle.txc_ledger.specs.Histories.{IsNew, history_name}
 
 -- so many places later

@@ -15,7 +15,7 @@ IsPlan p =
     × (1 ≤ p.capacity) × (p.capacity ≤ MAX_CAPACITY)
     × (1 ≤ p.recent) × (p.recent ≤ MAX_RECENT)
     × (1 ≤ p.permits) × (p.permits ≤ MAX_PERMITS)
-    × (1 ≤ p.events) × (p.events ≤ MAX_ROOM)
+    × IfSome p.events (λ room. (1 ≤ room) × (room ≤ MAX_ROOM))
     × IfSome p.records (λ room. (1 ≤ room) × (room ≤ MAX_ROOM))
 
 -- how the node of this number is made

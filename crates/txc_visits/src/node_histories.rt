@@ -1,7 +1,7 @@
 //! Histories that nodes begin with.
 ghost use Rattle.std.specs.Prelude.{◌≡◌, ◌≤◌, All, IfOk, IfSome, vec_len};
 ghost use Rattle.txc_stream.specs.declared.row.TheConstants.{MAX_CAPACITY as MAX_ROOM};
-ghost use Rattle.txc_visits.specs.Histories.{IsHistoryFor};
+ghost use Rattle.txc_carry.specs.Rooms.{IsHistoryFor};
 ghost use Rattle.txc_ledger.specs.Histories.{IsNew, history_name};
 
 use std::alloc::{AllocError, Global};

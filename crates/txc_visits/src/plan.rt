@@ -13,10 +13,13 @@ pub const MAX_NODES: usize = 64;
 
 /// How a site is made, and how long it lasts.
 ///
-/// Its database's history has room for `events`, which is fixed once it is made and never given back. Each commit that changes something is an event, and so is each pin: one for each
-/// [`Keeper::keep`](txc_keeper::Keeper::keep), and one for each transaction whose newest pin is too old. Once
-/// there are as many, no commit and no pin is made any more, and a transaction without a pin that its bounds
-/// allow is refused. Each lookup, insertion, event taken and sweep is a record of its node. These exist in the
+/// Its database's history has room for `events`, which is fixed once it is made. Each commit that changes something is
+/// an event, and so is each pin: one for each [`Keeper::keep`](txc_keeper::Keeper::keep), and one for each transaction whose
+/// newest pin is too old. Once there are as many, no commit and no pin is made any more, and a transaction without a pin
+/// that its bounds allow is refused. Where they are stored, their row is never given back. Else the history exists in the
+/// proofs alone: what stands in memory of an event are its tags, until each node has taken it and a keeper has passed it.
+///
+/// Each lookup, insertion, event taken and sweep is a record of its node. These exist in the
 /// proofs alone, unless the plan asks for `records`; then, once there are as many, the node has nothing and keeps
 /// nothing, and all calls are computed. So a site of `e` events ends
 /// after `e` commits and pins: at ten a second [`Plan::DEFAULT`] lasts 109 minutes.
@@ -36,13 +39,24 @@ pub struct Plan {
     pub renew_after: u64,
     /// How many calls of functions may run at once, from 1 to [`txc_permits::MAX_PERMITS`].
     pub permits: u64,
-    /// How many commits and pins there is room for, from 1 to [`txc_stream::MAX_CAPACITY`].
-    pub events: usize,
+    /// How many commits and pins are stored, where anybody can read them: from 1 to [`txc_stream::MAX_CAPACITY`].
+    /// Without a number none is, and there is room for one for each stamp, [`txc_stamp::LAST_STAMP`] of them.
+    pub events: Option<usize>,
     /// How many records of each node are stored, where anybody can read them: from 1 to
     /// [`txc_stream::MAX_CAPACITY`]. Without a number none is, and a node's history has no end.
     pub records: Option<usize>,
     /// How the site keeps itself, in a thread of its own, until the visitors have ended. None where it does not.
     pub keep: Option<Keeping>,
+}
+
+// Whether a row may have room for as many.
+fn may_be_stored(room: Option<usize>) -> bool
+    ensures { IsTrue result ↔ IfSome room (λ room. (1 ≤ room) × (room ≤ MAX_ROOM)) }
+{
+    match room {
+        Some(room) => 1 <= room && room <= MAX_ROOM,
+        None => true,
+    }
 }
 
 impl Plan {
@@ -54,20 +68,10 @@ impl Plan {
         recent: 64,
         renew_after: 5000,
         permits: 64,
-        events: 65_536,
+        events: Some(65_536),
         records: None,
         keep: None,
     };
-
-    // Whether as many records may be stored.
-    fn has_room(&self) -> bool
-        ensures { IsTrue result ↔ IfSome self.now.records (λ room. (1 ≤ room) × (room ≤ MAX_ROOM)) }
-    {
-        match self.records {
-            Some(room) => 1 <= room && room <= MAX_ROOM,
-            None => true,
-        }
-    }
 
     /// Whether each number is within its limits.
     pub fn is_sound(&self) -> bool
@@ -81,8 +85,7 @@ impl Plan {
             && self.recent <= MAX_RECENT
             && 1 <= self.permits
             && self.permits <= MAX_PERMITS
-            && 1 <= self.events
-            && self.events <= MAX_ROOM
-            && self.has_room()
+            && may_be_stored(self.events)
+            && may_be_stored(self.records)
     }
 }

@@ -1,5 +1,5 @@
 use Rattle.std.proofs.Common.{◌≡◌, All, vec_len}
-use Rattle.txc_visits.specs.Histories.{IsHistoryFor}
+use Rattle.txc_carry.specs.Rooms.{IsHistoryFor}
 use Rattle.txc_ledger.specs.Histories.{IsNew, history_name}
 use Rattle.txc_visits.proofs.node_histories.new_histories.Given as goal
 
