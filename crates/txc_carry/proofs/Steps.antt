@@ -2,7 +2,7 @@
 use Rattle.std.proofs.Common.{◌≡◌, ◌≢◌, inl, inr, ℕ, ◌+◌, ◌<◌, ◌≤◌, List, [], ◌∷◌, ◌++◌, filter, map, length, Bool, true, false, true≢false, Option, Some, None, refl, sym, ap, subst, ◌∙◌, arith, length-append}
 use Rattle.std.proofs.lemmas.List.{length_push}
 use Rattle.std.specs.List.{AllByRecursion}
-use Rattle.txc_stream.specs.Names.{Name, stored, unstored, HasRow}
+use Rattle.txc_stream.specs.Names.{Name, stored, unstored}
 use Rattle.txc_tags.specs.declared.tag.Tag.{Tag}
 use Rattle.txc_tags.specs.Tags.{sets_match}
 use Rattle.txc_tags.specs.declared.tag.TheConstants.{LAST_TABLE}
@@ -21,7 +21,7 @@ use Rattle.txc_rows.specs.Versions.{suits}
 use Rattle.txc_rows.specs.Laws.{ChangedIsState, NetLeads}
 use Rattle.txc_db.specs.declared.error.DbError.{DbError}
 use Rattle.txc_db.specs.declared.error.DbError.TheVariants.{SnapshotGone, Conflict, Full, Store, Broken, FutureStamp, Memory}
-use Rattle.txc_db.specs.Room.{events_room, HasCapacity, AreTagsGone}
+use Rattle.txc_db.specs.Room.{events_room, AreTagsGone}
 use Rattle.txc_db.specs.History.{History, state_at, tags_at, commit_event}
 use Rattle.txc_db.specs.DatabaseValue.{DatabaseValue, IsSound, newest, newest_state, newest_net, after_commit}
 use Rattle.txc_db.specs.Calls.{matching_of, row_query, IsCommitRefused, IsQueryRefused}
@@ -40,12 +40,6 @@ room_of (Some n) (stored cells) is = is
 room_of (Some n) (unstored number) is = absurd is
 room_of None (stored cells) is = absurd (is tt)
 room_of None (unstored number) is = refl
-
-pub kept_in_row : (name : Name) (n : ℕ) → HasCapacity name n → IsHistoryFor (Some n) name
-kept_in_row name n has = has
-
-pub kept_in_none : (name : Name) (number : ℕ) → name ≡ unstored number → IsHistoryFor None name
-kept_in_none name number is = subst (λ (x : Name). ¬ (HasRow x)) (sym is) (λ row. row)
 
 -- where the horizon is 0, the tags of no event are gone
 none_gone : (name : Name) (horizon : ℕ) → horizon ≡ 0 → AreTagsGone name horizon 0 → ⊥
