@@ -1,5 +1,5 @@
 //! Reading the words after a command, each as what it says.
-ghost use Rattle.std.specs.Prelude.{◌≡◌, ◌<◌, ◌+◌, ◌^◌, ℕ, List, ◌∷◌, length, IfOk, IfErr};
+ghost use Rattle.std.specs.Prelude.{◌≡◌, ◌<◌, ◌+◌, ◌^◌, ℕ, List, ◌∷◌, length, IfOk, IfErr, IfSome, IfNone};
 ghost use Rattle.txc_script.specs.LineFaults.{IsKindsFault, IsUnmet, IsUnsaid, IsWrong};
 ghost use Rattle.txc_script.specs.SaidWords.{AllSaidOf, IsOfKind, Mean};
 ghost use Rattle.txc_script.specs.Words.{words_left};
@@ -25,10 +25,11 @@ pub trait Row: Drop {
         requires { length kinds < 2 ^ 64 }
         ensures { result ≡ length kinds };
 
-    /// What the words say, if there are as many and each is of its kind.
-    fn read(alloc: Global, words: WordsLeft<'_>) -> Result<Self, Unmet>
-        ensures answer { IfOk result (λ row. Mean kinds (words_left words.entry) (said row)) }
-        ensures refused { IfErr result (IsUnmet kinds (words_left words.entry)) };
+    /// What the words say, if there are as many and each is of its kind; else it leaves what is wrong. That is large, so
+    /// no answer has room for it.
+    fn read(alloc: Global, words: WordsLeft<'_>, unmet: &mut Unmet) -> Option<Self>
+        ensures answer { IfSome result (λ row. Mean kinds (words_left words.entry) (said row)) }
+        ensures refused { IfNone result (IsUnmet kinds (words_left words.entry) unmet.new) };
 }
 
 impl Row for () {
@@ -43,12 +44,13 @@ impl Row for () {
     }
 
     #[inline(always)]
-    fn read(alloc: Global, words: WordsLeft<'_>) -> Result<(), Unmet> {
+    fn read(alloc: Global, words: WordsLeft<'_>, unmet: &mut Unmet) -> Option<()> {
         let mut left = words;
-        match left.pop() {
-            None => Ok(()),
-            Some(_) => Err(Unmet::Count),
+        if left.pop().is_none() {
+            return Some(());
         }
+        *unmet = Unmet::Count;
+        None
     }
 }
 
@@ -62,18 +64,25 @@ impl<A: Word, B: Row> Row for (A, B) {
     }
 
     #[inline(always)]
-    fn read(alloc: Global, words: WordsLeft<'_>) -> Result<(A, B), Unmet> {
+    fn read(alloc: Global, words: WordsLeft<'_>, unmet: &mut Unmet) -> Option<(A, B)> {
         let mut left = words;
         let Some(word) = left.pop() else {
-            return Err(Unmet::Count);
+            *unmet = Unmet::Count;
+            return None;
         };
         let first = match A::read(alloc, word) {
             Ok(first) => first,
-            Err(unsaid) => return Err(first_unmet::<A>(word, unsaid)),
+            Err(unsaid) => {
+                *unmet = first_unmet::<A>(word, unsaid);
+                return None;
+            }
         };
-        match B::read(alloc, left) {
-            Ok(others) => Ok((first, others)),
-            Err(unmet) => Err(one_later(unmet)),
+        match B::read(alloc, left, unmet) {
+            Some(others) => Some((first, others)),
+            None => {
+                one_later(unmet);
+                None
+            }
         }
     }
 }
@@ -97,20 +106,15 @@ fn first_unmet<A: Word>(word: &[u8], unsaid: Unsaid) -> Unmet
 
 /// What is wrong with words, where a good one stands before them.
 #[cold]
-fn one_later(unmet: Unmet) -> Unmet
+fn one_later(unmet: &mut Unmet)
     ensures { (kind : WordKind) (kinds : List WordKind) (word : List ℕ) (words : List (List ℕ))
-        → length words + 1 < 2 ^ 64 → IsOfKind kind word → IsUnmet kinds words unmet
-        → IsUnmet (kind ∷ kinds) (word ∷ words) result }
+        → length words + 1 < 2 ^ 64 → IsOfKind kind word → IsUnmet kinds words unmet.old
+        → IsUnmet (kind ∷ kinds) (word ∷ words) unmet.new }
 {
     match unmet {
-        Unmet::Word(fault) => Unmet::Word(WordFault {
-            number: fault.number.saturating_add(1),
-            kind: fault.kind,
-            at: fault.at,
-            text: fault.text,
-        }),
-        Unmet::Count => Unmet::Count,
-        Unmet::Memory => Unmet::Memory,
+        Unmet::Word(fault) => fault.number = fault.number.saturating_add(1),
+        Unmet::Count => {}
+        Unmet::Memory => {}
     }
 }
 
@@ -121,9 +125,10 @@ pub fn read_row<R: Row>(alloc: Global, words: WordsLeft<'_>) -> Result<R, Unansw
     ensures answer { IfOk result (λ row. Mean R.kinds (words_left words.entry) (R.said row)) }
     ensures refused { IfErr result (IsWrong (IsKindsFault R.kinds (words_left words.entry))) }
 {
-    match R::read(alloc, words) {
-        Ok(row) => Ok(row),
-        Err(unmet) => Err(fault_of(unmet, R::count(), words)),
+    let mut unmet = Unmet::Memory;
+    match R::read(alloc, words, &mut unmet) {
+        Some(row) => Ok(row),
+        None => Err(fault_of(unmet, R::count(), words)),
     }
 }
 

@@ -5,6 +5,7 @@ ghost use Rattle.txc_script.specs.Words.{HasNoBlank, words_of, words_left, is_bl
 use crate::scan::word_len;
 
 /// The word before the first blank, and what comes after that blank.
+#[inline(always)]
 pub fn first_word(text: &[u8]) -> Option<(&[u8], &[u8])>
     ensures answer { IfSome result (λ w.
         (text.now ≡ w.0.now ++ 32 ∷ w.1.now) × HasNoBlank w.0.now) }
@@ -80,6 +81,7 @@ impl<'a> WordsLeft<'a> {
     }
 
     /// The next word.
+    #[inline(always)]
     pub fn next(&mut self) -> &'a [u8]
         requires { 0 < length (words_left self.old) }
         ensures { words_left self.old ≡ result.now ∷ words_left self.new }
