@@ -9,4 +9,4 @@ returns-in-Word c kind kinds word words small is unmet =
     let bad = subst (IsUnmet kinds words) c.in-Word.is unmet in
     let fault = c.in-Word.fault in
     let few : fault.number + 1 ≤ 18446744073709551615 = omega (arith, bad_within kinds words fault bad, small) in
-    later_bad kind kinds word words fault _ is bad (c.saturating_add.ensures ∙ min-eq_left few) refl refl refl
+    later_bad kind kinds word words fault _ is bad (c.saturating_add-fault.ensures ∙ min-eq_left few) refl refl refl
