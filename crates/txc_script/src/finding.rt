@@ -77,11 +77,11 @@ pub fn read_word(alloc: Global, kind: WordKind, word: &[u8]) -> Result<Said<'_>,
             Err(unsaid) => Err(unsaid),
         },
         WordKind::Tags => match <TagSet as Word>::read(alloc, word) {
-            Ok(_) => Ok(Said::Other),
+            Ok(_tags) => Ok(Said::Other),
             Err(unsaid) => Err(unsaid),
         },
         WordKind::Bytes => match <Vec<u8> as Word>::read(alloc, word) {
-            Ok(_) => Ok(Said::Other),
+            Ok(_bytes) => Ok(Said::Other),
             Err(unsaid) => Err(unsaid),
         },
         WordKind::Table => match read_table(word) {
