@@ -1,5 +1,5 @@
 -- The steps that the words of a line name.
-use Rattle.std.proofs.Common.{◌≡◌, ◌<◌, ◌≤◌, ℕ, Bool, List, ◌∷◌, Some, Result, Ok, Err, length, sym, subst, inr, refl}
+use Rattle.std.proofs.Common.{◌≡◌, ◌<◌, ◌≤◌, ℕ, Bool, List, ◌∷◌, Some, Result, Ok, Err, length, subst, inr, refl}
 use Rattle.txc_node.specs.declared.entry.Entry.{Entry}
 use Rattle.txc_node.specs.declared.entry.EntryError.{EntryError}
 use Rattle.txc_node.specs.declared.entry.EntryError.TheVariants as errors
