@@ -10,15 +10,16 @@ use Rattle.txc_node.specs.declared.reply.Reply.{Reply}
 use Rattle.txc_node.specs.Steps.{is_refusal, MayReply}
 use Rattle.txc_settings.specs.declared.mode.Mode.TheVariants.{Node}
 use Rattle.txc_script.specs.Answers.{IsUnanswered}
+use Rattle.txc_script.specs.Forms.{IsOfForm, LineForm}
 use Rattle.txc_script.specs.Kinds.{Replied}
 use Rattle.txc_script.specs.declared.unread.Unanswered.{Unanswered}
 use Rattle.txc_script.specs.declared.unread.Unanswered.TheVariants.{Wrong, Memory}
-use Rattle.txc_script.specs.declared.unread.Unread.{Unread}
-use Rattle.txc_script.specs.declared.unread.Unread.TheVariants as unread
+use Rattle.txc_script.proofs.Offered.{fault_asks_none}
 use Rattle.txc_run.specs.Counting.{Counts, counted_script}
+use Rattle.txc_run.specs.Lines.{node_forms}
 use Rattle.txc_run.specs.NodeScripts.{node_script}
 use Rattle.txc_run.specs.Reports.{IsReportOf, step_by, steps_in, steps_of}
-use Rattle.txc_run.specs.Steps.{IsFor, IsNoStep, MakesNone, MakesStep, Taking}
+use Rattle.txc_run.specs.Steps.{IsFor, MakesForm, MakesLine, Taking}
 use Rattle.txc_run.specs.declared.node.Counted.{Counted}
 use Rattle.txc_run.specs.declared.report.Report.{Report}
 use Rattle.txc_run.proofs.Reporting.{steps_more}
@@ -41,27 +42,24 @@ one_counted old new op reply kept counts given h =
     (counts (steps_of given) h)
 
 -- such a step was made, and its reply taken
-pub taken : {T E : Type 0} (takes : Taking T) (Is : Op → Type 0) (r : Result Bool E) (c next : Cache) (op : Op) (reply : Reply Shown) (function : Option ℕ) (old new : T) → Is op → MayReply c op reply next → IsFor function op reply
-    → IfOk r (λ refused. (o : Op) → IsFor function o reply → takes old o reply new) → IfOk r (λ refused. refused ≡ is_refusal reply) → IfOk r (MakesStep takes Is c next old new)
-taken takes Is (Ok refused) c next op reply function old new is may of after same = (op, is, reply, may, after op of, same)
-taken takes Is (Err e) c next op reply function old new is may of after same = tt
-
--- memory alone is refused for its reply
-pub memory_refused : {T : Type 0} (Is : Op → Type 0) (r : Result Bool Unread) (c next : Cache) (old new : T) → IfErr r (λ reason. reason ≡ unread.Memory) → IfErr r (MakesNone Is c next old new)
-memory_refused Is (Ok refused) c next old new h = tt
-memory_refused Is (Err reason) c next old new h = subst (MakesNone Is c next old new) (sym h) tt
+pub taken : {T : Type 0} (takes : Taking T) (form : LineForm Op) (words : List (List ℕ)) (r : Result Bool Unanswered) (c next : Cache) (op : Op) (reply : Reply Shown) (function : Option ℕ) (old new : T) → IsOfForm form words op
+    → MayReply c op reply next → IsFor function op reply → IfOk r (λ refused. (o : Op) → IsFor function o reply → takes old o reply new) → IfOk r (λ refused. refused ≡ is_refusal reply) → IfErr r (λ reason. reason ≡ Memory)
+    → MakesForm takes form words c next old new r
+taken takes form words (Ok refused) c next op reply function old new is may of after same memory = (op, is, reply, may, after op of, same)
+taken takes form words (Err e) c next op reply function old new is may of after same memory =
+    subst (λ (x : Unanswered). MakesForm takes form words c next old new (Err x)) (sym memory) tt
 
 -- ---- lines that name a step
 
-pub on_made : {X E : Type 0} (r : Result X E) (P Q : X → Type 0) → ((x : X) → P x → Q x) → IfOk r P → IfOk r Q
-on_made (Ok x) P Q f h = f x h
-on_made (Err e) P Q f h = tt
+pub on_made : {T : Type 0} (takes : Taking T) (line : List ℕ) (r : Result Bool Unanswered) (c next : Cache) (old new : T) (Q : Bool → Type 0) → MakesLine takes line c next old new r
+    → ((refused : Bool) → MakesLine takes line c next old new (Ok refused) → Q refused) → IfOk r Q
+on_made takes line (Ok refused) c next old new Q h f = f refused h
+on_made takes line (Err e) c next old new Q h f = tt
 
-pub node_unanswered : {T : Type 0} (r : Result Bool Unanswered) (c : Cache) (line : List ℕ) (next : Cache) (old new : T) → IfErr r (IsNoStep line c next old new)
-    → IfErr r (IsUnanswered (node_script Node) c line next)
-node_unanswered (Ok x) c line next old new h = tt
-node_unanswered (Err (Wrong fault)) c line next old new h = (h.0.0, h.0.1, h.1)
-node_unanswered (Err Memory) c line next old new h = inr tt
+pub node_unanswered : {T : Type 0} (takes : Taking T) (line : List ℕ) (r : Result Bool Unanswered) (c next : Cache) (old new : T) → MakesLine takes line c next old new r → IfErr r (IsUnanswered (node_script Node) c line next)
+node_unanswered takes line (Ok x) c next old new h = tt
+node_unanswered takes line (Err (Wrong fault)) c next old new h = ((λ op. fault_asks_none node_forms line fault op h.0), h.1, h.0)
+node_unanswered takes line (Err Memory) c next old new h = inr tt
 
 same_counted : (s : Counted) (node : Cache) (report : Report) → node ≡ s.node → report ≡ s.report → ◌≡◌ {A = Counted} (record { node = node; report = report }) s
 same_counted s node report n r =
@@ -69,8 +67,8 @@ same_counted s node report n r =
     let b : ◌≡◌ {A = Counted} (record { node = s.node; report = report }) s = ap (λ (x : Report). record s { report = x }) r in
     a ∙ b
 
-pub counted_unanswered : (r : Result Bool Unanswered) (s : Counted) (line : List ℕ) (node : Cache) (report : Report) → IfErr r (IsNoStep line s.node node s.report report)
+pub counted_unanswered : (line : List ℕ) (r : Result Bool Unanswered) (s : Counted) (node : Cache) (report : Report) → MakesLine Counts line s.node node s.report report r
     → IfErr r (IsUnanswered counted_script s line (record { node = node; report = report }))
-counted_unanswered (Ok x) s line node report h = tt
-counted_unanswered (Err (Wrong fault)) s line node report h = (h.0.0, same_counted s node report h.0.1 h.0.2, h.1)
-counted_unanswered (Err Memory) s line node report h = inr tt
+counted_unanswered line (Ok x) s node report h = tt
+counted_unanswered line (Err (Wrong fault)) s node report h = ((λ op. fault_asks_none node_forms line fault op h.0), same_counted s node report h.1 h.2, h.0)
+counted_unanswered line (Err Memory) s node report h = inr tt

@@ -10,7 +10,7 @@ use crate::output::push_reply;
 use crate::report::Report;
 use std::alloc::Global;
 use txc_node::{Hit, Reply};
-use txc_script::Unread;
+use txc_script::Unanswered;
 use txc_tags::LAST_FUNCTION;
 
 /// Takes the replies to steps: a text, to which they are written, or a report, which counts them.
@@ -27,12 +27,12 @@ pub trait Taker {
         alloc: Global,
         function: Option<u8>,
         reply: &Reply<Hit<'_>>,
-    ) -> Result<bool, Unread>
+    ) -> Result<bool, Unanswered>
         requires { IfSome function (λ f. f ≤ LAST_FUNCTION) }
         ensures after { IfOk result (λ refused. (op : Op) → IsFor function op (seen_reply reply.now)
             → takes self.old op (seen_reply reply.now) self.new) }
         ensures refusal { IfOk result (λ refused. refused ≡ is_refusal (seen_reply reply.now)) }
-        ensures memory { IfErr result (λ reason. reason ≡ Unread.Memory) }
+        ensures memory { IfErr result (λ reason. reason ≡ Unanswered.Memory) }
         ensures unchanged { OnErr result (text self.new ≡ text self.old) };
 }
 
@@ -50,7 +50,7 @@ impl Taker for Vec<u8> {
         alloc: Global,
         function: Option<u8>,
         reply: &Reply<Hit<'_>>,
-    ) -> Result<bool, Unread> {
+    ) -> Result<bool, Unanswered> {
         push_reply(alloc, self, reply)?;
         Ok(reply.is_refusal())
     }
@@ -69,7 +69,7 @@ impl Taker for Report {
         alloc: Global,
         function: Option<u8>,
         reply: &Reply<Hit<'_>>,
-    ) -> Result<bool, Unread> {
+    ) -> Result<bool, Unanswered> {
         if reply.is_refusal() {
             return Ok(true);
         }

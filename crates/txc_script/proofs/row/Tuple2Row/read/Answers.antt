@@ -1,0 +1,17 @@
+use Rattle.std.proofs.Common.{◌∷◌, ℕ, ◌+◌, ◌<◌, ◌^◌, List, length, sym, ap, subst, arith}
+use Rattle.txc_script.specs.LineFaults.{IsUnmet}
+use Rattle.txc_script.specs.Words.{words_left, words_of}
+use Rattle.txc_script.proofs.Blanks.{taken_few}
+use Rattle.txc_script.proofs.row.Tuple2Row.read.Goals as goal
+
+pub returns-in-Err-clause-refused : goal.returns-in-Err-clause-refused
+returns-in-Err-clause-refused g c =
+    subst (λ (ws : List (List ℕ)). IsUnmet (g.A.Word.kind ∷ g.B.Row.kinds) ws c.first_unmet.result) (sym c.in-Some.ensures.answer) (c.first_unmet.ensures g.B.Row.kinds (words_left c.pop.new.self))
+
+pub returns-in-None-clause-refused : goal.returns-in-None-clause-refused
+returns-in-None-clause-refused g c =
+    let left = words_left c.pop.new.self in
+    let words = c.args.words in
+    let small : length left + 1 < 2 ^ 64 = omega (arith, ap length c.in-Some.ensures.answer, taken_few words.count (words_of words.rest.now)) in
+    subst (λ (ws : List (List ℕ)). IsUnmet (g.A.Word.kind ∷ g.B.Row.kinds) ws c.one_later.new.unmet) (sym c.in-Some.ensures.answer)
+    (c.one_later.ensures g.A.Word.kind g.B.Row.kinds c.in-Some.word.now left small (g.A.Word.said c.in-Ok.first, c.in-Ok.ensures.answer) c.in-None.ensures.refused)
