@@ -1,5 +1,5 @@
 -- The steps that the words of a line name.
-use Rattle.std.proofs.Common.{◌≡◌, ◌<◌, ◌≤◌, ℕ, Bool, List, ◌∷◌, Some, Result, Ok, Err, length, subst, inr, refl}
+use Rattle.std.proofs.Common.{◌≡◌, ◌<◌, ◌≤◌, ℕ, Bool, List, ◌∷◌, Option, Some, None, length, subst, inr, refl}
 use Rattle.txc_node.specs.declared.entry.Entry.{Entry}
 use Rattle.txc_node.specs.declared.entry.EntryError.{EntryError}
 use Rattle.txc_node.specs.declared.entry.EntryError.TheVariants as errors
@@ -25,10 +25,10 @@ entry_refused e errors.ValueTooLong reach long = let l = long refl in entry_is_t
 -- ---- the step of a line
 
 -- what was made, or not, as the words after the name of a form say was made, or not, as the line says
-pub makes_as : {T : Type 0} (takes : Taking T) (form : LineForm Op) (line name : List ℕ) (words : List (List ℕ)) (r : Result Bool Unanswered) (c next : Cache) (old new : T) → form_named node_forms form.name ≡ Some form
-    → words_of line ≡ name ∷ words → name ≡ form.name → MakesForm takes form words c next old new r → MakesLine takes line c next old new r
-makes_as takes form line name words (Ok refused) c next old new known cut named h =
+pub makes_as : {T : Type 0} (takes : Taking T) (form : LineForm Op) (line name : List ℕ) (words : List (List ℕ)) (r : Option Bool) (why : Unanswered) (c next : Cache) (old new : T) → form_named node_forms form.name ≡ Some form
+    → words_of line ≡ name ∷ words → name ≡ form.name → MakesForm takes form words c next old new r why → MakesLine takes line c next old new r why
+makes_as takes form line name words (Some refused) why c next old new known cut named h =
     (h.0, record { form = form; words = words; named = known; are = subst (λ (n : List ℕ). words_of line ≡ n ∷ words) named cut; is = h.1 }, h.2, h.3, h.4, h.5)
-makes_as takes form line name words (Err (Wrong fault)) c next old new known cut named h =
+makes_as takes form line name words None (Wrong fault) c next old new known cut named h =
     (inr (form, words, subst (λ (n : List ℕ). words_of line ≡ n ∷ words) named cut, known, h.0), h.1, h.2)
-makes_as takes form line name words (Err Memory) c next old new known cut named h = tt
+makes_as takes form line name words None Memory c next old new known cut named h = tt

@@ -1,6 +1,8 @@
 //! Steps of the node, whose replies are taken.
-ghost use Rattle.std.specs.Prelude.{◌≡◌, OnErr};
+ghost use Rattle.std.specs.Prelude.{◌≡◌, IfNone};
+ghost use Rattle.txc_script.specs.Excerpts.{excerpt_of};
 ghost use Rattle.txc_script.specs.Words.{words_left};
+ghost use Rattle.txc_script.specs.declared.line_fault.CommandFault.TheVariants.{Unknown};
 ghost use Rattle.txc_run.specs.Lines.{event_form, insert_form, lookup_form, sweep_form};
 ghost use Rattle.txc_run.specs.Steps.{MakesForm, MakesLine};
 
@@ -11,32 +13,29 @@ use txc_script::{CommandFault, Excerpt, Unanswered, WordsLeft, all_words, read_r
 use txc_stamp::Stamp;
 use txc_tags::{Key, TagSet};
 
-/// Makes the insertion that the words after its name are, and takes its reply.
+/// Makes the insertion that the words after its name are, and takes its reply; else it leaves why it did not.
 #[inline(never)]
 fn make_insertion<T: Taker>(
     alloc: Global,
     node: &mut NodeCore,
     words: WordsLeft<'_>,
     taker: &mut T,
-) -> Result<bool, Unanswered>
-    ensures made { MakesForm T.takes insert_form (words_left words.entry) node.old node.new taker.old taker.new result }
-    ensures unchanged { OnErr result (T.text taker.new ≡ T.text taker.old) }
+    why: &mut Unanswered,
+) -> Option<bool>
+    ensures made { MakesForm T.takes insert_form (words_left words.entry)
+        node.old node.new taker.old taker.new result why.new }
+    ensures unchanged { IfNone result (T.text taker.new ≡ T.text taker.old) }
 {
-    let (key, (lo, (known, (still, (tags, (value, ())))))) = match read_row::<
+    let (key, (lo, (known, (still, (tags, (value, ())))))) = read_row::<
         (Key, (Stamp, (Stamp, (bool, (TagSet, (Vec<u8>, ())))))),
-    >(alloc, words)
-    {
-        Ok(row) => row,
-        Err(Unanswered::Wrong(fault)) => return Err(Unanswered::Wrong(fault)),
-        Err(Unanswered::Memory) => return Err(Unanswered::Memory),
-    };
+    >(alloc, words, why)?;
     let function = Some(key.function());
     match Entry::new(key, value, lo, known, still, tags) {
         Ok(entry) => match node.insert(entry) {
-            Ok(inserted) => taker.take(alloc, function, &Reply::Inserted(inserted)),
-            Err(_) => taker.take(alloc, function, &Reply::Refused(Refusal::Memory)),
+            Ok(inserted) => taker.take(alloc, function, &Reply::Inserted(inserted), why),
+            Err(_) => taker.take(alloc, function, &Reply::Refused(Refusal::Memory), why),
         },
-        Err(error) => taker.take(alloc, None, &Reply::Refused(Refusal::of_entry(error))),
+        Err(error) => taker.take(alloc, None, &Reply::Refused(Refusal::of_entry(error)), why),
     }
 }
 
@@ -47,20 +46,18 @@ fn make_lookup<T: Taker>(
     node: &mut NodeCore,
     words: WordsLeft<'_>,
     taker: &mut T,
-) -> Result<bool, Unanswered>
-    ensures made { MakesForm T.takes lookup_form (words_left words.entry) node.old node.new taker.old taker.new result }
-    ensures unchanged { OnErr result (T.text taker.new ≡ T.text taker.old) }
+    why: &mut Unanswered,
+) -> Option<bool>
+    ensures made { MakesForm T.takes lookup_form (words_left words.entry)
+        node.old node.new taker.old taker.new result why.new }
+    ensures unchanged { IfNone result (T.text taker.new ≡ T.text taker.old) }
 {
-    let (key, (lo, (hi, ()))) = match read_row::<(Key, (Stamp, (Stamp, ())))>(alloc, words) {
-        Ok(row) => row,
-        Err(Unanswered::Wrong(fault)) => return Err(Unanswered::Wrong(fault)),
-        Err(Unanswered::Memory) => return Err(Unanswered::Memory),
-    };
+    let (key, (lo, (hi, ()))) = read_row::<(Key, (Stamp, (Stamp, ())))>(alloc, words, why)?;
     let function = Some(key.function());
     match node.lookup(&key, lo, hi) {
-        Ok(Some(hit)) => taker.take(alloc, function, &Reply::Hit(hit)),
-        Ok(None) => taker.take(alloc, function, &Reply::Miss),
-        Err(_) => taker.take(alloc, function, &Reply::Refused(Refusal::EmptyRange)),
+        Ok(Some(hit)) => taker.take(alloc, function, &Reply::Hit(hit), why),
+        Ok(None) => taker.take(alloc, function, &Reply::Miss, why),
+        Err(_) => taker.take(alloc, function, &Reply::Refused(Refusal::EmptyRange), why),
     }
 }
 
@@ -71,21 +68,20 @@ fn make_event<T: Taker>(
     node: &mut NodeCore,
     words: WordsLeft<'_>,
     taker: &mut T,
-) -> Result<bool, Unanswered>
-    ensures made { MakesForm T.takes event_form (words_left words.entry) node.old node.new taker.old taker.new result }
-    ensures unchanged { OnErr result (T.text taker.new ≡ T.text taker.old) }
+    why: &mut Unanswered,
+) -> Option<bool>
+    ensures made { MakesForm T.takes event_form (words_left words.entry)
+        node.old node.new taker.old taker.new result why.new }
+    ensures unchanged { IfNone result (T.text taker.new ≡ T.text taker.old) }
 {
-    let (stamp, (tags, ())) = match read_row::<(Stamp, (TagSet, ()))>(alloc, words) {
-        Ok(row) => row,
-        Err(Unanswered::Wrong(fault)) => return Err(Unanswered::Wrong(fault)),
-        Err(Unanswered::Memory) => return Err(Unanswered::Memory),
-    };
+    let (stamp, (tags, ())) = read_row::<(Stamp, (TagSet, ()))>(alloc, words, why)?;
     match node.event(stamp, tags) {
-        Ok(count) => taker.take(alloc, None, &Reply::Closed(count)),
+        Ok(count) => taker.take(alloc, None, &Reply::Closed(count), why),
         Err(error) => taker.take(
             alloc,
             None,
             &Reply::Refused(Refusal::OutOfOrder(error.processed)),
+            why,
         ),
     }
 }
@@ -97,42 +93,52 @@ fn make_sweep<T: Taker>(
     node: &mut NodeCore,
     words: WordsLeft<'_>,
     taker: &mut T,
-) -> Result<bool, Unanswered>
-    ensures made { MakesForm T.takes sweep_form (words_left words.entry) node.old node.new taker.old taker.new result }
-    ensures unchanged { OnErr result (T.text taker.new ≡ T.text taker.old) }
+    why: &mut Unanswered,
+) -> Option<bool>
+    ensures made { MakesForm T.takes sweep_form (words_left words.entry)
+        node.old node.new taker.old taker.new result why.new }
+    ensures unchanged { IfNone result (T.text taker.new ≡ T.text taker.old) }
 {
-    let (horizon, ()) = match read_row::<(Stamp, ())>(alloc, words) {
-        Ok(row) => row,
-        Err(Unanswered::Wrong(fault)) => return Err(Unanswered::Wrong(fault)),
-        Err(Unanswered::Memory) => return Err(Unanswered::Memory),
-    };
-    taker.take(alloc, None, &Reply::Swept(node.sweep(horizon)))
+    let (horizon, ()) = read_row::<(Stamp, ())>(alloc, words, why)?;
+    taker.take(alloc, None, &Reply::Swept(node.sweep(horizon)), why)
 }
 
-/// Makes the step that a line names, and takes its reply; or says what is wrong with its words. Each kind of step is a
+/// Leaves that no line has this name.
+#[cold]
+#[inline(never)]
+fn leave_unknown(name: &[u8], why: &mut Unanswered)
+    ensures { why.new ≡ Unanswered.Wrong (Unknown (excerpt_of name.now)) }
+{
+    *why = Unanswered::Wrong(CommandFault::Unknown(Excerpt::new(name)));
+}
+
+/// Makes the step that a line names, and takes its reply; else it leaves why it did not. Each kind of step is a
 /// function of its own, so that a line pays for the room of its own words alone.
 pub fn make_step<T: Taker>(
     alloc: Global,
     node: &mut NodeCore,
     line: &[u8],
     taker: &mut T,
-) -> Result<bool, Unanswered>
-    ensures made { MakesLine T.takes line.now node.old node.new taker.old taker.new result }
-    ensures unchanged { OnErr result (T.text taker.new ≡ T.text taker.old) }
+    why: &mut Unanswered,
+) -> Option<bool>
+    ensures made { MakesLine T.takes line.now
+        node.old node.new taker.old taker.new result why.new }
+    ensures unchanged { IfNone result (T.text taker.new ≡ T.text taker.old) }
 {
     let mut words = all_words(line);
     let name = words.next();
     if name == b"lookup".as_slice() {
-        return make_lookup(alloc, node, words, taker);
+        return make_lookup(alloc, node, words, taker, why);
     }
     if name == b"insert".as_slice() {
-        return make_insertion(alloc, node, words, taker);
+        return make_insertion(alloc, node, words, taker, why);
     }
     if name == b"event".as_slice() {
-        return make_event(alloc, node, words, taker);
+        return make_event(alloc, node, words, taker, why);
     }
     if name == b"sweep".as_slice() {
-        return make_sweep(alloc, node, words, taker);
+        return make_sweep(alloc, node, words, taker, why);
     }
-    Err(Unanswered::Wrong(CommandFault::Unknown(Excerpt::new(name))))
+    leave_unknown(name, why);
+    None
 }

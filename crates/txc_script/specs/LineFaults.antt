@@ -17,8 +17,6 @@ use Rattle.txc_script.specs.declared.line_fault.CommandFault.TheVariants.{Unknow
 use Rattle.txc_script.specs.declared.said.Said.{Said}
 use Rattle.txc_script.specs.declared.unread.Unanswered.{Unanswered}
 use Rattle.txc_script.specs.declared.unread.Unanswered.TheVariants.{Wrong, Memory}
-use Rattle.txc_script.specs.declared.unread.Unmet.{Unmet}
-use Rattle.txc_script.specs.declared.unread.Unmet.TheVariants as unmet
 use Rattle.txc_script.specs.declared.unread.Unsaid.{Unsaid}
 use Rattle.txc_script.specs.declared.unread.Unsaid.TheVariants as unsaid
 
@@ -111,9 +109,3 @@ IsUnsaid kind word = SaysNone (Means kind word) (StopsAt kind word)
 abbrev pub IsWordRead : WordKind → List ℕ → Result Said Unsaid → Type 0
 IsWordRead kind word (Ok given) = SaysWord kind word given
 IsWordRead kind word (Err reason) = IsUnsaid kind word reason
-
--- there are more words or fewer; or one is of another kind, the first of these; or a growth was refused
-abbrev pub IsUnmet : List WordKind → List (List ℕ) → Unmet → Type 0
-IsUnmet kinds words unmet.Count = length words ≢ length kinds
-IsUnmet kinds words (unmet.Word fault) = IsBadWord kinds words fault
-IsUnmet kinds words unmet.Memory = ⊤

@@ -1,13 +1,13 @@
 //! Reading the words after a command, each as what it says.
-ghost use Rattle.std.specs.Prelude.{◌≡◌, ◌<◌, ◌+◌, ◌^◌, ℕ, List, ◌∷◌, length, IfOk, IfErr, IfSome, IfNone};
-ghost use Rattle.txc_script.specs.LineFaults.{IsKindsFault, IsUnmet, IsUnsaid, IsWrong};
+ghost use Rattle.std.specs.Prelude.{◌≡◌, ◌<◌, ◌+◌, ◌^◌, ℕ, List, ◌∷◌, length, IfSome, IfNone};
+ghost use Rattle.txc_script.specs.LineFaults.{IsKindsFault, IsUnsaid, IsWrong};
 ghost use Rattle.txc_script.specs.SaidWords.{AllSaidOf, IsOfKind, Mean};
 ghost use Rattle.txc_script.specs.Words.{words_left};
 ghost use Rattle.txc_script.specs.declared.line_fault.WordKind.{WordKind};
 
 use crate::excerpt::Excerpt;
 use crate::line_fault::{CommandFault, WordFault};
-use crate::unread::{Unanswered, Unmet, Unsaid};
+use crate::unread::{Unanswered, Unsaid};
 use crate::word::Word;
 use crate::words::WordsLeft;
 use std::alloc::Global;
@@ -25,11 +25,12 @@ pub trait Row: Drop {
         requires { length kinds < 2 ^ 64 }
         ensures { result ≡ length kinds };
 
-    /// What the words say, if there are as many and each is of its kind; else it leaves what is wrong. That is large, so
-    /// no answer has room for it.
-    fn read(alloc: Global, words: WordsLeft<'_>, unmet: &mut Unmet) -> Option<Self>
+    /// What the words say, if there are as many and each is of its kind. Else, where there are as many, it leaves what is
+    /// wrong. That is large, so no answer has room for it.
+    fn read(alloc: Global, words: WordsLeft<'_>, why: &mut Unanswered) -> Option<Self>
         ensures answer { IfSome result (λ row. Mean kinds (words_left words.entry) (said row)) }
-        ensures refused { IfNone result (IsUnmet kinds (words_left words.entry) unmet.new) };
+        ensures refused { IfNone result (length (words_left words.entry) ≡ length kinds
+            → IsWrong (IsKindsFault kinds (words_left words.entry)) why.new) };
 }
 
 impl Row for () {
@@ -44,13 +45,12 @@ impl Row for () {
     }
 
     #[inline(always)]
-    fn read(alloc: Global, words: WordsLeft<'_>, unmet: &mut Unmet) -> Option<()> {
+    fn read(alloc: Global, words: WordsLeft<'_>, why: &mut Unanswered) -> Option<()> {
         let mut left = words;
-        if left.pop().is_none() {
-            return Some(());
+        match left.pop() {
+            None => Some(()),
+            Some(_) => None,
         }
-        *unmet = Unmet::Count;
-        None
     }
 }
 
@@ -64,84 +64,90 @@ impl<A: Word, B: Row> Row for (A, B) {
     }
 
     #[inline(always)]
-    fn read(alloc: Global, words: WordsLeft<'_>, unmet: &mut Unmet) -> Option<(A, B)> {
+    fn read(alloc: Global, words: WordsLeft<'_>, why: &mut Unanswered) -> Option<(A, B)> {
         let mut left = words;
         let Some(word) = left.pop() else {
-            *unmet = Unmet::Count;
             return None;
         };
         let first = match A::read(alloc, word) {
             Ok(first) => first,
             Err(unsaid) => {
-                *unmet = first_unmet::<A>(word, unsaid);
+                leave_first::<A>(word, unsaid, why);
                 return None;
             }
         };
-        match B::read(alloc, left, unmet) {
+        match B::read(alloc, left, why) {
             Some(others) => Some((first, others)),
             None => {
-                one_later(unmet);
+                one_later(why);
                 None
             }
         }
     }
 }
 
-/// That the first word is of another kind.
+/// Leaves that the first word is of another kind.
 #[cold]
-fn first_unmet<A: Word>(word: &[u8], unsaid: Unsaid) -> Unmet
+#[inline(never)]
+fn leave_first<A: Word>(word: &[u8], unsaid: Unsaid, why: &mut Unanswered)
     requires { IsUnsaid A.kind word.now unsaid }
-    ensures { (kinds : List WordKind) (words : List (List ℕ)) → IsUnmet (A.kind ∷ kinds) (word.now ∷ words) result }
+    ensures { (kinds : List WordKind) (words : List (List ℕ)) → length (word.now ∷ words) ≡ length (A.kind ∷ kinds)
+        → IsWrong (IsKindsFault (A.kind ∷ kinds) (word.now ∷ words)) why.new }
 {
-    match unsaid {
-        Unsaid::Memory => Unmet::Memory,
-        Unsaid::Bad(at) => Unmet::Word(WordFault {
+    *why = match unsaid {
+        Unsaid::Memory => Unanswered::Memory,
+        Unsaid::Bad(at) => Unanswered::Wrong(CommandFault::Word(WordFault {
             number: 1,
             kind: A::kind(),
             at,
             text: Excerpt::new(word),
-        }),
-    }
+        })),
+    };
 }
 
-/// What is wrong with words, where a good one stands before them.
+/// Leaves what is wrong with words, where a good one stands before them.
 #[cold]
-fn one_later(unmet: &mut Unmet)
+#[inline(never)]
+fn one_later(why: &mut Unanswered)
     ensures { (kind : WordKind) (kinds : List WordKind) (word : List ℕ) (words : List (List ℕ))
-        → length words + 1 < 2 ^ 64 → IsOfKind kind word → IsUnmet kinds words unmet.old
-        → IsUnmet (kind ∷ kinds) (word ∷ words) unmet.new }
+        → length words + 1 < 2 ^ 64 → IsOfKind kind word → length words ≡ length kinds
+        → IsWrong (IsKindsFault kinds words) why.old
+        → IsWrong (IsKindsFault (kind ∷ kinds) (word ∷ words)) why.new }
 {
-    match unmet {
-        Unmet::Word(fault) => fault.number = fault.number.saturating_add(1),
-        Unmet::Count => {}
-        Unmet::Memory => {}
+    match why {
+        Unanswered::Wrong(CommandFault::Word(fault)) => {
+            fault.number = fault.number.saturating_add(1);
+        }
+        _ => {}
     }
 }
 
-/// What the words after a command say; or what is wrong with them.
-#[inline(always)]
-pub fn read_row<R: Row>(alloc: Global, words: WordsLeft<'_>) -> Result<R, Unanswered>
-    requires { length R.kinds < 2 ^ 64 }
-    ensures answer { IfOk result (λ row. Mean R.kinds (words_left words.entry) (R.said row)) }
-    ensures refused { IfErr result (IsWrong (IsKindsFault R.kinds (words_left words.entry))) }
-{
-    let mut unmet = Unmet::Memory;
-    match R::read(alloc, words, &mut unmet) {
-        Some(row) => Ok(row),
-        None => Err(fault_of(unmet, R::count(), words)),
-    }
-}
-
-/// What is wrong with words that are to be so many.
+/// Leaves that there are more words than wanted, or fewer, if there are.
 #[cold]
-fn fault_of(unmet: Unmet, wanted: usize, words: WordsLeft<'_>) -> Unanswered
-    ensures { (kinds : List WordKind) → wanted ≡ length kinds → IsUnmet kinds (words_left words.entry) unmet
-        → IsWrong (IsKindsFault kinds (words_left words.entry)) result }
+#[inline(never)]
+fn test_count(wanted: usize, words: WordsLeft<'_>, why: &mut Unanswered)
+    ensures { (kinds : List WordKind) → wanted ≡ length kinds
+        → (length (words_left words.entry) ≡ length kinds → IsWrong (IsKindsFault kinds (words_left words.entry)) why.old)
+        → IsWrong (IsKindsFault kinds (words_left words.entry)) why.new }
 {
     let given = words.len();
-    match unmet {
-        Unmet::Memory => Unanswered::Memory,
-        Unmet::Word(fault) if given == wanted => Unanswered::Wrong(CommandFault::Word(fault)),
-        _ => Unanswered::Wrong(CommandFault::Count { wanted, given }),
+    if given != wanted {
+        *why = Unanswered::Wrong(CommandFault::Count { wanted, given });
+    }
+}
+
+/// What the words after a command say; else it leaves what is wrong with them.
+#[inline(always)]
+pub fn read_row<R: Row>(alloc: Global, words: WordsLeft<'_>, why: &mut Unanswered) -> Option<R>
+    requires { length R.kinds < 2 ^ 64 }
+    ensures answer { IfSome result (λ row. Mean R.kinds (words_left words.entry) (R.said row)) }
+    ensures refused { IfNone result (IsWrong (IsKindsFault R.kinds (words_left words.entry)) why.new) }
+{
+    match R::read(alloc, words, why) {
+        Some(row) => Some(row),
+        None => {
+            test_count(R::count(), words, why);
+            None
+        }
     }
 }

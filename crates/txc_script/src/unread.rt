@@ -1,5 +1,5 @@
 //! Why nothing was read.
-use crate::line_fault::{CommandFault, WordFault};
+use crate::line_fault::CommandFault;
 use std::alloc::AllocError;
 
 /// Why a word says nothing of its kind.
@@ -7,17 +7,6 @@ use std::alloc::AllocError;
 pub enum Unsaid {
     /// It is of another; where a key or tags go wrong.
     Bad(Option<usize>),
-    /// A growth was refused.
-    Memory,
-}
-
-/// Why words say nothing of their kinds.
-#[derive(Debug, Drop)]
-pub enum Unmet {
-    /// There are more, or fewer.
-    Count,
-    /// The first that is of another kind.
-    Word(WordFault),
     /// A growth was refused.
     Memory,
 }

@@ -10,10 +10,10 @@ use Rattle.txc_run.proofs.step.make_event.Goals as goal
 
 pub returns-in-Ok-event-clause-made : goal.returns-in-Ok-event-clause-made
 returns-in-Ok-event-clause-made g c =
-    taken g.T.Taker.takes event_form (words_left c.args.words) c.take.result c.args.node.now c.event.new.self (Event c.in-Ok.row.0 c.in-Ok.row.1.0) (replies.Closed c.in-Ok-event.count) None c.args.taker.now c.take.new.self
-    (record { values = _; say = c.in-Ok.ensures.answer; asks = refl }) (search rules) (λ _. refl) c.take.ensures.after c.take.ensures.refusal c.take.ensures.memory
+    taken g.T.Taker.takes event_form (words_left c.args.words) c.take.result c.take.new.why c.args.node.now c.event.new.self (Event c.ROW.row.0 c.ROW.row.1.0) (replies.Closed c.in-Ok-event.count) None c.args.taker.now c.take.new.self
+    (record { values = _; say = c.ROW.ensures.answer; asks = refl }) (search rules) (λ _. refl) c.take.ensures.after c.take.ensures.refusal c.take.ensures.memory
 
 pub returns-in-Err-clause-made : goal.returns-in-Err-clause-made
 returns-in-Err-clause-made g c =
-    taken g.T.Taker.takes event_form (words_left c.args.words) c.take-in-Err.result c.args.node.now c.event.new.self (Event c.in-Ok.row.0 c.in-Ok.row.1.0) (replies.Refused (OutOfOrder c.in-Err.error.processed)) None c.args.taker.now c.take-in-Err.new.self
-    (record { values = _; say = c.in-Ok.ensures.answer; asks = refl }) (search rules) (λ _. refl) c.take-in-Err.ensures.after c.take-in-Err.ensures.refusal c.take-in-Err.ensures.memory
+    taken g.T.Taker.takes event_form (words_left c.args.words) c.take-in-Err.result c.take-in-Err.new.why c.args.node.now c.event.new.self (Event c.ROW.row.0 c.ROW.row.1.0) (replies.Refused (OutOfOrder c.in-Err.error.processed)) None c.args.taker.now c.take-in-Err.new.self
+    (record { values = _; say = c.ROW.ensures.answer; asks = refl }) (search rules) (λ _. refl) c.take-in-Err.ensures.after c.take-in-Err.ensures.refusal c.take-in-Err.ensures.memory

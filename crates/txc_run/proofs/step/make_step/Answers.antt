@@ -14,22 +14,22 @@ next-name-requires g c = omega (arith, ap length c.all_words-words.ensures, some
 
 pub returns-then-eq-clause-made : goal.returns-then-eq-clause-made
 returns-then-eq-clause-made g c =
-    makes_as g.T.Taker.takes lookup_form c.args.line.now c.next-name.result.now (words_left c.next-name.new.self) c.make_lookup.result c.args.node.now c.make_lookup.new.node c.args.taker.now c.make_lookup.new.taker refl (sym c.all_words-words.ensures ∙ c.next-name.ensures)
+    makes_as g.T.Taker.takes lookup_form c.args.line.now c.next-name.result.now (words_left c.next-name.new.self) c.make_lookup.result c.make_lookup.new.why c.args.node.now c.make_lookup.new.node c.args.taker.now c.make_lookup.new.taker refl (sym c.all_words-words.ensures ∙ c.next-name.ensures)
     (same_text c.next-name.result.now c.as_slice.result.now (codes "lookup") c.eq.result c.as_slice.ensures c.eq.ensures c.if-eq.true) c.make_lookup.ensures.made
 
 pub returns-then-eq-2-clause-made : goal.returns-then-eq-2-clause-made
 returns-then-eq-2-clause-made g c =
-    makes_as g.T.Taker.takes insert_form c.args.line.now c.next-name.result.now (words_left c.next-name.new.self) c.make_insertion.result c.args.node.now c.make_insertion.new.node c.args.taker.now c.make_insertion.new.taker refl (sym c.all_words-words.ensures ∙ c.next-name.ensures)
+    makes_as g.T.Taker.takes insert_form c.args.line.now c.next-name.result.now (words_left c.next-name.new.self) c.make_insertion.result c.make_insertion.new.why c.args.node.now c.make_insertion.new.node c.args.taker.now c.make_insertion.new.taker refl (sym c.all_words-words.ensures ∙ c.next-name.ensures)
     (same_text c.next-name.result.now c.as_slice-2.result.now (codes "insert") c.eq-2.result c.as_slice-2.ensures c.eq-2.ensures c.if-eq-2.true) c.make_insertion.ensures.made
 
 pub returns-then-eq-3-clause-made : goal.returns-then-eq-3-clause-made
 returns-then-eq-3-clause-made g c =
-    makes_as g.T.Taker.takes event_form c.args.line.now c.next-name.result.now (words_left c.next-name.new.self) c.make_event.result c.args.node.now c.make_event.new.node c.args.taker.now c.make_event.new.taker refl (sym c.all_words-words.ensures ∙ c.next-name.ensures)
+    makes_as g.T.Taker.takes event_form c.args.line.now c.next-name.result.now (words_left c.next-name.new.self) c.make_event.result c.make_event.new.why c.args.node.now c.make_event.new.node c.args.taker.now c.make_event.new.taker refl (sym c.all_words-words.ensures ∙ c.next-name.ensures)
     (same_text c.next-name.result.now c.as_slice-3.result.now (codes "event") c.eq-3.result c.as_slice-3.ensures c.eq-3.ensures c.if-eq-3.true) c.make_event.ensures.made
 
 pub returns-then-eq-4-clause-made : goal.returns-then-eq-4-clause-made
 returns-then-eq-4-clause-made g c =
-    makes_as g.T.Taker.takes sweep_form c.args.line.now c.next-name.result.now (words_left c.next-name.new.self) c.make_sweep.result c.args.node.now c.make_sweep.new.node c.args.taker.now c.make_sweep.new.taker refl (sym c.all_words-words.ensures ∙ c.next-name.ensures)
+    makes_as g.T.Taker.takes sweep_form c.args.line.now c.next-name.result.now (words_left c.next-name.new.self) c.make_sweep.result c.make_sweep.new.why c.args.node.now c.make_sweep.new.node c.args.taker.now c.make_sweep.new.taker refl (sym c.all_words-words.ensures ∙ c.next-name.ensures)
     (same_text c.next-name.result.now c.as_slice-4.result.now (codes "sweep") c.eq-4.result c.as_slice-4.ensures c.eq-4.ensures c.if-eq-4.true) c.make_sweep.ensures.made
 
 other : (text slice word : List ℕ) (r : Bool) → slice ≡ word → r ≡ bytes_eq text slice → r ≡ false → bytes_eq text word ≡ false

@@ -9,5 +9,5 @@ use Rattle.txc_run.proofs.step.make_sweep.Goals as goal
 
 pub returns-clause-made : goal.returns-clause-made
 returns-clause-made g c =
-    taken g.T.Taker.takes sweep_form (words_left c.args.words) c.take.result c.args.node.now c.sweep.new.self (Sweep c.in-Ok.row.0) (replies.Swept c.sweep.result) None c.args.taker.now c.take.new.self
-    (record { values = _; say = c.in-Ok.ensures.answer; asks = refl }) (search rules) (λ _. refl) c.take.ensures.after c.take.ensures.refusal c.take.ensures.memory
+    taken g.T.Taker.takes sweep_form (words_left c.args.words) c.take.result c.take.new.why c.args.node.now c.sweep.new.self (Sweep c.ROW.row.0) (replies.Swept c.sweep.result) None c.args.taker.now c.take.new.self
+    (record { values = _; say = c.ROW.ensures.answer; asks = refl }) (search rules) (λ _. refl) c.take.ensures.after c.take.ensures.refusal c.take.ensures.memory
