@@ -1,5 +1,5 @@
 -- What lines gave is taken.
-use Rattle.std.proofs.Common.{◌≡◌, ◌++◌, Bool, true, false, List, ℕ, [], ◌∷◌, Option, Some, None, IfNone, IfSome, sym, ap, subst, inr, ◌∙◌}
+use Rattle.std.proofs.Common.{◌≡◌, ◌++◌, Bool, true, false, List, ℕ, [], ◌∷◌, Option, Some, None, IfNone, IfSome, refl, sym, ap, subst, inr, ◌∙◌}
 use Rattle.std.specs.Prelude.{if◌then◌else◌}
 use Rattle.std.proofs.lemmas.List.{append-nil}
 use Rattle.txc_node.specs.Cache.{Cache}
@@ -12,6 +12,7 @@ use Rattle.txc_settings.specs.declared.mode.Mode.TheVariants.{Node}
 use Rattle.txc_script.specs.Answers.{IsUnanswered}
 use Rattle.txc_script.specs.Forms.{IsOfForm, LineForm}
 use Rattle.txc_script.specs.Kinds.{Replied}
+use Rattle.txc_script.specs.LineFaults.{IsKindsFault, IsWrong}
 use Rattle.txc_script.specs.declared.unread.Unanswered.{Unanswered}
 use Rattle.txc_script.specs.declared.unread.Unanswered.TheVariants.{Wrong, Memory}
 use Rattle.txc_script.proofs.Offered.{fault_asks_none}
@@ -48,6 +49,11 @@ pub taken : {T : Type 0} (takes : Taking T) (form : LineForm Op) (words : List (
 taken takes form words (Some refused) why c next op reply function old new is may of after same memory = (op, is, reply, may, after op of, same)
 taken takes form words None why c next op reply function old new is may of after same memory =
     subst (MakesForm takes form words c next old new None) (sym memory) tt
+
+-- the words are no such step
+pub unread : {T : Type 0} (takes : Taking T) (form : LineForm Op) (words : List (List ℕ)) (why : Unanswered) (c : Cache) (old : T) → IsWrong (IsKindsFault form.kinds words) why → MakesForm takes form words c c old old None why
+unread takes form words (Wrong fault) c old wrong = (wrong, refl, refl)
+unread takes form words Memory c old wrong = tt
 
 -- ---- lines that name a step
 

@@ -26,9 +26,12 @@ fn make_insertion<T: Taker>(
         node.old node.new taker.old taker.new result why.new }
     ensures unchanged { IfNone result (T.text taker.new ≡ T.text taker.old) }
 {
-    let (key, (lo, (known, (still, (tags, (value, ())))))) = read_row::<
-        (Key, (Stamp, (Stamp, (bool, (TagSet, (Vec<u8>, ())))))),
-    >(alloc, words, why)?;
+    let Some(row) = read_row::<(Key, (Stamp, (Stamp, (bool, (TagSet, (Vec<u8>, ()))))))>(
+        alloc, words, why,
+    ) else {
+        return None;
+    };
+    let (key, (lo, (known, (still, (tags, (value, ())))))) = row;
     let function = Some(key.function());
     match Entry::new(key, value, lo, known, still, tags) {
         Ok(entry) => match node.insert(entry) {
@@ -52,7 +55,10 @@ fn make_lookup<T: Taker>(
         node.old node.new taker.old taker.new result why.new }
     ensures unchanged { IfNone result (T.text taker.new ≡ T.text taker.old) }
 {
-    let (key, (lo, (hi, ()))) = read_row::<(Key, (Stamp, (Stamp, ())))>(alloc, words, why)?;
+    let Some(row) = read_row::<(Key, (Stamp, (Stamp, ())))>(alloc, words, why) else {
+        return None;
+    };
+    let (key, (lo, (hi, ()))) = row;
     let function = Some(key.function());
     match node.lookup(&key, lo, hi) {
         Ok(Some(hit)) => taker.take(alloc, function, &Reply::Hit(hit), why),
@@ -74,7 +80,10 @@ fn make_event<T: Taker>(
         node.old node.new taker.old taker.new result why.new }
     ensures unchanged { IfNone result (T.text taker.new ≡ T.text taker.old) }
 {
-    let (stamp, (tags, ())) = read_row::<(Stamp, (TagSet, ()))>(alloc, words, why)?;
+    let Some(row) = read_row::<(Stamp, (TagSet, ()))>(alloc, words, why) else {
+        return None;
+    };
+    let (stamp, (tags, ())) = row;
     match node.event(stamp, tags) {
         Ok(count) => taker.take(alloc, None, &Reply::Closed(count), why),
         Err(error) => taker.take(
@@ -99,7 +108,10 @@ fn make_sweep<T: Taker>(
         node.old node.new taker.old taker.new result why.new }
     ensures unchanged { IfNone result (T.text taker.new ≡ T.text taker.old) }
 {
-    let (horizon, ()) = read_row::<(Stamp, ())>(alloc, words, why)?;
+    let Some(row) = read_row::<(Stamp, ())>(alloc, words, why) else {
+        return None;
+    };
+    let (horizon, ()) = row;
     taker.take(alloc, None, &Reply::Swept(node.sweep(horizon)), why)
 }
 

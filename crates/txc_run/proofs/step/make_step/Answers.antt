@@ -1,11 +1,11 @@
-use Rattle.std.proofs.Common.{◌≡◌, ℕ, Bool, false, List, None, length, sym, ap, refl, arith, inl, ◌∙◌}
+use Rattle.std.proofs.Common.{◌≡◌, ℕ, Bool, false, List, None, length, sym, ap, subst, refl, arith, inl, ◌∙◌}
 use Rattle.std.specs.Prelude.{codes}
 use Rattle.std.specs.Str.{bytes_eq}
 use Rattle.txc_script.specs.Forms.{form_named}
 use Rattle.txc_script.specs.Words.{words_left}
-use Rattle.txc_script.specs.declared.line_fault.CommandFault.TheVariants.{Unknown}
 use Rattle.txc_script.proofs.Offered.{same_text, some_word}
 use Rattle.txc_run.specs.Lines.{event_form, insert_form, lookup_form, node_forms, sweep_form}
+use Rattle.txc_run.specs.Steps.{MakesLine}
 use Rattle.txc_run.proofs.Named.{makes_as}
 use Rattle.txc_run.proofs.step.make_step.Goals as goal
 
@@ -43,4 +43,5 @@ returns-clause-made g c =
     let name = c.next-name.result.now in
     let none = no_form name (other name c.as_slice-2.result.now _ c.eq-2.result c.as_slice-2.ensures c.eq-2.ensures c.if-eq-2.false) (other name c.as_slice.result.now _ c.eq.result c.as_slice.ensures c.eq.ensures c.if-eq.false)
     (other name c.as_slice-3.result.now _ c.eq-3.result c.as_slice-3.ensures c.eq-3.ensures c.if-eq-3.false) (other name c.as_slice-4.result.now _ c.eq-4.result c.as_slice-4.ensures c.eq-4.ensures c.if-eq-4.false) in
-    (inl (name, words_left c.next-name.new.self, sym c.all_words-words.ensures ∙ c.next-name.ensures, none, ap Unknown c.new.ensures), refl, refl)
+    subst (MakesLine g.T.Taker.takes c.args.line.now c.args.node.now c.args.node.now c.args.taker.now c.args.taker.now None) (sym c.leave_unknown.ensures)
+    (inl (name, words_left c.next-name.new.self, sym c.all_words-words.ensures ∙ c.next-name.ensures, none, refl), refl, refl)
