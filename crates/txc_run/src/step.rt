@@ -26,12 +26,13 @@ fn make_insertion<T: Taker>(
         node.old node.new taker.old taker.new result why.new }
     ensures unchanged { IfNone result (T.text taker.new ≡ T.text taker.old) }
 {
-    let Some(row) = read_row::<(Key, (Stamp, (Stamp, (bool, (TagSet, (Vec<u8>, ()))))))>(
-        alloc, words, why,
-    ) else {
-        return None;
+    let (key, (lo, (known, (still, (tags, (value, ())))))) = match read_row::<
+        (Key, (Stamp, (Stamp, (bool, (TagSet, (Vec<u8>, ())))))),
+    >(alloc, words, why)
+    {
+        Some(row) => row,
+        None => return None,
     };
-    let (key, (lo, (known, (still, (tags, (value, ())))))) = row;
     let function = Some(key.function());
     match Entry::new(key, value, lo, known, still, tags) {
         Ok(entry) => match node.insert(entry) {
@@ -55,10 +56,10 @@ fn make_lookup<T: Taker>(
         node.old node.new taker.old taker.new result why.new }
     ensures unchanged { IfNone result (T.text taker.new ≡ T.text taker.old) }
 {
-    let Some(row) = read_row::<(Key, (Stamp, (Stamp, ())))>(alloc, words, why) else {
-        return None;
+    let (key, (lo, (hi, ()))) = match read_row::<(Key, (Stamp, (Stamp, ())))>(alloc, words, why) {
+        Some(row) => row,
+        None => return None,
     };
-    let (key, (lo, (hi, ()))) = row;
     let function = Some(key.function());
     match node.lookup(&key, lo, hi) {
         Ok(Some(hit)) => taker.take(alloc, function, &Reply::Hit(hit), why),
@@ -80,10 +81,10 @@ fn make_event<T: Taker>(
         node.old node.new taker.old taker.new result why.new }
     ensures unchanged { IfNone result (T.text taker.new ≡ T.text taker.old) }
 {
-    let Some(row) = read_row::<(Stamp, (TagSet, ()))>(alloc, words, why) else {
-        return None;
+    let (stamp, (tags, ())) = match read_row::<(Stamp, (TagSet, ()))>(alloc, words, why) {
+        Some(row) => row,
+        None => return None,
     };
-    let (stamp, (tags, ())) = row;
     match node.event(stamp, tags) {
         Ok(count) => taker.take(alloc, None, &Reply::Closed(count), why),
         Err(error) => taker.take(
@@ -108,10 +109,10 @@ fn make_sweep<T: Taker>(
         node.old node.new taker.old taker.new result why.new }
     ensures unchanged { IfNone result (T.text taker.new ≡ T.text taker.old) }
 {
-    let Some(row) = read_row::<(Stamp, ())>(alloc, words, why) else {
-        return None;
+    let (horizon, ()) = match read_row::<(Stamp, ())>(alloc, words, why) {
+        Some(row) => row,
+        None => return None,
     };
-    let (horizon, ()) = row;
     taker.take(alloc, None, &Reply::Swept(node.sweep(horizon)), why)
 }
 
