@@ -8,9 +8,9 @@ use Rattle.txc_run.specs.Lines.{event_form}
 use Rattle.txc_run.proofs.Taking.{taken, unread}
 use Rattle.txc_run.proofs.step.make_event.Goals as goal
 
-pub returns-in-Ok-event-clause-made : goal.returns-in-Ok-event-clause-made
-returns-in-Ok-event-clause-made g c =
-    taken g.T.Taker.takes event_form (words_left c.args.words) c.take.result c.take.new.why c.args.node.now c.event.new.self (Event c.in-Some.row.0 c.in-Some.row.1.0) (replies.Closed c.in-Ok-event.count) None c.args.taker.now c.take.new.self
+pub returns-in-Ok-clause-made : goal.returns-in-Ok-clause-made
+returns-in-Ok-clause-made g c =
+    taken g.T.Taker.takes event_form (words_left c.args.words) c.take.result c.take.new.why c.args.node.now c.event.new.self (Event c.in-Some.row.0 c.in-Some.row.1.0) (replies.Closed c.in-Ok.count) None c.args.taker.now c.take.new.self
     (record { values = _; say = c.in-Some.ensures.answer; asks = refl }) (search rules) (λ _. refl) c.take.ensures.after c.take.ensures.refusal c.take.ensures.memory
 
 pub returns-in-Err-clause-made : goal.returns-in-Err-clause-made

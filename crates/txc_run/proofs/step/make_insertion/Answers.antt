@@ -15,13 +15,13 @@ use Rattle.txc_run.proofs.step.make_insertion.Goals as goal
 
 pub returns-in-Ok-insert-clause-made : goal.returns-in-Ok-insert-clause-made
 returns-in-Ok-insert-clause-made g c =
-    taken g.T.Taker.takes insert_form (words_left c.args.words) c.take.result c.take.new.why c.args.node.now c.insert.new.self (Insert c.in-Ok-new.entry) (replies.Inserted c.in-Ok-insert.inserted) (Some c.function.result) c.args.taker.now c.take.new.self
-    (record { values = _; say = c.in-Some.ensures.answer; asks = ap Insert c.in-Ok-new.ensures.answer }) (search rules) (λ _. search rules) c.take.ensures.after c.take.ensures.refusal c.take.ensures.memory
+    taken g.T.Taker.takes insert_form (words_left c.args.words) c.take.result c.take.new.why c.args.node.now c.insert.new.self (Insert c.in-Ok.entry) (replies.Inserted c.in-Ok-insert.inserted) (Some c.function.result) c.args.taker.now c.take.new.self
+    (record { values = _; say = c.in-Some.ensures.answer; asks = ap Insert c.in-Ok.ensures.answer }) (search rules) (λ _. search rules) c.take.ensures.after c.take.ensures.refusal c.take.ensures.memory
 
-pub returns-in-Ok-new-clause-made : goal.returns-in-Ok-new-clause-made
-returns-in-Ok-new-clause-made g c =
-    taken g.T.Taker.takes insert_form (words_left c.args.words) c.take-in-Err-insert.result c.take-in-Err-insert.new.why c.args.node.now c.insert.new.self (Insert c.in-Ok-new.entry) (replies.Refused Memory) (Some c.function.result) c.args.taker.now c.take-in-Err-insert.new.self
-    (record { values = _; say = c.in-Some.ensures.answer; asks = ap Insert c.in-Ok-new.ensures.answer }) (search rules) (λ _. search rules) c.take-in-Err-insert.ensures.after c.take-in-Err-insert.ensures.refusal c.take-in-Err-insert.ensures.memory
+pub returns-in-Ok-clause-made : goal.returns-in-Ok-clause-made
+returns-in-Ok-clause-made g c =
+    taken g.T.Taker.takes insert_form (words_left c.args.words) c.take-in-Err-insert.result c.take-in-Err-insert.new.why c.args.node.now c.insert.new.self (Insert c.in-Ok.entry) (replies.Refused Memory) (Some c.function.result) c.args.taker.now c.take-in-Err-insert.new.self
+    (record { values = _; say = c.in-Some.ensures.answer; asks = ap Insert c.in-Ok.ensures.answer }) (search rules) (λ _. search rules) c.take-in-Err-insert.ensures.after c.take-in-Err-insert.ensures.refusal c.take-in-Err-insert.ensures.memory
 
 pub returns-clause-made : goal.returns-clause-made
 returns-clause-made g c =
