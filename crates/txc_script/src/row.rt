@@ -143,11 +143,9 @@ pub fn read_row<R: Row>(alloc: Global, words: WordsLeft<'_>, why: &mut Unanswere
     ensures answer { IfSome result (λ row. Mean R.kinds (words_left words.entry) (R.said row)) }
     ensures refused { IfNone result (IsWrong (IsKindsFault R.kinds (words_left words.entry)) why.new) }
 {
-    match R::read(alloc, words, why) {
-        Some(row) => Some(row),
-        None => {
-            test_count(R::count(), words, why);
-            None
-        }
+    let row = R::read(alloc, words, why);
+    if row.is_none() {
+        test_count(R::count(), words, why);
     }
+    row
 }

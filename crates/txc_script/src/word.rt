@@ -45,6 +45,7 @@ impl Word for Key {
         WordKind::Key
     }
 
+    #[inline(always)]
     fn read(alloc: Global, word: &[u8]) -> Result<Key, Unsaid> {
         match Key::read(word) {
             Ok(key) => Ok(key),
@@ -64,6 +65,7 @@ impl Word for Stamp {
         WordKind::Stamp
     }
 
+    #[inline(always)]
     fn read(alloc: Global, word: &[u8]) -> Result<Stamp, Unsaid> {
         match read_number(word, u64::from(LAST_STAMP)) {
             Some(number) => Ok(Stamp::after(number as usize)),
@@ -84,6 +86,7 @@ impl Word for bool {
         WordKind::Reach
     }
 
+    #[inline(always)]
     fn read(alloc: Global, word: &[u8]) -> Result<bool, Unsaid> {
         match word {
             b"still" => Ok(true),
@@ -105,6 +108,7 @@ impl Word for TagSet {
         WordKind::Tags
     }
 
+    #[inline(always)]
     fn read(alloc: Global, word: &[u8]) -> Result<TagSet, Unsaid> {
         match TagSet::read(alloc, word) {
             Ok(tags) => Ok(tags),
@@ -126,6 +130,7 @@ impl Word for Vec<u8> {
         WordKind::Bytes
     }
 
+    #[inline(always)]
     fn read(alloc: Global, word: &[u8]) -> Result<Vec<u8>, Unsaid> {
         read_hex(alloc, word)
     }

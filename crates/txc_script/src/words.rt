@@ -1,21 +1,18 @@
 //! The words of a line.
-ghost use Rattle.std.specs.Prelude.{◌≡◌, ◌≢◌, ◌<◌, ◌≤◌, [], ◌∷◌, ◌++◌, count_by, length, take, IfOk, OnErr, IfSome, IfNone};
+ghost use Rattle.std.specs.Prelude.{◌≡◌, ◌<◌, ◌≤◌, [], ◌∷◌, ◌++◌, count_by, length, slice_index, take, IfSome, IfNone};
 ghost use Rattle.txc_script.specs.Words.{HasNoBlank, words_of, words_left, is_blank};
 
 use crate::scan::word_len;
 
-/// The word before the first blank, and what comes after that blank.
+/// The word before the first blank, which stands here, and what comes after that blank.
 #[inline(always)]
-pub fn first_word(text: &[u8]) -> Option<(&[u8], &[u8])>
-    ensures answer { IfSome result (λ w.
-        (text.now ≡ w.0.now ++ 32 ∷ w.1.now) × HasNoBlank w.0.now) }
-    ensures refused { IfNone result (HasNoBlank text.now) }
+fn cut_word(text: &[u8], end: usize) -> (&[u8], &[u8])
+    requires within { end < length text.now }
+    requires bare { HasNoBlank (take end text.now) }
+    requires blank { slice_index text.now end ≡ 32 }
+    ensures { (text.now ≡ result.0.now ++ 32 ∷ result.1.now) × HasNoBlank result.0.now }
 {
-    let end = word_len(text);
-    if end == text.len() {
-        return None;
-    }
-    Some((&text[..end], &text[end + 1..]))
+    (&text[..end], &text[end + 1..])
 }
 
 fn count_blanks(text: &[u8]) -> usize
@@ -86,16 +83,15 @@ impl<'a> WordsLeft<'a> {
         requires { 0 < length (words_left self.old) }
         ensures { words_left self.old ≡ result.now ∷ words_left self.new }
     {
-        match first_word(self.rest) {
-            Some((word, rest)) => {
-                self.rest = rest;
-                self.count -= 1;
-                word
-            }
-            None => {
-                self.count = 0;
-                self.rest
-            }
+        let text = self.rest;
+        let end = word_len(text);
+        if end == text.len() {
+            self.count = 0;
+            return text;
         }
+        let (word, rest) = cut_word(text, end);
+        self.rest = rest;
+        self.count -= 1;
+        word
     }
 }
