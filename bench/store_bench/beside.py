@@ -23,17 +23,22 @@ from times import Bench, shown
 ROUNDS = 10
 # each operation, how many at a time, and what it answers for one
 QUERIES = {"by id": ("id", 20_000, 1), "group of ten": ("group", 4_000, 10), "range of ten": ("range", 4_000, 10)}
-WRITES = {"a put of a changed row": ("write_1", 40, 1), "256 puts in one write": ("write_256", 1, 256)}
+WRITES = {"a put of a changed row": ("write_1", 400, 1), "256 puts in one write": ("write_256", 1, 256)}
 COMMITS = {"a commit of one put": ("commit_1", 40, 1), "a commit of 256 puts": ("commit_256", 1, 256)}
-ONES = {"a new id": "add", "a removal": "remove", "a change of group": "move"}
+ONES = {"a new id": ("add", 100), "a removal": ("remove", 40), "a change of group": ("move", 100)}
 PURGED = 50_000
 LONGEST = 3_000
+# the table is made anew where half of it is gone, and at least so much
+LEAST_REMADE = 1024
 
 
-def timed(benches, operation, times, each):
-    """The times of each, which take turns, where one answers so much, or all the same where it is not said what."""
+def timed(benches, operation, times, each, before=None):
+    """The times of each, which take turns, where one answers so much, or all the same where it is not said what. A line may come
+    before each round."""
     spent = [[] for _ in benches]
     for _ in range(ROUNDS):
+        if before:
+            every(benches, before, 1)
         for bench, own in zip(benches, spent):
             own.append(bench.run(f"{operation} {times}", each and times * each) / times)
         if len({bench.answer for bench in benches}) > 1:
@@ -80,9 +85,9 @@ def queries(benches, rows, state, is_alone):
     show(f"a commit of nothing, {state}", timed(benches, "again_1", 2_000, 1))
 
 
-def puts(benches, state, operations):
+def puts(benches, state, operations, before=None):
     for name, (operation, times, each) in operations.items():
-        show(f"{name}, {state}", timed(benches, operation, times, each))
+        show(f"{name}, {state}", timed(benches, operation, times, each, before))
 
 
 def measured(benches, rows, is_alone):
@@ -93,7 +98,7 @@ def measured(benches, rows, is_alone):
     every(benches, f"{change} 500", 500)
     queries(benches, rows, "500 dead", is_alone)
     if is_alone:
-        puts(benches, "few dead", operations)
+        puts(benches, "few dead", operations, before="purge 1")
         every(benches, "purge 1", 1)
     every(benches, f"{change} {rows // 2}", rows // 2)
     queries(benches, rows, "half dead", is_alone)
@@ -101,8 +106,8 @@ def measured(benches, rows, is_alone):
         puts(benches, "few dead", operations)
         every(benches, f"write_1 {rows // 2}", rows // 2)
     puts(benches, "half dead", operations)
-    for name, operation in ONES.items():
-        show(name, timed(benches, operation, 40, 1))
+    for name, (operation, times) in ONES.items():
+        show(name, timed(benches, operation, times, 1))
     every(benches, "purge 1", 1)
     show("a purge of 500", purges(benches, 500))
     longest = [[max(bench.run("write_1 1", 1) for _ in range(LONGEST))] for bench in benches]
@@ -118,8 +123,10 @@ def measured_last(benches, rows, is_alone):
     show(f"a purge of {PURGED:,}", [[one, *own] for one, own in zip(first, more)])
     if not is_alone:
         return
-    show("a put and a purge each time", timed(benches, "keep", 40, 1))
+    show("a put and a purge each time", timed(benches, "keep", 400, 1))
     removed = rows * 3 // 5
+    if removed < LEAST_REMADE:
+        return
     every(benches, f"remove {removed}", removed)
     # rows that were removed go with the second purge, where something was written between
     first = every(benches, "purge 1", 1)
