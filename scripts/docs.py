@@ -3,7 +3,7 @@
 
   PROMISE.md, promise/, crates/
                        from the crates' src/ and specs/, and docs/promise.in.md (scripts/promise.py, scripts/pages.py)
-  ../README.md         what a page buys and costs, from FIGURES.md, and how long the gate takes, from docs/gate.tsv
+  ../README.md         what a page buys and costs, from FIGURES.md, and how long commands take, from docs/gate.tsv
   WRONG_BODIES.md      its lists, from the crates' edits
   ARCHITECTURE.md      the table of proofs that other crates use
   GATE.md              the table of what the gate takes, from docs/gate.tsv
@@ -19,7 +19,7 @@ usage: docs.py [--check]      --check writes nothing, and ends with 1 where a fi
 """
 import re, sys
 
-import claims, lines, pages, promise, refused, sources
+import claims, lines, pages, promise, refused, run, sources
 from sources import ROOT, crates
 
 LISTS = "## All of them, by crate"
@@ -212,7 +212,7 @@ def table_of(text, head):
 
 
 def readme(text):
-    """Fills what a page buys and costs, from FIGURES, and how long the gate and the tests take, from gate.tsv."""
+    """Fills what a page buys and costs, from FIGURES, and how long the gate, the program and the tests take, from gate.tsv."""
     shown = (ROOT / "docs/FIGURES.md").read_text()
     pages = {row[0]: row for row in table_of(shown, "| Pages, and how old they may be | Hits | Torn | 1 query | 10 queries | 60 queries |")}
     cost = lambda row: int(row[4].replace(",", ""))
@@ -226,6 +226,7 @@ def readme(text):
     speed = f"The auction makes {threads['1']} pages a second on one thread, each with a bid after it, and {threads['4']} on four."
     text = start + BUYS + rows + re.sub(r"\A(?:\|.*\n)*\n.*\n", f"\n{speed}\n", after)
     taken = {tuple(line.split("\t")[:2]): line.split("\t")[2:] for line in (ROOT / "docs/gate.tsv").read_text().splitlines()}
+    text = re.sub(r"the proved program: \d+ minutes of one core", f"the proved program: {run.minutes()} minutes of one core", text)
     text = re.sub(r"unproved: \d+ minutes of one core", f"unproved: {int(taken['all', 'tests'][0]) / 60:.0f} minutes of one core", text)
     return re.sub(r"the gate: \d+ minutes", f"the gate: {int(taken['', 'all'][1]) / 60:.0f} minutes", text)
 
