@@ -17,6 +17,8 @@ MOST_BY_HAND = 26_000
 # How many words a sentence may have: of a document that is written by hand, and of a source's comment.
 MOST_WORDS_OF_A_SENTENCE = 30
 MOST_WORDS_OF_A_COMMENT = 40
+# What has a plainer word. What is made by script, or a name, may have it.
+NOT_PLAIN = re.compile(r"\b(?:told|purse|foreign record|by a name|comes? to|came to)\b", re.I)
 # How many lines of code the service may have with which EMBEDDING begins, without blank ones and comments.
 MOST_LINES_OF_FIRST = 120
 # The commands of scripts, with which a line of a session begins.
@@ -138,6 +140,13 @@ def long_sentences():
         for sentence in comments(path):
             if len(sentence.split()) > MOST_WORDS_OF_A_COMMENT:
                 yield path, f"has a comment with a sentence of {len(sentence.split())} words: {sentence}"
+
+
+def plain_words():
+    """No document that is written by hand has a word of those that have a plainer one."""
+    for name in [*BY_HAND, "docs/WRONG_BODIES.md", "docs/promise.in.md"]:
+        for said in NOT_PLAIN.findall(re.sub(r"`[^`\n]*`|^@.*", "", prose(ROOT / name), flags=re.M)):
+            yield ROOT / name, f"says `{said}`, which has a plainer word"
 
 
 def comments(path):
@@ -339,7 +348,7 @@ def meanings():
 def faults():
     """What the documents claim that is not so, each as a line of text."""
     found = []
-    checks = (links, paths, counted, words, long_sentences, crate_tables, promised, help_shown, settings, sessions, quoted, commands, toolchain, version, names,
+    checks = (links, paths, counted, words, long_sentences, plain_words, crate_tables, promised, help_shown, settings, sessions, quoted, commands, toolchain, version, names,
               first, meanings)
     for check in checks:
         found += [f"{document.relative_to(ROOT)} {said}" for document, said in check()]
