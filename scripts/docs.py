@@ -159,22 +159,21 @@ def calling(text):
 
 
 def used_proofs():
-    """The modules of proofs that other crates use, but for those that are offered: each with the crates that do."""
+    """The modules of proofs that other crates use, each with the crates that do: but for those that are offered, and those that the prover
+    makes of a type that may go to threads."""
     used = {}
     for folder in [*(ROOT / "crates" / it for it in crates()), *(ROOT / "tests").glob("txc_*")]:
         crate = folder.name
         for path in folder.glob("**/*"):
             if path.suffix in (".antt", ".rt", ".in") and "out" not in path.parts:
                 for other, module in re.findall(r"Rattle\.(txc\w*)\.proofs\.((?:\w+\.)*\w+)", path.read_text()):
-                    if other != crate and not module.startswith("Offered"):
+                    if other != crate and not module.startswith("Offered") and not module.endswith(".TheSendSync"):
                         used.setdefault((other, module), set()).add(crate)
     return used
 
 
 def says(crate, module):
     """The first sentence of a module of proofs."""
-    if module.endswith(".TheSendSync"):
-        return f"`{module.split('.')[-2]}` may go to threads, where its parts may"
     lines = (ROOT / "crates" / crate / "proofs" / f"{module.replace('.', '/')}.antt").read_text().split("\n")
     start = next((n for n, line in enumerate(lines) if line.startswith("-- ")), len(lines))
     end = next((n for n, line in enumerate(lines) if n > start and not line.startswith("-- ")), len(lines))
@@ -185,8 +184,7 @@ def architecture(text):
     start, _, after = text.partition(PROOFS)
     rows = ""
     for (crate, module), users in sorted(used_proofs().items()):
-        place = module if module.endswith(".TheSendSync") else f"proofs/{module.replace('.', '/')}.antt"
-        rows += f"| `{crate}`: `{place}` | {says(crate, module)} | {', '.join(f'`{it}`' for it in sorted(users))} |\n"
+        rows += f"| `{crate}`: `proofs/{module.replace('.', '/')}.antt` | {says(crate, module)} | {', '.join(f'`{it}`' for it in sorted(users))} |\n"
     return start + PROOFS + rows + re.sub(r"^(?:\|.*\n)*", "", after)
 
 
