@@ -17,6 +17,10 @@ MOST_BY_HAND = 26_000
 # How many words a sentence may have: of a document that is written by hand, and of a source's comment.
 MOST_WORDS_OF_A_SENTENCE = 30
 MOST_WORDS_OF_A_COMMENT = 40
+# What has a plainer word. What is made by script, or a name, may have it.
+NOT_PLAIN = re.compile(r"\b(?:told|purse|foreign record|by a name|comes? to|came to)\b", re.I)
+# How many lines of code the service may have with which EMBEDDING begins, without blank ones and comments.
+MOST_LINES_OF_FIRST = 120
 # The commands of scripts, with which a line of a session begins.
 COMMANDS = set("put remove pin pins ro rw session call ask write step finish commit abort advance tidy counts insert lookup event sweep".split())
 
@@ -124,7 +128,8 @@ def sentences(path):
 
 def long_sentences():
     """No sentence of a document that is written by hand, or of a comment, is too long."""
-    for document in documents():
+    template = ROOT / "docs/promise.in.md"
+    for document in [*documents(), template]:
         if document.parent.name in ("crates", "promise") or document.name == "PROMISE.md":
             continue
         for sentence in sentences(document):
@@ -135,6 +140,13 @@ def long_sentences():
         for sentence in comments(path):
             if len(sentence.split()) > MOST_WORDS_OF_A_COMMENT:
                 yield path, f"has a comment with a sentence of {len(sentence.split())} words: {sentence}"
+
+
+def plain_words():
+    """No document that is written by hand has a word of those that have a plainer one."""
+    for name in [*BY_HAND, "docs/WRONG_BODIES.md", "docs/promise.in.md"]:
+        for said in NOT_PLAIN.findall(re.sub(r"`[^`\n]*`|^@.*", "", prose(ROOT / name), flags=re.M)):
+            yield ROOT / name, f"says `{said}`, which has a plainer word"
 
 
 def comments(path):
@@ -266,24 +278,57 @@ def version():
         yield README, f"names the landing of {named[1]}, {named[2]}, and the newest is that of {newest[1]}, {newest[2]}"
 
 
-def names():
-    """Each file and each function of a type that ARCHITECTURE, CALLING and DECISIONS name in backticks is there."""
+@lru_cache(None)
+def files():
+    """The sources of the crates and of the tests."""
     places = [*ROOT.glob("crates/**/*"), *ROOT.glob("tests/**/*")]
-    files = [f"/{it.as_posix()}" for it in places if it.suffix in (".rt", ".antt", ".in") and "out" not in it.parts]
-    methods = {}
+    return [it for it in places if it.suffix in (".rt", ".antt", ".in") and "out" not in it.parts]
+
+
+@lru_cache(None)
+def words_of_types():
+    """The words of each type of the crates, with the names of its functions."""
+    found = {}
     for crate in sources.crates():
         for word in sources.rust_items(crate).values():
-            methods.setdefault(word.name, set()).update(re.findall(r"\w+", word.text))
+            found.setdefault(word.name, set()).update(re.findall(r"\w+", word.text))
         for call in sources.functions(crate):
-            methods.setdefault(call.owner, set()).add(call.name)
-    for name in ("ARCHITECTURE.md", "CALLING.md", "DECISIONS.md"):
-        document = ROOT / "docs" / name
+            found.setdefault(call.owner, set()).add(call.name)
+    return found
+
+
+@lru_cache(None)
+def words_of_sources():
+    """Each word of the sources and of the scripts, and each part of the path of one."""
+    found = [*files(), *ROOT.glob("scripts/*"), *ROOT.glob("bench/**/*.*"), *ROOT.glob("crates/*/*-*/*.edit")]
+    return {word for it in found for text in (it.read_text(errors="replace"), it.as_posix()) for word in re.findall(r"\w+", text)}
+
+
+def names():
+    """Each file, each function of a type and each name of several words that a document has in backticks is there."""
+    types, places = words_of_types(), [f"/{it.as_posix()}" for it in files()]
+    for name in ("ARCHITECTURE", "BINDINGS", "CALLING", "DECISIONS", "EMBEDDING", "FIGURES", "GATE", "WRONG_BODIES"):
+        document = ROOT / f"docs/{name}.md"
         for said in re.findall(r"`([^`\n]+)`", prose(document)):
-            kind, _, method = said.partition("::")
-            if re.fullmatch(r"[\w/]+\.(rt|antt)(\.in)?", said) and not any(it.endswith(f"/{said}") for it in files):
+            of_type = re.fullmatch(r"([A-Z]\w*)::\{?(\w+(?:, \w+)*)\}?", said)
+            wanted = re.findall(r"\b[a-z]\w+", of_type[2]) if of_type else []
+            if re.fullmatch(r"[\w/]+\.(rt|antt)(\.in)?", said) and not any(it.endswith(f"/{said}") for it in places):
                 yield document, f"names the file `{said}`, which is not there"
-            elif kind in methods and re.fullmatch(r"\w+", method) and method not in methods[kind]:
+            elif wanted and not {*wanted} <= types.get(of_type[1], set()):
                 yield document, f"names `{said}`, which is not there"
+            elif re.fullmatch(r"[A-Z][a-z]+[A-Z]\w*|[a-z]+(_[a-z0-9]+)+", said) and said not in words_of_sources():
+                yield document, f"names `{said}`, which is not there"
+
+
+def first():
+    """The service with which EMBEDDING begins is short."""
+    file = ROOT / "tests/txc_first/src/main.rt.in"
+    count = len([it for it in file.read_text().split("\n") if it.strip() and not it.strip().startswith("//")])
+    if count > MOST_LINES_OF_FIRST:
+        yield file, f"has {count} lines of code, and may have {MOST_LINES_OF_FIRST}"
+    said = re.search(r"(\d+) lines of code", prose(ROOT / "docs/EMBEDDING.md"))
+    if said and int(said[1]) != count:
+        yield ROOT / "docs/EMBEDDING.md", f"counts {said[0]}, and there are {count}"
 
 
 def meanings():
@@ -303,8 +348,8 @@ def meanings():
 def faults():
     """What the documents claim that is not so, each as a line of text."""
     found = []
-    checks = (links, paths, counted, words, long_sentences, crate_tables, promised, help_shown, settings, sessions, quoted, commands, toolchain, version, names,
-              meanings)
+    checks = (links, paths, counted, words, long_sentences, plain_words, crate_tables, promised, help_shown, settings, sessions, quoted, commands, toolchain, version, names,
+              first, meanings)
     for check in checks:
         found += [f"{document.relative_to(ROOT)} {said}" for document, said in check()]
     return found

@@ -3,7 +3,7 @@
 
   PROMISE.md, promise/, crates/
                        from the crates' src/ and specs/, and docs/promise.in.md (scripts/promise.py, scripts/pages.py)
-  ../README.md         what a page buys and costs, from FIGURES.md, and how long the gate takes, from docs/gate.tsv
+  ../README.md         what a page buys and costs, from FIGURES.md, and how long commands take, from docs/gate.tsv
   WRONG_BODIES.md      its lists, from the crates' edits
   ARCHITECTURE.md      the table of proofs that other crates use
   GATE.md              the table of what the gate takes, from docs/gate.tsv
@@ -19,7 +19,7 @@ usage: docs.py [--check]      --check writes nothing, and ends with 1 where a fi
 """
 import re, sys
 
-import claims, lines, pages, promise, refused, sources
+import claims, lines, pages, promise, refused, run, sources
 from sources import ROOT, crates
 
 LISTS = "## All of them, by crate"
@@ -159,22 +159,21 @@ def calling(text):
 
 
 def used_proofs():
-    """The modules of proofs that other crates use, but for those that are offered: each with the crates that do."""
+    """The modules of proofs that other crates use, each with the crates that do: but for those that are offered, and those that the prover
+    makes of a type that may go to threads."""
     used = {}
     for folder in [*(ROOT / "crates" / it for it in crates()), *(ROOT / "tests").glob("txc_*")]:
         crate = folder.name
         for path in folder.glob("**/*"):
             if path.suffix in (".antt", ".rt", ".in") and "out" not in path.parts:
                 for other, module in re.findall(r"Rattle\.(txc\w*)\.proofs\.((?:\w+\.)*\w+)", path.read_text()):
-                    if other != crate and not module.startswith("Offered"):
+                    if other != crate and not module.startswith("Offered") and not module.endswith(".TheSendSync"):
                         used.setdefault((other, module), set()).add(crate)
     return used
 
 
 def says(crate, module):
     """The first sentence of a module of proofs."""
-    if module.endswith(".TheSendSync"):
-        return f"`{module.split('.')[-2]}` may go to threads, where its parts may"
     lines = (ROOT / "crates" / crate / "proofs" / f"{module.replace('.', '/')}.antt").read_text().split("\n")
     start = next((n for n, line in enumerate(lines) if line.startswith("-- ")), len(lines))
     end = next((n for n, line in enumerate(lines) if n > start and not line.startswith("-- ")), len(lines))
@@ -185,8 +184,7 @@ def architecture(text):
     start, _, after = text.partition(PROOFS)
     rows = ""
     for (crate, module), users in sorted(used_proofs().items()):
-        place = module if module.endswith(".TheSendSync") else f"proofs/{module.replace('.', '/')}.antt"
-        rows += f"| `{crate}`: `{place}` | {says(crate, module)} | {', '.join(f'`{it}`' for it in sorted(users))} |\n"
+        rows += f"| `{crate}`: `proofs/{module.replace('.', '/')}.antt` | {says(crate, module)} | {', '.join(f'`{it}`' for it in sorted(users))} |\n"
     return start + PROOFS + rows + re.sub(r"^(?:\|.*\n)*", "", after)
 
 
@@ -197,8 +195,7 @@ def gate(text):
     of = lambda crate, kind: cells.get((crate, kind), ("", ""))
     rows = ""
     for crate in crates():
-        if (crate, "proof") in cells:
-            rows += f"| `{crate}` | {' | '.join([*of(crate, 'proof'), *(of(crate, it)[0] for it in ('build', 'must-fail', 'named'))])} |\n"
+        rows += f"| `{crate}` | {' | '.join([*of(crate, 'proof'), *(of(crate, it)[0] for it in ('build', 'must-fail', 'named'))])} |\n"
     for name, key in (("the tests", ("all", "tests")), ("what belongs to no crate", ("", "other")), ("all", ("", "all"))):
         rows += f"| {name} | {' | '.join(of(*key))} | | | |\n"
     start, _, after = text.partition(TAKES)
@@ -212,7 +209,7 @@ def table_of(text, head):
 
 
 def readme(text):
-    """Fills what a page buys and costs, from FIGURES, and how long the gate and the tests take, from gate.tsv."""
+    """Fills what a page buys and costs, from FIGURES, and how long the gate, the program and the tests take, from gate.tsv."""
     shown = (ROOT / "docs/FIGURES.md").read_text()
     pages = {row[0]: row for row in table_of(shown, "| Pages, and how old they may be | Hits | Torn | 1 query | 10 queries | 60 queries |")}
     cost = lambda row: int(row[4].replace(",", ""))
@@ -226,6 +223,7 @@ def readme(text):
     speed = f"The auction makes {threads['1']} pages a second on one thread, each with a bid after it, and {threads['4']} on four."
     text = start + BUYS + rows + re.sub(r"\A(?:\|.*\n)*\n.*\n", f"\n{speed}\n", after)
     taken = {tuple(line.split("\t")[:2]): line.split("\t")[2:] for line in (ROOT / "docs/gate.tsv").read_text().splitlines()}
+    text = re.sub(r"the proved program: \d+ minutes of one core", f"the proved program: {run.minutes()} minutes of one core", text)
     text = re.sub(r"unproved: \d+ minutes of one core", f"unproved: {int(taken['all', 'tests'][0]) / 60:.0f} minutes of one core", text)
     return re.sub(r"the gate: \d+ minutes", f"the gate: {int(taken['', 'all'][1]) / 60:.0f} minutes", text)
 

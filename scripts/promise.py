@@ -7,7 +7,7 @@ sentences stand in docs/promise.in.md. Each name in them has to exist. Lines of 
   @definitions                 the definitions of the clauses above it that no page has shown yet, and an index of all of them
   @signs                       the signs and words that the page uses, or on their own page all of them
   @page NAME TITLE             begins docs/promise/NAME.md
-  @promises                    of each page of a promise its first sentences, with a link
+  @promises                    of each page of a promise its first paragraph, with a link
 """
 import os
 import re
@@ -173,7 +173,7 @@ class Book:
                 page.lines.append(line)
 
     def promises(self, here):
-        """Of each page of a promise its title and its first sentences."""
+        """Of each page of a promise its title and its first paragraph."""
         text = ""
         for page in self.pages:
             if page.number:

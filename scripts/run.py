@@ -62,6 +62,14 @@ def crates(of="txcache"):
     return {name: line for name, line in lines.items() if name in needed}
 
 
+def minutes(of="txcache"):
+    """How many minutes of one core a crate and those below it took to prove and to build when the gate was last measured from nothing."""
+    with open(f"{ROOT}/docs/gate.tsv", encoding="utf-8") as it:
+        taken = [line.rstrip("\n").split("\t") for line in it]
+    needed = crates(of)
+    return round(sum(int(cpu) for crate, kind, cpu, _ in taken if crate in needed and kind in ("proof", "build")) / 60)
+
+
 def is_fresh(made_file=PROGRAM, of="txcache"):
     """Whether what is made of a crate stands, and no source of it is newer."""
     if not os.path.exists(made_file):
@@ -76,8 +84,8 @@ def build(of="txcache", made="txcache", to=PROGRAM, finish=lambda room: None):
     """Proves a crate and those below it with the gate's command, in a copy that has no others, has it finished there, and takes what is
     made of it."""
     lines, begun, number = crates(of), time.time(), 0
-    print(f"run: proving {len(lines)} crates: some {'fifty' if of == 'txcache' else 'fifteen'} minutes of one core where nothing is kept, as many"
-          " crates at once as there are cores", file=sys.stderr)
+    print(f"run: proving {len(lines)} crates: {minutes(of)} minutes of one core and more where nothing is kept, as many crates at once as there are"
+          " cores", file=sys.stderr)
     with tempfile.TemporaryDirectory(prefix="run-") as room:
         with open(f"{room}/crates.txt", "w", encoding="utf-8") as it:
             it.writelines(lines.values())
