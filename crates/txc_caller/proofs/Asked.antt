@@ -22,7 +22,7 @@ use Rattle.txc_shared.specs.Nodes.{NodeValue, after_call}
 use Rattle.txc_shared.specs.Refusals.{IsNodeLeft}
 use Rattle.txc_ports.specs.declared.request.PortRequest.TheVariants as requests
 use Rattle.txc_ports.specs.declared.reply.PortReply.TheVariants as replies
-use Rattle.txc_caller.specs.Ports.{PortsValue, ArePorts, AddLeads, FindLeads, HasAsked, InsertLeads, LookupLeads, PinLeads, UnpinLeads}
+use Rattle.txc_caller.specs.Ports.{PortsValue, ArePorts, AddLeads, FindLeads, HasAsked, InsertLeads, KeepsNode, LookupLeads, PinLeads, UnpinLeads}
 
 -- what holds of a value holds of the one that there is
 for_this : {X : Type 0} (P : X → Type 0) (x : X) → P x → ForSome (Some x) P
@@ -32,11 +32,6 @@ for_none : {X : Type 0} (P : X → Type 0) → ForSome None P
 for_none P y is = absurd (cc is)
 
 -- ---- the node
-
--- a step keeps the row of the node, and its passes
-pub record KeepsNode (old new : NodeValue) : Type 0 where
-  pub row : new.seen.events ≡ old.seen.events
-  pub passes : new.passes ≡ old.passes
 
 node_same : (old new : NodeValue) → new ≡ old → KeepsNode old new
 node_same old new is = record { row = ap (λ (n : NodeValue). n.seen.events) is; passes = ap (λ (n : NodeValue). n.passes) is }

@@ -1,5 +1,6 @@
 pub mod Turning
-pub mod Acted
+pub mod Acts
 pub mod Fresh
 pub mod Asked
 pub mod Reading
+pub mod Committing

@@ -3,3 +3,4 @@ pub mod Standing
 pub mod Given
 pub mod Acting
 pub mod Reading
+pub mod Writing

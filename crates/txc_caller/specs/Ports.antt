@@ -112,6 +112,11 @@ HasRefusedStep old new = (e : NodeError) × IsStepRefused old e × IsNodeLeft ol
 abbrev pub InsertLeads : FrontValue → Entry → NodeValue → NodeValue → Type 0
 InsertLeads seen entry old new = HasInserted seen entry old new ⊎ HasRefusedStep old new
 
+-- a step keeps the row of the node, and its passes
+pub record KeepsNode (old new : NodeValue) : Type 0 where
+  pub row : new.seen.events ≡ old.seen.events
+  pub passes : new.passes ≡ old.passes
+
 -- ---- requests
 
 -- What a request comes to, once it was replied so: a pin is made; a pin is added, or a hold taken away; the node

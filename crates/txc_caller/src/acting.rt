@@ -132,7 +132,8 @@ pub(crate) fn end_call<A: App, C: Suppliable>(ports: &mut Ports<A>, txn: &mut Ru
 
 // ---- replies
 
-// The innermost function has its answer, of which the caller gets a copy. Out of memory, the call is refused.
+// The innermost function has its answer, of which the caller gets a copy. A reply that gives none ends the call. Out of
+// memory, the call is refused.
 fn answered<A: App, C: Suppliable>(
     alloc: Global,
     ports: &mut Ports<A>,
@@ -142,12 +143,18 @@ fn answered<A: App, C: Suppliable>(
 ) -> Acted
     requires kept { IsKept A.next txn.old kept }
     requires top { open_call txn.old.core ≡ Some frames.top }
+    requires row { txn.old.core.seen.events ≡ ports.old.database.events }
+    requires nodes { txn.old.core.nodes ≡ 1 }
     ensures acted { HasActed A.next txn.old.core.recorded frames.top txn.new result }
     ensures keeps { KeepsOn txn.old txn.new }
     ensures events { ports.new.database.events ≡ ports.old.database.events }
 {
     match given_by(alloc, &kept) {
-        Ok(given) => stays(frames.reach(), given, kept),
+        Ok(Some(answer)) => stays(frames.reach(), Some(answer), kept),
+        Ok(None) => {
+            let stand = feed(alloc, ports, txn, kept);
+            standing(stand, frames, None)
+        }
         Err(_) => {
             end_call(ports, txn);
             ended(TxnError::Memory)
@@ -190,6 +197,8 @@ fn inner_reply<A: App, C: Suppliable>(
 ) -> Acted
     requires kept { IsKept A.next txn.old kept }
     requires top { open_call txn.old.core ≡ Some frames.top }
+    requires row { txn.old.core.seen.events ≡ ports.old.database.events }
+    requires nodes { txn.old.core.nodes ≡ 1 }
     requires room { vec_len frames.outer < vec_capacity frames.outer }
     ensures acted { HasActed A.next txn.old.core.recorded frames.top txn.new result }
     ensures keeps { KeepsOn txn.old txn.new }

@@ -1,8 +1,11 @@
 //! Who computes his functions himself, at rest.
-ghost use Rattle.std.specs.Prelude.{◌≡◌, ◌≤◌, [], All, IfErr, IfOk, None, OnErr, map, true};
+ghost use Rattle.std.specs.Prelude.{◌≡◌, ◌≤◌, [], All, IfErr, IfOk, IfSome, None, OnErr, OnOk, map, true};
 ghost use Rattle.txc_app.specs.Eval.{Next};
 ghost use Rattle.txc_cushion.specs.Cushion.{after_fresh, empty_cushion, handed_out};
-ghost use Rattle.txc_db.specs.DatabaseValue.{front_of};
+ghost use Rattle.txc_db.specs.Calls.{IsCommitRefused, IsLeft, IsQueryRefused};
+ghost use Rattle.txc_db.specs.DatabaseValue.{after_commit, front_of, newest};
+ghost use Rattle.txc_db.specs.History.{state_at};
+ghost use Rattle.txc_rows.specs.States.{answer};
 ghost use Rattle.txc_db.specs.Refusals.{IsWant};
 ghost use Rattle.txc_registry.specs.Objects.{AllIdle, Objects};
 ghost use Rattle.txc_shared.specs.Nodes.{start_of};
@@ -21,7 +24,9 @@ use txc_cushion::CushionCore;
 use txc_db::{DbCore, DbError};
 use txc_ports::Bounds;
 use txc_registry::{Registry, Suppliable};
+use txc_rows::{Change, Query, Row};
 use txc_shared::{NodeSettings, StoredNode};
+use txc_stamp::Stamp;
 use txc_stream::Pen;
 use txc_txn::{RunningTxn, TxnCore};
 
@@ -119,13 +124,13 @@ impl<A: App, C: Suppliable> Caller<A, C> {
         ensures recorded { IfOk result (λ txn. txn.txn.core.recorded ≡ []) }
         ensures meant { IfOk result (λ txn. IsTxn A.next txn.txn) }
         ensures members { IfOk result (λ txn. txn.txn.core.pins.members
-            ≡ handed_out self.entry.ports.cushion bounds.now bounds.staleness bounds.at_least) }
+            ≡ handed_out self.ports.cushion bounds.now bounds.staleness bounds.at_least) }
         ensures present { IfOk result (λ txn. txn.txn.core.pins.has_present ≡ true) }
         ensures none { IfOk result (λ txn. txn.doing ≡ None) }
         ensures caller { IfOk result (λ txn. caller_of txn
-            ≡ record self.entry { ports = record self.entry.ports { cushion = txn.ports.cushion } }) }
+            ≡ record self { ports = record self.ports { cushion = txn.ports.cushion } }) }
         ensures handed_back { IfErr result (λ caller. caller
-            ≡ record self.entry { ports = record self.entry.ports { cushion = caller.ports.cushion } }) }
+            ≡ record self { ports = record self.ports { cushion = caller.ports.cushion } }) }
     {
         let Caller {
             ports,
@@ -146,5 +151,53 @@ impl<A: App, C: Suppliable> Caller<A, C> {
                 registry,
             }),
         }
+    }
+
+    // The newest stamp; None where it is out of memory.
+    pub(crate) fn newest(&self) -> Option<Stamp>
+        ensures { IfSome result (λ stamp. stamp ≡ newest self.now.ports.database) }
+    {
+        self.ports.newest()
+    }
+
+    // The rows that the query gives at the stamp.
+    pub(crate) fn rows_at(
+        &mut self,
+        alloc: Global,
+        query: &Query,
+        stamp: Stamp,
+    ) -> Result<Vec<Row>, DbError>
+        ensures answer { IfOk result (λ rows.
+            rows.items ≡ answer query.now (state_at self.old.ports.database.history stamp)) }
+        ensures refused { IfErr result (IsQueryRefused self.old.ports.database query.now stamp) }
+        ensures same { self.new ≡ self.old }
+    {
+        self.ports.rows_at(alloc, query, stamp)
+    }
+
+    // Commits the changes with nothing read.
+    pub(crate) fn commit_at(
+        &mut self,
+        alloc: Global,
+        base: Stamp,
+        changes: &[Change],
+    ) -> Result<Stamp, DbError>
+        ensures after { OnOk result
+            (self.new.ports.database ≡ after_commit self.old.ports.database changes.now) }
+        ensures answer { IfOk result (λ stamp. stamp ≡ newest self.new.ports.database) }
+        ensures refused { IfErr result (IsCommitRefused self.old.ports.database base [] changes.now) }
+        ensures left { IfErr result (IsLeft self.old.ports.database self.new.ports.database) }
+        ensures same { self.new ≡ record self.old {
+          ports = record self.old.ports { database = self.new.ports.database };
+        } }
+    {
+        self.ports.commit(alloc, base, changes)
+    }
+
+    // Has the node take the events that it has not taken yet.
+    pub(crate) fn take_events(&mut self, alloc: Global)
+        ensures { self.new ≡ record self.old { ports = record self.old.ports { node = self.new.ports.node } } }
+    {
+        self.ports.take_events(alloc);
     }
 }

@@ -26,7 +26,8 @@ use txc_txn::{Receipt, RunningTxn};
 /// A transaction that only reads, whose functions the caller computes. Whatever function `A.next` gives what the
 /// caller says that his functions ask and give, the receipt explains each answer by it.
 ///
-/// It must be spent, by [`CallerTxn::commit`] or [`CallerTxn::abort`], which return the caller.
+/// [`CallerTxn::commit`] and [`CallerTxn::abort`] return the caller. Who lets it go lets the caller go too.
+#[derive(Drop)]
 pub struct CallerTxn<A: App, C: Suppliable> {
     pub(crate) ports: Ports<A>,
     pub(crate) renew_after: u64,
@@ -181,18 +182,18 @@ impl<A: App, C: Suppliable> CallerTxn<A, C> {
     /// Ends the transaction, and returns what explains its answers, and the caller. Its pin, where it has one, is
     /// not below the stamp that the bounds name. In the middle of a call it is refused, and handed back as it was.
     pub fn commit(self) -> Result<(Receipt, Caller<A, C>), CallerTxn<A, C>>
-        ensures answers { IfOk result (λ it. it.0.answers.items ≡ self.entry.txn.core.recorded) }
+        ensures answers { IfOk result (λ it. it.0.answers.items ≡ self.txn.core.recorded) }
         ensures pin { IfOk result (λ it. it.0.pin
-            ≡ receipt_pin self.entry.txn.core.recorded self.entry.txn.core.pins.members) }
-        ensures explained { IfOk result (λ it. Explains A.next it.0.seen.history self.entry.txn.core.bounds it.0.pin
+            ≡ receipt_pin self.txn.core.recorded self.txn.core.pins.members) }
+        ensures explained { IfOk result (λ it. Explains A.next it.0.seen.history self.txn.core.bounds it.0.pin
             it.0.answers.items) }
-        ensures not_before { IfOk result (λ it. IsAtLeast self.entry.txn.core.bounds.at_least it.0.pin) }
-        ensures seen { IfOk result (λ it. it.0.seen ≡ self.entry.txn.core.seen) }
+        ensures not_before { IfOk result (λ it. IsAtLeast self.txn.core.bounds.at_least it.0.pin) }
+        ensures seen { IfOk result (λ it. it.0.seen ≡ self.txn.core.seen) }
         ensures row { IfOk result (λ it. it.0.seen.events ≡ it.1.ports.database.events) }
         ensures caller { IfOk result (λ it. it.1
-            ≡ record (caller_of self.entry) { ports = record self.entry.ports { cushion = it.1.ports.cushion } }) }
-        ensures only_if { IsOk result → self.entry.doing ≡ None }
-        ensures handed_back { IfErr result (λ it. (it ≡ self.entry) × IsSome self.entry.doing) }
+            ≡ record (caller_of self) { ports = record self.ports { cushion = it.1.ports.cushion } }) }
+        ensures only_if { IsOk result → self.doing ≡ None }
+        ensures handed_back { IfErr result (λ it. (it ≡ self) × IsSome self.doing) }
     {
         if self.doing.is_some() {
             return Err(self);
@@ -216,11 +217,11 @@ impl<A: App, C: Suppliable> CallerTxn<A, C> {
 
     /// Gives the transaction up, in the middle of a call too, and returns the caller. It takes no memory.
     pub fn abort(self) -> Caller<A, C>
-        ensures functions { numbers_of result.objects ≡ numbers_of self.entry.txn.objects }
-        ensures history { result.ports.database.history ≡ self.entry.ports.database.history }
-        ensures row { result.ports.database.events ≡ self.entry.ports.database.events }
-        ensures node { result.ports.node ≡ self.entry.ports.node }
-        ensures renew_after { result.renew_after ≡ self.entry.renew_after }
+        ensures functions { numbers_of result.objects ≡ numbers_of self.txn.objects }
+        ensures history { result.ports.database.history ≡ self.ports.database.history }
+        ensures row { result.ports.database.events ≡ self.ports.database.events }
+        ensures node { result.ports.node ≡ self.ports.node }
+        ensures renew_after { result.renew_after ≡ self.renew_after }
     {
         let CallerTxn {
             ports,

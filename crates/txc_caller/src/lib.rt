@@ -10,6 +10,7 @@ mod acting;
 mod asking;
 mod caller;
 mod caller_txn;
+mod caller_write;
 mod engine;
 mod frames;
 mod nodes;
@@ -19,5 +20,6 @@ mod step;
 
 pub use caller::Caller;
 pub use caller_txn::CallerTxn;
+pub use caller_write::{CallerWrite, MAX_CHANGES};
 pub use frames::{Called, Frames, OpenCall};
 pub use step::{CallerError, Step};

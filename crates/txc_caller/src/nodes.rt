@@ -2,13 +2,13 @@
 ghost use Rattle.std.specs.Prelude.{◌≡◌, IfSome};
 ghost use Rattle.txc_app.specs.Claims.{IsTrueIn, entry_shown};
 ghost use Rattle.txc_shared.specs.Passes.{shown_of_entry};
-ghost use Rattle.txc_caller.specs.Ports.{InsertLeads, LookupLeads};
+ghost use Rattle.txc_caller.specs.Ports.{InsertLeads, KeepsNode, LookupLeads};
 
 use std::alloc::Global;
 use txc_app::App;
 use txc_db::{Answered, HistoryFront};
 use txc_node::{Entry, Shown};
-use txc_shared::{Finding, StoredNode};
+use txc_shared::{Advanced, Finding, StoredNode};
 use txc_stamp::Stamp;
 use txc_tags::Key;
 
@@ -67,5 +67,25 @@ pub(crate) fn insert<A: App>(
     match node.insert(alloc, 0, entry, seen) {
         Ok(_) => (),
         Err(_) => (),
+    }
+}
+
+/// Has the node take the next event of the history that it or the front has seen, and says whether it took one.
+pub(crate) fn take_event<A: App>(
+    alloc: Global,
+    node: &mut StoredNode<A>,
+    front: &HistoryFront,
+) -> bool
+    requires pass { node.old.passes ≡ 1 }
+    requires row { front.now.events ≡ node.old.seen.events }
+    ensures { KeepsNode node.old node.new }
+{
+    match node.advance(alloc, 0, front) {
+        Ok(Advanced::Taken { .. }) => true,
+        Ok(Advanced::Idle) => false,
+        Err(refusal) => {
+            let _refusal = refusal;
+            false
+        }
     }
 }

@@ -1,8 +1,11 @@
 //! The plain ports of a caller, for one thread.
-ghost use Rattle.std.specs.Prelude.{◌≡◌, ◌≤◌, ◌⊎◌, [], All, IfErr, IfOk, IfSome};
+ghost use Rattle.std.specs.Prelude.{◌≡◌, ◌≤◌, ◌⊎◌, [], All, IfErr, IfOk, IfSome, OnOk};
 ghost use Rattle.txc_app.specs.Claims.{IsTrueIn, entry_shown};
 ghost use Rattle.txc_cushion.specs.Cushion.{after_give_back, handed_out};
-ghost use Rattle.txc_db.specs.History.{IsAllowed};
+ghost use Rattle.txc_db.specs.Calls.{IsCommitRefused, IsLeft, IsQueryRefused};
+ghost use Rattle.txc_db.specs.DatabaseValue.{after_commit, newest};
+ghost use Rattle.txc_db.specs.History.{state_at, IsAllowed};
+ghost use Rattle.txc_rows.specs.States.{answer};
 ghost use Rattle.txc_db.specs.Refusals.{IsWant};
 ghost use Rattle.txc_db.specs.Seen.{FrontValue};
 ghost use Rattle.txc_node.specs.declared.node.TheConstants.{MAX_CAPACITY, MAX_RECENT};
@@ -19,11 +22,11 @@ use txc_cushion::{AddError, CushionCore, Pins};
 use txc_db::{Answered, DbCore, DbError, HistoryFront, Pinned};
 use txc_node::{Entry, Shown};
 use txc_ports::{PortReply, PortRequest};
-use txc_rows::Query;
+use txc_rows::{Change, Query, Row};
 use txc_shared::{NodeSettings, StoredNode};
 use txc_stamp::Stamp;
 use txc_stream::Pen;
-use txc_tags::Key;
+use txc_tags::{Key, TagSet};
 use txc_validity::Found;
 
 /// A database, its pincushion, and one node that takes its events. None has a lock.
@@ -72,6 +75,72 @@ impl<A: App> Ports<A> {
         let answer = self.database.query(alloc, query, stamp)?;
         let front = self.database.front()?;
         Ok(Answered { answer, front })
+    }
+
+    /// The newest stamp; None where it is out of memory.
+    pub(crate) fn newest(&self) -> Option<Stamp>
+        ensures { IfSome result (λ stamp. stamp ≡ newest self.now.database) }
+    {
+        match self.database.front() {
+            Ok(front) => Some(front.newest()),
+            Err(_) => None,
+        }
+    }
+
+    /// The rows that the query gives at the stamp.
+    pub(crate) fn rows_at(
+        &mut self,
+        alloc: Global,
+        query: &Query,
+        stamp: Stamp,
+    ) -> Result<Vec<Row>, DbError>
+        ensures answer { IfOk result (λ rows.
+            rows.items ≡ answer query.now (state_at self.old.database.history stamp)) }
+        ensures refused { IfErr result (IsQueryRefused self.old.database query.now stamp) }
+        ensures same { self.new ≡ self.old }
+    {
+        let found = self.database.query(alloc, query, stamp)?;
+        Ok(found.rows)
+    }
+
+    /// Commits the changes with nothing read.
+    pub(crate) fn commit(
+        &mut self,
+        alloc: Global,
+        base: Stamp,
+        changes: &[Change],
+    ) -> Result<Stamp, DbError>
+        ensures after { OnOk result (self.new.database ≡ after_commit self.old.database changes.now) }
+        ensures answer { IfOk result (λ stamp. stamp ≡ newest self.new.database) }
+        ensures refused { IfErr result (IsCommitRefused self.old.database base [] changes.now) }
+        ensures left { IfErr result (IsLeft self.old.database self.new.database) }
+        ensures same { self.new ≡ record self.old { database = self.new.database } }
+    {
+        let read = TagSet::new(alloc);
+        let stamp = self.database.commit(alloc, base, &read, changes)?;
+        Ok(stamp)
+    }
+
+    // Has the node take the next event that the front shows, and says whether it took one.
+    fn take_event(&mut self, alloc: Global, front: &HistoryFront) -> bool
+        requires { front.now.events ≡ self.old.database.events }
+        ensures { self.new ≡ record self.old { node = self.new.node } }
+    {
+        nodes::take_event(alloc, &mut self.node, front)
+    }
+
+    /// Has the node take the events that it has not taken yet, as far as it does.
+    pub(crate) fn take_events(&mut self, alloc: Global)
+        ensures { self.new ≡ record self.old { node = self.new.node } }
+    {
+        let Ok(front) = self.database.front() else {
+            return;
+        };
+        for number in 0..front.len() {
+            if !self.take_event(alloc, &front) {
+                return;
+            }
+        }
     }
 
     // What the node has of the call at the stamps from `lo` to `hi`, both included.

@@ -1,4 +1,4 @@
-use Rattle.txc_caller.proofs.Acted.{acted_refused}
+use Rattle.txc_caller.proofs.Acts.{acted_refused}
 use Rattle.txc_caller.proofs.acting.ended.Goals as goal
 
 pub returns : goal.returns

@@ -9,7 +9,13 @@ use Rattle.txc_caller.proofs.acting.go_on_to_call.Goals as goal
 pub inner_reply-requires : goal.inner_reply-requires
 inner_reply-requires g c =
     let it = subst (λ (s : Stand). IsStanding g.A.App.next c.args.txn.now.core.recorded c.args.frames.top c.feed.new.txn s) c.in-Kept.is (c.feed.ensures.stands c.args.frames.top c.requires.top) in
-    record { kept = it.0; top = it.1; room = c.requires.room }
+    record {
+      kept = it.0;
+      top = it.1;
+      row = c.feed.ensures.keeps.events ∙ (c.requires.row ∙ sym c.feed.ensures.events);
+      nodes = c.feed.ensures.keeps.settings.nodes ∙ c.requires.nodes;
+      room = c.requires.room;
+    }
 
 pub returns-in-Kept-clause-acted : goal.returns-in-Kept-clause-acted
 returns-in-Kept-clause-acted g c =

@@ -1,5 +1,5 @@
 use Rattle.std.proofs.Common.{refl}
-use Rattle.txc_caller.proofs.Acted.{acted_open}
+use Rattle.txc_caller.proofs.Acts.{acted_open}
 use Rattle.txc_caller.proofs.acting.stays.Goals as goal
 
 pub returns : goal.returns

@@ -1,4 +1,4 @@
-use Rattle.txc_caller.proofs.Acted.{acted_value}
+use Rattle.txc_caller.proofs.Acts.{acted_value}
 use Rattle.txc_caller.proofs.acting.valued.Goals as goal
 
 pub returns : goal.returns

@@ -1,4 +1,4 @@
-use Rattle.std.proofs.Common.{subst}
+use Rattle.std.proofs.Common.{◌≡◌, subst}
 use Rattle.std.specs.Prelude.{IfSome}
 use Rattle.txc_caller.specs.Ports.{PortsValue, LookupLeads}
 use Rattle.txc_caller.proofs.Asked.{hit_row, node_looked_up, ports_with_node}
