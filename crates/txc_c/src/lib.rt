@@ -25,8 +25,9 @@ pub use node::{
     txc_node_open, txc_node_sweep,
 };
 pub use numbers::{
-    ALREADY_OPEN, BAD_ARGUMENT, BAD_REACH, CLOSED, DONE, EMPTY_RANGE, KEPT, MISS, NO_MEMORY,
-    NO_ROOM, OUT_OF_ORDER, VALUE_TOO_LONG,
+    ALREADY_OPEN, ANSWERED, BAD_ARGUMENT, BAD_REACH, CLOSED, COMPUTE, CONFLICT, DONE, EMPTY_RANGE,
+    KEPT, MID_CALL, MISS, NO_MEMORY, NO_ROOM, NOT_OPEN, OTHER_ASK, OUT_OF_ORDER, REFUSED,
+    VALUE_TOO_LONG,
 };
 pub use site_handle::{TxcSite, site_crosses};
 pub use txn::{
