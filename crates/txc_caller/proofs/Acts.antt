@@ -8,8 +8,8 @@ use Rattle.txc_ports.specs.declared.recorded.Recorded.{Recorded}
 use Rattle.txc_ports.specs.declared.error.TxnError.{TxnError}
 use Rattle.txc_txn.specs.Core.{open_call, IsIdle}
 use Rattle.txc_txn.specs.Kept.{TxnValue}
-use Rattle.txc_caller.specs.Acting.{step_with, HasActed, IsStepOf}
-use Rattle.txc_caller.specs.Standing.{IsKept}
+use Rattle.txc_caller.specs.Acting.{step_with, IsActOf, IsStepOf}
+use Rattle.txc_caller.specs.Standing.{IsKeptBack}
 use Rattle.txc_caller.specs.declared.acted.Acted.{Acted}
 use Rattle.txc_caller.specs.declared.frames.OpenCall.{OpenCall}
 use Rattle.txc_caller.specs.declared.step.CallerError.{CallerError}
@@ -31,42 +31,42 @@ module _ (before recorded : List Recorded) (k : Call) (same : recorded ≡ befor
 
 module _ (next : Next) (before : List Recorded) (t : TxnValue) where
   -- the call is open
-  pub acted_open : (o : OpenCall) (step : Step) → step ≡ step_with o.given → IsKept next t o.kept → open_call t.core ≡ Some o.frames.top → t.core.recorded ≡ before
-      → HasActed next before o.frames.top t (record { doing = Some o; step = Ok step })
+  pub acted_open : (o : OpenCall) (step : Step) → step ≡ step_with o.given → IsKeptBack next t o.kept → open_call t.core ≡ Some o.frames.top → t.core.recorded ≡ before
+      → IsActOf next before o.frames.top t (record { doing = Some o; step = Ok step })
   acted_open o step is kept top same = record {
     step = subst (λ (s : Step). IsStepOf before o.frames.top t.core.recorded (Some o) (Ok s)) (sym is) (step_open before t.core.recorded o.frames.top same o refl o.given refl);
     idle = λ none. absurd (cc none);
-    kept = for_this (λ (p : OpenCall). IsKept next t p.kept) o kept;
+    kept = for_this (λ (p : OpenCall). IsKeptBack next t p.kept) o kept;
     top = for_this (λ (p : OpenCall). open_call t.core ≡ Some p.frames.top) o top;
   }
 
   -- it is open still, and the caller was refused
-  pub acted_back : (o : OpenCall) (error : CallerError) → IsKept next t o.kept → open_call t.core ≡ Some o.frames.top → t.core.recorded ≡ before
-      → HasActed next before o.frames.top t (record { doing = Some o; step = Err error })
+  pub acted_back : (o : OpenCall) (error : CallerError) → IsKeptBack next t o.kept → open_call t.core ≡ Some o.frames.top → t.core.recorded ≡ before
+      → IsActOf next before o.frames.top t (record { doing = Some o; step = Err error })
   acted_back o error kept top same = record {
     step = (same, for_this (λ (p : OpenCall). p.frames.top ≡ o.frames.top) o refl);
     idle = λ none. absurd (cc none);
-    kept = for_this (λ (p : OpenCall). IsKept next t p.kept) o kept;
+    kept = for_this (λ (p : OpenCall). IsKeptBack next t p.kept) o kept;
     top = for_this (λ (p : OpenCall). open_call t.core ≡ Some p.frames.top) o top;
   }
 
   module _ (k : Call) where
     -- it has its value
     pub acted_value : (value : List ℕ) → IsIdle t.core → t.core.recorded ≡ before ++ record { key = k; value = value } ∷ []
-        → HasActed next before k t (record { doing = None; step = Ok (Value value) })
+        → IsActOf next before k t (record { doing = None; step = Ok (Value value) })
     acted_value value idle same = record {
       step = (same, refl);
       idle = λ none. idle;
-      kept = for_none (λ (p : OpenCall). IsKept next t p.kept);
+      kept = for_none (λ (p : OpenCall). IsKeptBack next t p.kept);
       top = for_none (λ (p : OpenCall). open_call t.core ≡ Some p.frames.top);
     }
 
     -- it was refused
     pub acted_refused : (error : TxnError) → IsIdle t.core → t.core.recorded ≡ before
-        → HasActed next before k t (record { doing = None; step = Err (Txn error) })
+        → IsActOf next before k t (record { doing = None; step = Err (Txn error) })
     acted_refused error idle same = record {
       step = (same, for_none (λ (p : OpenCall). p.frames.top ≡ k));
       idle = λ none. idle;
-      kept = for_none (λ (p : OpenCall). IsKept next t p.kept);
+      kept = for_none (λ (p : OpenCall). IsKeptBack next t p.kept);
       top = for_none (λ (p : OpenCall). open_call t.core ≡ Some p.frames.top);
     }

@@ -22,14 +22,8 @@ use Rattle.txc_shared.specs.Nodes.{NodeValue, after_call}
 use Rattle.txc_shared.specs.Refusals.{IsNodeLeft}
 use Rattle.txc_ports.specs.declared.request.PortRequest.TheVariants as requests
 use Rattle.txc_ports.specs.declared.reply.PortReply.TheVariants as replies
-use Rattle.txc_caller.specs.Ports.{PortsValue, ArePorts, AddLeads, FindLeads, HasAsked, InsertLeads, KeepsNode, LookupLeads, PinLeads, UnpinLeads}
-
--- what holds of a value holds of the one that there is
-for_this : {X : Type 0} (P : X → Type 0) (x : X) → P x → ForSome (Some x) P
-for_this P x h y is = let same : x ≡ y = cc in subst P same h
-
-for_none : {X : Type 0} (P : X → Type 0) → ForSome None P
-for_none P y is = absurd (cc is)
+use Rattle.txc_caller.proofs.Acts.{for_none, for_this}
+use Rattle.txc_caller.specs.Ports.{CallerPorts, AreCallerPorts, CallerAddLeads, CallerFindLeads, HasAskedPorts, CallerInsertLeads, KeepsNode, CallerLookupLeads, CallerPinLeads, CallerUnpinLeads}
 
 -- ---- the node
 
@@ -47,30 +41,30 @@ node_left old new errors.HistoryFull same = node_same old new same
 node_left old new errors.PassesFull same = node_same old new same
 node_left old new errors.Memory same = node_same old new same
 
-pub node_looked_up : (old new : NodeValue) (key : Call) (lo hi : ℕ) (hit : Option (Answered Shown)) → LookupLeads key lo hi old new hit → KeepsNode old new
+pub node_looked_up : (old new : NodeValue) (key : Call) (lo hi : ℕ) (hit : Option (Answered Shown)) → CallerLookupLeads key lo hi old new hit → KeepsNode old new
 node_looked_up old new key lo hi (Some hit) leads = node_after old new (Lookup key lo hi) leads.0
 node_looked_up old new key lo hi None (inl leads) = node_after old new (Lookup key lo hi) leads.0
 node_looked_up old new key lo hi None (inr refused) = node_left old new refused.0 refused.2
 
-pub node_inserted : (old new : NodeValue) (seen : FrontValue) (entry : Entry) → InsertLeads seen entry old new → KeepsNode old new
+pub node_inserted : (old new : NodeValue) (seen : FrontValue) (entry : Entry) → CallerInsertLeads seen entry old new → KeepsNode old new
 node_inserted old new seen entry (inl has) = record { row = has.longer.events; passes = ap (λ (n : NodeValue). n.passes) has.after }
 node_inserted old new seen entry (inr refused) = node_left old new refused.0 refused.2
 
 -- the ports with the node after such a step
-pub ports_with_node : (p : PortsValue) (node : NodeValue) → ArePorts p → KeepsNode p.node node → ArePorts (record p { node = node })
+pub ports_with_node : (p : CallerPorts) (node : NodeValue) → AreCallerPorts p → KeepsNode p.node node → AreCallerPorts (record p { node = node })
 ports_with_node p node are keeps = record { cushion = are.cushion; node = keeps.row ∙ are.node; pass = keeps.passes ∙ are.pass }
 
 -- what a hit shows is of the row
-pub hit_row : (old new : NodeValue) (key : Call) (lo hi : ℕ) (hit : Option (Answered Shown)) (row : List ℕ) → old.seen.events ≡ row → LookupLeads key lo hi old new hit
+pub hit_row : (old new : NodeValue) (key : Call) (lo hi : ℕ) (hit : Option (Answered Shown)) (row : List ℕ) → old.seen.events ≡ row → CallerLookupLeads key lo hi old new hit
     → IfSome hit (λ h. h.front.events ≡ row)
 hit_row old new key lo hi (Some hit) row is leads = ap (λ (f : FrontValue). f.events) leads.2 ∙ is
 hit_row old new key lo hi None row is leads = tt
 
 -- ---- requests
 
-module _ (next : Next) (seen : FrontValue) (old new : PortsValue) where
-  pub asked_pin : (now at_least : ℕ) (pinned : Result Pinned DbError) → new.database.events ≡ old.database.events → PinLeads now at_least old new pinned
-      → HasAsked next seen (requests.Pin now at_least) old new (replies.Pin pinned)
+module _ (next : Next) (seen : FrontValue) (old new : CallerPorts) where
+  pub asked_pin : (now at_least : ℕ) (pinned : Result Pinned DbError) → new.database.events ≡ old.database.events → CallerPinLeads now at_least old new pinned
+      → HasAskedPorts next seen (requests.Pin now at_least) old new (replies.Pin pinned)
   asked_pin now at_least (Ok pinned) events h = record {
     answer = (h.moment, h.late, h.shown);
     row = for_this (λ (f : FrontValue). f.events ≡ old.database.events) pinned.front (ap (λ (f : FrontValue). f.events) h.front ∙ events);
@@ -85,16 +79,16 @@ module _ (next : Next) (seen : FrontValue) (old new : PortsValue) where
   }
 
   pub asked_add : (pinned : Pinned) (added : Result (Unit {0}) AddError) → pinned.front.events ≡ old.database.events → new ≡ record old { cushion = new.cushion }
-      → AddLeads pinned old new added → HasAsked next seen (requests.AddPin pinned) old new (replies.AddPin pinned added)
+      → CallerAddLeads pinned old new added → HasAskedPorts next seen (requests.AddPin pinned) old new (replies.AddPin pinned added)
   asked_add pinned added of same h = record {
     answer = refl;
     row = for_this (λ (f : FrontValue). f.events ≡ old.database.events) pinned.front of;
     leads = h;
-    events = ap (λ (p : PortsValue). p.database.events) same;
+    events = ap (λ (p : CallerPorts). p.database.events) same;
   }
 
-  pub asked_unpin : (stamp : ℕ) → new.database.events ≡ old.database.events → UnpinLeads stamp old new
-      → HasAsked next seen (requests.Unpin stamp) old new replies.Unpin
+  pub asked_unpin : (stamp : ℕ) → new.database.events ≡ old.database.events → CallerUnpinLeads stamp old new
+      → HasAskedPorts next seen (requests.Unpin stamp) old new replies.Unpin
   asked_unpin stamp events h = record {
     answer = tt;
     row = for_none (λ (f : FrontValue). f.events ≡ old.database.events);
@@ -103,41 +97,41 @@ module _ (next : Next) (seen : FrontValue) (old new : PortsValue) where
   }
 
   pub asked_lookup : (node : ℕ) (key : Call) (lo hi : ℕ) (hit : Option (Answered Shown)) → new ≡ record old { node = new.node }
-      → LookupLeads key lo hi old.node new.node hit → IfSome hit (λ h. IsTrueIn next h.front.history (entry_shown key h.answer))
-      → IfSome hit (λ h. h.front.events ≡ old.database.events) → HasAsked next seen (requests.Lookup node key lo hi) old new (replies.Lookup hit)
+      → CallerLookupLeads key lo hi old.node new.node hit → IfSome hit (λ h. IsTrueIn next h.front.history (entry_shown key h.answer))
+      → IfSome hit (λ h. h.front.events ≡ old.database.events) → HasAskedPorts next seen (requests.Lookup node key lo hi) old new (replies.Lookup hit)
   asked_lookup node key lo hi (Some hit) same h right of = record {
     answer = right;
     row = for_this (λ (f : FrontValue). f.events ≡ old.database.events) hit.front of;
     leads = (same, h);
-    events = ap (λ (p : PortsValue). p.database.events) same;
+    events = ap (λ (p : CallerPorts). p.database.events) same;
   }
   asked_lookup node key lo hi None same h right of = record {
     answer = tt;
     row = for_none (λ (f : FrontValue). f.events ≡ old.database.events);
     leads = (same, h);
-    events = ap (λ (p : PortsValue). p.database.events) same;
+    events = ap (λ (p : CallerPorts). p.database.events) same;
   }
 
-  pub asked_query : (query : Query) (stamp : ℕ) (found : Result (Answered Found) DbError) → new ≡ old → FindLeads query stamp old.database found
-      → HasAsked next seen (requests.Query query stamp) old new (replies.Query found)
+  pub asked_query : (query : Query) (stamp : ℕ) (found : Result (Answered Found) DbError) → new ≡ old → CallerFindLeads query stamp old.database found
+      → HasAskedPorts next seen (requests.Query query stamp) old new (replies.Query found)
   asked_query query stamp (Ok found) same h = record {
     answer = h.over;
     row = for_this (λ (f : FrontValue). f.events ≡ old.database.events) found.front (ap (λ (f : FrontValue). f.events) h.front);
     leads = (same, h);
-    events = ap (λ (p : PortsValue). p.database.events) same;
+    events = ap (λ (p : CallerPorts). p.database.events) same;
   }
   asked_query query stamp (Err e) same h = record {
     answer = tt;
     row = for_none (λ (f : FrontValue). f.events ≡ old.database.events);
     leads = (same, h);
-    events = ap (λ (p : PortsValue). p.database.events) same;
+    events = ap (λ (p : CallerPorts). p.database.events) same;
   }
 
-  pub asked_insert : (node : ℕ) (entry : Entry) → new ≡ record old { node = new.node } → InsertLeads seen entry old.node new.node
-      → HasAsked next seen (requests.Insert node entry) old new replies.Insert
+  pub asked_insert : (node : ℕ) (entry : Entry) → new ≡ record old { node = new.node } → CallerInsertLeads seen entry old.node new.node
+      → HasAskedPorts next seen (requests.Insert node entry) old new replies.Insert
   asked_insert node entry same h = record {
     answer = tt;
     row = for_none (λ (f : FrontValue). f.events ≡ old.database.events);
     leads = (same, h);
-    events = ap (λ (p : PortsValue). p.database.events) same;
+    events = ap (λ (p : CallerPorts). p.database.events) same;
   }

@@ -2,6 +2,7 @@
 use Rattle.std.proofs.Common.{◌≡◌, ◌∙◌, ℕ, List, [], ◌∷◌, ◌++◌, Bool, true, false, Option, Some, None, refl, ap, sym, subst}
 use Rattle.std.specs.Option.{ForSome}
 use Rattle.std.specs.List.{list_any}
+use Rattle.std.specs.Prelude.{if◌then◌else◌}
 use mathlib.Core.List.{IsPrefix}
 use Rattle.txc_stream.proofs.Offered.{prefix_self, prefix_trans}
 use Rattle.txc_tags.specs.Keys.{Call}
@@ -24,8 +25,8 @@ use Rattle.txc_ports.specs.Turns.{IsAsk}
 use Rattle.txc_txn.specs.Core.{CoreValue, open_call, recorded_after, IsIdle, IsNoValue, IsTurn, KeepsSettings}
 use Rattle.txc_txn.specs.Kept.{TxnValue, HasBegunCall, HasGoneOn, IsShownRight}
 use Rattle.txc_txn.proofs.Offered.{adds_next, adds_none}
-use Rattle.txc_caller.specs.Given.{counted}
-use Rattle.txc_caller.specs.Standing.{HasPassed, IsGoing, IsKept, IsOfCall, IsStanding, KeepsOn}
+use Rattle.txc_caller.specs.Given.{counted_reply}
+use Rattle.txc_caller.specs.Standing.{HasPassed, IsGoing, IsKeptBack, IsTurnOf, IsStanding, KeepsOn}
 use Rattle.txc_caller.specs.declared.stand.Stand.TheVariants as stands
 
 -- ---- what is kept
@@ -75,7 +76,7 @@ module _ (next : Next) (row : List ℕ) (old new : TxnValue) (reply : PortReply)
     nodes = on.settings.nodes ∙ nodes;
   }
 
-  pub of_call_next : (before : List Recorded) (k : Call) → open_call old.core ≡ Some k → old.core.recorded ≡ before → IsOfCall before k new.core turn
+  pub of_call_next : (before : List Recorded) (k : Call) → open_call old.core ≡ Some k → old.core.recorded ≡ before → IsTurnOf before k new.core turn
   of_call_next before k called same = record {
     begins = λ more. on.goes_on more ∙ called;
     recorded = on.recorded ∙ (ap (λ (rs : List Recorded). recorded_after rs turn (open_call old.core)) same ∙ ap (recorded_after before turn) called);
@@ -124,7 +125,7 @@ module _ (row : List ℕ) (old new : TxnValue) (k : Call) (turn : Turn) (on : Ha
     nodes = ap (λ (c : CoreValue). c.nodes) on.same ∙ nodes;
   }
 
-  pub of_call_begun : IsOfCall old.core.recorded k new.core turn
+  pub of_call_begun : IsTurnOf old.core.recorded k new.core turn
   of_call_begun = record {
     begins = on.begins;
     recorded = ap (λ (c : CoreValue). c.recorded) on.same ∙ sym (no_value old.core.recorded turn (Some k) on.no_value);
@@ -145,7 +146,7 @@ module _ (row : List ℕ) (old new : TxnValue) (k : Call) (turn : Turn) (on : Ha
 -- ---- kept replies
 
 module _ (next : Next) (t : TxnValue) where
-  missed : (hit : Answered Shown) → IsKept next t (replies.Lookup (Some hit)) → IsKept next t (replies.Lookup None)
+  missed : (hit : Answered Shown) → IsKeptBack next t (replies.Lookup (Some hit)) → IsKeptBack next t (replies.Lookup None)
   missed hit kept = record {
     answers = kept.answers;
     row = λ front is. absurd (cc is);
@@ -153,11 +154,12 @@ module _ (next : Next) (t : TxnValue) where
   }
 
   -- what counts is a reply still
-  pub kept_counted : (members : List Pin) (reply : PortReply) → IsKept next t reply → IsKept next t (counted members reply)
-  kept_counted members (replies.Lookup (Some hit)) kept = elim (list_any (is_held_by hit.answer.reach) members) [
-    | true ↦ kept
-    | false ↦ missed hit kept
-  ]
+  pub kept_counted : (members : List Pin) (reply : PortReply) → IsKeptBack next t reply → IsKeptBack next t (counted_reply members reply)
+  kept_counted members (replies.Lookup (Some hit)) kept =
+      elim (list_any (is_held_by hit.answer.reach) members) as (λ (b : Bool). IsKeptBack next t (if b then replies.Lookup (Some hit) else replies.Lookup None)) [
+        | true ↦ kept
+        | false ↦ missed hit kept
+      ]
   kept_counted members (replies.Lookup None) kept = kept
   kept_counted members (replies.Pin pinned) kept = kept
   kept_counted members (replies.AddPin pinned added) kept = kept

@@ -15,7 +15,7 @@ IsGivenBy (Query (Ok found)) given = given ≡ Some (answers.Rows found.answer.r
 IsGivenBy reply given = given ≡ None
 
 -- the reply, but that a hit whose reach holds no member is a miss
-abbrev pub counted : List Pin → PortReply → PortReply
-counted members (Lookup (Some hit)) =
+abbrev pub counted_reply : List Pin → PortReply → PortReply
+counted_reply members (Lookup (Some hit)) =
     if list_any (is_held_by hit.answer.reach) members then Lookup (Some hit) else Lookup None
-counted members reply = reply
+counted_reply members reply = reply

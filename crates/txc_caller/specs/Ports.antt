@@ -30,13 +30,13 @@ use Rattle.txc_ports.specs.Exchanges.{Exchange, IsExchange}
 use Rattle.txc_ports.specs.Exchanges as exchanges
 
 -- the database, the pincushion and the node
-pub record PortsValue : Type 0 where
+pub record CallerPorts : Type 0 where
   pub database : DatabaseValue
   pub cushion : CushionValue
   pub node : NodeValue
 
 -- all three are of one row of events, and there is one pass through the node
-pub record ArePorts (p : PortsValue) : Type 0 where
+pub record AreCallerPorts (p : CallerPorts) : Type 0 where
   pub cushion : p.cushion.events ≡ p.database.events
   pub node : p.node.seen.events ≡ p.database.events
   pub pass : p.node.passes ≡ 1
@@ -44,7 +44,7 @@ pub record ArePorts (p : PortsValue) : Type 0 where
 -- ---- pins
 
 -- a pin of the moment is one event more, and its front shows it
-pub record HasPinned (now at_least : ℕ) (old new : PortsValue) (pinned : Pinned) : Type 0 where
+pub record HasPinnedForCaller (now at_least : ℕ) (old new : CallerPorts) (pinned : Pinned) : Type 0 where
   pub after : new ≡ record old { database = after_pin old.database now }
   pub moment : pinned.moment ≡ now
   pub late : at_least ≤ pinned.stamp
@@ -52,38 +52,38 @@ pub record HasPinned (now at_least : ℕ) (old new : PortsValue) (pinned : Pinne
   pub shown : moment_at pinned.front.history pinned.stamp ≡ Some pinned.moment
 
 -- the database refused the pin
-pub record HasRefusedPin (at_least : ℕ) (old new : PortsValue) (e : DbError) : Type 0 where
+pub record HasRefusedPin (at_least : ℕ) (old new : CallerPorts) (e : DbError) : Type 0 where
   pub is : new ≡ record old { database = new.database }
   pub left : IsLeft old.database new.database e
   pub refused : IsPinRefused old.database at_least e
 
 -- of a pin: it was made, or the database refused
-abbrev pub PinLeads : ℕ → ℕ → PortsValue → PortsValue → Result Pinned DbError → Type 0
-PinLeads now at_least old new (Ok pinned) = HasPinned now at_least old new pinned
-PinLeads now at_least old new (Err e) = HasRefusedPin at_least old new e
+abbrev pub CallerPinLeads : ℕ → ℕ → CallerPorts → CallerPorts → Result Pinned DbError → Type 0
+CallerPinLeads now at_least old new (Ok pinned) = HasPinnedForCaller now at_least old new pinned
+CallerPinLeads now at_least old new (Err e) = HasRefusedPin at_least old new e
 
 -- the pin is in the pincushion; or it was refused, and nothing has changed
-abbrev pub AddLeads : {A : Type 0} → Pinned → PortsValue → PortsValue → Result A AddError → Type 0
-AddLeads pinned old new (Ok added) = new ≡ record old { cushion = after_add old.cushion pinned }
-AddLeads pinned old new (Err e) = (new ≡ old) × IsAddRefused old.cushion pinned.stamp e
+abbrev pub CallerAddLeads : {A : Type 0} → Pinned → CallerPorts → CallerPorts → Result A AddError → Type 0
+CallerAddLeads pinned old new (Ok added) = new ≡ record old { cushion = after_add old.cushion pinned }
+CallerAddLeads pinned old new (Err e) = (new ≡ old) × IsAddRefused old.cushion pinned.stamp e
 
 -- there is one hold of the stamp fewer; or there was none, and nothing has changed
-abbrev pub UnpinLeads : ℕ → PortsValue → PortsValue → Type 0
-UnpinLeads stamp old new = (new ≡ record old { database = after_unpin old.database stamp }) ⊎ (new ≡ old)
+abbrev pub CallerUnpinLeads : ℕ → CallerPorts → CallerPorts → Type 0
+CallerUnpinLeads stamp old new = (new ≡ record old { database = after_unpin old.database stamp }) ⊎ (new ≡ old)
 
 -- ---- the database
 
 -- the answer of the query at the stamp, with its validity and its tag, and a front of the whole history
-pub record IsAnswerWithFront (query : RowQuery) (stamp : ℕ) (d : DatabaseValue) (found : Answered Found) : Type 0 where
+pub record IsAnswerOfWhole (query : RowQuery) (stamp : ℕ) (d : DatabaseValue) (found : Answered Found) : Type 0 where
   pub answer : IsAnswer (state_at d.history) query stamp d.horizon (newest d) found.answer
   pub tag : found.answer.tags ≡ query_tag query ∷ []
   pub front : found.front ≡ front_of d
   pub over : IsFoundOver found.front.history query stamp found.answer
 
 -- of a query: it was answered, or the database refused
-abbrev pub FindLeads : RowQuery → ℕ → DatabaseValue → Result (Answered Found) DbError → Type 0
-FindLeads query stamp d (Ok found) = IsAnswerWithFront query stamp d found
-FindLeads query stamp d (Err e) = IsQueryRefused d query stamp e
+abbrev pub CallerFindLeads : RowQuery → ℕ → DatabaseValue → Result (Answered Found) DbError → Type 0
+CallerFindLeads query stamp d (Ok found) = IsAnswerOfWhole query stamp d found
+CallerFindLeads query stamp d (Err e) = IsQueryRefused d query stamp e
 
 -- ---- the node
 
@@ -92,15 +92,15 @@ abbrev pub HasRefusedLookup : NodeValue → ℕ → ℕ → NodeValue → Type 0
 HasRefusedLookup old lo hi new = (e : NodeError) × IsLookupRefused old lo hi e × IsNodeLeft old new e
 
 -- a lookup at just these stamps finds this, and is a step of the node; or the node refuses, and has nothing
-abbrev pub LookupLeads : Call → ℕ → ℕ → NodeValue → NodeValue → Option (Answered Shown) → Type 0
-LookupLeads key lo hi old new (Some hit) = (new ≡ after_call old 0 (Lookup key lo hi))
+abbrev pub CallerLookupLeads : Call → ℕ → ℕ → NodeValue → NodeValue → Option (Answered Shown) → Type 0
+CallerLookupLeads key lo hi old new (Some hit) = (new ≡ after_call old 0 (Lookup key lo hi))
     × (lookup_answer old.cache key lo hi ≡ Some hit.answer) × (hit.front ≡ old.seen)
-LookupLeads key lo hi old new None =
+CallerLookupLeads key lo hi old new None =
     ((new ≡ after_call old 0 (Lookup key lo hi)) × (lookup_answer old.cache key lo hi ≡ None))
     ⊎ HasRefusedLookup old lo hi new
 
 -- the node has seen what the front shows, and then made the step of the insertion
-pub record HasInserted (seen : FrontValue) (entry : Entry) (old new : NodeValue) : Type 0 where
+pub record HasTakenEntry (seen : FrontValue) (entry : Entry) (old new : NodeValue) : Type 0 where
   pub longer : IsLonger old.seen seen new.seen
   pub after : new ≡ after_call (seeing old new.seen) 0 (Insert entry)
 
@@ -109,8 +109,8 @@ abbrev pub HasRefusedStep : NodeValue → NodeValue → Type 0
 HasRefusedStep old new = (e : NodeError) × IsStepRefused old e × IsNodeLeft old new e
 
 -- the node takes the entry, as it is; or it refuses, and keeps nothing
-abbrev pub InsertLeads : FrontValue → Entry → NodeValue → NodeValue → Type 0
-InsertLeads seen entry old new = HasInserted seen entry old new ⊎ HasRefusedStep old new
+abbrev pub CallerInsertLeads : FrontValue → Entry → NodeValue → NodeValue → Type 0
+CallerInsertLeads seen entry old new = HasTakenEntry seen entry old new ⊎ HasRefusedStep old new
 
 -- a step keeps the row of the node, and its passes
 pub record KeepsNode (old new : NodeValue) : Type 0 where
@@ -121,22 +121,22 @@ pub record KeepsNode (old new : NodeValue) : Type 0 where
 
 -- What a request comes to, once it was replied so: a pin is made; a pin is added, or a hold taken away; the node
 -- makes a step; a query changes nothing. What is refused changes nothing that is told here.
-abbrev pub ExchangeLeads : FrontValue → PortsValue → PortsValue → Exchange → Type 0
-ExchangeLeads seen old new (exchanges.Pin now at_least pinned) = PinLeads now at_least old new pinned
-ExchangeLeads seen old new (exchanges.AddPin pinned given added) = AddLeads pinned old new added
-ExchangeLeads seen old new (exchanges.Unpin stamp) = UnpinLeads stamp old new
-ExchangeLeads seen old new (exchanges.Lookup node key lo hi hit) =
-    (new ≡ record old { node = new.node }) × LookupLeads key lo hi old.node new.node hit
-ExchangeLeads seen old new (exchanges.Query query stamp found) =
-    (new ≡ old) × FindLeads query stamp old.database found
-ExchangeLeads seen old new (exchanges.Insert node entry) =
-    (new ≡ record old { node = new.node }) × InsertLeads seen entry old.node new.node
+abbrev pub CallerExchangeLeads : FrontValue → CallerPorts → CallerPorts → Exchange → Type 0
+CallerExchangeLeads seen old new (exchanges.Pin now at_least pinned) = CallerPinLeads now at_least old new pinned
+CallerExchangeLeads seen old new (exchanges.AddPin pinned given added) = CallerAddLeads pinned old new added
+CallerExchangeLeads seen old new (exchanges.Unpin stamp) = CallerUnpinLeads stamp old new
+CallerExchangeLeads seen old new (exchanges.Lookup node key lo hi hit) =
+    (new ≡ record old { node = new.node }) × CallerLookupLeads key lo hi old.node new.node hit
+CallerExchangeLeads seen old new (exchanges.Query query stamp found) =
+    (new ≡ old) × CallerFindLeads query stamp old.database found
+CallerExchangeLeads seen old new (exchanges.Insert node entry) =
+    (new ≡ record old { node = new.node }) × CallerInsertLeads seen entry old.node new.node
 
 -- The reply is one to the request, and right in the history that it shows, which is of the row; and so much comes of
 -- the request. The row stays.
-pub record HasAsked (next : Next) (seen : FrontValue) (request : PortRequest) (old new : PortsValue)
+pub record HasAskedPorts (next : Next) (seen : FrontValue) (request : PortRequest) (old new : CallerPorts)
     (reply : PortReply) : Type 0 where
   pub answer : IsReplyTo next request reply
   pub row : IsOfRow old.database.events reply
-  pub leads : IsExchange (ExchangeLeads seen old new) request reply
+  pub leads : IsExchange (CallerExchangeLeads seen old new) request reply
   pub events : new.database.events ≡ old.database.events

@@ -9,8 +9,8 @@ use Rattle.txc_ports.specs.declared.recorded.Recorded.{Recorded}
 use Rattle.txc_txn.specs.Core.{open_call, IsIdle}
 use Rattle.txc_txn.specs.Kept.{TxnValue}
 use Rattle.txc_caller.specs.Given.{IsGivenBy}
-use Rattle.txc_caller.specs.Ports.{PortsValue}
-use Rattle.txc_caller.specs.Standing.{asks_next, IsKept, KeepsOn}
+use Rattle.txc_caller.specs.Ports.{CallerPorts}
+use Rattle.txc_caller.specs.Standing.{asks_next, IsKeptBack, KeepsOn}
 use Rattle.txc_caller.specs.declared.frames.OpenCall.{OpenCall}
 use Rattle.txc_caller.specs.declared.step.CallerError.{CallerError}
 use Rattle.txc_caller.specs.declared.step.Step.{Step}
@@ -18,29 +18,29 @@ use Rattle.txc_caller.specs.declared.step.Step.TheVariants.{Compute, Answered, V
 
 -- at rest: its ports, after how long the newest pin is renewed, and what the objects of the functions do
 pub record CallerValue : Type 0 where
-  pub ports : PortsValue
+  pub ports : CallerPorts
   pub renew_after : ℕ
   pub objects : Objects
 
 -- with a transaction: its ports, the core with the objects, and the open call, if one is
-pub record ReadingValue : Type 0 where
-  pub ports : PortsValue
+pub record CallerReading : Type 0 where
+  pub ports : CallerPorts
   pub renew_after : ℕ
   pub txn : TxnValue
   pub doing : Option OpenCall
 
 -- the transaction is of the ports' row. Without an open call its core is idle; else a reply is kept back for it, and
 -- the open call is the core's.
-pub record IsReading (next : Next) (r : ReadingValue) : Type 0 where
+pub record IsCallerReading (next : Next) (r : CallerReading) : Type 0 where
   pub row : r.txn.core.seen.events ≡ r.ports.database.events
   pub nodes : r.txn.core.nodes ≡ 1
   pub renew_after : r.txn.core.renew_after ≡ r.renew_after
   pub idle : r.doing ≡ None → IsIdle r.txn.core
-  pub kept : ForSome r.doing (λ (o : OpenCall). IsKept next r.txn o.kept)
+  pub kept : ForSome r.doing (λ (o : OpenCall). IsKeptBack next r.txn o.kept)
   pub top : ForSome r.doing (λ (o : OpenCall). open_call r.txn.core ≡ Some o.frames.top)
 
 -- the function that the caller computes asks this next, if he computes one
-abbrev pub AsksNext : Next → ReadingValue → Ask → Type 0
+abbrev pub AsksNext : Next → CallerReading → Ask → Type 0
 AsksNext next r ask = ForSome r.doing (λ (o : OpenCall). asks_next next r.txn.objects o.frames.inner.key o.given ≡ Some ask)
 
 -- the outermost call that is open, or else this one
@@ -49,11 +49,11 @@ top_or None k = k
 top_or (Some o) k = o.frames.top
 
 -- what each step keeps: the settings, the functions and the row; and more is seen of the one history
-pub record KeepsReading (old new : ReadingValue) : Type 0 where
+pub record KeepsReading (old new : CallerReading) : Type 0 where
   pub txn : KeepsOn old.txn new.txn
   pub row : new.ports.database.events ≡ old.ports.database.events
   pub renew_after : new.renew_after ≡ old.renew_after
 
 -- the caller at rest after a transaction
-abbrev pub caller_of : ReadingValue → CallerValue
+abbrev pub caller_of : CallerReading → CallerValue
 caller_of r = record { ports = r.ports; renew_after = r.renew_after; objects = r.txn.objects }

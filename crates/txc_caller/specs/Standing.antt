@@ -21,7 +21,7 @@ use Rattle.txc_caller.specs.declared.stand.Stand.{Stand}
 use Rattle.txc_caller.specs.declared.stand.Stand.TheVariants.{Kept, Value, Refused}
 
 -- the reply is one to what the transaction asks, and right in the history that it shows, which is of its row
-pub record IsKept (next : Next) (t : TxnValue) (reply : PortReply) : Type 0 where
+pub record IsKeptBack (next : Next) (t : TxnValue) (reply : PortReply) : Type 0 where
   pub answers : IsAnswered t.core reply
   pub row : ForSome (front_of_reply reply) (λ front. front.events ≡ t.core.seen.events)
   pub right : IsShownRight next t reply
@@ -34,7 +34,7 @@ pub record IsGoing (row : List ℕ) (c : CoreValue) (turn : Turn) : Type 0 where
   pub nodes : c.nodes ≡ 1
 
 -- the turn is of this call, before which these values were recorded
-pub record IsOfCall (before : List Recorded) (k : Call) (c : CoreValue) (turn : Turn) : Type 0 where
+pub record IsTurnOf (before : List Recorded) (k : Call) (c : CoreValue) (turn : Turn) : Type 0 where
   pub begins : IsAsk turn → open_call c ≡ Some k
   pub recorded : c.recorded ≡ recorded_after before turn (Some k)
 
@@ -49,14 +49,14 @@ pub record KeepsOn (old new : TxnValue) : Type 0 where
 -- call
 pub record HasPassed (row : List ℕ) (old : TxnValue) (turn : Turn) (new : TxnValue) (after : Turn) : Type 0 where
   pub going : IsGoing row new.core after
-  pub of_call : (before : List Recorded) (k : Call) → IsOfCall before k old.core turn → IsOfCall before k new.core after
+  pub of_call : (before : List Recorded) (k : Call) → IsTurnOf before k old.core turn → IsTurnOf before k new.core after
   pub keeps : KeepsOn old new
 
 -- How the call stands, before which these values were recorded: a reply is kept back, and the call is open; or
 -- its value is recorded beside them; or it was refused, and nothing is.
 abbrev pub IsStanding : Next → List Recorded → Call → TxnValue → Stand → Type 0
 IsStanding next before k t (Kept reply) =
-    IsKept next t reply × (open_call t.core ≡ Some k) × (t.core.recorded ≡ before)
+    IsKeptBack next t reply × (open_call t.core ≡ Some k) × (t.core.recorded ≡ before)
 IsStanding next before k t (Value value) =
     IsIdle t.core × (t.core.recorded ≡ before ++ record { key = k; value = value } ∷ [])
 IsStanding next before k t (Refused error) = IsIdle t.core × (t.core.recorded ≡ before)

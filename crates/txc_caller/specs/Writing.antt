@@ -8,17 +8,17 @@ use Rattle.txc_caller.specs.declared.caller_write.TheConstants.{MAX_CHANGES}
 use Rattle.txc_caller.specs.Reading.{CallerValue}
 
 -- the caller, the stamp that it reads, and its changes, in order
-pub record WritingValue : Type 0 where
+pub record CallerWriting : Type 0 where
   pub caller : CallerValue
   pub base : ℕ
   pub changes : List Change
 
 -- it reads the newest state
-pub record IsWriting (w : WritingValue) : Type 0 where
+pub record IsWriting (w : CallerWriting) : Type 0 where
   pub base : w.base ≡ newest w.caller.ports.database
 
 -- nothing is changed yet
-pub record IsBegunWrite (c : CallerValue) (w : WritingValue) : Type 0 where
+pub record IsBegunWrite (c : CallerValue) (w : CallerWriting) : Type 0 where
   pub caller : w.caller ≡ c
   pub base : w.base ≡ newest c.ports.database
   pub changes : w.changes ≡ []

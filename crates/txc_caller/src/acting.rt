@@ -5,13 +5,13 @@ ghost use Rattle.txc_tags.specs.Keys.{Call};
 ghost use Rattle.txc_ports.specs.declared.recorded.Recorded.{Recorded};
 ghost use Rattle.txc_txn.specs.Core.{open_call, IsIdle};
 ghost use Rattle.txc_txn.specs.Kept.{TxnValue};
-ghost use Rattle.txc_caller.specs.Acting.{step_with, HasActed};
-ghost use Rattle.txc_caller.specs.Standing.{asks_next, IsKept, IsStanding, KeepsOn};
+ghost use Rattle.txc_caller.specs.Acting.{step_with, IsActOf};
+ghost use Rattle.txc_caller.specs.Standing.{asks_next, IsKeptBack, IsStanding, KeepsOn};
 
 use crate::acted::Acted;
 use crate::asking::{counted, given_by, supply};
 use crate::engine::{feed, start};
-use crate::frames::{Frames, OpenCall};
+use crate::frames::{Around, Frames, OpenCall};
 use crate::ports::Ports;
 use crate::stand::Stand;
 use crate::step::{CallerError, Step};
@@ -38,8 +38,8 @@ fn step_with(given: &Option<Answer>) -> Step
 
 // The call is open, and its innermost function has this answer.
 fn stays(frames: Frames, given: Option<Answer>, kept: PortReply) -> Acted
-    ensures { (next : Next) (t : TxnValue) → IsKept next t kept → open_call t.core ≡ Some frames.top
-        → HasActed next t.core.recorded frames.top t result }
+    ensures { (next : Next) (t : TxnValue) → IsKeptBack next t kept → open_call t.core ≡ Some frames.top
+        → IsActOf next t.core.recorded frames.top t result }
 {
     let step = step_with(&given);
     Acted {
@@ -54,8 +54,8 @@ fn stays(frames: Frames, given: Option<Answer>, kept: PortReply) -> Acted
 
 // The call is open, and the caller is told why it does not go on.
 fn refused(frames: Frames, given: Option<Answer>, kept: PortReply, error: CallerError) -> Acted
-    ensures { (next : Next) (t : TxnValue) → IsKept next t kept → open_call t.core ≡ Some frames.top
-        → HasActed next t.core.recorded frames.top t result }
+    ensures { (next : Next) (t : TxnValue) → IsKeptBack next t kept → open_call t.core ≡ Some frames.top
+        → IsActOf next t.core.recorded frames.top t result }
 {
     Acted {
         doing: Some(OpenCall {
@@ -69,8 +69,8 @@ fn refused(frames: Frames, given: Option<Answer>, kept: PortReply, error: Caller
 
 // The same, for want of memory: all is as it was.
 fn out_of_memory(frames: Frames, given: Option<Answer>, kept: PortReply) -> Acted
-    ensures { (next : Next) (t : TxnValue) → IsKept next t kept → open_call t.core ≡ Some frames.top
-        → HasActed next t.core.recorded frames.top t result }
+    ensures { (next : Next) (t : TxnValue) → IsKeptBack next t kept → open_call t.core ≡ Some frames.top
+        → IsActOf next t.core.recorded frames.top t result }
 {
     refused(frames, given, kept, CallerError::Memory)
 }
@@ -78,7 +78,7 @@ fn out_of_memory(frames: Frames, given: Option<Answer>, kept: PortReply) -> Acte
 // The call has its value.
 fn valued(value: Value) -> Acted
     ensures { (next : Next) (before : List Recorded) (k : Call) (t : TxnValue) → IsIdle t.core
-        → t.core.recorded ≡ before ++ record { key = k; value = value } ∷ [] → HasActed next before k t result }
+        → t.core.recorded ≡ before ++ record { key = k; value = value } ∷ [] → IsActOf next before k t result }
 {
     Acted {
         doing: None,
@@ -89,7 +89,7 @@ fn valued(value: Value) -> Acted
 // The call was refused.
 fn ended(error: TxnError) -> Acted
     ensures { (next : Next) (before : List Recorded) (k : Call) (t : TxnValue) → IsIdle t.core
-        → t.core.recorded ≡ before → HasActed next before k t result }
+        → t.core.recorded ≡ before → IsActOf next before k t result }
 {
     Acted {
         doing: None,
@@ -100,7 +100,7 @@ fn ended(error: TxnError) -> Acted
 // The call as it stands.
 fn standing(stand: Stand, frames: Frames, given: Option<Answer>) -> Acted
     ensures { (next : Next) (before : List Recorded) (t : TxnValue)
-        → IsStanding next before frames.top t stand → HasActed next before frames.top t result }
+        → IsStanding next before frames.top t stand → IsActOf next before frames.top t result }
 {
     match stand {
         Stand::Kept(kept) => stays(frames, given, kept),
@@ -141,11 +141,11 @@ fn answered<A: App, C: Suppliable>(
     frames: Frames,
     kept: PortReply,
 ) -> Acted
-    requires kept { IsKept A.next txn.old kept }
+    requires kept { IsKeptBack A.next txn.old kept }
     requires top { open_call txn.old.core ≡ Some frames.top }
     requires row { txn.old.core.seen.events ≡ ports.old.database.events }
     requires nodes { txn.old.core.nodes ≡ 1 }
-    ensures acted { HasActed A.next txn.old.core.recorded frames.top txn.new result }
+    ensures acted { IsActOf A.next txn.old.core.recorded frames.top txn.new result }
     ensures keeps { KeepsOn txn.old txn.new }
     ensures events { ports.new.database.events ≡ ports.old.database.events }
 {
@@ -170,11 +170,11 @@ fn first_reply<A: App, C: Suppliable>(
     frames: Frames,
     kept: PortReply,
 ) -> Acted
-    requires kept { IsKept A.next txn.old kept }
+    requires kept { IsKeptBack A.next txn.old kept }
     requires top { open_call txn.old.core ≡ Some frames.top }
     requires row { txn.old.core.seen.events ≡ ports.old.database.events }
     requires nodes { txn.old.core.nodes ≡ 1 }
-    ensures acted { HasActed A.next txn.old.core.recorded frames.top txn.new result }
+    ensures acted { IsActOf A.next txn.old.core.recorded frames.top txn.new result }
     ensures keeps { KeepsOn txn.old txn.new }
     ensures events { ports.new.database.events ≡ ports.old.database.events }
 {
@@ -195,12 +195,12 @@ fn inner_reply<A: App, C: Suppliable>(
     kept: PortReply,
     key: Key,
 ) -> Acted
-    requires kept { IsKept A.next txn.old kept }
+    requires kept { IsKeptBack A.next txn.old kept }
     requires top { open_call txn.old.core ≡ Some frames.top }
     requires row { txn.old.core.seen.events ≡ ports.old.database.events }
     requires nodes { txn.old.core.nodes ≡ 1 }
     requires room { vec_len frames.outer < vec_capacity frames.outer }
-    ensures acted { HasActed A.next txn.old.core.recorded frames.top txn.new result }
+    ensures acted { IsActOf A.next txn.old.core.recorded frames.top txn.new result }
     ensures keeps { KeepsOn txn.old txn.new }
     ensures events { ports.new.database.events ≡ ports.old.database.events }
 {
@@ -223,7 +223,7 @@ pub(crate) fn call_first<A: App, C: Suppliable>(
     requires idle { IsIdle txn.old.core }
     requires row { txn.old.core.seen.events ≡ ports.old.database.events }
     requires nodes { txn.old.core.nodes ≡ 1 }
-    ensures acted { HasActed A.next txn.old.core.recorded key txn.new result }
+    ensures acted { IsActOf A.next txn.old.core.recorded key txn.new result }
     ensures keeps { KeepsOn txn.old txn.new }
     ensures events { ports.new.database.events ≡ ports.old.database.events }
 {
@@ -244,12 +244,12 @@ fn go_on_to_call<A: App, C: Suppliable>(
     kept: PortReply,
     key: Key,
 ) -> Acted
-    requires kept { IsKept A.next txn.old kept }
+    requires kept { IsKeptBack A.next txn.old kept }
     requires top { open_call txn.old.core ≡ Some frames.top }
     requires row { txn.old.core.seen.events ≡ ports.old.database.events }
     requires nodes { txn.old.core.nodes ≡ 1 }
     requires room { vec_len frames.outer < vec_capacity frames.outer }
-    ensures acted { HasActed A.next txn.old.core.recorded frames.top txn.new result }
+    ensures acted { IsActOf A.next txn.old.core.recorded frames.top txn.new result }
     ensures keeps { KeepsOn txn.old txn.new }
     ensures events { ports.new.database.events ≡ ports.old.database.events }
 {
@@ -257,6 +257,32 @@ fn go_on_to_call<A: App, C: Suppliable>(
         Stand::Kept(reply) => inner_reply(alloc, ports, txn, frames, reply, key),
         Stand::Value(value) => valued(value),
         Stand::Refused(error) => ended(error),
+    }
+}
+
+// Hands over that the innermost function asks for the call, and goes on.
+fn hand_call<A: App, C: Suppliable>(
+    alloc: Global,
+    ports: &mut Ports<A>,
+    txn: &mut RunningTxn<A, C>,
+    frames: Frames,
+    given: Option<Answer>,
+    kept: PortReply,
+    key: Key,
+) -> Acted
+    requires asks { asks_next A.next txn.old.objects frames.inner.key given ≡ Some (Ask.Call key) }
+    requires kept { IsKeptBack A.next txn.old kept }
+    requires top { open_call txn.old.core ≡ Some frames.top }
+    requires row { txn.old.core.seen.events ≡ ports.old.database.events }
+    requires nodes { txn.old.core.nodes ≡ 1 }
+    requires room { vec_len frames.outer < vec_capacity frames.outer }
+    ensures acted { IsActOf A.next txn.old.core.recorded frames.top txn.new result }
+    ensures keeps { KeepsOn txn.old txn.new }
+    ensures events { ports.new.database.events ≡ ports.old.database.events }
+{
+    match supply(alloc, txn, &frames.inner.key, given, Ask::Call(key.copy())) {
+        Ok(()) => go_on_to_call(alloc, ports, txn, frames, kept, key),
+        Err(error) => refused(frames, None, kept, error),
     }
 }
 
@@ -269,11 +295,11 @@ pub(crate) fn call_inside<A: App, C: Suppliable>(
     key: Key,
 ) -> Acted
     requires asks { asks_next A.next txn.old.objects call.frames.inner.key call.given ≡ Some (Ask.Call key) }
-    requires kept { IsKept A.next txn.old call.kept }
+    requires kept { IsKeptBack A.next txn.old call.kept }
     requires top { open_call txn.old.core ≡ Some call.frames.top }
     requires row { txn.old.core.seen.events ≡ ports.old.database.events }
     requires nodes { txn.old.core.nodes ≡ 1 }
-    ensures acted { HasActed A.next txn.old.core.recorded call.frames.top txn.new result }
+    ensures acted { IsActOf A.next txn.old.core.recorded call.frames.top txn.new result }
     ensures keeps { KeepsOn txn.old txn.new }
     ensures events { ports.new.database.events ≡ ports.old.database.events }
 {
@@ -282,13 +308,10 @@ pub(crate) fn call_inside<A: App, C: Suppliable>(
         given,
         kept,
     } = call;
-    if frames.make_room().is_err() {
+    let Ok(()) = frames.make_room() else {
         return out_of_memory(frames, given, kept);
-    }
-    match supply(alloc, txn, &frames.inner.key, given, Ask::Call(key.copy())) {
-        Ok(()) => go_on_to_call(alloc, ports, txn, frames, kept, key),
-        Err(error) => refused(frames, None, kept, error),
-    }
+    };
+    hand_call(alloc, ports, txn, frames, given, kept, key)
 }
 
 // ---- queries
@@ -301,11 +324,11 @@ fn go_on_to_query<A: App, C: Suppliable>(
     frames: Frames,
     kept: PortReply,
 ) -> Acted
-    requires kept { IsKept A.next txn.old kept }
+    requires kept { IsKeptBack A.next txn.old kept }
     requires top { open_call txn.old.core ≡ Some frames.top }
     requires row { txn.old.core.seen.events ≡ ports.old.database.events }
     requires nodes { txn.old.core.nodes ≡ 1 }
-    ensures acted { HasActed A.next txn.old.core.recorded frames.top txn.new result }
+    ensures acted { IsActOf A.next txn.old.core.recorded frames.top txn.new result }
     ensures keeps { KeepsOn txn.old txn.new }
     ensures events { ports.new.database.events ≡ ports.old.database.events }
 {
@@ -325,11 +348,11 @@ pub(crate) fn query_inside<A: App, C: Suppliable>(
     query: Query,
 ) -> Acted
     requires asks { asks_next A.next txn.old.objects call.frames.inner.key call.given ≡ Some (Ask.Query query) }
-    requires kept { IsKept A.next txn.old call.kept }
+    requires kept { IsKeptBack A.next txn.old call.kept }
     requires top { open_call txn.old.core ≡ Some call.frames.top }
     requires row { txn.old.core.seen.events ≡ ports.old.database.events }
     requires nodes { txn.old.core.nodes ≡ 1 }
-    ensures acted { HasActed A.next txn.old.core.recorded call.frames.top txn.new result }
+    ensures acted { IsActOf A.next txn.old.core.recorded call.frames.top txn.new result }
     ensures keeps { KeepsOn txn.old txn.new }
     ensures events { ports.new.database.events ≡ ports.old.database.events }
 {
@@ -354,11 +377,11 @@ fn conclude<A: App, C: Suppliable>(
     frames: Frames,
     kept: PortReply,
 ) -> Acted
-    requires kept { IsKept A.next txn.old kept }
+    requires kept { IsKeptBack A.next txn.old kept }
     requires top { open_call txn.old.core ≡ Some frames.top }
     requires row { txn.old.core.seen.events ≡ ports.old.database.events }
     requires nodes { txn.old.core.nodes ≡ 1 }
-    ensures acted { HasActed A.next txn.old.core.recorded frames.top txn.new result }
+    ensures acted { IsActOf A.next txn.old.core.recorded frames.top txn.new result }
     ensures keeps { KeepsOn txn.old txn.new }
     ensures events { ports.new.database.events ≡ ports.old.database.events }
 {
@@ -379,19 +402,19 @@ fn close<A: App, C: Suppliable>(
     alloc: Global,
     ports: &mut Ports<A>,
     txn: &mut RunningTxn<A, C>,
-    frames: Frames,
+    around: Around,
     kept: PortReply,
-    is_reached: bool,
     value: Value,
 ) -> Acted
-    requires kept { IsKept A.next txn.old kept }
-    requires top { open_call txn.old.core ≡ Some frames.top }
+    requires kept { IsKeptBack A.next txn.old kept }
+    requires top { open_call txn.old.core ≡ Some around.frames.top }
     requires row { txn.old.core.seen.events ≡ ports.old.database.events }
     requires nodes { txn.old.core.nodes ≡ 1 }
-    ensures acted { HasActed A.next txn.old.core.recorded frames.top txn.new result }
+    ensures acted { IsActOf A.next txn.old.core.recorded around.frames.top txn.new result }
     ensures keeps { KeepsOn txn.old txn.new }
     ensures events { ports.new.database.events ≡ ports.old.database.events }
 {
+    let Around { frames, is_reached } = around;
     let given = Some(Answer::Value(value));
     if !is_reached {
         return stays(frames, given, kept);
@@ -409,11 +432,11 @@ fn go_on_to_value<A: App, C: Suppliable>(
     kept: PortReply,
     bytes: Vec<u8>,
 ) -> Acted
-    requires kept { IsKept A.next txn.old kept }
+    requires kept { IsKeptBack A.next txn.old kept }
     requires top { open_call txn.old.core ≡ Some frames.top }
     requires row { txn.old.core.seen.events ≡ ports.old.database.events }
     requires nodes { txn.old.core.nodes ≡ 1 }
-    ensures acted { HasActed A.next txn.old.core.recorded frames.top txn.new result }
+    ensures acted { IsActOf A.next txn.old.core.recorded frames.top txn.new result }
     ensures keeps { KeepsOn txn.old txn.new }
     ensures events { ports.new.database.events ≡ ports.old.database.events }
 {
@@ -422,9 +445,51 @@ fn go_on_to_value<A: App, C: Suppliable>(
         return standing(stand, frames, None);
     };
     match frames.leave() {
-        Ok((around, is_reached)) => close(alloc, ports, txn, around, kept, is_reached, value),
+        Ok(around) => close(alloc, ports, txn, around, kept, value),
         Err(outermost) => conclude(alloc, ports, txn, outermost, kept),
     }
+}
+
+// Hands over what the innermost function gives, of which there is a copy, and goes on.
+fn hand_value<A: App, C: Suppliable>(
+    alloc: Global,
+    ports: &mut Ports<A>,
+    txn: &mut RunningTxn<A, C>,
+    call: OpenCall,
+    bytes: Bytes,
+    copy: Vec<u8>,
+) -> Acted
+    requires asks { asks_next A.next txn.old.objects call.frames.inner.key call.given ≡ Some (Ask.Done bytes) }
+    requires kept { IsKeptBack A.next txn.old call.kept }
+    requires top { open_call txn.old.core ≡ Some call.frames.top }
+    requires row { txn.old.core.seen.events ≡ ports.old.database.events }
+    requires nodes { txn.old.core.nodes ≡ 1 }
+    ensures acted { IsActOf A.next txn.old.core.recorded call.frames.top txn.new result }
+    ensures keeps { KeepsOn txn.old txn.new }
+    ensures events { ports.new.database.events ≡ ports.old.database.events }
+{
+    let OpenCall {
+        frames,
+        given,
+        kept,
+    } = call;
+    match supply(alloc, txn, &frames.inner.key, given, Ask::Done(bytes)) {
+        Ok(()) => go_on_to_value(alloc, ports, txn, frames, kept, copy),
+        Err(error) => refused(frames, None, kept, error),
+    }
+}
+
+// The open call, as it was, for want of memory.
+fn unmoved(call: OpenCall) -> Acted
+    ensures { (next : Next) (t : TxnValue) → IsKeptBack next t call.kept → open_call t.core ≡ Some call.frames.top
+        → IsActOf next t.core.recorded call.frames.top t result }
+{
+    let OpenCall {
+        frames,
+        given,
+        kept,
+    } = call;
+    out_of_memory(frames, given, kept)
 }
 
 /// The function is done, with these bytes.
@@ -436,25 +501,16 @@ pub(crate) fn finish_inside<A: App, C: Suppliable>(
     bytes: Vec<u8>,
 ) -> Acted
     requires asks { asks_next A.next txn.old.objects call.frames.inner.key call.given ≡ Some (Ask.Done bytes.items) }
-    requires kept { IsKept A.next txn.old call.kept }
+    requires kept { IsKeptBack A.next txn.old call.kept }
     requires top { open_call txn.old.core ≡ Some call.frames.top }
     requires row { txn.old.core.seen.events ≡ ports.old.database.events }
     requires nodes { txn.old.core.nodes ≡ 1 }
-    ensures acted { HasActed A.next txn.old.core.recorded call.frames.top txn.new result }
+    ensures acted { IsActOf A.next txn.old.core.recorded call.frames.top txn.new result }
     ensures keeps { KeepsOn txn.old txn.new }
     ensures events { ports.new.database.events ≡ ports.old.database.events }
 {
-    let OpenCall {
-        frames,
-        given,
-        kept,
-    } = call;
     let Ok(copy) = Vec::from_slice(alloc, &bytes) else {
-        return out_of_memory(frames, given, kept);
+        return unmoved(call);
     };
-    let done = Ask::Done(Bytes::new(bytes));
-    match supply(alloc, txn, &frames.inner.key, given, done) {
-        Ok(()) => go_on_to_value(alloc, ports, txn, frames, kept, copy),
-        Err(error) => refused(frames, None, kept, error),
-    }
+    hand_value(alloc, ports, txn, call, Bytes::new(bytes), copy)
 }

@@ -36,13 +36,13 @@ pub struct CallerTxn<A: App, C: Suppliable> {
 }
 
 impl<A: App, C: Suppliable> Model for CallerTxn<A, C> {
-    ghost use Rattle.txc_caller.specs.Reading.{ReadingValue, IsReading};
+    ghost use Rattle.txc_caller.specs.Reading.{CallerReading, IsCallerReading};
 
-    ghost Value = { ReadingValue };
+    ghost Value = { CallerReading };
 
     ghost view = { λ r. record { ports = r.ports; renew_after = r.renew_after; txn = r.txn; doing = r.doing } };
 
-    ghost invariant = { λ r. IsReading A.next
+    ghost invariant = { λ r. IsCallerReading A.next
         (record { ports = r.ports; renew_after = r.renew_after; txn = r.txn; doing = r.doing }) };
 }
 
@@ -65,17 +65,55 @@ impl<A: App, C: Suppliable> CallerTxn<A, C> {
 
     // Asks for the value of a call, by the function that is computed.
     fn call_by_function(&mut self, alloc: Global, key: Key) -> Result<Step, CallerError>
-        requires { AsksNext A.next self.old (asks.Call key) }
+        requires some { IsSome self.old.doing }
+        requires asks { AsksNext A.next self.old (asks.Call key) }
         ensures step { MatchOption self.old.doing (result ≡ Err CallerError.NoFunction)
             (λ o. IsStepOf self.old.txn.core.recorded o.frames.top self.new.txn.core.recorded self.new.doing result) }
         ensures keeps { KeepsReading self.old self.new }
         ensures meant { IsTxn A.next self.new.txn }
     {
         let Some(call) = self.doing.take() else {
-            self.txn.is_kept();
-            return Err(CallerError::NoFunction);
+            unreachable!()
         };
         let acted = call_inside(alloc, &mut self.ports, &mut self.txn, call, key);
+        let Acted { doing, step } = acted;
+        self.doing = doing;
+        self.txn.is_kept();
+        step
+    }
+
+    // Asks for the rows of a query, by the function that is computed.
+    fn query_by_function(&mut self, alloc: Global, query: Query) -> Result<Step, CallerError>
+        requires some { IsSome self.old.doing }
+        requires asks { AsksNext A.next self.old (asks.Query query) }
+        ensures step { MatchOption self.old.doing (result ≡ Err CallerError.NoFunction)
+            (λ o. IsStepOf self.old.txn.core.recorded o.frames.top self.new.txn.core.recorded self.new.doing result) }
+        ensures keeps { KeepsReading self.old self.new }
+        ensures meant { IsTxn A.next self.new.txn }
+    {
+        let Some(call) = self.doing.take() else {
+            unreachable!()
+        };
+        let acted = query_inside(alloc, &mut self.ports, &mut self.txn, call, query);
+        let Acted { doing, step } = acted;
+        self.doing = doing;
+        self.txn.is_kept();
+        step
+    }
+
+    // The function that is computed gives these bytes.
+    fn finish_function(&mut self, alloc: Global, bytes: Vec<u8>) -> Result<Step, CallerError>
+        requires some { IsSome self.old.doing }
+        requires asks { AsksNext A.next self.old (asks.Done bytes.items) }
+        ensures step { MatchOption self.old.doing (result ≡ Err CallerError.NoFunction)
+            (λ o. IsStepOf self.old.txn.core.recorded o.frames.top self.new.txn.core.recorded self.new.doing result) }
+        ensures keeps { KeepsReading self.old self.new }
+        ensures meant { IsTxn A.next self.new.txn }
+    {
+        let Some(call) = self.doing.take() else {
+            unreachable!()
+        };
+        let acted = finish_inside(alloc, &mut self.ports, &mut self.txn, call, bytes);
         let Acted { doing, step } = acted;
         self.doing = doing;
         self.txn.is_kept();
@@ -105,15 +143,11 @@ impl<A: App, C: Suppliable> CallerTxn<A, C> {
         ensures keeps { KeepsReading self.old self.new }
         ensures meant { IsTxn A.next self.new.txn }
     {
-        let Some(call) = self.doing.take() else {
+        if self.doing.is_none() {
             self.txn.is_kept();
             return Err(CallerError::NoFunction);
-        };
-        let acted = query_inside(alloc, &mut self.ports, &mut self.txn, call, query);
-        let Acted { doing, step } = acted;
-        self.doing = doing;
-        self.txn.is_kept();
-        step
+        }
+        self.query_by_function(alloc, query)
     }
 
     /// Says that the function that is computed gives these bytes. They are kept at the node, under its call, with
@@ -125,15 +159,11 @@ impl<A: App, C: Suppliable> CallerTxn<A, C> {
         ensures keeps { KeepsReading self.old self.new }
         ensures meant { IsTxn A.next self.new.txn }
     {
-        let Some(call) = self.doing.take() else {
+        if self.doing.is_none() {
             self.txn.is_kept();
             return Err(CallerError::NoFunction);
-        };
-        let acted = finish_inside(alloc, &mut self.ports, &mut self.txn, call, bytes);
-        let Acted { doing, step } = acted;
-        self.doing = doing;
-        self.txn.is_kept();
-        step
+        }
+        self.finish_function(alloc, bytes)
     }
 
     /// Gives the open call up, if one is, and returns whether one was. The transaction stays open, and its answers

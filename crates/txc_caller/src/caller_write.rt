@@ -28,9 +28,9 @@ pub struct CallerWrite<A: App, C: Suppliable> {
 }
 
 impl<A: App, C: Suppliable> Model for CallerWrite<A, C> {
-    ghost use Rattle.txc_caller.specs.Writing.{WritingValue, IsWriting};
+    ghost use Rattle.txc_caller.specs.Writing.{CallerWriting, IsWriting};
 
-    ghost Value = { WritingValue };
+    ghost Value = { CallerWriting };
 
     ghost view = { λ w. record { caller = w.caller; base = w.base; changes = w.changes.items } };
 

@@ -3,7 +3,7 @@ ghost use Rattle.std.specs.Prelude.{◌≡◌, ◌∷◌, ◌++◌, List, Some};
 ghost use Rattle.txc_tags.specs.Keys.{Call};
 ghost use Rattle.txc_ports.specs.declared.recorded.Recorded.{Recorded};
 ghost use Rattle.txc_txn.specs.Core.{open_call, IsIdle};
-ghost use Rattle.txc_caller.specs.Standing.{HasPassed, IsGoing, IsKept, IsOfCall, IsStanding, KeepsOn};
+ghost use Rattle.txc_caller.specs.Standing.{HasPassed, IsGoing, IsKeptBack, IsTurnOf, IsStanding, KeepsOn};
 
 use crate::ports::Ports;
 use crate::stand::Stand;
@@ -30,7 +30,7 @@ fn asked<A: App, C: Cacheable>(
     request: PortRequest,
 ) -> PortReply
     requires { IsGoing ports.old.database.events txn.now.core (Turn.Ask request) }
-    ensures kept { IsKept A.next txn.now result }
+    ensures kept { IsKeptBack A.next txn.now result }
     ensures events { ports.new.database.events ≡ ports.old.database.events }
 {
     txn.is_kept();
@@ -96,7 +96,7 @@ fn stop<A: App, C: Cacheable>(
     turn: Turn,
 ) -> Stand
     requires { IsGoing ports.old.database.events txn.now.core turn }
-    ensures stands { (before : List Recorded) (k : Call) → IsOfCall before k txn.now.core turn
+    ensures stands { (before : List Recorded) (k : Call) → IsTurnOf before k txn.now.core turn
         → IsStanding A.next before k txn.now result }
     ensures events { ports.new.database.events ≡ ports.old.database.events }
 {
@@ -116,7 +116,7 @@ fn lead<A: App, C: Cacheable>(
     turn: Turn,
 ) -> Stand
     requires { IsGoing ports.old.database.events txn.old.core turn }
-    ensures stands { (before : List Recorded) (k : Call) → IsOfCall before k txn.old.core turn
+    ensures stands { (before : List Recorded) (k : Call) → IsTurnOf before k txn.old.core turn
         → IsStanding A.next before k txn.new result }
     ensures keeps { KeepsOn txn.old txn.new }
     ensures events { ports.new.database.events ≡ ports.old.database.events }
@@ -153,7 +153,7 @@ pub(crate) fn feed<A: App, C: Cacheable>(
     txn: &mut RunningTxn<A, C>,
     reply: PortReply,
 ) -> Stand
-    requires kept { IsKept A.next txn.old reply }
+    requires kept { IsKeptBack A.next txn.old reply }
     requires row { txn.old.core.seen.events ≡ ports.old.database.events }
     requires nodes { txn.old.core.nodes ≡ 1 }
     ensures stands { (k : Call) → open_call txn.old.core ≡ Some k

@@ -35,6 +35,14 @@ pub struct OpenCall {
     pub(crate) kept: PortReply,
 }
 
+/// The function around one that is done.
+#[derive(Drop)]
+pub(crate) struct Around {
+    pub(crate) frames: Frames,
+    /// Whether what the inner one was given depends on a row.
+    pub(crate) is_reached: bool,
+}
+
 impl Frames {
     /// The outermost call alone.
     pub(crate) fn of(alloc: Global, key: &Key) -> Frames
@@ -85,10 +93,9 @@ impl Frames {
         Frames { top, inner, outer }
     }
 
-    /// The innermost function is done, and the one around it goes on; and whether what it was given depends on a row.
-    /// The outermost has none around it.
-    pub(crate) fn leave(self) -> Result<(Frames, bool), Frames>
-        ensures around { IfOk result (λ left. left.0.top ≡ self.top) }
+    /// The innermost function is done, and the one around it goes on. The outermost has none around it.
+    pub(crate) fn leave(self) -> Result<Around, Frames>
+        ensures around { IfOk result (λ around. around.frames.top ≡ self.top) }
         ensures outermost { IfErr result (λ frames. frames.top ≡ self.top) }
     {
         let Frames { top, inner, outer } = self;
@@ -102,6 +109,9 @@ impl Frames {
             key,
             reached: reached || is_reached,
         };
-        Ok((Frames { top, inner, outer }, is_reached))
+        Ok(Around {
+            frames: Frames { top, inner, outer },
+            is_reached,
+        })
     }
 }

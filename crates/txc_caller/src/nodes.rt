@@ -2,7 +2,7 @@
 ghost use Rattle.std.specs.Prelude.{◌≡◌, IfSome};
 ghost use Rattle.txc_app.specs.Claims.{IsTrueIn, entry_shown};
 ghost use Rattle.txc_shared.specs.Passes.{shown_of_entry};
-ghost use Rattle.txc_caller.specs.Ports.{InsertLeads, KeepsNode, LookupLeads};
+ghost use Rattle.txc_caller.specs.Ports.{CallerInsertLeads, KeepsNode, CallerLookupLeads};
 
 use std::alloc::Global;
 use txc_app::App;
@@ -41,7 +41,7 @@ pub(crate) fn look_up<A: App>(
     hi: Stamp,
 ) -> Option<Answered<Shown>>
     requires { node.old.passes ≡ 1 }
-    ensures leads { LookupLeads key.now lo hi node.old node.new result }
+    ensures leads { CallerLookupLeads key.now lo hi node.old node.new result }
     ensures right { IfSome result (λ hit.
         IsTrueIn A.next hit.front.history (entry_shown key.now hit.answer)) }
 {
@@ -62,7 +62,7 @@ pub(crate) fn insert<A: App>(
     requires pass { node.old.passes ≡ 1 }
     requires row { seen.now.events ≡ node.old.seen.events }
     requires is_true { IsTrueIn A.next seen.now.history entry }
-    ensures { InsertLeads seen.now entry node.old node.new }
+    ensures { CallerInsertLeads seen.now entry node.old node.new }
 {
     match node.insert(alloc, 0, entry, seen) {
         Ok(_) => (),

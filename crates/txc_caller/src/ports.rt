@@ -11,7 +11,7 @@ ghost use Rattle.txc_db.specs.Seen.{FrontValue};
 ghost use Rattle.txc_node.specs.declared.node.TheConstants.{MAX_CAPACITY, MAX_RECENT};
 ghost use Rattle.txc_stream.specs.declared.row.TheConstants.{MAX_CAPACITY as MAX_ROW};
 ghost use Rattle.txc_shared.specs.Nodes.{start_of};
-ghost use Rattle.txc_caller.specs.Ports.{AddLeads, FindLeads, InsertLeads, LookupLeads, PinLeads, UnpinLeads};
+ghost use Rattle.txc_caller.specs.Ports.{CallerAddLeads, CallerFindLeads, CallerInsertLeads, CallerLookupLeads, CallerPinLeads, CallerUnpinLeads};
 
 use crate::nodes;
 use std::alloc::{AllocError, Global};
@@ -39,22 +39,22 @@ pub(crate) struct Ports<A: App> {
 
 impl<A: App> Model for Ports<A> {
     ghost use Rattle.std.specs.Prelude.{◌≡◌};
-    ghost use Rattle.txc_caller.specs.Ports.{PortsValue, ArePorts};
+    ghost use Rattle.txc_caller.specs.Ports.{CallerPorts, AreCallerPorts};
 
-    ghost Value = { PortsValue };
+    ghost Value = { CallerPorts };
 
     ghost view = { λ p. record { database = p.database; cushion = p.cushion; node = p.node } };
 
-    ghost invariant = { λ p. ArePorts (record { database = p.database; cushion = p.cushion; node = p.node }) };
+    ghost invariant = { λ p. AreCallerPorts (record { database = p.database; cushion = p.cushion; node = p.node }) };
 }
 
 impl<A: App> Ports<A> {
-    ghost use Rattle.txc_caller.specs.Ports.{HasAsked};
+    ghost use Rattle.txc_caller.specs.Ports.{HasAskedPorts};
     ghost use Rattle.txc_ports.specs.Asking.{MayAsk};
 
     // A pin of the moment `now`.
     fn pin(&mut self, alloc: Global, now: u64, at_least: Stamp) -> Result<Pinned, DbError>
-        ensures leads { PinLeads now at_least self.old self.new result }
+        ensures leads { CallerPinLeads now at_least self.old self.new result }
         ensures events { self.new.database.events ≡ self.old.database.events }
     {
         let pinned = self.database.pin(alloc, now, at_least)?;
@@ -69,7 +69,7 @@ impl<A: App> Ports<A> {
         stamp: Stamp,
     ) -> Result<Answered<Found>, DbError>
         ensures same { self.new ≡ self.old }
-        ensures leads { FindLeads query.now stamp self.old.database result }
+        ensures leads { CallerFindLeads query.now stamp self.old.database result }
     {
         found_rows_give_true_entries();
         let answer = self.database.query(alloc, query, stamp)?;
@@ -146,7 +146,7 @@ impl<A: App> Ports<A> {
     // What the node has of the call at the stamps from `lo` to `hi`, both included.
     fn look_up(&mut self, alloc: Global, key: &Key, lo: Stamp, hi: Stamp) -> Option<Answered<Shown>>
         ensures same { self.new ≡ record self.old { node = self.new.node } }
-        ensures leads { LookupLeads key.now lo hi self.old.node self.new.node result }
+        ensures leads { CallerLookupLeads key.now lo hi self.old.node self.new.node result }
         ensures right { IfSome result (λ hit.
             IsTrueIn A.next hit.front.history (entry_shown key.now hit.answer)) }
         ensures row { IfSome result (λ hit. hit.front.events ≡ self.old.database.events) }
@@ -159,7 +159,7 @@ impl<A: App> Ports<A> {
         requires row { seen.now.events ≡ self.old.database.events }
         requires is_true { IsTrueIn A.next seen.now.history entry }
         ensures same { self.new ≡ record self.old { node = self.new.node } }
-        ensures leads { InsertLeads seen.now entry self.old.node self.new.node }
+        ensures leads { CallerInsertLeads seen.now entry self.old.node self.new.node }
     {
         nodes::insert(alloc, &mut self.node, entry, seen);
     }
@@ -167,7 +167,7 @@ impl<A: App> Ports<A> {
     // Adds a pin to the pincushion.
     fn add(&mut self, pinned: &Pinned) -> Result<(), AddError>
         requires { pinned.now.front.events ≡ self.old.database.events }
-        ensures leads { AddLeads pinned.now self.old self.new result }
+        ensures leads { CallerAddLeads pinned.now self.old self.new result }
         ensures same { self.new ≡ record self.old { cushion = self.new.cushion } }
     {
         match self.cushion.add(pinned) {
@@ -178,7 +178,7 @@ impl<A: App> Ports<A> {
 
     /// Takes one hold of the stamp away, where there is one.
     pub(crate) fn unpin(&mut self, stamp: Stamp)
-        ensures leads { UnpinLeads stamp self.old self.new }
+        ensures leads { CallerUnpinLeads stamp self.old self.new }
         ensures history { self.new.database.history ≡ self.old.database.history }
         ensures events { self.new.database.events ≡ self.old.database.events }
         ensures same { self.new ≡ record self.old { database = self.new.database } }
@@ -255,7 +255,7 @@ impl<A: App> Ports<A> {
     }
 
     fn ask_pin(&mut self, alloc: Global, now: u64, at_least: Stamp) -> PortReply
-        ensures { (seen : FrontValue) → HasAsked A.next seen (PortRequest.Pin now at_least) self.old self.new result }
+        ensures { (seen : FrontValue) → HasAskedPorts A.next seen (PortRequest.Pin now at_least) self.old self.new result }
     {
         let pinned = self.pin(alloc, now, at_least);
         PortReply::Pin(pinned)
@@ -263,14 +263,14 @@ impl<A: App> Ports<A> {
 
     fn ask_add(&mut self, pinned: Pinned) -> PortReply
         requires { pinned.front.events ≡ self.old.database.events }
-        ensures { (seen : FrontValue) → HasAsked A.next seen (PortRequest.AddPin pinned) self.old self.new result }
+        ensures { (seen : FrontValue) → HasAskedPorts A.next seen (PortRequest.AddPin pinned) self.old self.new result }
     {
         let added = self.add(&pinned);
         PortReply::AddPin(pinned, added)
     }
 
     fn ask_unpin(&mut self, stamp: Stamp) -> PortReply
-        ensures { (seen : FrontValue) → HasAsked A.next seen (PortRequest.Unpin stamp) self.old self.new result }
+        ensures { (seen : FrontValue) → HasAskedPorts A.next seen (PortRequest.Unpin stamp) self.old self.new result }
     {
         self.unpin(stamp);
         PortReply::Unpin
@@ -284,7 +284,7 @@ impl<A: App> Ports<A> {
         lo: Stamp,
         hi: Stamp,
     ) -> PortReply
-        ensures { (seen : FrontValue) → HasAsked A.next seen (PortRequest.Lookup node key.now lo hi)
+        ensures { (seen : FrontValue) → HasAskedPorts A.next seen (PortRequest.Lookup node key.now lo hi)
             self.old self.new result }
     {
         let _node = node;
@@ -293,7 +293,7 @@ impl<A: App> Ports<A> {
     }
 
     fn ask_query(&mut self, alloc: Global, query: &Query, stamp: Stamp) -> PortReply
-        ensures { (seen : FrontValue) → HasAsked A.next seen (PortRequest.Query query.now stamp)
+        ensures { (seen : FrontValue) → HasAskedPorts A.next seen (PortRequest.Query query.now stamp)
             self.old self.new result }
     {
         let found = self.find(alloc, query, stamp);
@@ -309,7 +309,7 @@ impl<A: App> Ports<A> {
     ) -> PortReply
         requires row { seen.now.events ≡ self.old.database.events }
         requires is_true { IsTrueIn A.next seen.now.history entry }
-        ensures { HasAsked A.next seen.now (PortRequest.Insert node entry) self.old self.new result }
+        ensures { HasAskedPorts A.next seen.now (PortRequest.Insert node entry) self.old self.new result }
     {
         let _node = node;
         self.insert(alloc, entry, seen);
@@ -325,7 +325,7 @@ impl<A: App> Ports<A> {
     ) -> PortReply
         requires row { seen.now.events ≡ self.old.database.events }
         requires may { MayAsk A.next self.old.database.events 1 seen.now.history request }
-        ensures { HasAsked A.next seen.now request self.old self.new result }
+        ensures { HasAskedPorts A.next seen.now request self.old self.new result }
     {
         match request {
             PortRequest::Pin { now, at_least } => self.ask_pin(alloc, now, at_least),

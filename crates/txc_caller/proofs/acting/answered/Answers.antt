@@ -1,13 +1,13 @@
 use Rattle.std.proofs.Common.{◌≡◌, ◌∙◌, Option, Some, refl, sym, ap, subst}
 use Rattle.txc_tags.specs.Keys.{Call}
 use Rattle.txc_txn.specs.Core.{open_call}
-use Rattle.txc_caller.specs.Acting.{HasActed}
+use Rattle.txc_caller.specs.Acting.{IsActOf}
 use Rattle.txc_caller.proofs.Turning.{keeps_self}
 use Rattle.txc_caller.proofs.acting.answered.Goals as goal
 
 pub returns-in-Ok-Some-clause-acted : goal.returns-in-Ok-Some-clause-acted
 returns-in-Ok-Some-clause-acted g c =
-    subst (λ (k : Call). HasActed g.A.App.next c.args.txn.now.core.recorded k c.args.txn.now c.stays.result) c.reach.ensures
+    subst (λ (k : Call). IsActOf g.A.App.next c.args.txn.now.core.recorded k c.args.txn.now c.stays.result) c.reach.ensures
     (c.stays.ensures g.A.App.next c.args.txn.now c.requires.kept (c.requires.top ∙ sym (ap (λ (k : Call). Some k) c.reach.ensures)))
 
 pub returns-in-Ok-Some-clause-keeps : goal.returns-in-Ok-Some-clause-keeps

@@ -1,7 +1,7 @@
 use Rattle.std.proofs.Common.{◌≡◌, ◌∙◌, List, Some, ap, sym, subst}
 use Rattle.txc_tags.specs.Keys.{Call}
 use Rattle.txc_ports.specs.declared.recorded.Recorded.{Recorded}
-use Rattle.txc_caller.specs.Acting.{HasActed}
+use Rattle.txc_caller.specs.Acting.{IsActOf}
 use Rattle.txc_caller.specs.Standing.{IsStanding}
 use Rattle.txc_caller.specs.declared.stand.Stand.{Stand}
 use Rattle.txc_caller.proofs.Turning.{keeps_then}
@@ -20,8 +20,8 @@ first_reply-requires g c =
 pub returns-in-Kept-clause-acted : goal.returns-in-Kept-clause-acted
 returns-in-Kept-clause-acted g c =
     let it = subst (λ (s : Stand). IsStanding g.A.App.next c.args.txn.now.core.recorded c.args.key c.start.new.txn s) c.in-Kept.is c.start.ensures.stands in
-    subst (λ (rs : List Recorded). HasActed g.A.App.next rs c.args.key c.first_reply.new.txn c.first_reply.result) it.2
-    (subst (λ (k : Call). HasActed g.A.App.next c.start.new.txn.core.recorded k c.first_reply.new.txn c.first_reply.result) c.of-frames.ensures c.first_reply.ensures.acted)
+    subst (λ (rs : List Recorded). IsActOf g.A.App.next rs c.args.key c.first_reply.new.txn c.first_reply.result) it.2
+    (subst (λ (k : Call). IsActOf g.A.App.next c.start.new.txn.core.recorded k c.first_reply.new.txn c.first_reply.result) c.of-frames.ensures c.first_reply.ensures.acted)
 
 pub returns-in-Kept-clause-keeps : goal.returns-in-Kept-clause-keeps
 returns-in-Kept-clause-keeps g c = keeps_then c.args.txn.now c.start.new.txn c.first_reply.new.txn c.start.ensures.keeps c.first_reply.ensures.keeps
@@ -35,3 +35,6 @@ pub returns-in-Refused-clause-acted : goal.returns-in-Refused-clause-acted
 returns-in-Refused-clause-acted g c =
     let it = subst (λ (s : Stand). IsStanding g.A.App.next c.args.txn.now.core.recorded c.args.key c.start.new.txn s) c.in-Refused.is c.start.ensures.stands in
     c.ended.ensures g.A.App.next c.args.txn.now.core.recorded c.args.key c.start.new.txn it.0 it.1
+
+pub returns-in-Kept-clause-events : goal.returns-in-Kept-clause-events
+returns-in-Kept-clause-events g c = c.first_reply.ensures.events ∙ c.start.ensures.events

@@ -9,4 +9,4 @@ returns-then-not-is_reached-clause-keeps g c = keeps_self c.args.txn.now
 
 pub returns-clause-acted : goal.returns-clause-acted
 returns-clause-acted g c =
-    c.standing.ensures g.A.App.next c.args.txn.now.core.recorded c.feed-stand.new.txn (c.feed-stand.ensures.stands c.args.frames.top c.requires.top)
+    c.standing.ensures g.A.App.next c.args.txn.now.core.recorded c.feed-stand.new.txn (c.feed-stand.ensures.stands c.args.around.frames.top c.requires.top)

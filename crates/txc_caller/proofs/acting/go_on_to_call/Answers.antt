@@ -1,6 +1,6 @@
 use Rattle.std.proofs.Common.{◌≡◌, ◌∙◌, List, sym, subst}
 use Rattle.txc_ports.specs.declared.recorded.Recorded.{Recorded}
-use Rattle.txc_caller.specs.Acting.{HasActed}
+use Rattle.txc_caller.specs.Acting.{IsActOf}
 use Rattle.txc_caller.specs.Standing.{IsStanding}
 use Rattle.txc_caller.specs.declared.stand.Stand.{Stand}
 use Rattle.txc_caller.proofs.Turning.{keeps_then}
@@ -20,7 +20,7 @@ inner_reply-requires g c =
 pub returns-in-Kept-clause-acted : goal.returns-in-Kept-clause-acted
 returns-in-Kept-clause-acted g c =
     let it = subst (λ (s : Stand). IsStanding g.A.App.next c.args.txn.now.core.recorded c.args.frames.top c.feed.new.txn s) c.in-Kept.is (c.feed.ensures.stands c.args.frames.top c.requires.top) in
-    subst (λ (rs : List Recorded). HasActed g.A.App.next rs c.args.frames.top c.inner_reply.new.txn c.inner_reply.result) it.2 c.inner_reply.ensures.acted
+    subst (λ (rs : List Recorded). IsActOf g.A.App.next rs c.args.frames.top c.inner_reply.new.txn c.inner_reply.result) it.2 c.inner_reply.ensures.acted
 
 pub returns-in-Kept-clause-keeps : goal.returns-in-Kept-clause-keeps
 returns-in-Kept-clause-keeps g c = keeps_then c.args.txn.now c.feed.new.txn c.inner_reply.new.txn c.feed.ensures.keeps c.inner_reply.ensures.keeps
@@ -34,3 +34,6 @@ pub returns-in-Refused-clause-acted : goal.returns-in-Refused-clause-acted
 returns-in-Refused-clause-acted g c =
     let it = subst (λ (s : Stand). IsStanding g.A.App.next c.args.txn.now.core.recorded c.args.frames.top c.feed.new.txn s) c.in-Refused.is (c.feed.ensures.stands c.args.frames.top c.requires.top) in
     c.ended.ensures g.A.App.next c.args.txn.now.core.recorded c.args.frames.top c.feed.new.txn it.0 it.1
+
+pub returns-in-Kept-clause-events : goal.returns-in-Kept-clause-events
+returns-in-Kept-clause-events g c = c.inner_reply.ensures.events ∙ c.feed.ensures.events
