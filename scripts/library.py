@@ -42,8 +42,8 @@ def value_of(kind, structs):
     array = re.fullmatch(r"\[(\w+); (\w+)\]", kind)
     if array:
         return f"[{value_of(array[1], structs)}; txc_tags::{array[2]}]"
-    if kind == "TxcNode":
-        return "TxcNode::closed(alloc)"
+    if kind in ("TxcNode", "TxcSite"):
+        return f"{kind}::closed(alloc)"
     if kind in structs:
         return f"{kind} {{ {', '.join(f'{name}: {value_of(it, structs)}' for name, it in structs[kind])} }}"
     return ZEROS[kind]

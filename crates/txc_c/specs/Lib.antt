@@ -5,3 +5,5 @@ pub mod Numbers
 pub mod Told
 pub mod Held
 pub mod Life
+pub mod Opaque
+pub mod SiteHeld

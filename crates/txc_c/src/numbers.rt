@@ -29,6 +29,21 @@ pub const VALUE_TOO_LONG: u32 = 10;
 /// Memory was refused.
 pub const NO_MEMORY: u32 = 11;
 
+/// The caller is to compute the function of the call that he asked for.
+pub const COMPUTE: u32 = 12;
+/// The function that is computed has its answer, and goes on.
+pub const ANSWERED: u32 = 13;
+/// No transaction is open of which this can be asked, or one is that stands in the way.
+pub const NOT_OPEN: u32 = 14;
+/// A call is open.
+pub const MID_CALL: u32 = 15;
+/// The call, or what was asked, was refused.
+pub const REFUSED: u32 = 16;
+/// Another ask was supplied for the same answers.
+pub const OTHER_ASK: u32 = 17;
+/// What was read has changed.
+pub const CONFLICT: u32 = 18;
+
 /// The number of a refusal.
 pub(crate) fn number_of(refusal: Refusal) -> u32
     ensures { result ≡ refusal_number refusal }
