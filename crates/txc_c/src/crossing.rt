@@ -5,9 +5,7 @@ ghost use Rattle.txc_tags.specs.Tags.{set_of};
 ghost use Rattle.txc_c.specs.Crossing.{named_call, interval_of, is_call, tag_of, is_tag, is_stamp, is_insertion, crossing_reach, crossing_counts, TellsStored};
 
 use std::alloc::{AllocError, Global};
-use txc_cushion::Pin;
 use txc_node::{Entry, FunctionCounts};
-use txc_rows::{Query, Row};
 use txc_stamp::{LAST_STAMP, Reach};
 use txc_tags::{Key, LAST_FUNCTION, LAST_TABLE, MAX_ARGS, Table, Tag, TagSet};
 
@@ -58,79 +56,6 @@ pub struct TxcCounts {
     pub stored: u64,
     pub kept: u64,
     pub evicted: u64,
-}
-
-/// A row, but for its body.
-#[repr(C)]
-#[derive(Clone, Copy)]
-pub struct TxcRow {
-    pub table: u8,
-    pub id: u32,
-    pub group: u32,
-}
-
-/// A query. Kind 0 is all rows of the table, 1 the row with the id `first`, 2 those of the group `first`, 3 those with ids from
-/// `first` to `last`.
-#[repr(C)]
-#[derive(Clone, Copy)]
-pub struct TxcQuery {
-    pub table: u8,
-    pub kind: u8,
-    pub first: u32,
-    pub last: u32,
-}
-
-/// A receipt: how many answers it explains, and the pin at which they are right, if there is one.
-#[repr(C)]
-#[derive(Clone, Copy)]
-pub struct TxcReceipt {
-    pub answers: usize,
-    pub has_pin: bool,
-    pub stamp: u32,
-    pub moment: u64,
-}
-
-impl TxcRow {
-    pub(crate) fn of(row: &Row) -> TxcRow {
-        TxcRow {
-            table: row.table().number(),
-            id: row.id(),
-            group: row.group(),
-        }
-    }
-}
-
-impl TxcQuery {
-    /// The query; None if there is no such table or no such kind.
-    pub(crate) fn query(&self) -> Option<Query> {
-        let table = Table::new(self.table)?;
-        match self.kind {
-            0 => Some(Query::All(table)),
-            1 => Some(Query::ById(table, self.first)),
-            2 => Some(Query::ByGroup(table, self.first)),
-            3 => Some(Query::Range(table, self.first, self.last)),
-            _ => None,
-        }
-    }
-}
-
-impl TxcReceipt {
-    pub(crate) fn of(pin: Option<Pin>, answers: usize) -> TxcReceipt {
-        match pin {
-            Some(pin) => TxcReceipt {
-                answers,
-                has_pin: true,
-                stamp: pin.stamp.number(),
-                moment: pin.moment,
-            },
-            None => TxcReceipt {
-                answers,
-                has_pin: false,
-                stamp: 0,
-                moment: 0,
-            },
-        }
-    }
 }
 
 impl TxcKey {

@@ -5,6 +5,7 @@
 //! what is written where. The header is `bindings/c/txc.h`.
 #![tactic(auto)]
 
+mod changing;
 mod counted;
 mod crossing;
 mod handle;
@@ -12,13 +13,17 @@ mod node;
 mod numbers;
 mod opaque;
 mod parts;
+mod reading;
+mod receipts;
 mod site;
 mod site_handle;
 mod site_taking;
 mod taking;
+mod telling;
+mod turning;
 mod txn;
 
-pub use crossing::{TxcCounts, TxcKey, TxcQuery, TxcReach, TxcReceipt, TxcRow, TxcStored, TxcTag};
+pub use crossing::{TxcCounts, TxcKey, TxcReach, TxcStored, TxcTag};
 pub use handle::{TxcNode, handle_crosses};
 pub use node::{
     txc_node_close, txc_node_count, txc_node_event, txc_node_insert, txc_node_lookup,
@@ -29,6 +34,7 @@ pub use numbers::{
     KEPT, MID_CALL, MISS, NO_MEMORY, NO_ROOM, NOT_OPEN, OTHER_ASK, OUT_OF_ORDER, REFUSED,
     VALUE_TOO_LONG,
 };
+pub use receipts::{TxcQuery, TxcReceipt, TxcRow};
 pub use site_handle::{TxcSite, site_crosses};
 pub use txn::{
     txc_abort, txc_answer, txc_begin, txc_begin_write, txc_call, txc_commit, txc_commit_write,

@@ -1,9 +1,9 @@
 //! The handle of a site: a pointer to one that stands on the heap.
 ghost use Rattle.std.specs.Prelude.{◌≡◌, Bool, true, false};
-ghost use Rattle.txc_c.specs.declared.site.Site.{Site as SiteValue};
+ghost use Rattle.txc_c.specs.declared.site.SiteRoom.{SiteRoom as RoomValue};
 
 use crate::parts::Parts;
-use crate::site::Site;
+use crate::site::SiteRoom;
 use std::alloc::Global;
 use std::marker::Model;
 use std::ptr;
@@ -15,13 +15,13 @@ pub struct SiteSlot {
     ptr: *mut u8,
     alloc: Global,
     ghost is_full: { Bool },
-    ghost value: { SiteValue },
+    ghost value: { RoomValue },
 }
 
 impl Model for SiteSlot {
     ghost use Rattle.std.specs.Box.Ownership.{box_owns};
     ghost use Rattle.txc_c.specs.Owned.{when};
-    ghost use Rattle.txc_c.specs.contracts.site.Site.{the_row};
+    ghost use Rattle.txc_c.specs.contracts.site.SiteRoom.{the_row};
     ghost use Rattle.std.specs.contracts.impls.GlobalAllocator.TheImpl.{ghosts};
 
     ghost also_owns = { λ n. when n.is_full (box_owns (ghosts.dealloc_token n.alloc) the_row n.ptr n.value) };
@@ -37,7 +37,7 @@ impl SiteSlot {
         }
     }
 
-    pub(crate) fn of_parts(parts: Parts<Site, Global>) -> SiteSlot
+    pub(crate) fn of_parts(parts: Parts<SiteRoom, Global>) -> SiteSlot
         ensures { (result.is_full ≡ true) × (result.value ≡ parts.value) }
     {
         let Parts { ptr, alloc } = parts;
@@ -47,13 +47,13 @@ impl SiteSlot {
         }
     }
 
-    pub(crate) fn into_parts(self) -> Parts<Site, Global>
+    pub(crate) fn into_parts(self) -> Parts<SiteRoom, Global>
         requires { self.is_full ≡ true }
         ensures { result.value ≡ self.value }
     {
         let SiteSlot { ptr, alloc } = self;
         Parts {
-            ptr: ptr as *mut Site,
+            ptr: ptr as *mut SiteRoom,
             alloc,
         }
     }

@@ -1,10 +1,10 @@
 //! The site of a handle, taken out for a call and put in again.
 ghost use Rattle.std.specs.Prelude.{◌≡◌, Some, None};
-ghost use Rattle.std.specs.Option.{option_map};
+ghost use Rattle.std.specs.Option.{option_and_then, option_map};
 ghost use Rattle.txc_c.specs.SiteHeld.{site_held};
 
 use crate::parts::Parts;
-use crate::site::Site;
+use crate::site::{Site, SiteRoom};
 use crate::site_handle::{SiteSlot, TxcSite};
 use std::alloc::Global;
 use std::mem;
@@ -26,9 +26,9 @@ impl TxcSite {
         }
     }
 
-    /// Takes the site out, if there is one.
-    pub(crate) fn take(&mut self, alloc: Global) -> Option<Box<Site, Global>>
-        ensures site { option_map (λ site. site.value) result ≡ site_held self.old }
+    // Takes the room of its site out, if there is one.
+    fn take_room(&mut self, alloc: Global) -> Option<Box<SiteRoom, Global>>
+        ensures site { option_and_then (λ room. room.value.site) result ≡ site_held self.old }
         ensures after { site_held self.new ≡ None }
     {
         let TxcSite { slot, is_open } = mem::replace(self, TxcSite::closed(alloc));
@@ -39,13 +39,24 @@ impl TxcSite {
         }
     }
 
-    /// Puts a site in where there is none.
-    pub(crate) fn put(&mut self, site: Box<Site, Global>)
-        requires { site_held self.old ≡ None }
-        ensures { site_held self.new ≡ Some site.value }
+    /// Takes the site out, if there is one, with the room in which it stands.
+    pub(crate) fn take(&mut self, alloc: Global) -> Option<(Site, Box<SiteRoom, Global>)>
+        ensures site { option_map (λ it. it.0) result ≡ site_held self.old }
+        ensures after { site_held self.new ≡ None }
     {
+        let mut room = self.take_room(alloc)?;
+        let site = room.site.take()?;
+        Some((site, room))
+    }
+
+    /// Puts a site in where there is none, into its room.
+    pub(crate) fn put(&mut self, site: Site, mut room: Box<SiteRoom, Global>)
+        requires { site_held self.old ≡ None }
+        ensures { site_held self.new ≡ Some site }
+    {
+        room.site = Some(site);
         *self = TxcSite {
-            slot: SiteSlot::of_parts(Parts::of(site)),
+            slot: SiteSlot::of_parts(Parts::of(room)),
             is_open: true,
         };
     }
