@@ -97,8 +97,8 @@ enum {
     TXC_NO_ROOM = 3,         /* a hit, but the value is longer than the buffer: *reach and *len are told, no byte is
                               * written, and the entry stays. Ask again with that much room */
     /* Refusals. The node is as it was, nothing is counted, and nothing is written but *processed. */
-    TXC_CLOSED = 4,          /* the handle has no node */
-    TXC_ALREADY_OPEN = 5,    /* the handle has a node, which stays */
+    TXC_CLOSED = 4,          /* the handle has no node, or no site */
+    TXC_ALREADY_OPEN = 5,    /* the handle has a node or a site, which stays; or the site a transaction, which stays */
     TXC_BAD_ARGUMENT = 6,    /* a number is above its limit, a size is 0, or a tag is of no kind */
     TXC_EMPTY_RANGE = 7,     /* hi is below lo */
     TXC_BAD_REACH = 8,       /* known is below lo */
@@ -108,11 +108,12 @@ enum {
     /* Of transactions. */
     TXC_COMPUTE = 12,        /* no node has the call: compute its function */
     TXC_ANSWERED = 13,       /* the function that you compute has its answer: go on with it */
-    TXC_NOT_OPEN = 14,       /* no transaction is open of which this can be asked, or one stands in the way */
+    TXC_NOT_OPEN = 14,       /* no transaction is open of which this can be asked, or no function is computed */
     TXC_MID_CALL = 15,       /* a call is open: finish it, give it up, or abort */
-    TXC_REFUSED = 16,        /* the call was refused, and is no more; or what was asked was. The transaction is open */
-    TXC_OTHER_ASK = 17,      /* another ask was supplied for the same answers */
-    TXC_CONFLICT = 18        /* what was read has changed */
+    TXC_REFUSED = 16,        /* the open call was refused, and is no more; or the query or change was. The transaction is open,
+                              * and its answers are as before */
+    TXC_OTHER_ASK = 17,      /* another ask was supplied for the same answers; the call is open */
+    TXC_CONFLICT = 18        /* what was read has changed; the transaction is open */
 };
 
 /* A row, but for its body. */

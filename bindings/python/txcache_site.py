@@ -25,7 +25,8 @@ _COMPUTE, _ANSWERED, _NOT_OPEN, _MID_CALL, _REFUSED, _OTHER_ASK, _CONFLICT = ran
 _SAID = {
     4: "the site is closed",
     6: "a number is above its limit, or a size is 0",
-    _NOT_OPEN: "no transaction is open of which this can be asked, or one stands in the way",
+    5: "a transaction is open already",
+    _NOT_OPEN: "no transaction is open of which this can be asked, or no function is computed",
     _MID_CALL: "a call is open",
     _REFUSED: "the call, or what was asked, was refused",
     _OTHER_ASK: "another ask was supplied for the same answers",

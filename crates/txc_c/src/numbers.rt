@@ -12,9 +12,9 @@ pub const MISS: u32 = 1;
 pub const KEPT: u32 = 2;
 /// A hit whose value is longer than the buffer: its length is told.
 pub const NO_ROOM: u32 = 3;
-/// The handle has no node.
+/// The handle has no node, or no site.
 pub const CLOSED: u32 = 4;
-/// The handle has a node already.
+/// The handle has a node or a site already, or the site a transaction.
 pub const ALREADY_OPEN: u32 = 5;
 /// A number is none of its kind: of a function, a table, a stamp, a size.
 pub const BAD_ARGUMENT: u32 = 6;
@@ -33,7 +33,7 @@ pub const NO_MEMORY: u32 = 11;
 pub const COMPUTE: u32 = 12;
 /// The function that is computed has its answer, and goes on.
 pub const ANSWERED: u32 = 13;
-/// No transaction is open of which this can be asked, or one is that stands in the way.
+/// No transaction is open of which this can be asked, or no function is computed.
 pub const NOT_OPEN: u32 = 14;
 /// A call is open.
 pub const MID_CALL: u32 = 15;
