@@ -6,8 +6,8 @@ ghost use Rattle.txc_c.specs.Receipts.{query_of};
 ghost use Rattle.txc_c.specs.Asking.{rows_in, CallLeads, CallSiteLeads, FinishLeads, GiveUpLeads, LastTold, QueryLeads, QuerySiteLeads, RowTold, SiteAsksNext};
 
 use crate::crossing::TxcKey;
-use crate::receipts::{TxcQuery, TxcRow};
 use crate::numbers::{ANSWERED, BAD_ARGUMENT, DONE, MISS, NO_MEMORY, NOT_OPEN};
+use crate::receipts::{TxcQuery, TxcRow};
 use crate::site::Site;
 use crate::telling::{tell, tell_last, tell_step};
 use crate::turning::database_number;

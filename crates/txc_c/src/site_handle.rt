@@ -67,13 +67,3 @@ pub struct TxcSite {
     pub(crate) is_open: bool,
     ghost full: { is_open ≡ slot.is_full },
 }
-
-// What the slot points to may go to another thread, and so may the slot.
-unsafe impl Send for SiteSlot {}
-
-fn crosses<T: Send>(_it: &T) {}
-
-/// A handle may go to another thread: this is compiled only where that is proved. It does nothing.
-pub fn site_crosses(handle: &TxcSite) {
-    crosses(handle);
-}

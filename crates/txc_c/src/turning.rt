@@ -2,11 +2,11 @@
 ghost use Rattle.std.specs.Prelude.{◌≡◌};
 ghost use Rattle.txc_c.specs.Turning.{database_number, BegunLeads, BegunWriteLeads, CommittedLeads, WrittenLeads};
 
-use crate::receipts::TxcReceipt;
 use crate::numbers::{
     ALREADY_OPEN, BAD_ARGUMENT, CONFLICT, DONE, MID_CALL, NO_MEMORY, NOT_OPEN, REFUSED,
 };
 use crate::opaque::Opaque;
+use crate::receipts::TxcReceipt;
 use crate::site::{Object, Site};
 use std::alloc::Global;
 use txc_caller::{Caller, CallerTxn, CallerWrite};

@@ -10,9 +10,9 @@ ghost use Rattle.txc_c.specs.Turning.{AbortLeads, BeginLeads, BeginWriteLeads, C
 ghost use Rattle.txc_c.specs.Asking.{CallLeads, FinishLeads, GiveUpLeads, HeldAsksNext, LastLeads, PutLeads, QueryLeads, RemoveLeads, RowLeads};
 
 use crate::crossing::TxcKey;
-use crate::receipts::{TxcQuery, TxcReceipt, TxcRow};
 use crate::node::are_sizes;
 use crate::numbers::{ALREADY_OPEN, BAD_ARGUMENT, CLOSED, DONE, NO_MEMORY};
+use crate::receipts::{TxcQuery, TxcReceipt, TxcRow};
 use crate::site::{Site, SiteRoom};
 use crate::site_handle::TxcSite;
 use std::alloc::Global;

@@ -27,7 +27,7 @@ use Rattle.std_alloc.proofs.ResultValues.{and_tt}
 use Rattle.std_alloc.proofs.BoxSteps.Form.{P}
 use Rattle.std.proofs.raw_atomic.Walks.{proved_at, leaves}
 use Rattle.std.specs.contracts.alloc.Global as Heap
-use mathlib.Core.Option.{None}
+use Rattle.std.specs.Prelude.{None}
 use Rattle.txc_c.specs.declared.site.SiteRoom.{SiteRoom}
 use Rattle.txc_c.proofs.SiteAsBox.{E}
 use Rattle.txc_c.specs.contracts.site_handle.SiteSlot as slot
