@@ -47,7 +47,7 @@ LOOPS = {
         "call/functions.rt": ["for lines in 0..=FUNCTIONS.lines().count() {", "for (boxes, wanted) in BOXES {"],
         "db/carries.rt": ["for case in cases {"],
         "db/db/alone.rt": ["for script in scripts {"],
-        "db/db/locked.rt": ["for script in &LOCKED {"],
+        "db/db/locked.rt": ["for script in scripts {"],
         "db/pins/shared.rt": ["for script in scripts {"],
         "db/rows.rt": ["for script in scripts {"],
         "txn/shared/locked.rt": ["for script in scripts {"],

@@ -6,13 +6,15 @@ usage: beside.py PROGRAM OTHER ROWS..
   PROGRAM   its processor time is shown as a share of that of OTHER
   ROWS      the sizes of the first table
 
-Both do each operation in turn, and the least of some rounds counts. Queries and what a commit reads are asked where no version has died,
-then 500, then as many as half of the rows; puts, by the store alone and by commits, where few have died and where half have. Then come
-the longest of 3,000 puts of one row, and the memory of the process after 50,000 more.
+Both do each operation in turn, in some rounds. A line shows the least that each of both took, and two shares: of the least times, and of
+the medians. Queries and what a commit reads are asked where no version has died, then 500, then as many as half of the rows; puts, by the
+store alone and by commits, where few have died and where half have. Then come the longest of 3,000 puts of one row, and the memory of the
+process after 50,000 more.
 """
 
 import os
 import sys
+from statistics import median
 
 from times import Bench, ROUNDS, shown
 
@@ -29,21 +31,32 @@ PURGED = 50_000
 LONGEST = 3_000
 
 
-def least(pair, operation, times, each):
-    """The least time of each of both, which take turns."""
+def timed(pair, operation, times, each):
+    """The times of each of both, which take turns."""
     spent = [[], []]
     for _ in range(ROUNDS):
         for bench, own in zip(pair, spent):
             own.append(bench.run(f"{operation} {times}", times * each) / times)
-    return [min(own) for own in spent]
+    return spent
 
 
 def show(name, spent):
-    print(f"  {name:36} {shown(spent[0])} {shown(spent[1])} {spent[0] / spent[1]:6.2f}", flush=True)
+    least, middle = [min(own) for own in spent], [median(own) for own in spent]
+    print(f"  {name:36} {shown(least[0])} {shown(least[1])} {least[0] / least[1]:6.2f} {middle[0] / middle[1]:6.2f}", flush=True)
 
 
 def both(pair, line, wanted):
     return [bench.run(line, wanted) for bench in pair]
+
+
+def purges(pair, dying):
+    """The times of purges of so many versions that have died since the purge before."""
+    spent = [[], []]
+    for _ in range(ROUNDS):
+        both(pair, f"write_1 {dying}", dying)
+        for bench, own in zip(pair, spent):
+            own.append(bench.run("purge 1", 1))
+    return spent
 
 
 def memory(bench):
@@ -55,15 +68,15 @@ def memory(bench):
 def queries(pair, rows, state):
     both(pair, f"ids {rows}", rows)
     for name, (operation, times, each) in QUERIES.items():
-        show(f"{name}, {state}", least(pair, operation, times, each))
+        show(f"{name}, {state}", timed(pair, operation, times, each))
     # commits that change nothing read the last versions alone
     both(pair, "commit_1 1", 1)
-    show(f"a commit of nothing, {state}", least(pair, "again_1", 2_000, 1))
+    show(f"a commit of nothing, {state}", timed(pair, "again_1", 2_000, 1))
 
 
 def puts(pair, state):
     for name, (operation, times, each) in PUTS.items():
-        show(f"{name}, {state}", least(pair, operation, times, each))
+        show(f"{name}, {state}", timed(pair, operation, times, each))
 
 
 def measured(pair, rows):
@@ -77,15 +90,14 @@ def measured(pair, rows):
     both(pair, f"write_1 {rows // 2}", rows // 2)
     puts(pair, "half dead")
     for name, operation in ONES.items():
-        show(name, least(pair, operation, 40, 1))
+        show(name, timed(pair, operation, 40, 1))
     both(pair, "purge 1", 1)
-    both(pair, "write_1 500", 500)
-    show("a purge of 500", both(pair, "purge 1", 1))
-    longest = [max(bench.run("write_1 1", 1) for _ in range(LONGEST)) for bench in pair]
+    show("a purge of 500", purges(pair, 500))
+    longest = [[max(bench.run("write_1 1", 1) for _ in range(LONGEST))] for bench in pair]
     show(f"the longest of {LONGEST:,} puts", longest)
     both(pair, f"write_1 {PURGED}", PURGED)
     print(f"  memory with {PURGED:,} dead, MB {memory(pair[0]):19.0f} {memory(pair[1]):11.0f}", flush=True)
-    show(f"a purge of {PURGED:,}", both(pair, "purge 1", 1))
+    show(f"a purge of {PURGED:,}", [[spent] for spent in both(pair, "purge 1", 1)])
 
 
 def main():

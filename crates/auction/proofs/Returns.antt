@@ -54,22 +54,22 @@ came_so_often {T} most room numbers opened gs u turns (before, last, is, went_on
     omega (arith, few, number, enough, ap length is, length-append before (last ∷ []))
 
 -- so many visitors came to each generation, and each asked for so many pages
-module _ {U : Type 0} (plan : Plan) (a : Arguments) (numbers : List ℕ) (opened : FrontValue) (came tallies : List (Vec Tally Global))
+module _ {U : Type 0} (plan : Plan) (tells : ℕ → Type 0) (a : Arguments) (numbers : List ℕ) (opened : FrontValue) (came tallies : List (Vec Tally Global))
     (end : Result U GenerationError) (u : U) (is : end ≡ Ok u) (same : tallies ≡ came)
-    (served : HaveServed plan a.threads numbers (λ p row number tally. HasTallied a.pages a tally) (λ g more. IsTrue more ↔ (g.number < a.returns)) opened came end) where
+    (served : HaveServed plan tells a.threads numbers (λ p row number tally. HasTallied a.pages a tally) (λ g more. IsTrue more ↔ (g.number < a.returns)) opened came end) where
   many : length served.generations ≡ a.returns + 1
   many =
       came_so_often a.returns plan.events numbers opened served.generations u served.turns
       (subst (λ (e : Result U GenerationError). GenerationsHaveEnded (λ g more. IsTrue more ↔ (g.number < a.returns)) plan.events numbers served.generations e) is served.ended)
 
   of_each : (f : Vec Tally Global → ℕ) (n : ℕ)
-      → ((g : Generation Tally) → IsGeneration plan a.threads (λ p row number tally. HasTallied a.pages a tally) g → f g.outputs ≡ n)
+      → ((g : Generation Tally) → IsGeneration plan tells a.threads (λ p row number tally. HasTallied a.pages a tally) g → f g.outputs ≡ n)
       → sum_by f tallies ≡ (a.returns + 1) * n
   of_each f n one =
       ap (sum_by f) (same ∙ served.outputs)
       ∙ sum_of_each f n (map (λ g. g.outputs) served.generations)
       (All-map (λ ts. f ts ≡ n) (λ (g : Generation Tally). g.outputs) served.generations
-      (All-weaker (IsGeneration plan a.threads (λ p row number tally. HasTallied a.pages a tally)) (λ g. f g.outputs ≡ n) one served.generations served.each))
+      (All-weaker (IsGeneration plan tells a.threads (λ p row number tally. HasTallied a.pages a tally)) (λ g. f g.outputs ≡ n) one served.generations served.each))
       ∙ ap (λ (k : ℕ). k * n) (length-map served.generations (λ (g : Generation Tally). g.outputs) ∙ many)
 
   pub asked_in_generations : sum_by (λ ts. sum_by pages_of ts.items) tallies ≡ (a.returns + 1) * (a.threads * a.pages)

@@ -25,7 +25,7 @@ of_row next row node_histories functions job (outcomes.Refused error) h = tt
 pub all_of_row : (next : Next) (row shown : Name) (node_histories : ℕ → Name) (functions : List ℕ) (jobs : List Job) (results : List Receipted) → shown ≡ row
     → All (IsResultOf jobs (Meets next row node_histories functions)) results → All (λ told. OutcomeIsOfRow shown told.outcome) results
 all_of_row next row shown node_histories functions jobs results same all =
-    subst (λ (shown : List ℕ). All (λ told. OutcomeIsOfRow shown told.outcome) results) (sym same)
+    subst (λ (shown : Name). All (λ told. OutcomeIsOfRow shown told.outcome) results) (sym same)
     (All-weaker (IsResultOf jobs (Meets next row node_histories functions)) (λ told. OutcomeIsOfRow row told.outcome) (λ told h. of_row next row node_histories functions h.0 told.outcome h.3) results all)
 
 -- the jobs ran over the database, whose row was the named one
@@ -39,6 +39,6 @@ have_run next s ran row node_histories functions history named of rooms settings
   once = once;
   in_order = in_order;
   met = subst (λ (fs : List ℕ). All (IsResultOf s.jobs (Meets next s.source.database.events node_histories fs)) ran.results) (sym of)
-      (subst (λ (r : List ℕ). All (IsResultOf s.jobs (Meets next r node_histories functions)) ran.results) (sym named) met);
+      (subst (λ (r : Name). All (IsResultOf s.jobs (Meets next r node_histories functions)) ran.results) (sym named) met);
   agree = subst (λ (L : History). All (λ told. AgreesWith L told.outcome) ran.results) same agree;
 }

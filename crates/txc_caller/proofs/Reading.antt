@@ -1,6 +1,6 @@
 -- A transaction that only reads, after an act.
-use Rattle.std.proofs.Common.{◌≡◌, ◌∙◌, false, List, Option, Some, None, refl, ap, sym, subst}
-use Rattle.std.specs.Prelude.{MatchOption, Result, Err, is_some}
+use Rattle.std.proofs.Common.{◌≡◌, ◌∙◌, false, List, Option, Some, None, refl, sym, subst}
+use Rattle.std.specs.Prelude.{is_some}
 use Rattle.std.specs.Option.{ForSome}
 use Rattle.txc_tags.specs.Keys.{Call}
 use Rattle.txc_app.specs.Eval.{Next}
@@ -9,17 +9,12 @@ use Rattle.txc_db.specs.History.{History}
 use Rattle.txc_ports.specs.declared.bounds.Bounds.{Bounds}
 use Rattle.txc_ports.specs.declared.recorded.Recorded.{Recorded}
 use Rattle.txc_txn.specs.Core.{open_call, Explains, IsIdle}
-use Rattle.txc_txn.specs.Kept.{TxnValue}
 use Rattle.txc_txn.specs.Sessions.{IsAtLeast}
-use Rattle.txc_caller.specs.Acting.{IsActOf, IsStepOf}
-use Rattle.txc_caller.specs.Ports.{CallerPorts}
-use Rattle.txc_caller.specs.Reading.{top_or, IsCallerReading, KeepsReading, CallerReading}
+use Rattle.txc_caller.specs.Acting.{IsActOf}
+use Rattle.txc_caller.specs.Reading.{IsCallerReading, KeepsReading, CallerReading}
 use Rattle.txc_caller.specs.Standing.{IsKeptBack, KeepsOn}
 use Rattle.txc_caller.specs.declared.acted.Acted.{Acted}
 use Rattle.txc_caller.specs.declared.frames.OpenCall.{OpenCall}
-use Rattle.txc_caller.specs.declared.step.CallerError.{CallerError}
-use Rattle.txc_caller.specs.declared.step.CallerError.TheVariants.{NoFunction}
-use Rattle.txc_caller.specs.declared.step.Step.{Step}
 use Rattle.txc_caller.proofs.Turning.{keeps_self}
 
 module _ (next : Next) (old new : CallerReading) (keeps : KeepsOn old.txn new.txn) (events : new.ports.database.events ≡ old.ports.database.events)
@@ -49,13 +44,6 @@ module _ (next : Next) (old new : CallerReading) (keeps : KeepsOn old.txn new.tx
 
 pub keeps_reading_self : (r : CallerReading) → KeepsReading r r
 keeps_reading_self r = record { txn = keeps_self r.txn; row = refl; renew_after = refl }
-
--- which call the step is of
-pub step_of_top : (before recorded : List Recorded) (was doing : Option OpenCall) (k : Call) (result : Result Step CallerError) → (o : OpenCall) → was ≡ Some o
-    → MatchOption was (result ≡ Err NoFunction) (λ (p : OpenCall). IsStepOf before p.frames.top recorded doing result)
-    → IsStepOf before (top_or was k) recorded doing result
-step_of_top before recorded (Some p) doing k result o is h = h
-step_of_top before recorded None doing k result o is h = absurd (cc is)
 
 pub none_is : (o : Option OpenCall) → is_some o ≡ false → o ≡ None
 none_is None h = refl

@@ -1,5 +1,5 @@
 -- What the turns of a call leave, and what a kept reply is.
-use Rattle.std.proofs.Common.{◌≡◌, ◌∙◌, List, [], ◌∷◌, ◌++◌, Bool, true, false, Option, Some, None, Ok, Err, refl, ap, sym, subst}
+use Rattle.std.proofs.Common.{◌≡◌, ◌∙◌, List, Bool, true, false, Option, Some, None, Ok, Err, refl, ap, sym, subst}
 use Rattle.std.specs.Option.{ForSome}
 use Rattle.std.specs.List.{list_any}
 use Rattle.std.specs.Prelude.{if◌then◌else◌}
@@ -22,12 +22,11 @@ use Rattle.txc_ports.specs.declared.reply.PortReply.TheVariants as replies
 use Rattle.txc_ports.specs.declared.turn.Turn.TheVariants.{Ask, Ended}
 use Rattle.txc_ports.specs.Fronts.{front_of_reply}
 use Rattle.txc_ports.specs.Turns.{PortTurn}
-use Rattle.txc_txn.specs.Core.{CoreValue, open_call, recorded_after, IsIdle, IsNoValue, IsTurn, KeepsSettings}
-use Rattle.txc_txn.specs.Kept.{TxnValue, HasBegunCall, HasGoneOn, IsShownRight}
+use Rattle.txc_txn.specs.Core.{CoreValue, open_call, recorded_after, IsNoValue}
+use Rattle.txc_txn.specs.Kept.{TxnValue, HasBegunCall, HasGoneOn}
 use Rattle.txc_txn.proofs.Offered.{adds_next, adds_none}
 use Rattle.txc_caller.specs.Given.{counted_reply}
-use Rattle.txc_caller.specs.Standing.{HasPassed, IsGoing, IsKeptBack, IsTurnOf, IsStanding, KeepsOn}
-use Rattle.txc_caller.specs.declared.stand.Stand.TheVariants as stands
+use Rattle.txc_caller.specs.Standing.{HasPassed, IsGoing, IsKeptBack, IsTurnOf, KeepsOn}
 
 -- ---- what is kept
 

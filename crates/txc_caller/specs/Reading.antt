@@ -1,20 +1,15 @@
 -- What callers see of a caller's transaction that only reads.
-use Rattle.std.specs.Prelude.{◌≡◌, ◌≢◌, ℕ, List, [], ◌∷◌, ◌++◌, Option, Some, None, Result, Ok, Err, IsSome, IsNone}
-use Rattle.std.specs.Option.{ForSome, option_map}
+use Rattle.std.specs.Prelude.{◌≡◌, ℕ, Option, Some, None}
+use Rattle.std.specs.Option.{ForSome}
 use Rattle.txc_tags.specs.Keys.{Call}
 use Rattle.txc_app.specs.Eval.{Next}
 use Rattle.txc_app.specs.declared.ask.Ask.{Ask}
 use Rattle.txc_registry.specs.Objects.{Objects}
-use Rattle.txc_ports.specs.declared.recorded.Recorded.{Recorded}
 use Rattle.txc_txn.specs.Core.{open_call, IsIdle}
 use Rattle.txc_txn.specs.Kept.{TxnValue}
-use Rattle.txc_caller.specs.Given.{IsGivenBy}
 use Rattle.txc_caller.specs.Ports.{CallerPorts}
 use Rattle.txc_caller.specs.Standing.{asks_next, IsKeptBack, KeepsOn}
 use Rattle.txc_caller.specs.declared.frames.OpenCall.{OpenCall}
-use Rattle.txc_caller.specs.declared.step.CallerError.{CallerError}
-use Rattle.txc_caller.specs.declared.step.Step.{Step}
-use Rattle.txc_caller.specs.declared.step.Step.TheVariants.{Compute, Answered, Value}
 
 -- at rest: its ports, after how long the newest pin is renewed, and what the objects of the functions do
 pub record CallerValue : Type 0 where

@@ -1,5 +1,5 @@
 -- A caller's transaction that writes.
-use Rattle.std.specs.Prelude.{◌≡◌, ℕ, ◌≤◌, ◌<◌, List, [], length}
+use Rattle.std.specs.Prelude.{◌≡◌, ℕ, ◌≤◌, ◌<◌, List, []}
 use Rattle.txc_rows.specs.declared.query.Change.{Change}
 use Rattle.txc_db.specs.DatabaseValue.{newest}
 use Rattle.txc_ports.specs.declared.error.TxnError.{TxnError}

@@ -2,7 +2,9 @@
 ghost use Rattle.std.specs.Prelude.{◌≡◌, ◌∷◌, ◌++◌, List, Some};
 ghost use Rattle.txc_tags.specs.Keys.{Call};
 ghost use Rattle.txc_ports.specs.declared.recorded.Recorded.{Recorded};
-ghost use Rattle.txc_txn.specs.Core.{open_call, IsIdle};
+ghost use Rattle.txc_app.specs.Eval.{Next};
+ghost use Rattle.txc_txn.specs.Core.{open_call, recorded_after, IsIdle};
+ghost use Rattle.txc_txn.specs.Kept.{TxnValue};
 ghost use Rattle.txc_caller.specs.Standing.{HasPassed, IsGoing, IsKeptBack, IsTurnOf, IsStanding, KeepsOn};
 
 use crate::ports::Ports;
@@ -10,7 +12,7 @@ use crate::stand::Stand;
 use std::alloc::Global;
 use txc_app::App;
 use txc_node::Value;
-use txc_ports::{PortReply, PortRequest, Turn};
+use txc_ports::{PortReply, PortRequest, Turn, TxnError};
 use txc_registry::Cacheable;
 use txc_tags::Key;
 use txc_txn::RunningTxn;
@@ -87,6 +89,17 @@ fn pass_pin<A: App, C: Cacheable>(
     }
 }
 
+// How a call stands that has ended so.
+fn at_its_end(outcome: Result<Value, TxnError>) -> Stand
+    ensures { (next : Next) (before : List Recorded) (k : Call) (t : TxnValue) → IsIdle t.core
+        → t.core.recorded ≡ recorded_after before (Turn.Ended outcome) (Some k) → IsStanding next before k t result }
+{
+    match outcome {
+        Ok(value) => Stand::Value(value),
+        Err(error) => Stand::Refused(error),
+    }
+}
+
 // Makes the request that is asked, and keeps the reply; or the call has ended.
 fn stop<A: App, C: Cacheable>(
     alloc: Global,
@@ -101,8 +114,7 @@ fn stop<A: App, C: Cacheable>(
 {
     match turn {
         Turn::Ask(request) => Stand::Kept(asked(alloc, ports, txn, request)),
-        Turn::Ended(Ok(value)) => Stand::Value(value),
-        Turn::Ended(Err(error)) => Stand::Refused(error),
+        Turn::Ended(outcome) => at_its_end(outcome),
     }
 }
 

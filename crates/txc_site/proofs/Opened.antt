@@ -1,5 +1,5 @@
 -- Why a site is not opened, by its parts.
-use Rattle.std.proofs.Common.{◌≡◌, ◌⊎◌, inl, inr, ℕ, List, length}
+use Rattle.std.proofs.Common.{◌≡◌, ◌⊎◌, inl, inr, ℕ, List}
 use Rattle.std.specs.Prelude.{Any}
 use Rattle.txc_site.specs.declared.run_error.RunError.{RunError}
 use Rattle.txc_rw.specs.Core.{RwValue}

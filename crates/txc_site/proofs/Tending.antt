@@ -1,6 +1,6 @@
 -- What the keeper of a site that keeps itself did, one keep more.
 use Rattle.std.proofs.Common.{◌≡◌, ℕ, List, [], ◌∷◌, Option, Some, None, refl, sym, subst}
-use Rattle.std.specs.Prelude.{Result, Ok, Err, IfOk, IfErr, OnErr}
+use Rattle.std.specs.Prelude.{Result, Ok, Err, IfOk, IfErr}
 use Rattle.txc_shared.specs.declared.settings.NodeSettings.{NodeSettings}
 use Rattle.txc_stream.specs.Names.{Name}
 use Rattle.txc_site.specs.declared.error.SiteError.{SiteError}
@@ -11,7 +11,7 @@ use Rattle.txc_site.specs.Plans.{nodes_of}
 use Rattle.txc_site.specs.Sites.{IsKeeperRefused}
 use Rattle.txc_site.specs.Tending.{OwnKeeperValue, HasTended, HasTendedSince, IsNewOwnKeeper, IsTendedAs, IsTendedAsPlanned, IsTendedBy}
 
-module _ (row : List ℕ) (histories : ℕ → Name) (nodes : List NodeSettings) (tells : ℕ → Type 0) (age : ℕ) where
+module _ (row : Name) (histories : ℕ → Name) (nodes : List NodeSettings) (tells : ℕ → Type 0) (age : ℕ) where
   pub since_begun : (own : OwnKeeperValue) → IsNewOwnKeeper nodes own → HasTendedSince row histories nodes tells age own
   since_begun own new = record { first = own; moments = []; new = new; kept = refl }
 
@@ -34,11 +34,8 @@ ok_at {T} {E} P r x is h = subst (λ (s : Result T E). IfOk s P) is h
 pub err_at : {T E : Type 0} (P : E → Type 0) (r : Result T E) (e : E) → r ≡ Err e → IfErr r P → P e
 err_at {T} {E} P r e is h = subst (λ (s : Result T E). IfErr s P) is h
 
-pub on_err_at : {T E : Type 0} (P : Type 0) (r : Result T E) (e : E) → r ≡ Err e → OnErr r P → P
-on_err_at {T} {E} P r e is h = subst (λ (s : Result T E). OnErr s P) is h
-
 -- what a site's own keeper came to, as its plan says
-module _ (plan : Plan) (tells : ℕ → Type 0) (row : List ℕ) where
+module _ (plan : Plan) (tells : ℕ → Type 0) (row : Name) where
   pub planned_none : plan.keep ≡ None → IsTendedAsPlanned plan tells row None
   planned_none is =
       record { tended = subst (λ (keep : Option Keeping). IsTendedAs keep (nodes_of plan) tells row None) (sym is) refl }
@@ -50,6 +47,6 @@ module _ (plan : Plan) (tells : ℕ → Type 0) (row : List ℕ) where
     tended = subst (λ (keep : Option Keeping). IsTendedAs keep (nodes_of plan) tells row (Some result)) (sym is) (result, refl, ok, err);
   }
 
-  pub tended_at : (events : List ℕ) (came : Option (Result Tended SiteError)) → events ≡ row → IsTendedAsPlanned plan tells row came
+  pub tended_at : (events : Name) (came : Option (Result Tended SiteError)) → events ≡ row → IsTendedAsPlanned plan tells row came
       → IsTendedAsPlanned plan tells events came
-  tended_at events came same h = subst (λ (rows : List ℕ). IsTendedAsPlanned plan tells rows came) (sym same) h
+  tended_at events came same h = subst (λ (rows : Name). IsTendedAsPlanned plan tells rows came) (sym same) h

@@ -1,5 +1,5 @@
 -- What one run of a change came to, by its kind.
-use Rattle.std.proofs.Common.{◌≡◌, ℕ, List, subst}
+use Rattle.std.proofs.Common.{◌≡◌, ℕ, subst}
 use Rattle.txc_stream.specs.Names.{Name}
 use Rattle.txc_app.specs.Eval.{Next}
 use Rattle.txc_db.specs.declared.answered.Answered.{Answered}

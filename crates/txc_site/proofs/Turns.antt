@@ -1,13 +1,16 @@
 -- One generation more.
 use Rattle.std.proofs.Common.{◌≡◌, ◌⊎◌, inl, inr, ◌∙◌, ℕ, ◌+◌, ◌≤◌, Bool, true, false, List, [], ◌∷◌, ◌++◌, Result, Ok, Err, map, length, refl, sym, ap, subst, append-nil, length-append, arith}
-use Rattle.std.specs.Prelude.{All, Vec}
+use Rattle.std.specs.Prelude.{All, IfErr, Vec}
 use Rattle.std.specs.Result.{IsErrAnd}
 use Rattle.std.specs.declared.alloc.Global.{Global}
 use Rattle.std.proofs.lemmas.List.{length-map, map-append}
 use Rattle.std.proofs.lemmas.List.Elements.{All-nil, All-push}
 use mathlib.Core.List.{IsPrefix}
+use Rattle.txc_db.specs.declared.error.DbError.{DbError}
+use Rattle.txc_db.specs.declared.error.DbError.TheVariants as databases
 use Rattle.txc_db.specs.DatabaseValue.{DatabaseValue, after_vacuum, front_of}
 use Rattle.txc_db.specs.Seen.{FrontValue}
+use Rattle.txc_stream.specs.Names.{Name}
 use Rattle.txc_site.specs.declared.error.GenerationError.{GenerationError}
 use Rattle.txc_site.specs.declared.error.GenerationError.TheVariants as generations
 use Rattle.txc_site.specs.declared.plan.Plan.{Plan}
@@ -54,6 +57,18 @@ pub is_error : {U E : Type 0} (end : Result U E) (error : E) → IsErrAnd end (�
 is_error (Ok u) error h = absurd h
 is_error {U} {E} (Err e) error h = ap (λ (x : E). Err x) h
 
+-- a database gave no front of its whole history
+pub no_front : {U : Type 0} (numbers : List ℕ) (end : Result U GenerationError) (error : DbError) → IsErrAnd end (λ e. e ≡ generations.Ended error)
+    → (error ≡ databases.Memory) ⊎ (error ≡ databases.Broken) → IfErr end (IsGenerationRefused numbers)
+no_front numbers (Ok u) error is h = tt
+no_front numbers (Err e) error is h = subst (IsGenerationRefused numbers) (sym is) h
+
+-- nor was there memory for that of the next one
+pub no_next_front : {U : Type 0} (room : ℕ) (ended : FrontValue) (end : Result U GenerationError) → IsErrAnd end (λ e. e ≡ generations.Memory)
+    → IfErr end (IsNextRefused room ended)
+no_next_front room ended (Ok u) is = tt
+no_next_front room ended (Err e) is = subst (IsNextRefused room ended) (sym is) tt
+
 -- what ends a generation ends all
 end_so : {T : Type 0} (room : ℕ) (numbers : List ℕ) (gs : List (Generation T)) (error : GenerationError) → IsGenerationRefused numbers error
     → IsEndRefused room numbers gs error
@@ -70,13 +85,13 @@ next_so room numbers gs g (generations.Ended error) h = absurd h
 next_so room numbers gs g (generations.Carry error) h = (gs, g, refl, h)
 next_so room numbers gs g generations.Memory h = tt
 
-module _ {T : Type 0} (plan : Plan) (count : ℕ) (numbers : List ℕ) (gives : Plan → List ℕ → ℕ → T → Type 0) (goes : Generation T → Bool → Type 0)
+module _ {T : Type 0} (plan : Plan) (tells : ℕ → Type 0) (count : ℕ) (numbers : List ℕ) (gives : Plan → Name → ℕ → T → Type 0) (goes : Generation T → Bool → Type 0)
     (opened : FrontValue) where
   -- After each of the generations that came, the visitors wanted another. One that begins with this front comes next.
   pub record HaveGoneOn (came : List (Vec T Global)) (begun : FrontValue) : Type 0 where
     pub generations : List (Generation T)
     pub outputs : came ≡ map (λ g. g.outputs) generations
-    pub each : All (IsGeneration plan count gives) generations
+    pub each : All (IsGeneration plan tells count gives) generations
     pub turns : AreInTurn opened generations
     pub went_on : All (λ g. goes g true) generations
     pub next : (g : Generation T) → g.number ≡ length generations → g.begun ≡ begun → AreInTurn opened (generations ++ g ∷ [])
@@ -86,7 +101,7 @@ module _ {T : Type 0} (plan : Plan) (count : ℕ) (numbers : List ℕ) (gives : 
   none_came came none = record {
     generations = [];
     outputs = none;
-    each = All-nil (IsGeneration plan count gives);
+    each = All-nil (IsGeneration plan tells count gives);
     turns = tt;
     went_on = All-nil (λ g. goes g true);
     next = λ g number begun. (number, begun, tt);
@@ -95,7 +110,7 @@ module _ {T : Type 0} (plan : Plan) (count : ℕ) (numbers : List ℕ) (gives : 
   -- there is no other, and none came after those
   pub failed_so : {U : Type 0} (came : List (Vec T Global)) (begun : FrontValue) (end : Result U GenerationError) (error : GenerationError) → HaveGoneOn came begun
       → end ≡ Err error → ((gs : List (Generation T)) → IsEndRefused plan.events numbers gs error)
-      → HaveServed plan count numbers gives goes opened came end
+      → HaveServed plan tells count numbers gives goes opened came end
   failed_so {U} came begun end error before is refused = record {
     generations = before.generations;
     outputs = before.outputs;
@@ -105,7 +120,7 @@ module _ {T : Type 0} (plan : Plan) (count : ℕ) (numbers : List ℕ) (gives : 
   }
 
   -- one more came
-  module _ (came more : List (Vec T Global)) (begun : FrontValue) (before : HaveGoneOn came begun) (g : Generation T) (one : IsGeneration plan count gives g)
+  module _ (came more : List (Vec T Global)) (begun : FrontValue) (before : HaveGoneOn came begun) (g : Generation T) (one : IsGeneration plan tells count gives g)
       (number : g.number ≡ length came) (begins : g.begun ≡ begun) (added : more ≡ came ++ g.outputs ∷ []) where
     turns_more : AreInTurn opened (before.generations ++ g ∷ [])
     turns_more = before.next g (number ∙ many came before.generations before.outputs) begins
@@ -114,7 +129,7 @@ module _ {T : Type 0} (plan : Plan) (count : ℕ) (numbers : List ℕ) (gives : 
     one_more next goes_on state = record {
       generations = before.generations ++ g ∷ [];
       outputs = outputs_more came more before.generations g before.outputs added;
-      each = All-push (IsGeneration plan count gives) before.generations g before.each one;
+      each = All-push (IsGeneration plan tells count gives) before.generations g before.each one;
       turns = turns_more;
       went_on = All-push (λ g. goes g true) before.generations g before.went_on goes_on;
       next = λ h h_number h_begun. in_turn_more opened before.generations g h turns_more (record {
@@ -124,11 +139,11 @@ module _ {T : Type 0} (plan : Plan) (count : ℕ) (numbers : List ℕ) (gives : 
     }
 
     -- the visitors want no other
-    pub enough_so : {U : Type 0} (end : Result U GenerationError) (u : U) → end ≡ Ok u → goes g false → HaveServed plan count numbers gives goes opened more end
+    pub enough_so : {U : Type 0} (end : Result U GenerationError) (u : U) → end ≡ Ok u → goes g false → HaveServed plan tells count numbers gives goes opened more end
     enough_so {U} end u is goes_on = record {
       generations = before.generations ++ g ∷ [];
       outputs = outputs_more came more before.generations g before.outputs added;
-      each = All-push (IsGeneration plan count gives) before.generations g before.each one;
+      each = All-push (IsGeneration plan tells count gives) before.generations g before.each one;
       turns = turns_more;
       ended =
           subst (GenerationsHaveEnded {T = T} {U = U} goes plan.events numbers (before.generations ++ g ∷ [])) (sym is)
@@ -137,11 +152,11 @@ module _ {T : Type 0} (plan : Plan) (count : ℕ) (numbers : List ℕ) (gives : 
 
     -- they want another, and there is none
     pub no_next_so : {U : Type 0} (end : Result U GenerationError) (error : GenerationError) → end ≡ Err error → goes g true
-        → IsNextRefused plan.events g.ended error → HaveServed plan count numbers gives goes opened more end
+        → IsNextRefused plan.events g.ended error → HaveServed plan tells count numbers gives goes opened more end
     no_next_so {U} end error is goes_on refused = record {
       generations = before.generations ++ g ∷ [];
       outputs = outputs_more came more before.generations g before.outputs added;
-      each = All-push (IsGeneration plan count gives) before.generations g before.each one;
+      each = All-push (IsGeneration plan tells count gives) before.generations g before.each one;
       turns = turns_more;
       ended =
           subst (GenerationsHaveEnded {T = T} {U = U} goes plan.events numbers (before.generations ++ g ∷ [])) (sym is)

@@ -1,5 +1,5 @@
 -- Only private functions need this file: what one run of a change came to.
-use Rattle.std.specs.Prelude.{◌≡◌, ℕ, List}
+use Rattle.std.specs.Prelude.{◌≡◌, ℕ}
 use Rattle.txc_stream.specs.Names.{Name}
 use Rattle.txc_app.specs.Eval.{Next}
 use Rattle.txc_db.specs.declared.answered.CommitError.TheVariants as commits

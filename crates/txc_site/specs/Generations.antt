@@ -19,6 +19,7 @@ use Rattle.txc_site.specs.declared.plan.Plan.{Plan}
 use Rattle.txc_site.specs.declared.returning.Generation.{Generation}
 use Rattle.txc_site.specs.Opened.{IsVisitRefused}
 use Rattle.txc_site.specs.Sites.{HaveCome}
+use Rattle.txc_site.specs.Tending.{IsTendedAsPlanned}
 use Rattle.txc_site.specs.Writes.{IsWritten}
 
 -- the state after all events that a front shows
@@ -26,13 +27,15 @@ abbrev pub last_state : FrontValue → State
 last_state front = state_at front.history (length front.history)
 
 -- A generation over a database whose row has room for as many events as the plan says. Its history at the end goes on from that at the beginning.
--- There are so many outputs, each of which is what the thread of its number comes to there.
-pub record IsGeneration {T : Type 0} (plan : Plan) (count : ℕ) (gives : Plan → Name → ℕ → T → Type 0) (g : Generation T) : Type 0 where
+-- There are so many outputs, each of which is what the thread of its number comes to there. Its own keeper came to what the plan
+-- says, at moments of the clock.
+pub record IsGeneration {T : Type 0} (plan : Plan) (tells : ℕ → Type 0) (count : ℕ) (gives : Plan → Name → ℕ → T → Type 0) (g : Generation T) : Type 0 where
   pub room : HasCapacity g.begun.events plan.events
   pub row : g.ended.events ≡ g.begun.events
   pub goes_on : IsPrefix g.begun.history g.ended.history
   pub each : vec_len g.outputs ≡ count
   pub came : HaveCome (gives plan g.begun.events) g.outputs.items
+  pub tended : IsTendedAsPlanned plan tells g.begun.events g.tended
 
 -- the next generation has the next number, and begins with the state that the one before ended with
 pub record ComesAfter {T : Type 0} (g next : Generation T) : Type 0 where
@@ -82,18 +85,18 @@ GenerationsHaveEnded goes room numbers all (Err error) = All (λ g. goes g true)
 
 -- The generations came in turn, from what the opening left on, each over a database of its own with the plan's room. What they came to stands in
 -- their order.
-pub record HaveServed {T U : Type 0} (plan : Plan) (count : ℕ) (numbers : List ℕ) (gives : Plan → Name → ℕ → T → Type 0)
+pub record HaveServed {T U : Type 0} (plan : Plan) (tells : ℕ → Type 0) (count : ℕ) (numbers : List ℕ) (gives : Plan → Name → ℕ → T → Type 0)
     (goes : Generation T → Bool → Type 0) (opened : FrontValue) (came : List (Vec T Global)) (end : Result U GenerationError) : Type 0 where
   pub generations : List (Generation T)
   pub outputs : came ≡ map (λ g. g.outputs) generations
-  pub each : All (IsGeneration plan count gives) generations
+  pub each : All (IsGeneration plan tells count gives) generations
   pub turns : AreInTurn opened generations
   pub ended : GenerationsHaveEnded goes plan.events numbers generations end
 
 -- Over a database whose row has room for as many events as the plan says, the opening was written in its first run. The generations came after it.
-pub record IsServed {O T : Type 0} (next : Next) (plan : Plan) (count : ℕ) (numbers : List ℕ) (makes : RwValue → O → Type 0)
+pub record IsServed {O T : Type 0} (next : Next) (plan : Plan) (tells : ℕ → Type 0) (count : ℕ) (numbers : List ℕ) (makes : RwValue → O → Type 0)
     (gives : Plan → Name → ℕ → T → Type 0) (goes : Generation T → Bool → Type 0) (served : Served O T) : Type 0 where
   pub room : HasCapacity served.opening.committed.front.events plan.events
   pub opened : IsWritten next served.opening.committed.front.events makes served.opening.output served.opening.committed
   pub once : vec_len served.opening.conflicts ≡ 0
-  pub came : HaveServed plan count numbers gives goes served.opening.committed.front served.generations.items served.end
+  pub came : HaveServed plan tells count numbers gives goes served.opening.committed.front served.generations.items served.end

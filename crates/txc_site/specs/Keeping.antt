@@ -1,5 +1,5 @@
 -- What a keeper did with the nodes of a site.
-use Rattle.std.specs.Prelude.{◌≡◌, ℕ, ◌+◌, List, [], ◌∷◌, length, Option, Some, None, Ok, Err, IfErr, IfOk, Result}
+use Rattle.std.specs.Prelude.{◌≡◌, ℕ, List, [], ◌∷◌, length, Option, Some, None, Ok, Err, IfErr, IfOk, Result}
 use Rattle.txc_stream.specs.Names.{Name}
 use Rattle.txc_node.specs.declared.op.Op.TheVariants.{Sweep}
 use Rattle.txc_node.specs.declared.reply.Reply.TheVariants.{Swept}

@@ -3,6 +3,7 @@ pub mod Counted
 pub mod Generations
 pub mod Guests
 pub mod Keeping
+pub mod Keeps
 pub mod Opened
 pub mod Histories
 pub mod Pages

@@ -1,5 +1,5 @@
 -- What a site that is opened comes to.
-use Rattle.std.specs.Prelude.{◌≡◌, ℕ, List, length, vec_len}
+use Rattle.std.specs.Prelude.{◌≡◌, ℕ, List, vec_len}
 use Rattle.txc_stream.specs.Names.{Name}
 use Rattle.txc_db.specs.Room.{HasCapacity}
 use Rattle.txc_app.specs.Eval.{Next}

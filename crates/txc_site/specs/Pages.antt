@@ -74,8 +74,8 @@ exchanges_of next row histories old [] new h = []
 exchanges_of next row histories old (call ∷ earlier) new h = exchanges_of next row histories old earlier h.0 h.1 ++ h.2.exchanges
 
 -- The client's own records in the history of a node are, after the calls of a page, those before it, and then those of the
--- calls' exchanges with the node, in their order. They are one of each hit, at most one of each miss and of each insertion,
--- and no others.
+-- calls' exchanges with the node, in their order. They are one of each hit and of each entry that the node keeps, at most one
+-- of each miss and of each other insertion, and no others.
 abbrev pub PagesStandOnce : Type 0
 PagesStandOnce = (next : Next) (row : Name) (histories : ℕ → Name) (old : RoTxnValue) (calls : List MadeCall) (new : RoTxnValue)
     (made : HaveCalled next row histories old calls new) (node : ℕ) (before after : PassValue)

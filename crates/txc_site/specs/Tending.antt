@@ -1,25 +1,14 @@
 -- What the keeper of a site that keeps itself did.
-use Rattle.std.specs.Prelude.{◌≡◌, ◌⊎◌, ℕ, List, [], ◌∷◌, All, IfErr, IfOk, None, Option, Result, Some, Vec, map}
-use Rattle.std.specs.declared.alloc.AllocError.{AllocError}
-use Rattle.std.specs.declared.alloc.Global.{Global}
-use Rattle.txc_cushion.specs.Cushion.{retired}
-use Rattle.txc_cushion.specs.Shared.{CushionMayAnswer}
+use Rattle.std.specs.Prelude.{◌≡◌, ◌⊎◌, ℕ, List, [], ◌∷◌, All, IfErr, IfOk, None, Option, Result, Some, map}
 use Rattle.txc_db.specs.declared.error.DbError.{DbError}
-use Rattle.txc_db.specs.declared.error.DbError.TheVariants as databases
-use Rattle.txc_db.specs.Calls.{IsHoldRefused, IsPinRefused, IsVacuumRefused}
-use Rattle.txc_db.specs.DatabaseValue.{next_horizon}
-use Rattle.txc_db.specs.History.{event_at, pin_event}
-use Rattle.txc_db.specs.Seen.{FrontValue}
-use Rattle.txc_db.specs.Shared.{MayAnswer, MayRefuse}
 use Rattle.txc_shared.specs.declared.settings.NodeSettings.{NodeSettings}
 use Rattle.txc_stream.specs.Names.{Name}
 use Rattle.txc_site.specs.Counted.{counted_again}
 use Rattle.txc_site.specs.declared.error.SiteError.{SiteError}
-use Rattle.txc_site.specs.declared.keeper.KeptNode.{KeptNode}
 use Rattle.txc_site.specs.declared.keeping.Keeping.{Keeping}
 use Rattle.txc_site.specs.declared.keeping.Tended.{Tended}
 use Rattle.txc_site.specs.declared.plan.Plan.{Plan}
-use Rattle.txc_site.specs.Keeping.{HaveKept, ok_of}
+use Rattle.txc_site.specs.Keeps.{IsKeep, IsNoKeep, KeepTold}
 use Rattle.txc_site.specs.Plans.{nodes_of}
 use Rattle.txc_site.specs.Sites.{IsKeeperRefused}
 use Rattle.txc_site.specs.Stations.{StationValue}
@@ -35,55 +24,32 @@ pub record IsNewOwnKeeper (all : List NodeSettings) (own : OwnKeeperValue) : Typ
   pub records : All (λ s. s.pass.records ≡ []) own.stations
   pub tended : own.tended ≡ record { keeps = 0; refused = None }
 
--- what a keep that was not refused tells
-pub record KeepTold : Type 0 where
-  pub seen : FrontValue
-  pub pinned : Result ℕ DbError
-  pub retired : Result (Vec ℕ Global) AllocError
-  pub horizon : Result ℕ DbError
-  pub nodes : List KeptNode
-
--- it was of this moment, took away pins older than this age, and did so with the nodes
-pub record IsKeep (row : List ℕ) (histories : ℕ → Name) (now age : ℕ) (old : List StationValue) (told : KeepTold) (new : List StationValue) : Type 0 where
-  pub seen : told.seen.events ≡ row
-  pub pinned : IfOk told.pinned (λ stamp. event_at told.seen.history stamp ≡ Some (pin_event now))
-  pub not_pinned : IfErr told.pinned (MayRefuse row (λ d. IsPinRefused d 0))
-  pub retired : IfOk told.retired (CushionMayAnswer row (λ c stamps. stamps.items ≡ retired c now age))
-  pub horizon : IfOk told.horizon (MayAnswer row (λ d horizon. horizon ≡ next_horizon d))
-  pub no_horizon : IfErr told.horizon (MayRefuse row IsVacuumRefused)
-  pub nodes : HaveKept histories (ok_of told.horizon) old told.nodes new
-
--- a keep did nothing, for this reason
-pub record IsNoKeep (row : List ℕ) (old : List StationValue) (error : DbError) (new : List StationValue) : Type 0 where
-  pub refused : (error ≡ databases.Memory) ⊎ MayRefuse row IsHoldRefused error
-  pub same : new ≡ old
-
 -- what a keeper came to, with one keep more
 abbrev pub tended_after : Tended → Option DbError → Tended
 tended_after t None = record t { keeps = counted_again t.keeps }
 tended_after t (Some error) = record { keeps = counted_again t.keeps; refused = Some error }
 
 -- it kept once more, or was refused that; and tells it
-abbrev pub HasTended : List ℕ → (ℕ → Name) → ℕ → ℕ → OwnKeeperValue → OwnKeeperValue → Type 0
+abbrev pub HasTended : Name → (ℕ → Name) → ℕ → ℕ → OwnKeeperValue → OwnKeeperValue → Type 0
 HasTended row histories now age old new =
     ((told : KeepTold) × IsKeep row histories now age old.stations told new.stations × (new.tended ≡ tended_after old.tended None))
     ⊎ ((error : DbError) × IsNoKeep row old.stations error new.stations × (new.tended ≡ tended_after old.tended (Some error)))
 
 -- it kept at each of these moments, the latest first, which the clock told
-abbrev pub HaveTended : List ℕ → (ℕ → Name) → (ℕ → Type 0) → ℕ → OwnKeeperValue → List ℕ → OwnKeeperValue → Type 0
+abbrev pub HaveTended : Name → (ℕ → Name) → (ℕ → Type 0) → ℕ → OwnKeeperValue → List ℕ → OwnKeeperValue → Type 0
 HaveTended row histories tells age first [] last = last ≡ first
 HaveTended row histories tells age first (now ∷ earlier) last = (before : OwnKeeperValue)
     × HaveTended row histories tells age first earlier before × tells now × HasTended row histories now age before last
 
 -- it began as a new keeper of these nodes, and did nothing but keep
-pub record HasTendedSince (row : List ℕ) (histories : ℕ → Name) (nodes : List NodeSettings) (tells : ℕ → Type 0) (age : ℕ) (own : OwnKeeperValue) : Type 0 where
+pub record HasTendedSince (row : Name) (histories : ℕ → Name) (nodes : List NodeSettings) (tells : ℕ → Type 0) (age : ℕ) (own : OwnKeeperValue) : Type 0 where
   pub first : OwnKeeperValue
   pub moments : List ℕ
   pub new : IsNewOwnKeeper nodes first
   pub kept : HaveTended row histories tells age first moments own
 
 -- such a keeper of these nodes, whatever their histories, came to this
-pub record IsTendedBy (row : List ℕ) (nodes : List NodeSettings) (tells : ℕ → Type 0) (age : ℕ) (tended : Tended) : Type 0 where
+pub record IsTendedBy (row : Name) (nodes : List NodeSettings) (tells : ℕ → Type 0) (age : ℕ) (tended : Tended) : Type 0 where
   pub histories : ℕ → Name
   pub own : OwnKeeperValue
   pub since : HasTendedSince row histories nodes tells age own
@@ -91,11 +57,11 @@ pub record IsTendedBy (row : List ℕ) (nodes : List NodeSettings) (tells : ℕ 
 
 -- The site's own keeper: none where the plan has none. Else it came to this, or there was none, since a node gave it no
 -- pass, or for want of memory.
-abbrev pub IsTendedAs : Option Keeping → List NodeSettings → (ℕ → Type 0) → List ℕ → Option (Result Tended SiteError) → Type 0
+abbrev pub IsTendedAs : Option Keeping → List NodeSettings → (ℕ → Type 0) → Name → Option (Result Tended SiteError) → Type 0
 IsTendedAs None nodes tells row came = came ≡ None
 IsTendedAs (Some keeping) nodes tells row came = (result : Result Tended SiteError) × (came ≡ Some result)
     × IfOk result (IsTendedBy row nodes tells keeping.age) × IfErr result IsKeeperRefused
 
 -- the same of a site of this plan
-pub record IsTendedAsPlanned (plan : Plan) (tells : ℕ → Type 0) (row : List ℕ) (came : Option (Result Tended SiteError)) : Type 0 where
+pub record IsTendedAsPlanned (plan : Plan) (tells : ℕ → Type 0) (row : Name) (came : Option (Result Tended SiteError)) : Type 0 where
   pub tended : IsTendedAs plan.keep (nodes_of plan) tells row came

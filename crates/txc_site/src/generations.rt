@@ -57,6 +57,7 @@ fn whole_front(core: &DbCore, seen: &HistoryFront) -> Result<HistoryFront, DbErr
 }
 
 /// One generation: it begins with this database, and ends once all threads have.
+#[tactic(auto, using(crate::proofs::Tending::tended_at))]
 fn generation<A, D, V, C, R>(
     rt: &R,
     alloc: Global,
@@ -76,7 +77,8 @@ where
     requires plan { IsPlan plan }
     requires row { begun.core.events ≡ begun.front.events }
     requires room { HasCapacity begun.front.events plan.events }
-    ensures generation { IfOk result (λ ended. IsGeneration plan count (V.gives visitors.now) ended.0) }
+    ensures generation { IfOk result (λ ended.
+        IsGeneration plan (C.tells clock.now) count (V.gives visitors.now) ended.0) }
     ensures number { IfOk result (λ ended. ended.0.number ≡ number) }
     ensures begun { IfOk result (λ ended. ended.0.begun ≡ begun.front) }
     ensures ended { IfOk result (λ ended. ended.0.ended ≡ front_of ended.1) }
@@ -135,8 +137,8 @@ where
     O: Change<A, D>,
     V: Returning<A, D> + Sync,
     R: Threads + Wait + Sync,
-    ensures served { IfOk result (IsServed A.next plan count A.numbers (O.makes opening.now)
-        (V.gives visitors.now) (V.goes visitors.now)) }
+    ensures served { IfOk result (IsServed A.next plan (λ now. Unit {0}) count A.numbers
+        (O.makes opening.now) (V.gives visitors.now) (V.goes visitors.now)) }
     ensures unsound { ¬ (IsPlan plan) → result ≡ Err (OpenError.Site SiteError.Plan) }
     ensures refused { IfErr result
         (IsOpenRefused plan A.numbers (O.makes opening.now) (O.refuses opening.now)) }
@@ -169,8 +171,8 @@ where
     V: Returning<A, D> + Sync,
     C: Clock + Sync,
     R: Threads + Wait + Sync,
-    ensures served { IfOk result (IsServed A.next plan count A.numbers (O.makes opening.now)
-        (V.gives visitors.now) (V.goes visitors.now)) }
+    ensures served { IfOk result (IsServed A.next plan (C.tells clock.now) count A.numbers
+        (O.makes opening.now) (V.gives visitors.now) (V.goes visitors.now)) }
     ensures unsound { ¬ (IsPlan plan) → result ≡ Err (OpenError.Site SiteError.Plan) }
     ensures refused { IfErr result
         (IsOpenRefused plan A.numbers (O.makes opening.now) (O.refuses opening.now)) }
@@ -220,8 +222,8 @@ where
     requires row { begun.core.events ≡ begun.front.events }
     requires room { HasCapacity begun.front.events plan.events }
     requires none { generations.old.items ≡ [] }
-    ensures { HaveServed plan count A.numbers (V.gives visitors.now) (V.goes visitors.now) begun.front
-        generations.new.items result }
+    ensures { HaveServed plan (C.tells clock.now) count A.numbers (V.gives visitors.now) (V.goes visitors.now)
+        begun.front generations.new.items result }
 {
     let mut begun = begun;
     for _ in rt.forever() {

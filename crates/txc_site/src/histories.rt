@@ -95,7 +95,9 @@ where
     ensures database { IfOk result (λ visited. IsDatabaseOf J.database_history visited.core) }
     ensures refused { IfErr result (IsVisitRefused A.numbers) }
 {
-    let (foundation, committers) = Foundation::<A, J>::new(rt, alloc, plan, core, histories, count)?;
+    let (foundation, committers) = Foundation::<A, J>::new(
+        rt, alloc, plan, core, histories, count,
+    )?;
     let mut pool = PermitPool::new(alloc, plan.permits)?;
     let came = visit::<A, D, V, J, C, R>(
         rt,

@@ -1,12 +1,12 @@
 //! The keeping of a site.
-ghost use Rattle.std.specs.Prelude.{◌≡◌, ◌+◌, ◌≤◌, ◌⊎◌, [], All, IfErr, IfOk, OnErr, Some, length, map, vec_capacity, vec_len};
+ghost use Rattle.std.specs.Prelude.{◌≡◌, ◌≤◌, ◌⊎◌, [], All, IfErr, IfOk, Some, map, vec_capacity, vec_len};
 ghost use Rattle.txc_cushion.specs.Cushion.{retired};
 ghost use Rattle.txc_cushion.specs.Shared.{CushionMayAnswer};
-ghost use Rattle.txc_db.specs.Calls.{IsHoldRefused, IsPinRefused, IsVacuumRefused};
+ghost use Rattle.txc_db.specs.Calls.{IsHoldRefused, IsPinRefused};
 ghost use Rattle.txc_db.specs.History.{event_at, pin_event};
-ghost use Rattle.txc_db.specs.DatabaseValue.{next_horizon};
-ghost use Rattle.txc_db.specs.Shared.{MayAnswer, MayRefuse};
+ghost use Rattle.txc_db.specs.Shared.{MayRefuse};
 ghost use Rattle.txc_site.specs.Keeping.{HasKeptNode, HasSwept, HasTakenEvents, HaveKept, ok_of};
+ghost use Rattle.txc_site.specs.Keeps.{keep_told, IsKeep, IsNoKeep};
 ghost use Rattle.txc_site.specs.Plans.{nodes_of};
 ghost use Rattle.txc_site.specs.Sites.{IsKeeperRefused};
 ghost use Rattle.txc_site.specs.Stations.{IsSamePass};
@@ -227,6 +227,44 @@ fn keep_all<'a, A: App, J: Naming>(
     (nodes, left)
 }
 
+/// Keeps the nodes of these stations, and their database.
+fn keep_stations<'a, A: App, J: Naming>(
+    rt: &impl Wait,
+    alloc: Global,
+    ledger: &Ledger<J>,
+    stations: Vec<Station<'a, A, J>>,
+    now: u64,
+    age: u64,
+) -> (Result<Kept<J>, DbError>, Vec<Station<'a, A, J>>)
+    ensures kept { IfOk result.0 (λ kept. IsKeep J.database_history J.node_histories now age
+        stations.entry.items (keep_told kept) result.1.items) }
+    ensures refused { IfErr result.0 (λ error.
+        IsNoKeep J.database_history stations.entry.items error result.1.items) }
+{
+    let Ok(nodes) = Vec::with_capacity(alloc, stations.len()) else {
+        return (Err(DbError::Memory), stations);
+    };
+    let Ok(left) = Vec::with_capacity(alloc, stations.len()) else {
+        return (Err(DbError::Memory), stations);
+    };
+    let (seen, pinned) = match pin(rt, alloc, ledger, now) {
+        Ok(seen) => seen,
+        Err(error) => return (Err(error), stations),
+    };
+    let retired = retire(rt, alloc, ledger, now, age);
+    let horizon = ledger.vacuum(rt);
+    let (nodes, stations) = keep_all(rt, alloc, &horizon, stations, nodes, left);
+    let kept = Kept {
+        events_left: events_left(&seen),
+        seen,
+        pinned,
+        retired,
+        horizon,
+        nodes,
+    };
+    (Ok(kept), stations)
+}
+
 impl<'a, A: App, J: Naming> Model for Keeper<'a, A, J> {
     ghost use Rattle.std.specs.Prelude.{List};
     ghost use Rattle.txc_site.specs.Stations.{StationValue};
@@ -267,73 +305,20 @@ impl<'a, A: App, J: Naming> Keeper<'a, A, J> {
         now: u64,
         age: u64,
     ) -> (Result<Kept<J>, DbError>, Self)
-        ensures row { IfOk result.0 (λ kept. kept.seen.events ≡ J.database_history) }
-        ensures events_left { IfOk result.0 (λ kept.
-            kept.events_left + length kept.seen.history ≡ length J.database_history) }
-        ensures pinned { IfOk result.0 (λ kept. IfOk kept.pinned (λ stamp.
-            event_at kept.seen.history stamp ≡ Some (pin_event now))) }
-        ensures not_pinned { IfOk result.0 (λ kept. IfErr kept.pinned
-            (MayRefuse J.database_history (λ d. IsPinRefused d 0))) }
-        ensures retired { IfOk result.0 (λ kept. IfOk kept.retired
-            (CushionMayAnswer J.database_history (λ c stamps. stamps.items ≡ retired c now age))) }
-        ensures horizon { IfOk result.0 (λ kept. IfOk kept.horizon
-            (MayAnswer J.database_history (λ d horizon. horizon ≡ next_horizon d))) }
-        ensures no_horizon { IfOk result.0 (λ kept. IfErr kept.horizon
-            (MayRefuse J.database_history IsVacuumRefused)) }
-        ensures nodes { IfOk result.0 (λ kept.
-            HaveKept J.node_histories (ok_of kept.horizon) self.entry kept.nodes.items result.1) }
-        ensures refused { IfErr result.0 (λ error. (error ≡ DbError.Memory)
-            ⊎ MayRefuse J.database_history IsHoldRefused error) }
-        ensures unchanged { OnErr result.0 (result.1 ≡ self.entry) }
+        ensures kept { IfOk result.0 (λ kept.
+            IsKeep J.database_history J.node_histories now age self.entry (keep_told kept) result.1) }
+        ensures refused { IfErr result.0 (λ error.
+            IsNoKeep J.database_history self.entry error result.1) }
     {
         let Keeper {
             foundation,
             stations,
         } = self;
-        let ledger = &foundation.ledger;
-        let count = stations.len();
-        let Ok(nodes) = Vec::with_capacity(alloc, count) else {
-            let keeper = Keeper {
-                foundation,
-                stations,
-            };
-            return (Err(DbError::Memory), keeper);
+        let (kept, stations) = keep_stations(rt, alloc, &foundation.ledger, stations, now, age);
+        let keeper = Keeper {
+            foundation,
+            stations,
         };
-        let Ok(left) = Vec::with_capacity(alloc, count) else {
-            let keeper = Keeper {
-                foundation,
-                stations,
-            };
-            return (Err(DbError::Memory), keeper);
-        };
-        let (seen, pinned) = match pin(rt, alloc, ledger, now) {
-            Ok(seen) => seen,
-            Err(error) => return (
-                Err(error),
-                Keeper {
-                    foundation,
-                    stations,
-                },
-            ),
-        };
-        let retired = retire(rt, alloc, ledger, now, age);
-        let horizon = ledger.vacuum(rt);
-        let (nodes, stations) = keep_all(rt, alloc, &horizon, stations, nodes, left);
-        let events_left = events_left(&seen);
-        let kept = Kept {
-            seen,
-            events_left,
-            pinned,
-            retired,
-            horizon,
-            nodes,
-        };
-        (
-            Ok(kept),
-            Keeper {
-                foundation,
-                stations,
-            },
-        )
+        (kept, keeper)
     }
 }

@@ -129,7 +129,7 @@ module _ (p : PortsValue) (right : CountRight p) where
   pub gone_commit : (base : ℕ) (read : List Tag) (changes : List Change) (e : DbError) → IsCommitRefused p.database base read changes e
       → IfGone e (times base p.database.holds ≡ 0)
   gone_commit base read changes (errors.SnapshotGone horizon) h =
-      none_held base p.database.horizon (newest p.database) p.database.holds (below p.database.events p.database.horizon h.1.0) (right.sound h.0).held
+      none_held base p.database.horizon (newest p.database) p.database.holds (below p.database.events p.database.horizon h.1) (right.sound h.0).held
     where
       below : (name : Name) (horizon : ℕ) → AreTagsGone name horizon base → base < horizon
       below (stored cells) horizon gone = absurd gone
@@ -184,8 +184,8 @@ module _ (old new : PortsValue) where
   counts_add pinned (Err e) right h = rw h.0 (record { fair = fair_itself old (spent (requests.AddPin pinned)); gone = tt })
 
   pub counts_unpin : (stamp : ℕ) (unpinned : Result (Unit {0}) DbError) → CountRight old → UnpinLeads stamp old new unpinned → AskCounts (requests.Unpin stamp) old new (replies.Unpin unpinned)
-  counts_unpin stamp (Ok done) right h = record { fair = fair_unpin old new [] stamp (Ok done) right h; gone = tt }
-  counts_unpin stamp (Err e) right h = record { fair = fair_unpin old new [] stamp (Err e) right h; gone = gone_unpin old stamp e h.1 }
+  counts_unpin stamp (Ok done) right h = record { fair = fair_unpin {A = Unit {0}} old new [] stamp (Ok done) right h; gone = tt }
+  counts_unpin stamp (Err e) right h = record { fair = fair_unpin {A = Unit {0}} old new [] stamp (Err e) right h; gone = gone_unpin old stamp e h.1 }
 
   -- a node led on leaves holds and users
   pub fair_led : (at : ℕ) (leads : NodeValue → NodeValue → Type 0) → HasLedNode at leads old new → IsFair old new nothing nothing

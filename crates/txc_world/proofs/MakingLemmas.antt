@@ -1,8 +1,12 @@
 -- The ports of a new world.
-use Rattle.std.proofs.Common.{◌≡◌, ℕ, zero, suc, ◌+◌, List, [], ◌∷◌, ◌++◌, length, get_or, slice_get, Some, All, ap, sym, subst, arith}
+use Rattle.std.proofs.Common.{◌≡◌, ℕ, zero, suc, ◌+◌, List, [], ◌∷◌, ◌++◌, length, get_or, slice_get, Some, All, Ok, Err, ap, sym, subst, arith}
+use Rattle.std.specs.Prelude.{IfErr, IsErrAnd, Result}
 use Rattle.std.proofs.lemmas.Option.{slice_get-get_or}
+use Rattle.txc_db.specs.declared.error.DbError.{DbError}
+use Rattle.txc_db.specs.declared.error.DbError.TheVariants.{Memory}
 use Rattle.txc_db.specs.declared.pinned.Pinned.{Pinned}
 use Rattle.txc_db.specs.DatabaseValue.{DatabaseValue, front_of}
+use Rattle.txc_db.specs.Refusals.{IsWant}
 use Rattle.txc_db.specs.Seen.{FrontValue}
 use Rattle.txc_cushion.specs.Cushion.{CushionValue, empty_cushion}
 use Rattle.txc_cushion.specs.Cushion.{cushion_front}
@@ -14,6 +18,11 @@ use Rattle.txc_stream.specs.Names.{HasRow}
 use Rattle.txc_world.specs.Ports.{ArePorts, IsNodeOf}
 use Rattle.txc_world.specs.Making.{node_settings, AreNewNodes, IsNewNode}
 use Rattle.txc_world.proofs.PartLemmas.{part_itself}
+
+-- what ended out of memory ended for want of it
+pub memory_is_wanting : {T : Type 0} (r : Result T DbError) → IsErrAnd r (λ e. e ≡ Memory) → IfErr r IsWant
+memory_is_wanting (Ok x) h = tt
+memory_is_wanting (Err e) h = rw h tt
 
 -- what holds of each item by its place holds with one item more
 each_push : {X : Type 0} (P : ℕ → X → Type 0) (xs : List X) (y : X) → ((i : ℕ) (x : X) → slice_get xs i ≡ Some x → P i x) → P (length xs) y

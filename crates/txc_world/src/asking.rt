@@ -1,5 +1,5 @@
 //! What a transaction asks, put to the plain ports, and what is told of it.
-ghost use Rattle.std.specs.Prelude.{◌≡◌, ◌<◌, length, map, IfOk, OnErr};
+ghost use Rattle.std.specs.Prelude.{◌≡◌, ◌<◌, length, map, IfOk, OnErr, Some};
 ghost use Rattle.txc_world.specs.Asks.{kept_after, AnswersRows, DoesTell, IsTold, IsToldOf};
 
 use crate::did::{Did, RowsFound};
@@ -7,7 +7,7 @@ use crate::nodes;
 use crate::ports::Ports;
 use std::alloc::{AllocError, Global};
 use txc_app::App;
-use txc_db::{DbError, HistoryFront};
+use txc_db::{Answered, DbError, HistoryFront};
 use txc_ports::{Kept, PortReply, PortRequest};
 use txc_rows::Row;
 use txc_shared::Insertion;
@@ -37,6 +37,17 @@ pub(crate) fn rows_found(alloc: Global, found: &Found) -> Result<RowsFound, Allo
     })
 }
 
+// What is told of what was found, or of a refusal.
+fn found_told(alloc: Global, found: &Result<Answered<Found>, DbError>) -> Result<Did, AllocError>
+    ensures tells { IfOk result (DoesTell (PortReply.Query found.now)) }
+    ensures rows { OnErr result (AnswersRows (PortReply.Query found.now)) }
+{
+    match found {
+        Ok(found) => Ok(Did::Rows(rows_found(alloc, &found.answer)?)),
+        Err(refusal) => Ok(Did::Refused(*refusal)),
+    }
+}
+
 // What is told of a reply. It takes memory for the rows of a query alone.
 fn did_of(alloc: Global, reply: &PortReply) -> Result<Did, AllocError>
     ensures tells { IfOk result (DoesTell reply.now) }
@@ -51,8 +62,7 @@ fn did_of(alloc: Global, reply: &PortReply) -> Result<Did, AllocError>
         PortReply::Unpin(Err(refusal)) => Did::Refused(*refusal),
         PortReply::Lookup(Some(hit)) => Did::Hit(hit.answer.reach),
         PortReply::Lookup(None) => Did::Miss,
-        PortReply::Query(Ok(found)) => Did::Rows(rows_found(alloc, &found.answer)?),
-        PortReply::Query(Err(refusal)) => Did::Refused(*refusal),
+        PortReply::Query(found) => found_told(alloc, found)?,
         PortReply::Insert(Some(Kept::Stored(reach))) => Did::Stored(*reach),
         PortReply::Insert(Some(Kept::Earlier)) => Did::Kept,
         PortReply::Insert(None) => Did::Dropped,
@@ -74,13 +84,22 @@ pub(crate) fn told(alloc: Global, reply: PortReply) -> (Did, PortReply)
     }
 }
 
-// What a node keeps that made the insertion; nothing where it refused.
+// What a node keeps that made the insertion.
+fn kept_by(insertion: Insertion) -> Kept
+    ensures { Some result ≡ kept_after (Some insertion) }
+{
+    match insertion {
+        Insertion::Stored(reach) => Kept::Stored(reach),
+        Insertion::Kept => Kept::Earlier,
+    }
+}
+
+// The same; nothing where it refused.
 fn kept_after(made: Option<Insertion>) -> Option<Kept>
     ensures { result ≡ kept_after made }
 {
     match made {
-        Some(Insertion::Stored(reach)) => Some(Kept::Stored(reach)),
-        Some(Insertion::Kept) => Some(Kept::Earlier),
+        Some(insertion) => Some(kept_by(insertion)),
         None => None,
     }
 }

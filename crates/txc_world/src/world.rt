@@ -263,7 +263,7 @@ impl<A: App, C: Cacheable> World<A, C> {
     /// A receipt of a transaction that an actor began in its session, in the list, is not below any stamp that
     /// the list told that actor before, of a receipt or of the commit of a read-write transaction.
     ///
-    /// Where each has what is its own, as in a new world, and the list is tidy, each has so after it, and neither
+    /// Where each has what is its own, as in a new world, and the list is tidy, each has so after it. Then neither
     /// a query nor the commit of an open transaction is refused for a snapshot that is gone.
     pub fn run(&mut self, alloc: Global, steps: &[Step]) -> Result<Vec<Reply>, AllocError>
         ensures told { IfOk result (λ replies. self.new.told ≡ told_by self.old.told steps.now replies.items) }

@@ -7,7 +7,7 @@ pub grand_total-requires : goal.grand_total-requires
 grand_total-requires g c =
     let served = c.in_ok-served.ensures.served.came in
     let numbers = c.well_formed.1.1.0.1.1 in
-    few_in_generations _ c.args.arguments _ _ _ c.deref.result.now c.in_ok-served.served.end c.in_ok-served-2.field-0 c.in_ok-served-2.was c.deref.ensures.value served
+    few_in_generations _ _ c.args.arguments _ _ _ c.deref.result.now c.in_ok-served.served.end c.in_ok-served-2.field-0 c.in_ok-served-2.was c.deref.ensures.value served
     numbers.1.1.1.1.0.1 numbers.0.1 numbers.1.0.1
 
 pub returns : goal.returns
@@ -16,8 +16,8 @@ returns g c =
     record {
       asked =
           c.grand_total.ensures.pages
-          ∙ asked_in_generations _ c.args.arguments _ _ _ c.deref.result.now c.in_ok-served.served.end c.in_ok-served-2.field-0 c.in_ok-served-2.was c.deref.ensures.value served;
+          ∙ asked_in_generations _ _ c.args.arguments _ _ _ c.deref.result.now c.in_ok-served.served.end c.in_ok-served-2.field-0 c.in_ok-served-2.was c.deref.ensures.value served;
       whole = λ one.
           c.grand_total.ensures.torn
-          ∙ torn_in_generations _ c.args.arguments _ _ _ c.deref.result.now c.in_ok-served.served.end c.in_ok-served-2.field-0 c.in_ok-served-2.was c.deref.ensures.value served one;
+          ∙ torn_in_generations _ _ c.args.arguments _ _ _ c.deref.result.now c.in_ok-served.served.end c.in_ok-served-2.field-0 c.in_ok-served-2.was c.deref.ensures.value served one;
     }

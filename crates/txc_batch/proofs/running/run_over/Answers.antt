@@ -8,6 +8,7 @@ use Rattle.txc_shared.specs.Passes.{PassValue}
 use Rattle.txc_client.specs.Txn.{ClientValue}
 use Rattle.txc_work.specs.Batches.{job_numbers, IsResultOf, Meets, NamesOneOf}
 use Rattle.txc_work.specs.declared.job.Receipted.{Receipted}
+use Rattle.txc_work.proofs.Calls.{passed_on}
 use Rattle.txc_batch.specs.BatchStates.{BatchState}
 use Rattle.txc_batch.specs.Crews.{numbers_in}
 use Rattle.txc_batch.specs.RunJobs.{AgreesWith, HaveRun}
@@ -68,7 +69,8 @@ by_clients-requires g c = λ κs within.
 
 pub returns-in_err-ran-clause-named : goal.returns-in_err-ran-clause-named
 returns-in_err-ran-clause-named g c =
-    subst (λ (b : BatchState). IfErr c.from_residual.result (NamesOneOf (job_numbers b.jobs))) c.batch.view_is (search rules)
+    subst (λ (b : BatchState). IfErr c.from_residual.result (NamesOneOf (job_numbers b.jobs))) c.batch.view_is
+    (passed_on c.from_residual.result c.in_err-ran.field-0.0 (NamesOneOf (job_numbers c.batch.inside.jobs.items)) c.from_residual.ensures.1 c.in_err-ran.ensures.named)
 
 pub results_agree-requires : goal.results_agree-requires
 results_agree-requires g c =

@@ -1,6 +1,5 @@
-use Rattle.std.proofs.Common.{◌≡◌, ◌∙◌, Option, Some, refl, sym, ap, subst}
+use Rattle.std.proofs.Common.{◌∙◌, Some, sym, ap, subst}
 use Rattle.txc_tags.specs.Keys.{Call}
-use Rattle.txc_txn.specs.Core.{open_call}
 use Rattle.txc_caller.specs.Acting.{IsActOf}
 use Rattle.txc_caller.proofs.Turning.{keeps_self}
 use Rattle.txc_caller.proofs.acting.answered.Goals as goal

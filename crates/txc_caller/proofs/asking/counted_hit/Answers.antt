@@ -2,7 +2,6 @@ use Rattle.std.proofs.Common.{◌≡◌, ◌∙◌, Bool, true, false, Some, Non
 use Rattle.std.specs.Prelude.{if◌then◌else◌}
 use Rattle.std.specs.List.{list_any}
 use Rattle.txc_pinset.specs.Members.{is_held_by}
-use Rattle.txc_ports.specs.declared.reply.PortReply.{PortReply}
 use Rattle.txc_ports.specs.declared.reply.PortReply.TheVariants.{Lookup}
 use Rattle.txc_caller.proofs.asking.counted_hit.Goals as goal
 

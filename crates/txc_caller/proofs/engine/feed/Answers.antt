@@ -1,4 +1,4 @@
-use Rattle.std.proofs.Common.{refl, sym, ◌∙◌}
+use Rattle.std.proofs.Common.{refl, ◌∙◌}
 use Rattle.txc_caller.proofs.Turning.{going_next, keeps_next, keeps_then, of_call_next}
 use Rattle.txc_caller.proofs.engine.feed.Goals as goal
 

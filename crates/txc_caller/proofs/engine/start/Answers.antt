@@ -1,4 +1,3 @@
-use Rattle.std.proofs.Common.{sym, ◌∙◌}
 use Rattle.txc_caller.proofs.Turning.{going_begun, keeps_begun, keeps_then, of_call_begun}
 use Rattle.txc_caller.proofs.engine.start.Goals as goal
 

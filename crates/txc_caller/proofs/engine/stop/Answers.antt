@@ -1,4 +1,4 @@
-use Rattle.std.proofs.Common.{ap, subst, ◌∙◌}
+use Rattle.std.proofs.Common.{subst}
 use Rattle.txc_ports.specs.Turns.{PortTurn}
 use Rattle.txc_txn.specs.Core.{IsTurn}
 use Rattle.txc_caller.specs.Standing.{IsTurnOf}
@@ -9,12 +9,7 @@ returns-in-Ask-clause-stands g c = λ before k h.
     let of = subst (λ (t : PortTurn). IsTurnOf before k c.args.txn.now.core t) c.in-Ask.is h in
     (c.asked.ensures.kept, of.begins tt, of.recorded)
 
-pub returns-in-Value-clause-stands : goal.returns-in-Value-clause-stands
-returns-in-Value-clause-stands g c = λ before k h.
-    let of = subst (λ (t : PortTurn). IsTurnOf before k c.args.txn.now.core t) c.in-Value.is h in
-    (subst (IsTurn c.args.txn.now.core) c.in-Value.is c.requires.fits, of.recorded)
-
-pub returns-in-Refused-clause-stands : goal.returns-in-Refused-clause-stands
-returns-in-Refused-clause-stands g c = λ before k h.
-    let of = subst (λ (t : PortTurn). IsTurnOf before k c.args.txn.now.core t) c.in-Refused.is h in
-    (subst (IsTurn c.args.txn.now.core) c.in-Refused.is c.requires.fits, of.recorded)
+pub returns-in-Ended-clause-stands : goal.returns-in-Ended-clause-stands
+returns-in-Ended-clause-stands g c = λ before k h.
+    let of = subst (λ (t : PortTurn). IsTurnOf before k c.args.txn.now.core t) c.in-Ended.is h in
+    c.at_its_end.ensures g.A.App.next before k c.args.txn.now (subst (IsTurn c.args.txn.now.core) c.in-Ended.is c.requires.fits) of.recorded

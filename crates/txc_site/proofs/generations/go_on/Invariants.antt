@@ -1,4 +1,4 @@
-use Rattle.std.proofs.Common.{◌≡◌, length}
+use Rattle.std.proofs.Common.{◌≡◌}
 use Rattle.txc_db.specs.Room.{HasCapacity}
 use Rattle.txc_site.proofs.Turns.{HaveGoneOn}
 use Rattle.txc_site.proofs.generations.go_on.Given as goal
@@ -6,7 +6,7 @@ use Rattle.txc_site.proofs.generations.go_on.Given as goal
 abbrev pub invariant-loop : goal.invariant-loop
 invariant-loop g l = record {
   came :
-      HaveGoneOn l.plan l.count g.A.Application.numbers (g.V.Visitor.gives l.visitors) (g.V.Returning.goes l.visitors) l.fn.begun.front l.generations.items
+      HaveGoneOn l.plan (g.C.Clock.tells l.clock) l.count g.A.Application.numbers (g.V.Visitor.gives l.visitors) (g.V.Returning.goes l.visitors) l.fn.begun.front l.generations.items
       l.begun.front;
   row : l.begun.core.events ≡ l.begun.front.events;
   room : HasCapacity l.begun.front.events l.plan.events;

@@ -1,14 +1,31 @@
-use Rattle.std.proofs.Common.{◌∙◌, sym}
+use Rattle.std.proofs.Common.{◌≡◌, ◌∙◌, length, sym, subst, rules}
+use Rattle.txc_db.specs.Seen.{FrontValue}
+use Rattle.txc_ports.specs.Asking.{MayAsk}
 use Rattle.txc_ports.specs.Fronts.{front_of_reply}
-use Rattle.txc_txn.proofs.Offered.{adds_next, is_answered, is_right}
+use Rattle.txc_ports.specs.declared.turn.Turn.TheVariants.{Ask}
+use Rattle.txc_txn.proofs.Offered.{adds_next, adds_weaker, is_answered, is_right, may_ask}
 use Rattle.txc_world.proofs.AskLemmas.{still_asked, told_history}
 use Rattle.txc_world.proofs.Turning.{asked_at, counted_in, seen_next}
+use Rattle.txc_world.specs.Asks.{PortRequestLeads}
 use Rattle.txc_world.specs.Parts.{IsPartOf}
 use Rattle.txc_world.specs.Ports.{whole_of}
 use Rattle.txc_world.specs.Books.{account_of_core, HasLost}
 use Rattle.txc_world.proofs.Fairness.{fair_gone_on, loss_counted, loss_port}
 use Rattle.txc_world.proofs.Losing.{drops_next, reply_lost, told_lost}
 use Rattle.txc_world.proofs.acting.go_on.Goals as goal
+
+pub ask-reply-requires : goal.ask-reply-requires
+ask-reply-requires g c =
+    let whole = whole_of c.args.ports.now in
+    let seen : c.seen.result.now ≡ c.args.txn.now.core.seen = search rules in
+    let adds = adds_weaker (IsPartOf whole) (λ front. front.events ≡ whole.events) (λ front part. part.row) (Ask c.args.request) c.requires.adds in
+    record {
+      own = c.requires.own;
+      seen = subst (IsPartOf whole) (sym seen) c.requires.seen;
+      may = subst (λ (f : FrontValue). MayAsk g.A.App.next whole.events (length c.args.ports.now.nodes) f.history c.args.request) (sym seen)
+          (may_ask g.A.App.next whole.events c.args.txn.now c.is_kept.ensures (length c.args.ports.now.nodes) c.requires.nodes c.args.request c.requires.asks adds);
+      shown = c.requires.adds;
+    }
 
 pub next-turn-requires : goal.next-turn-requires
 next-turn-requires g c =
@@ -22,13 +39,14 @@ next-turn-requires g c =
 pub returns-clause-asks : goal.returns-clause-asks
 returns-clause-asks g c =
     let asked = still_asked g.A.App.next c.args.pass _ c.args.ports.now c.ask-reply.new.self c.args.request c.ask-reply.result c.told-did.result.1 c.told-did.ensures.same c.ask-reply.ensures in
+    let seen : c.seen.result.now ≡ c.args.txn.now.core.seen = search rules in
     record {
       reply = c.told-did.result.1;
       port = c.told-did.result.0;
       right = asked.to;
       tells = c.told-did.ensures.tells;
-      leads = asked.leads;
-      counts = c.counted-did.ensures;
+      leads = subst (λ (f : FrontValue). PortRequestLeads c.args.pass f c.args.request c.args.ports.now c.ask-reply.new.self c.told-did.result.1) seen asked.leads;
+      counts = search rules;
       went = c.next-turn.ensures;
     }
 

@@ -14,5 +14,8 @@ returns-in-Ok-clause-acted g c =
 
 pub returns-in-Err-clause-acted : goal.returns-in-Err-clause-acted
 returns-in-Err-clause-acted g c =
-    search (rules, counts_unchanged c.args.ports.now c.hold.new.self nothing (Refused (Database c.in-Err.refusal)) c.in-Err.ensures.leads.0
-    (loss_hold c.args.ports.now (HasLost c.args.ports.now nothing) c.in-Err.refusal c.in-Err.ensures.leads.1))
+    search (
+      rules,
+      counts_unchanged c.args.ports.now c.hold.new.self nothing (Refused (Database c.in-Err.refusal)) c.in-Err.ensures.leads.0
+          (loss_hold c.args.ports.now (HasLost c.args.ports.now nothing) c.in-Err.refusal c.in-Err.ensures.leads.1),
+    )

@@ -1,8 +1,7 @@
-use Rattle.std.proofs.Common.{◌≡◌, ◌∙◌, Some, refl, ap, sym, subst}
-use Rattle.std.specs.Prelude.{MatchOption}
+use Rattle.std.proofs.Common.{◌∙◌, refl, ap, subst}
 use Rattle.txc_caller.specs.Acting.{IsStepOf}
 use Rattle.txc_caller.specs.Reading.{KeepsReading, CallerReading}
-use Rattle.txc_caller.proofs.Reading.{keeps_reading_self, reading_after}
+use Rattle.txc_caller.proofs.Reading.{reading_after}
 use Rattle.txc_caller.proofs.caller_txn.CallerTxn.call_outermost.Goals as goal
 
 pub call_first-acted-requires : goal.call_first-acted-requires

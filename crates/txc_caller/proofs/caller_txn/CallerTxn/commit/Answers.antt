@@ -1,4 +1,4 @@
-use Rattle.std.proofs.Common.{◌≡◌, ◌∙◌, ap, subst, sym}
+use Rattle.std.proofs.Common.{◌∙◌, ap, subst, sym}
 use Rattle.txc_txn.specs.Core.{Explains}
 use Rattle.txc_txn.specs.Sessions.{IsAtLeast}
 use Rattle.txc_caller.specs.Reading.{CallerReading}

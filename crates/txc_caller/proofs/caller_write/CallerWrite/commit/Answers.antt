@@ -1,4 +1,4 @@
-use Rattle.std.proofs.Common.{◌≡◌, ◌∙◌, List, [], ap, subst}
+use Rattle.std.proofs.Common.{◌∙◌, List, [], ap, subst}
 use Rattle.txc_rows.specs.declared.query.Change.{Change}
 use Rattle.txc_db.specs.Calls.{IsCommitRefused}
 use Rattle.txc_db.specs.DatabaseValue.{after_commit}

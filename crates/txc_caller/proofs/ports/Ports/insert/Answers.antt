@@ -1,4 +1,4 @@
-use Rattle.std.proofs.Common.{◌≡◌, ◌∙◌, ap, subst, sym}
+use Rattle.std.proofs.Common.{◌∙◌, ap, subst, sym}
 use Rattle.txc_caller.specs.Ports.{CallerPorts, CallerInsertLeads}
 use Rattle.txc_caller.proofs.Asked.{node_inserted, ports_with_node}
 use Rattle.txc_caller.proofs.ports.Ports.insert.Goals as goal

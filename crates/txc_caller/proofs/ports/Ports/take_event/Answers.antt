@@ -1,4 +1,4 @@
-use Rattle.std.proofs.Common.{◌≡◌, ◌∙◌, ap, sym}
+use Rattle.std.proofs.Common.{◌∙◌, ap, sym}
 use Rattle.txc_caller.specs.Ports.{CallerPorts}
 use Rattle.txc_caller.proofs.Asked.{ports_with_node}
 use Rattle.txc_caller.proofs.ports.Ports.take_event.Goals as goal

@@ -33,8 +33,8 @@ returns-in-Query g c =
 
 -- ---- at a node
 
-pub invariant_of-self-in-Lookup : goal.invariant_of-self-in-Lookup
-invariant_of-self-in-Lookup g c =
+pub invariant_of-self : goal.invariant_of-self
+invariant_of-self g c =
     let p : PortsValue = record { database = c.self.inside.database; cushion = c.self.inside.cushion; nodes = c.self.inside.nodes.items; spare = c.self.inside.spare.items; actors = c.self.inside.actors } in
     let q : PortsValue = c.args.self.now in
     let within : c.in-Lookup.node < length q.nodes = subst (MayAsk g.A.App.next q.database.events (length q.nodes) c.args.seen.now.history) c.in-Lookup.is c.requires.may in (
@@ -67,8 +67,8 @@ invariant_of-self-in-Insert g c =
     subst (MayAsk g.A.App.next q.database.events (length q.nodes) c.args.seen.now.history) c.in-Insert.is c.requires.may in
     let part : IsPartOf (whole_of p) c.args.seen.now = subst (λ (v : PortsValue). IsPartOf (whole_of v) c.args.seen.now) (sym c.self.view_is) c.requires.seen in (
       c.self.invariant.0,
-      ports_node_from p q c.self.view_is c.in-Insert.node c.index_mut-at-2.result.now c.insert-made.new.node c.self.invariant.1
-          may.0 c.index_mut-at-2.ensures.value (stays_inserted _ _ _ _ _ _ _ part c.insert-made.ensures),
+      ports_node_from p q c.self.view_is c.in-Insert.node c.index_mut-at-in-Insert.result.now c.insert-made.new.node c.self.invariant.1
+          may.0 c.index_mut-at-in-Insert.ensures.value (stays_inserted _ _ _ _ _ _ _ part c.insert-made.ensures),
     )
 
 pub returns-in-Insert : goal.returns-in-Insert
@@ -79,8 +79,8 @@ returns-in-Insert g c =
     subst (MayAsk g.A.App.next q.database.events (length q.nodes) c.args.seen.now.history) c.in-Insert.is c.requires.may in
     let part : IsPartOf (whole_of p) c.args.seen.now = subst (λ (v : PortsValue). IsPartOf (whole_of v) c.args.seen.now) (sym c.self.view_is) c.requires.seen in
     let new : PortsValue = record p { nodes = set p.nodes c.in-Insert.node c.insert-made.new.node } in
-    let keeps : KeepsRow q new = keeps_node_from p q c.self.view_is c.in-Insert.node c.index_mut-at-2.result.now c.insert-made.new.node c.index_mut-at-2.ensures.value
+    let keeps : KeepsRow q new = keeps_node_from p q c.self.view_is c.in-Insert.node c.index_mut-at-in-Insert.result.now c.insert-made.new.node c.index_mut-at-in-Insert.ensures.value
     (stays_inserted _ _ _ _ _ _ _ part c.insert-made.ensures) in
     subst (λ (r : PortRequest). IsAsked g.A.App.next c.args.pass c.args.seen.now r q new (replies.Insert c.kept_after.result)) (sym c.in-Insert.is)
     (asked_insert g.A.App.next c.args.pass c.args.seen.now q new keeps c.count_right.ensures c.in-Insert.node c.in-Insert.entry c.insert-made.result c.kept_after.result c.kept_after.ensures
-    (led_from p q c.self.view_is c.in-Insert.node _ c.index_mut-at-2.result.now c.insert-made.new.node may.0 c.index_mut-at-2.ensures.value c.insert-made.ensures))
+    (led_from p q c.self.view_is c.in-Insert.node _ c.index_mut-at-in-Insert.result.now c.insert-made.new.node may.0 c.index_mut-at-in-Insert.ensures.value c.insert-made.ensures))

@@ -7,6 +7,7 @@ use Rattle.txc_world.specs.Ports.{whole_of}
 use Rattle.txc_world.specs.Actors.{story_at, IsActorThere}
 use Rattle.txc_world.specs.Cast.{actor_at}
 use Rattle.txc_world.proofs.Balancing.{new_balanced}
+use Rattle.txc_world.proofs.MakingLemmas.{memory_is_wanting}
 use Rattle.txc_world.proofs.world.World.new.Goals as goal
 
 pub invariant_of-result : goal.invariant_of-result
@@ -29,3 +30,9 @@ pub returns-clause-balanced : goal.returns-clause-balanced
 returns-clause-balanced g c =
     new_balanced (λ r. Some (Idle r)) (λ r. refl) c.args.settings c.in_ok-ports.ports c.in_ok-sessions.sessions.items c.in_ok-actors.actors.items c.args.registries.items
     c.in_ok-ports.ensures.new.holds c.in_ok-ports.ensures.new.entries c.in_ok-ports.ensures.new.spare c.in_ok-actors.ensures
+
+pub returns-in_err-sessions-clause-refused : goal.returns-in_err-sessions-clause-refused
+returns-in_err-sessions-clause-refused g c = memory_is_wanting c.from_residual-in_err-sessions.result c.from_residual-in_err-sessions.ensures.1
+
+pub returns-in_err-actors-clause-refused : goal.returns-in_err-actors-clause-refused
+returns-in_err-actors-clause-refused g c = memory_is_wanting c.from_residual-in_err-actors.result c.from_residual-in_err-actors.ensures.1
