@@ -1,3 +1,4 @@
 pub mod AsBox
+pub mod SiteAsBox
 pub mod Made
 pub mod Tagged

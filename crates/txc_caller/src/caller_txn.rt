@@ -182,6 +182,13 @@ impl<A: App, C: Suppliable> CallerTxn<A, C> {
         was_open
     }
 
+    /// Whether a function is computed, so that a call is open.
+    pub fn is_computing(&self) -> bool
+        ensures { IsTrue result ↔ IsSome self.now.doing }
+    {
+        self.doing.is_some()
+    }
+
     /// What the function that is computed was answered last; none where it has asked nothing yet, or none is
     /// computed.
     pub fn answer(&self) -> Option<&Answer>

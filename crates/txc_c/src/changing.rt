@@ -1,0 +1,64 @@
+//! What a transaction of a site changes that writes.
+ghost use Rattle.std.specs.Prelude.{◌≡◌};
+ghost use Rattle.txc_rows.specs.declared.query.Change.TheVariants.{Put};
+ghost use Rattle.txc_c.specs.Asking.{change_number, ChangeLeads, PutLeads, RemoveLeads};
+
+use crate::numbers::{BAD_ARGUMENT, DONE, NO_MEMORY, NOT_OPEN, REFUSED};
+use crate::site::Site;
+use std::alloc::Global;
+use txc_ports::TxnError;
+use txc_rows::Row;
+use txc_tags::Table;
+
+// The number of a change that is kept, or why it is not.
+fn change_number(kept: Result<(), TxnError>) -> u32
+    ensures { result ≡ change_number kept }
+{
+    match kept {
+        Ok(()) => DONE,
+        Err(TxnError::Memory) => NO_MEMORY,
+        Err(_) => REFUSED,
+    }
+}
+
+impl Site {
+    // The row is to stand once the transaction is committed.
+    fn put_row(&mut self, row: Row) -> u32
+        ensures { ChangeLeads (Put row) self.old result self.new }
+    {
+        match self {
+            Site::Writing(write, _) => change_number(write.put(row)),
+            _ => NOT_OPEN,
+        }
+    }
+
+    /// A row is to stand once the transaction is committed.
+    pub(crate) fn put(&mut self, alloc: Global, table: u8, id: u32, group: u32, body: &[u8]) -> u32
+        ensures { PutLeads (record { table = table; id = id; group = group; body = body.now })
+            self.old result self.new }
+    {
+        let Some(table) = Table::new(table) else {
+            return BAD_ARGUMENT;
+        };
+        let Ok(copy) = body.to_vec(alloc) else {
+            return NO_MEMORY;
+        };
+        let Ok(row) = Row::new(table, id, group, copy) else {
+            return BAD_ARGUMENT;
+        };
+        self.put_row(row)
+    }
+
+    /// No row is to stand at the table and id once the transaction is committed.
+    pub(crate) fn remove(&mut self, table: u8, id: u32) -> u32
+        ensures { RemoveLeads table id self.old result self.new }
+    {
+        let Some(table) = Table::new(table) else {
+            return BAD_ARGUMENT;
+        };
+        match self {
+            Site::Writing(write, _) => change_number(write.remove(table, id)),
+            _ => NOT_OPEN,
+        }
+    }
+}
