@@ -1,5 +1,5 @@
 -- The plain ports of a caller: a database, a pincushion and one node.
-use Rattle.std.specs.Prelude.{◌≡◌, ◌⊎◌, ◌≤◌, ℕ, true, Option, Some, None, Result, Ok, Err, [], ◌∷◌}
+use Rattle.std.specs.Prelude.{◌≡◌, ◌⊎◌, ◌≤◌, ℕ, true, List, Option, Some, None, Result, Ok, Err, [], ◌∷◌}
 use Rattle.txc_tags.specs.Keys.{Call}
 use Rattle.txc_rows.specs.declared.query.Query.{Query as RowQuery}
 use Rattle.txc_rows.specs.RowTags.{query_tag}
@@ -17,8 +17,8 @@ use Rattle.txc_db.specs.declared.answered.Answered.{Answered}
 use Rattle.txc_db.specs.declared.error.DbError.{DbError}
 use Rattle.txc_db.specs.declared.pinned.Pinned.{Pinned}
 use Rattle.txc_cushion.specs.declared.error.AddError.{AddError}
-use Rattle.txc_cushion.specs.Cushion.{CushionValue, after_add}
-use Rattle.txc_cushion.specs.Refusals.{IsAddRefused}
+use Rattle.txc_cushion.specs.Cushion.{CushionValue, after_add, after_give_back}
+use Rattle.txc_cushion.specs.Refusals.{IsAddRefused, IsFirstUnused}
 use Rattle.txc_app.specs.Eval.{Next}
 use Rattle.txc_shared.specs.Nodes.{NodeValue, after_call, seeing, insertion_of, IsLonger}
 use Rattle.txc_shared.specs.Refusals.{IsLookupRefused, IsNodeLeft, IsStepRefused}
@@ -71,11 +71,22 @@ abbrev pub CallerAddLeads : {A : Type 0} → Pinned → CallerPorts → CallerPo
 CallerAddLeads pinned old new (Ok added) = new ≡ record old { cushion = after_add old.cushion pinned }
 CallerAddLeads pinned old new (Err e) = (new ≡ old) × IsAddRefused old.cushion pinned.stamp e
 
+-- one user of each of the stamps is taken away; or one has none left, and nothing has changed
+abbrev pub HasGivenBack : List ℕ → CushionValue → CushionValue → Type 0
+HasGivenBack stamps old new =
+    (new ≡ after_give_back old stamps) ⊎ ((new ≡ old) × ((stamp : ℕ) × IsFirstUnused old.entries stamps stamp))
+
 -- there is one hold of the stamp fewer; or the database refused, and nothing has changed
 abbrev pub CallerUnpinLeads : {A : Type 0} → ℕ → CallerPorts → CallerPorts → Result A DbError → Type 0
 CallerUnpinLeads stamp old new (Ok unpinned) = (new ≡ record old { database = after_unpin old.database stamp })
     × (is_held stamp old.database.holds ≡ true)
 CallerUnpinLeads stamp old new (Err e) = (new ≡ old) × IsUnpinRefused old.database stamp e
+
+-- the hold of a pin that was not added is taken away, if there is one; or the database refused
+abbrev pub HasUnpinned : Option ℕ → DatabaseValue → DatabaseValue → Type 0
+HasUnpinned None old new = new ≡ old
+HasUnpinned (Some stamp) old new = (new ≡ after_unpin old stamp)
+    ⊎ ((new ≡ old) × ((error : DbError) × IsUnpinRefused old stamp error))
 
 -- ---- the database
 

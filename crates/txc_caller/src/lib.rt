@@ -5,6 +5,7 @@
 //! reply of a port back until the caller has said what his function asks next, since the core goes on at once.
 #![tactic(auto)]
 
+mod act;
 mod acted;
 mod acting;
 mod asking;

@@ -1,7 +1,7 @@
 //! The plain ports of a caller, for one thread.
-ghost use Rattle.std.specs.Prelude.{◌≡◌, ◌≤◌, ◌⊎◌, [], All, IfErr, IfOk, IfSome, OnOk};
+ghost use Rattle.std.specs.Prelude.{◌≡◌, ◌≤◌, [], All, IfErr, IfOk, IfSome, OnOk};
 ghost use Rattle.txc_app.specs.Claims.{IsTrueIn, entry_shown};
-ghost use Rattle.txc_cushion.specs.Cushion.{after_give_back, handed_out};
+ghost use Rattle.txc_cushion.specs.Cushion.{handed_out};
 ghost use Rattle.txc_db.specs.Calls.{IsCommitRefused, IsLeft, IsQueryRefused};
 ghost use Rattle.txc_db.specs.DatabaseValue.{after_commit, newest};
 ghost use Rattle.txc_db.specs.History.{state_at, IsAllowed};
@@ -11,7 +11,7 @@ ghost use Rattle.txc_db.specs.Seen.{FrontValue};
 ghost use Rattle.txc_node.specs.declared.node.TheConstants.{MAX_CAPACITY, MAX_RECENT};
 ghost use Rattle.txc_stream.specs.declared.row.TheConstants.{MAX_CAPACITY as MAX_ROW};
 ghost use Rattle.txc_shared.specs.Nodes.{start_of};
-ghost use Rattle.txc_caller.specs.Ports.{CallerAddLeads, CallerFindLeads, CallerInsertLeads, CallerLookupLeads, CallerPinLeads, CallerUnpinLeads};
+ghost use Rattle.txc_caller.specs.Ports.{CallerAddLeads, CallerFindLeads, CallerInsertLeads, CallerLookupLeads, CallerPinLeads, CallerUnpinLeads, HasGivenBack, HasUnpinned};
 
 use crate::nodes;
 use std::alloc::{AllocError, Global};
@@ -189,6 +189,21 @@ impl<A: App> Ports<A> {
         }
     }
 
+    /// Takes the hold of a pin away that was not added, if there is one. It takes no memory.
+    pub(crate) fn let_go(&mut self, unpin: Option<Stamp>)
+        ensures unpinned { HasUnpinned unpin self.old.database self.new.database }
+        ensures history { self.new.database.history ≡ self.old.database.history }
+        ensures events { self.new.database.events ≡ self.old.database.events }
+        ensures same { self.new ≡ record self.old { database = self.new.database } }
+    {
+        match unpin {
+            Some(stamp) => {
+                let _unpinned = self.unpin(stamp);
+            }
+            None => (),
+        }
+    }
+
     /// An empty database with room for so many events, an empty pincushion and an empty node.
     pub(crate) fn new(
         alloc: Global,
@@ -237,11 +252,13 @@ impl<A: App> Ports<A> {
     /// Gives the pins back, one user of each. It takes no memory.
     pub(crate) fn give_back(&mut self, stamps: &[Stamp])
         ensures same { self.new ≡ record self.old { cushion = self.new.cushion } }
-        ensures after { (self.new.cushion ≡ after_give_back self.old.cushion stamps.now) ⊎ (self.new ≡ self.old) }
+        ensures after { HasGivenBack stamps.now self.old.cushion self.new.cushion }
     {
         match self.cushion.give_back(stamps) {
             Ok(()) => (),
-            Err(_) => (),
+            Err(unknown) => {
+                let _unknown = unknown;
+            }
         }
     }
 
