@@ -2,3 +2,5 @@ pub mod AsBox
 pub mod SiteAsBox
 pub mod Made
 pub mod Tagged
+pub mod Stepping
+pub mod Changing

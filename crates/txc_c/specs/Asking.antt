@@ -1,5 +1,6 @@
 -- What comes of what is asked in a transaction.
-use Rattle.std.specs.Prelude.{◌≡◌, ◌⊎◌, ℕ, ◌++◌, ◌∷◌, [], nat_le, List, length, slice_get, if◌then◌else◌, Option, Some, None, Result, Ok, Err}
+use Rattle.std.specs.Prelude.{◌≡◌, ◌⊎◌, ℕ, ◌++◌, ◌∷◌, [], nat_le, List, length, slice_get, Option, Some, None, Result, Ok, Err}
+use Rattle.std.specs.Bool.{MatchBool}
 use Rattle.txc_tags.specs.Keys.{Call}
 use Rattle.txc_tags.specs.declared.tag.TheConstants.{LAST_TABLE}
 use Rattle.txc_rows.specs.declared.query.Query.{Query}
@@ -55,6 +56,9 @@ pub record Buffer : Type 0 where
   pub bytes : List ℕ
   pub len : ℕ
 
+abbrev pub buffer : List ℕ → ℕ → Buffer
+buffer bytes len = record { bytes = bytes; len = len }
+
 -- The step of that call has come to this, and is told by this number and in the buffer. The transaction explains
 -- its answers as before.
 pub record HasStepped (k : Call) (old new : CallerReading) (number : ℕ) (was is : Buffer) : Type 0 where
@@ -66,10 +70,10 @@ pub record HasStepped (k : Call) (old new : CallerReading) (number : ℕ) (was i
   pub len_is : is.len ≡ step_len (given_of new) step was.len
   pub bytes_are : is.bytes ≡ step_bytes (given_of new) step was.bytes
 
--- the step of the open call; without one it is refused
+-- the step of the open call; without one it is refused, and all is as it was
 abbrev pub HasSteppedIn : Option OpenCall → CallerReading → CallerReading → ℕ → Buffer → Buffer → Type 0
 HasSteppedIn (Some o) old new number was is = HasStepped o.frames.top old new number was is
-HasSteppedIn None old new number was is = (number ≡ NOT_OPEN) × KeepsReading old new × (is ≡ was)
+HasSteppedIn None old new number was is = (number ≡ NOT_OPEN) × (new ≡ old) × (is ≡ was)
 
 -- ---- a call
 
@@ -80,25 +84,30 @@ CallSiteLeads k was is old number new = Stays NOT_OPEN old number new × (is ≡
 
 abbrev pub CallLeads : TxcKey → Buffer → Buffer → Site → ℕ → Site → Type 0
 CallLeads key was is old number new =
-    if is_call key then CallSiteLeads (named_call key) was is old number new
-    else (Stays BAD_ARGUMENT old number new × (is ≡ was))
+    MatchBool (is_call key) (CallSiteLeads (named_call key) was is old number new)
+    (Stays BAD_ARGUMENT old number new × (is ≡ was))
 
 -- ---- the value of a function
 
-abbrev pub FinishLeads : Buffer → Buffer → Site → ℕ → Site → Type 0
-FinishLeads was is (Reading old) number (Reading new) =
+-- such a step; or there was no memory for the bytes, and all is as it was
+abbrev pub HasFinished : CallerReading → CallerReading → ℕ → Buffer → Buffer → Type 0
+HasFinished old new number was is =
     HasSteppedIn old.doing old new number was is ⊎ ((number ≡ NO_MEMORY) × (new ≡ old) × (is ≡ was))
+
+abbrev pub FinishLeads : Buffer → Buffer → Site → ℕ → Site → Type 0
+FinishLeads was is (Reading old) number (Reading new) = HasFinished old new number was is
 FinishLeads was is (Reading old) number new = ⊥
 FinishLeads was is old number new = Stays NOT_OPEN old number new × (is ≡ was)
 
 -- ---- a query
 
--- the transaction that writes finds the rows in the newest state; or the database refuses
+-- the transaction that writes finds the rows in the newest state
 pub record HasFoundRows (query : Query) (old : CallerWriting) (number count count' : ℕ) (rows : List RowValue) : Type 0 where
   pub number_is : number ≡ ANSWERED
   pub rows_are : rows ≡ answer query (newest_state old.caller.ports.database)
   pub count_is : count' ≡ length rows
 
+-- or the database refuses, and what it found last stays
 pub record HasRefusedRows (query : Query) (old : CallerWriting) (number count count' : ℕ) (found rows : List RowValue) : Type 0 where
   pub error : DbError
   pub number_is : number ≡ database_number error
@@ -106,20 +115,23 @@ pub record HasRefusedRows (query : Query) (old : CallerWriting) (number count co
   pub count_is : count' ≡ count
   pub rows_are : rows ≡ found
 
+abbrev pub HasAskedRows : Query → CallerWriting → ℕ → ℕ → ℕ → List RowValue → List RowValue → Type 0
+HasAskedRows query old number count count' found rows =
+    HasFoundRows query old number count count' rows ⊎ HasRefusedRows query old number count count' found rows
+
 abbrev pub QuerySiteLeads : Query → ℕ → ℕ → Site → ℕ → Site → Type 0
 QuerySiteLeads query count count' (Reading old) number (Reading new) =
-    HasSteppedIn old.doing old new number (record { bytes = []; len = count }) (record { bytes = []; len = count' })
+    HasSteppedIn old.doing old new number (buffer [] count) (buffer [] count')
 QuerySiteLeads query count count' (Reading old) number new = ⊥
-QuerySiteLeads query count count' (Writing old found) number (Writing new rows) = (new ≡ old)
-    × (HasFoundRows query old number count count' rows.items
-    ⊎ HasRefusedRows query old number count count' found.items rows.items)
+QuerySiteLeads query count count' (Writing old found) number (Writing new rows) =
+    (new ≡ old) × HasAskedRows query old number count count' found.items rows.items
 QuerySiteLeads query count count' (Writing old found) number new = ⊥
 QuerySiteLeads query count count' (Resting c) number new = Stays NOT_OPEN (Resting c) number new × (count' ≡ count)
 
 abbrev pub QueryLeads : TxcQuery → ℕ → ℕ → Site → ℕ → Site → Type 0
 QueryLeads query count count' old number new =
-    if is_query query then QuerySiteLeads (query_of query) count count' old number new
-    else (Stays BAD_ARGUMENT old number new × (count' ≡ count))
+    MatchBool (is_query query) (QuerySiteLeads (query_of query) count count' old number new)
+    (Stays BAD_ARGUMENT old number new × (count' ≡ count))
 
 -- the rows that were found last
 abbrev pub given_rows : Option Answer → List RowValue
@@ -179,13 +191,12 @@ PutRowLeads row old number new = (Stays BAD_ARGUMENT old number new × ¬ IsBody
 
 abbrev pub PutLeads : RowValue → Site → ℕ → Site → Type 0
 PutLeads row old number new =
-    if nat_le row.table LAST_TABLE then PutRowLeads row old number new else Stays BAD_ARGUMENT old number new
+    MatchBool (nat_le row.table LAST_TABLE) (PutRowLeads row old number new) (Stays BAD_ARGUMENT old number new)
 
 -- a removal
 abbrev pub RemoveLeads : ℕ → ℕ → Site → ℕ → Site → Type 0
 RemoveLeads table id old number new =
-    if nat_le table LAST_TABLE then ChangeLeads (Remove table id) old number new
-    else Stays BAD_ARGUMENT old number new
+    MatchBool (nat_le table LAST_TABLE) (ChangeLeads (Remove table id) old number new) (Stays BAD_ARGUMENT old number new)
 
 -- ---- what is written once more
 

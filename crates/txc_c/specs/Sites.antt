@@ -1,5 +1,7 @@
 -- Sites, and what comes of the calls of a handle that has one.
-use Rattle.std.specs.Prelude.{◌≡◌, ℕ, [], Bool, ◌&&◌, nat_le, if◌then◌else◌, Option, Some, None}
+use Rattle.std.specs.Prelude.{◌≡◌, ◌≤◌, ℕ, List, [], Contains, Bool, ◌&&◌, nat_le, if◌then◌else◌, Option, Some, None}
+use Rattle.txc_tags.specs.declared.key.TheConstants.{LAST_FUNCTION}
+use Rattle.txc_registry.specs.Objects.{numbers_of}
 use Rattle.txc_stream.specs.declared.row.TheConstants.{MAX_CAPACITY}
 use Rattle.txc_shared.specs.declared.settings.NodeSettings.{NodeSettings}
 use Rattle.txc_shared.specs.Nodes.{start_of}
@@ -19,12 +21,17 @@ open_site_number (Some site) events capacity recent = ALREADY_OPEN
 open_site_number None events capacity recent =
     if is_room events && are_sizes capacity recent then DONE else BAD_ARGUMENT
 
--- nothing has happened
+-- each function that there may be is among these
+abbrev pub HaveAllFunctions : List ℕ → Type 0
+HaveAllFunctions numbers = (f : ℕ) → f ≤ LAST_FUNCTION → Contains numbers f
+
+-- nothing has happened, and there is an object for each function
 pub record IsNewCaller (settings : NodeSettings) (renew_after : ℕ) (c : CallerValue) : Type 0 where
   pub history : c.ports.database.history ≡ []
   pub cushion : c.ports.cushion.entries ≡ []
   pub node : c.ports.node.cache ≡ start_of settings
   pub renew_after : c.renew_after ≡ renew_after
+  pub functions : HaveAllFunctions (numbers_of c.objects)
 
 -- the site is at rest, and nothing has happened
 abbrev pub IsNewSite : NodeSettings → ℕ → Site → Type 0

@@ -1,5 +1,6 @@
 -- What comes of transactions that begin and end.
-use Rattle.std.specs.Prelude.{◌≡◌, ℕ, true, [], length, if◌then◌else◌, List, IsSome, None}
+use Rattle.std.specs.Prelude.{◌≡◌, ℕ, true, [], length, List, IsSome, None}
+use Rattle.std.specs.Bool.{MatchBool}
 use Rattle.txc_cushion.specs.Cushion.{handed_out}
 use Rattle.txc_db.specs.Calls.{IsCommitRefused, IsLeft}
 use Rattle.txc_db.specs.DatabaseValue.{after_commit, newest}
@@ -8,8 +9,9 @@ use Rattle.txc_db.specs.declared.error.DbError.TheVariants.{Conflict, Memory}
 use Rattle.txc_rows.specs.Values.{RowValue}
 use Rattle.txc_registry.specs.Objects.{numbers_of}
 use Rattle.txc_ports.specs.declared.bounds.Bounds.{Bounds}
-use Rattle.txc_txn.specs.Core.{receipt_pin, Explains}
+use Rattle.txc_txn.specs.Core.{left_pin, receipt_pin, Explains}
 use Rattle.txc_txn.specs.Sessions.{IsAtLeast}
+use Rattle.txc_caller.specs.Ports.{HasGivenBack, HasUnpinned}
 use Rattle.txc_caller.specs.Reading.{caller_of, CallerReading, CallerValue}
 use Rattle.txc_caller.specs.Writing.{CallerWriting, IsBegunWrite}
 use Rattle.txc_c.specs.Crossing.{is_stamp}
@@ -51,10 +53,9 @@ BeginAtRestLeads bounds old number new = Stays ALREADY_OPEN old number new
 
 -- of a transaction that only reads
 abbrev pub BeginLeads : ℕ → ℕ → ℕ → Site → ℕ → Site → Type 0
-BeginLeads now staleness at_least old number new =
-    if is_stamp at_least
-    then BeginAtRestLeads (record { now = now; staleness = staleness; at_least = at_least }) old number new
-    else Stays BAD_ARGUMENT old number new
+BeginLeads now staleness at_least old number new = MatchBool (is_stamp at_least)
+    (BeginAtRestLeads (record { now = now; staleness = staleness; at_least = at_least }) old number new)
+    (Stays BAD_ARGUMENT old number new)
 
 -- of one that writes
 abbrev pub BegunWriteLeads : CallerValue → ℕ → Site → Type 0
@@ -76,6 +77,7 @@ pub record HasCommitted (r : CallerReading) (receipt : TxcReceipt) (c : CallerVa
       (receipt_pin r.txn.core.recorded r.txn.core.pins.members) r.txn.core.recorded
   pub not_before : IsAtLeast r.txn.core.bounds.at_least (receipt_pin r.txn.core.recorded r.txn.core.pins.members)
   pub row : r.txn.core.seen.events ≡ c.ports.database.events
+  pub given_back : HasGivenBack r.txn.core.taken r.ports.cushion c.ports.cushion
   pub caller : c ≡ record (caller_of r) { ports = record r.ports { cushion = c.ports.cushion } }
 
 abbrev pub CommittedLeads : CallerReading → TxcReceipt → TxcReceipt → ℕ → Site → Type 0
@@ -122,6 +124,8 @@ pub record HasAborted (r : CallerReading) (c : CallerValue) : Type 0 where
   pub history : c.ports.database.history ≡ r.ports.database.history
   pub row : c.ports.database.events ≡ r.ports.database.events
   pub node : c.ports.node ≡ r.ports.node
+  pub given_back : HasGivenBack r.txn.core.taken r.ports.cushion c.ports.cushion
+  pub unpinned : HasUnpinned (left_pin r.txn.core.pinning) r.ports.database c.ports.database
   pub renew_after : c.renew_after ≡ r.renew_after
 
 abbrev pub AbortLeads : Site → ℕ → Site → Type 0

@@ -1,11 +1,13 @@
 //! What a transaction of a site changes that writes.
 ghost use Rattle.std.specs.Prelude.{◌≡◌};
-ghost use Rattle.txc_rows.specs.declared.query.Change.TheVariants.{Put};
-ghost use Rattle.txc_c.specs.Asking.{change_number, ChangeLeads, PutLeads, RemoveLeads};
+ghost use Rattle.txc_rows.specs.declared.query.Change.TheVariants.{Put, Remove};
+ghost use Rattle.txc_c.specs.Asking.{change_number, ChangeKept, ChangeLeads, PutLeads, PutRowLeads, RemoveLeads};
 
 use crate::numbers::{BAD_ARGUMENT, DONE, NO_MEMORY, NOT_OPEN, REFUSED};
-use crate::site::Site;
+use crate::opaque::Opaque;
+use crate::site::{Object, Site};
 use std::alloc::Global;
+use txc_caller::CallerWrite;
 use txc_ports::TxnError;
 use txc_rows::Row;
 use txc_tags::Table;
@@ -21,15 +23,46 @@ fn change_number(kept: Result<(), TxnError>) -> u32
     }
 }
 
+// The row is to stand.
+fn put(write: &mut CallerWrite<Opaque, Object>, row: Row) -> u32
+    ensures { ChangeKept (Put row) write.old result write.new }
+{
+    let kept = write.put(row);
+    change_number(kept)
+}
+
+// No row is to stand there.
+fn remove(write: &mut CallerWrite<Opaque, Object>, table: Table, id: u32) -> u32
+    ensures { ChangeKept (Remove table id) write.old result write.new }
+{
+    let kept = write.remove(table, id);
+    change_number(kept)
+}
+
 impl Site {
     // The row is to stand once the transaction is committed.
     fn put_row(&mut self, row: Row) -> u32
         ensures { ChangeLeads (Put row) self.old result self.new }
     {
         match self {
-            Site::Writing(write, _) => change_number(write.put(row)),
-            _ => NOT_OPEN,
+            Site::Writing(write, _) => put(write, row),
+            Site::Resting(_) => NOT_OPEN,
+            Site::Reading(_) => NOT_OPEN,
         }
+    }
+
+    // The same of a row of that table, with a copy of the body.
+    fn put_in(&mut self, alloc: Global, table: Table, id: u32, group: u32, body: &[u8]) -> u32
+        ensures { PutRowLeads (record { table = table; id = id; group = group; body = body.now })
+            self.old result self.new }
+    {
+        let Ok(copy) = body.to_vec(alloc) else {
+            return NO_MEMORY;
+        };
+        let Ok(row) = Row::new(table, id, group, copy) else {
+            return BAD_ARGUMENT;
+        };
+        self.put_row(row)
     }
 
     /// A row is to stand once the transaction is committed.
@@ -40,13 +73,18 @@ impl Site {
         let Some(table) = Table::new(table) else {
             return BAD_ARGUMENT;
         };
-        let Ok(copy) = body.to_vec(alloc) else {
-            return NO_MEMORY;
-        };
-        let Ok(row) = Row::new(table, id, group, copy) else {
-            return BAD_ARGUMENT;
-        };
-        self.put_row(row)
+        self.put_in(alloc, table, id, group, body)
+    }
+
+    // No row is to stand there once the transaction is committed.
+    fn remove_row(&mut self, table: Table, id: u32) -> u32
+        ensures { ChangeLeads (Remove table id) self.old result self.new }
+    {
+        match self {
+            Site::Writing(write, _) => remove(write, table, id),
+            Site::Resting(_) => NOT_OPEN,
+            Site::Reading(_) => NOT_OPEN,
+        }
     }
 
     /// No row is to stand at the table and id once the transaction is committed.
@@ -56,9 +94,6 @@ impl Site {
         let Some(table) = Table::new(table) else {
             return BAD_ARGUMENT;
         };
-        match self {
-            Site::Writing(write, _) => change_number(write.remove(table, id)),
-            _ => NOT_OPEN,
-        }
+        self.remove_row(table, id)
     }
 }

@@ -5,6 +5,7 @@
 //! what is written where. The header is `bindings/c/txc.h`.
 #![tactic(auto)]
 
+mod asking;
 mod changing;
 mod counted;
 mod crossing;

@@ -1,33 +1,58 @@
-//! What a transaction of a site asks that only reads.
+//! What is asked of a site, whichever transaction is open.
 ghost use Rattle.std.specs.Prelude.{◌≡◌, MatchOption, None, Some, slice_get};
 ghost use Rattle.txc_app.specs.declared.ask.Ask.TheVariants as asks;
 ghost use Rattle.txc_c.specs.Crossing.{named_call};
 ghost use Rattle.txc_c.specs.Receipts.{query_of};
-ghost use Rattle.txc_c.specs.Asking.{rows_in, CallLeads, CallSiteLeads, FinishLeads, GiveUpLeads, LastTold, QueryLeads, QuerySiteLeads, RowTold, SiteAsksNext};
+ghost use Rattle.txc_c.specs.Asking.{buffer, given_rows, rows_in, CallLeads, CallSiteLeads, FinishLeads, GiveUpLeads, LastTold, QueryLeads, QuerySiteLeads, RowTold, SiteAsksNext};
+ghost use Rattle.txc_c.specs.Telling.{given_of};
 
+use crate::asking;
 use crate::crossing::TxcKey;
-use crate::numbers::{ANSWERED, BAD_ARGUMENT, DONE, MISS, NO_MEMORY, NOT_OPEN};
+use crate::numbers::{BAD_ARGUMENT, DONE, MISS, NOT_OPEN};
+use crate::opaque::Opaque;
 use crate::receipts::{TxcQuery, TxcRow};
-use crate::site::Site;
-use crate::telling::{tell, tell_last, tell_step};
-use crate::turning::database_number;
+use crate::site::{Object, Site};
+use crate::telling::{tell, tell_last};
 use std::alloc::Global;
 use txc_app::Answer;
+use txc_caller::CallerTxn;
 use txc_rows::{Query, Row};
 use txc_tags::Key;
+
+// A row of an answer.
+fn row_in(answer: &Answer, at: usize) -> Option<&Row>
+    ensures { MatchOption result (slice_get (given_rows (Some answer.now)) at ≡ None)
+        (λ row. slice_get (given_rows (Some answer.now)) at ≡ Some row.now) }
+{
+    match answer {
+        Answer::Rows(rows) => rows.as_slice().get(at),
+        Answer::Value(_) => None,
+    }
+}
+
+// A row of those that the function was answered last.
+fn row_given(txn: &CallerTxn<Opaque, Object>, at: usize) -> Option<&Row>
+    ensures { MatchOption result (slice_get (given_rows (given_of txn.now)) at ≡ None)
+        (λ row. slice_get (given_rows (given_of txn.now)) at ≡ Some row.now) }
+{
+    match txn.answer() {
+        Some(answer) => row_in(answer, at),
+        None => None,
+    }
+}
 
 impl Site {
     // Asks for the value of a call.
     fn call_key(&mut self, alloc: Global, key: Key, value: &mut [u8], len: &mut usize) -> u32
         requires { SiteAsksNext (asks.Call key) self.old }
-        ensures { CallSiteLeads key (record { bytes = value.old; len = len.old }) (record { bytes = value.new; len = len.new })
+        ensures { CallSiteLeads key (buffer value.old len.old) (buffer value.new len.new)
             self.old result self.new }
     {
-        let Site::Reading(txn) = self else {
-            return NOT_OPEN;
-        };
-        let step = txn.call(alloc, key);
-        tell_step(txn, step, value, len)
+        match self {
+            Site::Reading(txn) => asking::call(alloc, txn, key, value, len),
+            Site::Resting(_) => NOT_OPEN,
+            Site::Writing(_, _) => NOT_OPEN,
+        }
     }
 
     /// Asks for the value of a call.
@@ -39,7 +64,7 @@ impl Site {
         len: &mut usize,
     ) -> u32
         requires { SiteAsksNext (asks.Call (named_call key.now)) self.old }
-        ensures { CallLeads key.now (record { bytes = value.old; len = len.old }) (record { bytes = value.new; len = len.new })
+        ensures { CallLeads key.now (buffer value.old len.old) (buffer value.new len.new)
             self.old result self.new }
     {
         let Some(key) = key.key() else {
@@ -54,18 +79,8 @@ impl Site {
         ensures { QuerySiteLeads query count.old count.new self.old result self.new }
     {
         match self {
-            Site::Reading(txn) => {
-                let step = txn.query(alloc, query);
-                tell_step(txn, step, &mut [], count)
-            }
-            Site::Writing(write, rows) => match write.query(alloc, &query) {
-                Ok(found) => {
-                    *count = found.len();
-                    *rows = found;
-                    ANSWERED
-                }
-                Err(error) => database_number(error),
-            },
+            Site::Reading(txn) => asking::query(alloc, txn, query, count),
+            Site::Writing(write, rows) => asking::query_to_write(alloc, write, &query, rows, count),
             Site::Resting(_) => NOT_OPEN,
         }
     }
@@ -87,10 +102,7 @@ impl Site {
             (λ row. slice_get (rows_in self.now) at ≡ Some row.now) }
     {
         match self {
-            Site::Reading(txn) => match txn.answer() {
-                Some(Answer::Rows(rows)) => rows.as_slice().get(at),
-                _ => None,
-            },
+            Site::Reading(txn) => row_given(txn, at),
             Site::Writing(_, rows) => rows.get(at),
             Site::Resting(_) => None,
         }
@@ -105,7 +117,7 @@ impl Site {
         len: &mut usize,
     ) -> u32
         ensures { RowTold (slice_get (rows_in self.now) at) result row.old row.new
-            (record { bytes = body.old; len = len.old }) (record { bytes = body.new; len = len.new }) }
+            (buffer body.old len.old) (buffer body.new len.new) }
     {
         let Some(found) = self.row_at(at) else {
             return MISS;
@@ -123,27 +135,24 @@ impl Site {
         len: &mut usize,
     ) -> u32
         requires { SiteAsksNext (asks.Done bytes.now) self.old }
-        ensures { FinishLeads (record { bytes = value.old; len = len.old }) (record { bytes = value.new; len = len.new })
+        ensures { FinishLeads (buffer value.old len.old) (buffer value.new len.new)
             self.old result self.new }
     {
-        let Site::Reading(txn) = self else {
-            return NOT_OPEN;
-        };
-        let Ok(copy) = bytes.to_vec(alloc) else {
-            return NO_MEMORY;
-        };
-        let step = txn.finish(alloc, copy);
-        tell_step(txn, step, value, len)
+        match self {
+            Site::Reading(txn) => asking::finish(alloc, txn, bytes, value, len),
+            Site::Resting(_) => NOT_OPEN,
+            Site::Writing(_, _) => NOT_OPEN,
+        }
     }
 
     /// Writes what was answered last once more.
     pub(crate) fn tell_last(&self, value: &mut [u8], len: &mut usize) -> u32
-        ensures { LastTold (record { bytes = value.old; len = len.old }) (record { bytes = value.new; len = len.new })
-            self.now result }
+        ensures { LastTold (buffer value.old len.old) (buffer value.new len.new) self.now result }
     {
         match self {
             Site::Reading(txn) => tell_last(txn, value, len),
-            _ => NOT_OPEN,
+            Site::Resting(_) => NOT_OPEN,
+            Site::Writing(_, _) => NOT_OPEN,
         }
     }
 
@@ -151,9 +160,10 @@ impl Site {
     pub(crate) fn give_up(&mut self) -> u32
         ensures { GiveUpLeads self.old result self.new }
     {
-        let Site::Reading(txn) = self else {
-            return NOT_OPEN;
-        };
-        if txn.give_up() { DONE } else { MISS }
+        match self {
+            Site::Reading(txn) => asking::give_up(txn),
+            Site::Resting(_) => NOT_OPEN,
+            Site::Writing(_, _) => NOT_OPEN,
+        }
     }
 }

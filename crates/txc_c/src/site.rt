@@ -1,17 +1,17 @@
 //! A database, its pincushion and a node, with at most one transaction open, whose functions the caller computes.
-ghost use Rattle.std.specs.Prelude.{◌≡◌, ◌≤◌, IfErr, IfOk};
+ghost use Rattle.std.specs.Prelude.{◌≡◌, ◌≤◌, ◌∷◌, ◌++◌, [], IfErr, IfOk, OnOk};
 ghost use Rattle.txc_db.specs.Refusals.{IsWant};
-ghost use Rattle.txc_registry.specs.Objects.{AllIdle};
+ghost use Rattle.txc_registry.specs.Objects.{numbers_of, AllIdle};
 ghost use Rattle.txc_node.specs.declared.node.TheConstants.{MAX_CAPACITY, MAX_RECENT};
 ghost use Rattle.txc_stream.specs.declared.row.TheConstants.{MAX_CAPACITY as MAX_EVENTS};
-ghost use Rattle.txc_c.specs.Opaque.{takes_all};
-ghost use Rattle.txc_c.specs.Sites.{IsNewSite};
+ghost use Rattle.txc_c.specs.Sites.{HaveAllFunctions, IsNewSite};
 
 use crate::opaque::Opaque;
 use std::alloc::{AllocError, Global};
+use std::marker::Model;
 use txc_caller::{Caller, CallerTxn, CallerWrite};
 use txc_db::DbError;
-use txc_registry::{Registry, enlist};
+use txc_registry::{Cacheable, Registry, enlist};
 use txc_rows::Row;
 use txc_shared::NodeSettings;
 use txc_supply::Supplied;
@@ -34,18 +34,64 @@ pub struct SiteRoom {
     pub(crate) site: Option<Site>,
 }
 
+/// Idle objects of functions. A contract sees the functions' numbers.
+#[derive(Drop)]
+struct IdleObjects {
+    items: Vec<Object>,
+}
+
+impl Model for IdleObjects {
+    ghost use Rattle.std.specs.Prelude.{◌≡◌, ℕ, List, map, All};
+    ghost use Rattle.txc_registry.specs.Activity.{idle};
+    ghost use Rattle.txc_c.specs.Opaque.{opaque_next};
+
+    ghost Value = { List ℕ };
+
+    ghost view = { λ o. map ⟦<Object as Cacheable>⟧.number o.items.items };
+
+    ghost invariant = { λ o.
+        All (λ c. ⟦<Object as Cacheable>⟧.activity c ≡ idle) o.items.items
+        × All (λ c. ⟦<Object as Cacheable>⟧.says c ≡ opaque_next (⟦<Object as Cacheable>⟧.number c)) o.items.items };
+}
+
+impl IdleObjects {
+    fn new(alloc: Global) -> IdleObjects
+        ensures { result ≡ [] }
+    {
+        IdleObjects {
+            items: Vec::new(alloc),
+        }
+    }
+
+    // One object more.
+    fn add(&mut self, alloc: Global, function: u8) -> Result<(), AllocError>
+        ensures { OnOk result (self.new ≡ self.old ++ function ∷ []) }
+    {
+        enlist::<Opaque, Object>(&mut self.items, Supplied::new(alloc, function))
+    }
+
+    // The registry of them.
+    fn into_registry(self) -> Result<Registry<Opaque, Object>, AllocError>
+        ensures functions { IfOk result (λ registry. numbers_of registry ≡ self) }
+        ensures idle { IfOk result AllIdle }
+    {
+        match Registry::<Opaque, Object>::new(self.items) {
+            Ok(registry) => Ok(registry),
+            Err(_) => Err(AllocError),
+        }
+    }
+}
+
 // An object for each function that there may be.
 fn registry(alloc: Global) -> Result<Registry<Opaque, Object>, AllocError>
-    ensures { IfOk result AllIdle }
+    ensures functions { IfOk result (λ registry. HaveAllFunctions (numbers_of registry)) }
+    ensures idle { IfOk result AllIdle }
 {
-    let mut objects = Vec::new(alloc);
-    for function in 0..=LAST_FUNCTION {
-        enlist::<Opaque, Object>(&mut objects, Supplied::new(alloc, function))?;
+    let mut objects = IdleObjects::new(alloc);
+    for function in 0..LAST_FUNCTION + 1 {
+        objects.add(alloc, function)?;
     }
-    match Registry::new(objects) {
-        Ok(registry) => Ok(registry),
-        Err(_) => Err(AllocError),
-    }
+    objects.into_registry()
 }
 
 impl Site {

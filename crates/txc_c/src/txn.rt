@@ -7,7 +7,7 @@ ghost use Rattle.txc_c.specs.Sites.{open_site_number, is_room, HasNewSite, Leads
 ghost use Rattle.txc_c.specs.SiteHeld.{site_held};
 ghost use Rattle.txc_c.specs.Life.{close_number};
 ghost use Rattle.txc_c.specs.Turning.{AbortLeads, BeginLeads, BeginWriteLeads, CommitLeads, CommitWriteLeads};
-ghost use Rattle.txc_c.specs.Asking.{CallLeads, FinishLeads, GiveUpLeads, HeldAsksNext, LastLeads, PutLeads, QueryLeads, RemoveLeads, RowLeads};
+ghost use Rattle.txc_c.specs.Asking.{buffer, CallLeads, FinishLeads, GiveUpLeads, HeldAsksNext, LastLeads, PutLeads, QueryLeads, RemoveLeads, RowLeads};
 
 use crate::crossing::TxcKey;
 use crate::node::are_sizes;
@@ -107,7 +107,7 @@ pub extern "C" fn txc_call(
     len: &mut usize,
 ) -> u32
     requires { HeldAsksNext (asks.Call (named_call key.now)) (site_held handle.old) }
-    ensures leads { Leads (CallLeads key.now (record { bytes = value.old; len = len.old }) (record { bytes = value.new; len = len.new })) (site_held handle.old) result (site_held handle.new) }
+    ensures leads { Leads (CallLeads key.now (buffer value.old len.old) (buffer value.new len.new)) (site_held handle.old) result (site_held handle.new) }
     ensures closed { site_held handle.old ≡ None → (value.new ≡ value.old) × (len.new ≡ len.old) }
 {
     let Some((mut site, room)) = handle.take(alloc) else {
@@ -148,7 +148,7 @@ pub extern "C" fn txc_row_at(
     body: &mut [u8],
     len: &mut usize,
 ) -> u32
-    ensures leads { Leads (RowLeads at row.old row.new (record { bytes = body.old; len = len.old }) (record { bytes = body.new; len = len.new })) (site_held handle.old) result (site_held handle.new) }
+    ensures leads { Leads (RowLeads at row.old row.new (buffer body.old len.old) (buffer body.new len.new)) (site_held handle.old) result (site_held handle.new) }
     ensures closed { site_held handle.old ≡ None
         → (row.new ≡ row.old) × (body.new ≡ body.old) × (len.new ≡ len.old) }
 {
@@ -168,7 +168,7 @@ pub extern "C" fn txc_answer(
     value: &mut [u8],
     len: &mut usize,
 ) -> u32
-    ensures leads { Leads (LastLeads (record { bytes = value.old; len = len.old }) (record { bytes = value.new; len = len.new })) (site_held handle.old) result (site_held handle.new) }
+    ensures leads { Leads (LastLeads (buffer value.old len.old) (buffer value.new len.new)) (site_held handle.old) result (site_held handle.new) }
     ensures closed { site_held handle.old ≡ None → (value.new ≡ value.old) × (len.new ≡ len.old) }
 {
     let Some((site, room)) = handle.take(alloc) else {
@@ -189,7 +189,7 @@ pub extern "C" fn txc_finish(
     len: &mut usize,
 ) -> u32
     requires { HeldAsksNext (asks.Done bytes.now) (site_held handle.old) }
-    ensures leads { Leads (FinishLeads (record { bytes = value.old; len = len.old }) (record { bytes = value.new; len = len.new })) (site_held handle.old) result (site_held handle.new) }
+    ensures leads { Leads (FinishLeads (buffer value.old len.old) (buffer value.new len.new)) (site_held handle.old) result (site_held handle.new) }
     ensures closed { site_held handle.old ≡ None → (value.new ≡ value.old) × (len.new ≡ len.old) }
 {
     let Some((mut site, room)) = handle.take(alloc) else {

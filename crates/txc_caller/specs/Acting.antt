@@ -1,5 +1,5 @@
 -- What comes of an act of the caller.
-use Rattle.std.specs.Prelude.{◌≡◌, ◌<◌, List, [], ◌∷◌, ◌++◌, Option, Some, None, Result, Ok, Err, vec_capacity, vec_len}
+use Rattle.std.specs.Prelude.{◌≡◌, ◌<◌, List, [], ◌∷◌, ◌++◌, Option, Some, None, MatchOption, Result, Ok, Err, vec_capacity, vec_len}
 use Rattle.std.specs.Option.{ForSome}
 use Rattle.txc_tags.specs.Keys.{Call}
 use Rattle.txc_app.specs.Eval.{Next}
@@ -45,8 +45,8 @@ IsStepOf before k recorded doing (Err error) =
 
 -- What comes of a step in the open call. Where none is open, the caller is refused, and all is as it was.
 abbrev pub IsStepIn : Option OpenCall → CallerReading → CallerReading → Result Step CallerError → Type 0
-IsStepIn (Some o) old new result = IsStepOf old.txn.core.recorded o.frames.top new.txn.core.recorded new.doing result
-IsStepIn None old new result = (result ≡ Err NoFunction) × (new ≡ old)
+IsStepIn doing old new result = MatchOption doing ((result ≡ Err NoFunction) × (new ≡ old))
+    (λ o. IsStepOf old.txn.core.recorded o.frames.top new.txn.core.recorded new.doing result)
 
 -- The step was such; and without an open call the core is idle; else a reply is kept back for it, and the call is the
 -- core's.
