@@ -104,7 +104,7 @@ impl<A: App, C: Suppliable> Caller<A, C> {
         requires idle { AllIdle registry }
         ensures history { IfOk result (λ caller. caller.ports.database.history ≡ []) }
         ensures cushion { IfOk result (λ caller. caller.ports.cushion.entries ≡ []) }
-        ensures node { IfOk result (λ caller. caller.ports.node.cache ≡ start_of node) }
+        ensures node { IfOk result (λ caller. caller.ports.node.cache ≡ start_of node 0) }
         ensures renew_after { IfOk result (λ caller. caller.renew_after ≡ renew_after) }
         ensures functions { IfOk result (λ caller. caller.objects ≡ registry) }
         ensures refused { IfErr result IsWant }

@@ -216,7 +216,7 @@ impl<A: App> Ports<A> {
         requires recent { (1 ≤ settings.recent) × (settings.recent ≤ MAX_RECENT) }
         ensures history { IfOk result (λ ports. ports.database.history ≡ []) }
         ensures cushion { IfOk result (λ ports. ports.cushion.entries ≡ []) }
-        ensures node { IfOk result (λ ports. ports.node.cache ≡ start_of settings) }
+        ensures node { IfOk result (λ ports. ports.node.cache ≡ start_of settings 0) }
         ensures refused { IfErr result IsWant }
     {
         let database = DbCore::new(alloc, capacity)?;

@@ -1,5 +1,5 @@
 -- What passes show.
-use Rattle.std.proofs.Common.{◌≡◌, ◌⊎◌, inl, inr, ℕ, ◌≤◌, List, length, length-append, refl, ap, sym, subst, ◌∙◌, arith}
+use Rattle.std.proofs.Common.{◌≡◌, ◌⊎◌, inl, inr, ℕ, ◌≤◌, List, [], length, length-append, refl, ap, sym, subst, ◌∙◌, arith}
 use mathlib.Core.List.{IsPrefix}
 use Rattle.txc_stream.proofs.Offered.{longer_is}
 use Rattle.txc_stream.specs.Names.{Name, stored, unstored}
@@ -11,7 +11,7 @@ use Rattle.txc_shared.specs.declared.settings.NodeSettings.{NodeSettings}
 use Rattle.txc_shared.specs.Histories.{IsLegal, events_of}
 use Rattle.txc_shared.specs.Nodes.{start_of}
 use Rattle.txc_shared.specs.Passes.{PassValue, IsLegalOver, HasNoneLeft}
-use Rattle.txc_shared.specs.Laws.{LegalInLonger}
+use Rattle.txc_shared.specs.Laws.{LegalInLonger, NoRecordIsLegal}
 
 -- what a front shows that took over a longer one, where both are known by other names
 pub taken_over : {A : Type 0} (was other now old all : List A) → was ≡ old → other ≡ all → IsPrefix old all → (now ≡ was) ⊎ (now ≡ other) → IsPrefix other now → now ≡ all
@@ -30,7 +30,12 @@ pub legal_over : (row : Name) (L : History) (settings : NodeSettings) (rs : List
 legal_over (stored cells) L settings rs from begun low legal = subst (λ (n : ℕ). IsLegal L (start_of settings n) rs) begun legal
 legal_over (unstored number) L settings rs from begun low legal = (from, low, legal)
 
--- such a node that took each event that was seen
+-- no record is a legal history of a node, wherever it began
+pub none_over : NoRecordIsLegal → (row : Name) (L : History) (settings : NodeSettings) → IsLegalOver row L settings []
+none_over none (stored cells) L settings = none L (start_of settings 0)
+none_over none (unstored number) L settings = (0, omega arith, none L (start_of settings 0))
+
+-- a node that began where a feed does, and took each event that was seen
 pub none_left : (row : Name) (p : PassValue) (from : ℕ) → from ≡ taken_at_start row from → from + events_of p.records ≡ length p.history
     → IsLegal p.history (start_of p.settings from) p.records → HasNoneLeft row p
 none_left (stored cells) p from begun count legal = let none : from ≡ 0 = begun in omega (arith, none, count)
