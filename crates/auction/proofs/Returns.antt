@@ -1,5 +1,5 @@
 -- What visitors came to who came again.
-use Rattle.std.proofs.Common.{◌≡◌, ◌∙◌, ℕ, ◌+◌, ◌*◌, ◌^◌, ◌<◌, ◌≤◌, List, [], ◌∷◌, ◌++◌, map, length, true, false, Result, Ok, refl, ap, subst, length-append, arith}
+use Rattle.std.proofs.Common.{◌≡◌, ◌∙◌, ℕ, ◌+◌, ◌*◌, ◌^◌, ◌<◌, ◌≤◌, List, [], ◌∷◌, ◌++◌, map, length, true, false, Option, Result, Ok, refl, ap, subst, length-append, arith}
 use Rattle.std.specs.Prelude.{◌↔◌, All, IsTrue, Vec}
 use Rattle.std.specs.declared.alloc.Global.{Global}
 use Rattle.std.specs.List.{sum_by}
@@ -9,7 +9,7 @@ use Rattle.std.proofs.lemmas.Nat.{mul-le}
 use Rattle.std.proofs.lemmas.List.Elements.{All-head, All-map, All-tail, All-weaker}
 use Rattle.txc_site.specs.Seen.{FrontValue}
 use Rattle.txc_site.specs.declared.error.GenerationError.{GenerationError}
-use Rattle.txc_site.specs.declared.plan.Plan.{Plan}
+use Rattle.txc_site.specs.Plan.{Plan}
 use Rattle.txc_site.specs.declared.returning.Generation.{Generation}
 use Rattle.txc_site.specs.Generations.{AreInTurn, ComeAfter, GenerationsHaveEnded, HaveServed, IsGeneration}
 use Rattle.auction.proofs.Tallies.{asked_in_all, sum_of_each, torn_in_all}
@@ -43,7 +43,7 @@ module _ {T : Type 0} where
       later_few most g before last turns.2 (All-head (λ k. k.number < most) g before each) (All-tail (λ k. k.number < most) g before each)
 
 -- who comes again below a number of generations comes as often, and once before
-came_so_often : {T U : Type 0} (most room : ℕ) (numbers : List ℕ) (opened : FrontValue) (gs : List (Generation T)) (u : U) → AreInTurn opened gs
+came_so_often : {T U : Type 0} (most : ℕ) (room : Option ℕ) (numbers : List ℕ) (opened : FrontValue) (gs : List (Generation T)) (u : U) → AreInTurn opened gs
     → GenerationsHaveEnded (λ g more. IsTrue more ↔ (g.number < most)) room numbers gs (Ok u) → length gs ≡ most + 1
 came_so_often {T} most room numbers opened gs u turns (before, last, is, went_on, stopped) =
     let ordered = subst (AreInTurn opened) is turns in

@@ -18,7 +18,7 @@ use Rattle.txc_site.specs.Pin.{Pin}
 use Rattle.txc_site.specs.Bounds.{Bounds}
 use Rattle.txc_site.specs.Recorded.{Recorded}
 use Rattle.txc_site.specs.TxnCore.{Explains}
-use Rattle.txc_site.specs.declared.reading.Shown.{Shown}
+use Rattle.txc_site.specs.Shown.{Shown}
 use Rattle.auction.specs.Auction.{auction, call_with_argument, body_of, group_of, BIDS, ITEMS, USERS}
 use Rattle.auction.specs.Pages.{IsWhole, ShowsBoth}
 use Rattle.auction.specs.declared.pages.BothBids.{BothBids}

@@ -1,6 +1,6 @@
 //! What the program is asked to do.
 
-/// What is asked: by the words `THREADS PAGES SEED STALENESS GENERATIONS [--plain]`, each of which may be left out.
+/// What is asked: by the words `THREADS PAGES SEED STALENESS GENERATIONS [--plain] [--unstored]`, each of which may be left out.
 #[derive(Clone, Copy)]
 pub struct Arguments {
     pub threads: u8,
@@ -11,6 +11,8 @@ pub struct Arguments {
     pub returns: u8,
     /// Whether each call has a transaction of its own.
     pub is_plain: bool,
+    /// Whether the site's events are not stored.
+    pub is_unstored: bool,
 }
 
 /// The number that stands at a place, or another.
@@ -30,6 +32,12 @@ impl Arguments {
             staleness: number(words, 4, 2),
             returns: number(words, 5, 1).clamp(1, 64) as u8 - 1,
             is_plain: words.iter().any(|word| word.as_str() == "--plain"),
+            is_unstored: words.iter().any(|word| word.as_str() == "--unstored"),
         }
+    }
+
+    /// How many of the site's events are stored.
+    pub fn events(&self) -> Option<usize> {
+        if self.is_unstored { None } else { Some(2048) }
     }
 }

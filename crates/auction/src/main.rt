@@ -33,7 +33,7 @@ fn hold<R: Threads + Wait + Sync>(
         ((arguments.returns + 1) * (arguments.threads * arguments.pages)) arguments) }
 {
     let plan = Plan {
-        events: 2048,
+        events: arguments.events(),
         ..Plan::DEFAULT
     };
     let crowd = Crowd { arguments };

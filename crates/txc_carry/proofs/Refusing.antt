@@ -6,7 +6,7 @@ use Rattle.txc_tags.specs.Tags.{sets_match}
 use Rattle.txc_db.specs.declared.error.DbError.{DbError}
 use Rattle.txc_db.specs.declared.error.DbError.TheVariants.{Broken}
 use Rattle.txc_db.specs.History.{tags_at}
-use Rattle.txc_stream.specs.Names.{Name, stored, unstored, HasRow}
+use Rattle.txc_stream.specs.Names.{Name, stored, unstored}
 use Rattle.txc_db.specs.DatabaseValue.{DatabaseValue}
 use Rattle.txc_db.specs.Room.{AreTagsKept}
 use Rattle.txc_db.specs.Calls.{IsUnread}
@@ -18,12 +18,13 @@ pub none_matches : (xs : List Tag) → sets_match xs [] ≡ false
 none_matches [] = refl
 none_matches (x ∷ xs) = none_matches xs
 
-row_keeps : (name : Name) (horizon base : ℕ) → HasRow name → AreTagsKept name horizon base
-row_keeps (stored cells) horizon base row = tt
-row_keeps (unstored number) horizon base row = absurd row
+-- where the horizon is 0, the tags of each event are kept
+all_kept : (name : Name) (horizon : ℕ) → horizon ≡ 0 → AreTagsKept name horizon 0
+all_kept (stored cells) horizon none = tt
+all_kept (unstored number) horizon none = omega (arith, none)
 
-pub nothing_read : (d : DatabaseValue) → d.broken ≡ false → HasRow d.events → IsUnread d 0 []
-nothing_read d whole row = record { whole = whole; known = omega arith; kept = row_keeps d.events d.horizon 0 row; apart = λ e after within. none_matches (tags_at d.history e) }
+pub nothing_read : (d : DatabaseValue) → d.broken ≡ false → d.horizon ≡ 0 → IsUnread d 0 []
+nothing_read d whole none = record { whole = whole; known = omega arith; kept = all_kept d.events d.horizon none; apart = λ e after within. none_matches (tags_at d.history e) }
 
 -- ---- results
 

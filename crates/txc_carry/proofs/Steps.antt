@@ -1,8 +1,8 @@
 -- What a step of a carry does, and why it is refused.
-use Rattle.std.proofs.Common.{◌≡◌, ◌≢◌, inl, inr, ℕ, ◌+◌, ◌<◌, ◌≤◌, List, [], ◌∷◌, ◌++◌, filter, map, length, Bool, true, false, true≢false, refl, sym, ap, subst, ◌∙◌, arith, length-append}
+use Rattle.std.proofs.Common.{◌≡◌, ◌≢◌, inl, inr, ℕ, ◌+◌, ◌<◌, ◌≤◌, List, [], ◌∷◌, ◌++◌, filter, map, length, Bool, true, false, true≢false, Option, Some, None, refl, sym, ap, subst, ◌∙◌, arith, length-append}
 use Rattle.std.proofs.lemmas.List.{length_push}
 use Rattle.std.specs.List.{AllByRecursion}
-use Rattle.txc_stream.specs.Names.{Name, stored, unstored, HasRow}
+use Rattle.txc_stream.specs.Names.{Name, stored, unstored}
 use Rattle.txc_tags.specs.declared.tag.Tag.{Tag}
 use Rattle.txc_tags.specs.Tags.{sets_match}
 use Rattle.txc_tags.specs.declared.tag.TheConstants.{LAST_TABLE}
@@ -21,59 +21,58 @@ use Rattle.txc_rows.specs.Versions.{suits}
 use Rattle.txc_rows.specs.Laws.{ChangedIsState, NetLeads}
 use Rattle.txc_db.specs.declared.error.DbError.{DbError}
 use Rattle.txc_db.specs.declared.error.DbError.TheVariants.{SnapshotGone, Conflict, Full, Store, Broken, FutureStamp, Memory}
-use Rattle.txc_db.specs.Room.{events_room, HasCapacity, AreTagsGone}
+use Rattle.txc_db.specs.Room.{events_room, AreTagsGone}
 use Rattle.txc_db.specs.History.{History, state_at, tags_at, commit_event}
 use Rattle.txc_db.specs.DatabaseValue.{DatabaseValue, IsSound, newest, newest_state, newest_net, after_commit}
 use Rattle.txc_db.specs.Calls.{matching_of, row_query, IsCommitRefused, IsQueryRefused}
 use Rattle.txc_db.proofs.Histories.{is_state}
 use Rattle.txc_carry.specs.Carried.{stands_before, HasCarried, IsReadRefusal, IsPutRefusal}
+use Rattle.txc_carry.specs.Rooms.{IsHistoryFor, room_for}
 use Rattle.txc_carry.proofs.Places.{all_to, length_filter, range_joined, before_more, range_before, none_before, table_done, version_done, all_before, none_matching, range_in, one_matching}
 use Rattle.txc_carry.proofs.Refusing.{none_matches}
 use Rattle.txc_carry.proofs.Puts.{puts_append, after_either, commit_state, Puts, all_net, all_written, all_puts}
 
--- ---- rows
+-- ---- histories
 
-pub capacity_room : (name : Name) (n : ℕ) → HasCapacity name n → events_room name ≡ n
-capacity_room (stored cells) n has = has
-capacity_room (unstored number) n has = absurd has
+-- the history of a database that is kept so has room for as many events
+pub room_of : (room : Option ℕ) (name : Name) → IsHistoryFor room name → events_room name ≡ room_for room
+room_of (Some n) (stored cells) is = is
+room_of (Some n) (unstored number) is = absurd is
+room_of None (stored cells) is = absurd (is tt)
+room_of None (unstored number) is = refl
 
-pub capacity_row : (name : Name) (n : ℕ) → HasCapacity name n → HasRow name
-capacity_row (stored cells) n has = tt
-capacity_row (unstored number) n has = absurd has
-
-row_keeps_all : (name : Name) (n horizon base : ℕ) → HasCapacity name n → AreTagsGone name horizon base → ⊥
-row_keeps_all (stored cells) n horizon base has gone = gone
-row_keeps_all (unstored number) n horizon base has gone = has
+-- where the horizon is 0, the tags of no event are gone
+none_gone : (name : Name) (horizon : ℕ) → horizon ≡ 0 → AreTagsGone name horizon 0 → ⊥
+none_gone (stored cells) horizon none gone = gone
+none_gone (unstored number) horizon none gone = absurd (omega (arith, none, gone))
 
 -- ---- the first step and the last
 
-pub start_carried : (old new : DatabaseValue) → new.broken ≡ false → new.holds ≡ [] → new.history ≡ [] → new.versions ≡ [] → (capacity : ℕ) → HasCapacity new.events capacity
-    → HasCarried old (events_room new.events) 0 0 new
-start_carried old new whole holds history versions capacity has = record {
+pub start_carried : (old new : DatabaseValue) → new.broken ≡ false → new.holds ≡ [] → new.history ≡ [] → new.versions ≡ [] → new.horizon ≡ 0
+    → HasCarried old new.events 0 0 new
+start_carried old new whole holds history versions horizon = record {
   whole = whole;
-  room = subst (HasCapacity new.events) (sym (capacity_room new.events capacity has)) has;
+  named = refl;
+  horizon = horizon;
   holds = holds;
   rows = ap (λ (L : History). state_at L (length L)) history ∙ sym (none_before (newest_state old));
   versions = subst (AllByRecursion (λ (v : Versioned). stands_before 0 0 v.row ≡ true)) (sym versions) tt;
   few = let e : length new.history ≡ 0 = ap (λ (L : History). length L) history in omega (arith, e);
 }
 
-pub table_carried : (old new : DatabaseValue) (capacity t : ℕ) → IsSound old → HasCarried old capacity t (LAST_NUMBER + 1) new → HasCarried old capacity (t + 1) 0 new
-table_carried old new capacity t sound h = record {
+pub table_carried : (old new : DatabaseValue) (events : Name) (t : ℕ) → IsSound old → HasCarried old events t (LAST_NUMBER + 1) new → HasCarried old events (t + 1) 0 new
+table_carried old new events t sound h = record {
   whole = h.whole;
-  room = h.room;
+  named = h.named;
+  horizon = h.horizon;
   holds = h.holds;
   rows = h.rows ∙ table_done old sound t;
   versions = all_to (λ v. stands_before t (LAST_NUMBER + 1) v.row ≡ true) (λ v. stands_before (t + 1) 0 v.row ≡ true) new.versions (λ v k. version_done t (LAST_NUMBER + 1) v.row k) h.versions;
   few = h.few;
 }
 
-pub all_carried : (old new : DatabaseValue) (capacity : ℕ) → IsSound old → HasCarried old capacity (LAST_TABLE + 1) 0 new → newest_state new ≡ newest_state old
-all_carried old new capacity sound h = h.rows ∙ all_before old sound
-
--- the capacity is the new database's
-pub same_capacity : (old new : DatabaseValue) (capacity t i : ℕ) → HasCarried old capacity t i new → HasCarried old (events_room new.events) t i new
-same_capacity old new capacity t i h = subst (λ (n : ℕ). HasCarried old n t i new) (sym (capacity_room new.events capacity h.room)) h
+pub all_carried : (old new : DatabaseValue) (events : Name) → IsSound old → HasCarried old events (LAST_TABLE + 1) 0 new → newest_state new ≡ newest_state old
+all_carried old new events sound h = h.rows ∙ all_before old sound
 
 -- ---- one range
 
@@ -90,8 +89,8 @@ some_rows : (d : DatabaseValue) (rows : List RowValue) → newest_net d (map Put
 some_rows d [] some = absurd (some refl)
 some_rows d (r ∷ rs) some = omega arith
 
-module _ (old new : DatabaseValue) (capacity t f l : ℕ) (rows : List RowValue) (changed : ChangedIsState) (le : f ≤ l)
-    (h : HasCarried old capacity t f new) (is : rows ≡ answer (Range t f l) (newest_state old)) where
+module _ (old new : DatabaseValue) (events : Name) (t f l : ℕ) (rows : List RowValue) (changed : ChangedIsState) (le : f ≤ l)
+    (h : HasCarried old events t f new) (is : rows ≡ answer (Range t f l) (newest_state old)) where
   whole_state : newest_state new ++ rows ≡ filter (stands_before t (l + 1)) (newest_state old)
   whole_state =
       ap (λ (s : State). s ++ rows) h.rows
@@ -119,18 +118,19 @@ module _ (old new : DatabaseValue) (capacity t f l : ℕ) (rows : List RowValue)
       (λ none. omega (arith, h.few, length-append (newest_state new) rows))
       (λ some. omega (arith, h.few, length-append (newest_state new) rows, some_rows new rows some, length_push new.history (commit_event (newest_state new) (map Put rows))))
 
-  range_carried : NetLeads → HasCarried old capacity t (l + 1) (after_commit new (map Put rows))
+  range_carried : NetLeads → HasCarried old events t (l + 1) (after_commit new (map Put rows))
   range_carried leads = record {
     whole = after_either new (map Put rows) (λ v. v.broken ≡ false) (λ none. h.whole) (λ some. h.whole);
-    room = after_either new (map Put rows) (λ v. HasCapacity v.events capacity) (λ none. h.room) (λ some. h.room);
+    named = after_either new (map Put rows) (λ v. v.events ≡ events) (λ none. h.named) (λ some. h.named);
+    horizon = after_either new (map Put rows) (λ v. v.horizon ≡ 0) (λ none. h.horizon) (λ some. h.horizon);
     holds = after_either new (map Put rows) (λ v. v.holds ≡ []) (λ none. h.holds) (λ some. h.holds);
     rows = new_state leads ∙ whole_state;
     versions = put_versions;
     few = subst (λ (s : State). newest (after_commit new (map Put rows)) ≤ length s) (sym (new_state leads)) fits;
   }
 
-  pub range_done : NetLeads → (now : DatabaseValue) → now ≡ after_commit new (map Put rows) → HasCarried old capacity t (l + 1) now
-  range_done leads now after = subst (λ (v : DatabaseValue). HasCarried old capacity t (l + 1) v) (sym after) (range_carried leads)
+  pub range_done : NetLeads → (now : DatabaseValue) → now ≡ after_commit new (map Put rows) → HasCarried old events t (l + 1) now
+  range_done leads now after = subst (λ (v : DatabaseValue). HasCarried old events t (l + 1) v) (sym after) (range_carried leads)
 
   -- ---- refusals of the put
 
@@ -147,14 +147,13 @@ module _ (old new : DatabaseValue) (capacity t f l : ℕ) (rows : List RowValue)
   no_match : (xs : List Tag) → sets_match xs [] ≡ true → ⊥
   no_match xs e = true≢false (sym e ∙ none_matches xs)
 
-  pub put_refused : (e : DbError) → IsCommitRefused new 0 [] (map Put rows) e → IsPutRefusal old capacity e
+  pub put_refused : (e : DbError) → IsCommitRefused new 0 [] (map Put rows) e → IsPutRefusal old (events_room new.events) e
   put_refused Full r =
       let some = some_rows new rows r.some in
       let full : newest new ≡ events_room new.events = r.full in
-      let room : events_room new.events ≡ capacity = capacity_room new.events capacity h.room in
       let few : newest new ≤ length (newest_state new) = h.few in
       let whole : length (newest_state new ++ rows) ≡ length (filter (stands_before t (l + 1)) (newest_state old)) = ap (λ (s : State). length s) whole_state in
-      omega (arith, some, full, room, few, whole, length-append (newest_state new) rows, length_filter (stands_before t (l + 1)) (newest_state old))
+      omega (arith, some, full, few, whole, length-append (newest_state new) rows, length_filter (stands_before t (l + 1)) (newest_state old))
   put_refused (Store store.TooManyRows) r =
       let it = r.1 in
       let none = put_one it.0 rows (is_in (map Put rows) it.0 it.1) (all_rows (λ x. matching_of new (row_query (Put x)) ≡ 0) none_kept) in
@@ -166,7 +165,7 @@ module _ (old new : DatabaseValue) (capacity t f l : ℕ) (rows : List RowValue)
   put_refused Broken r = tt
   put_refused (FutureStamp last) r = absurd (omega (arith, r.1))
   put_refused (Conflict first) r = absurd (no_match (tags_at new.history first) r.1.matches)
-  put_refused (SnapshotGone horizon) r = absurd (row_keeps_all new.events capacity new.horizon 0 h.room r.1)
+  put_refused (SnapshotGone horizon) r = absurd (none_gone new.events new.horizon h.horizon r.1)
   put_refused e r = absurd r
 
 -- ---- refusals of the read

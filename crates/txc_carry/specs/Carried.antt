@@ -7,7 +7,7 @@ use Rattle.txc_rows.specs.States.{RowValue}
 use Rattle.txc_db.specs.declared.error.DbError.{DbError}
 use Rattle.txc_db.specs.declared.error.DbError.TheVariants as refusals
 use Rattle.txc_db.specs.DatabaseValue.{DatabaseValue, newest, newest_state}
-use Rattle.txc_db.specs.Room.{HasCapacity}
+use Rattle.txc_stream.specs.Names.{Name}
 use Rattle.txc_db.specs.Refusals.{IsOwn}
 use Rattle.txc_db.specs.Calls.{matching_of}
 use Rattle.txc_carry.specs.declared.error.CarryError.{CarryError}
@@ -17,11 +17,12 @@ use Rattle.txc_carry.specs.declared.error.CarryError.TheVariants.{Old, TooManyVe
 abbrev pub stands_before : ℕ → ℕ → RowValue → Bool
 stands_before table id r = nat_lt r.table table || ((r.table == table) && nat_lt r.id id)
 
--- The new database is whole, has that capacity and holds nothing. Its newest state is the rows of the old one's that stand
--- before the table and id, and so are the rows of its versions. It has at most one event for each row.
-pub record HasCarried (old : DatabaseValue) (capacity table id : ℕ) (new : DatabaseValue) : Type 0 where
+-- The new database is whole, has the history of that name, and holds nothing. Its newest state is the rows of the old one's
+-- that stand before the table and id, and so are the rows of its versions. It has at most one event for each row.
+pub record HasCarried (old : DatabaseValue) (events : Name) (table id : ℕ) (new : DatabaseValue) : Type 0 where
   pub whole : new.broken ≡ false
-  pub room : HasCapacity new.events capacity
+  pub named : new.events ≡ events
+  pub horizon : new.horizon ≡ 0
   pub holds : new.holds ≡ []
   pub rows : newest_state new ≡ filter (stands_before table id) (newest_state old)
   pub versions : AllByRecursion (λ v. stands_before table id v.row ≡ true) new.versions

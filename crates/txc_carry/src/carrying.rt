@@ -1,13 +1,14 @@
 //! A carry reads the old state by ranges of ids, table by table, and commits what each range answers.
-ghost use Rattle.std.specs.Prelude.{◌≡◌, ◌⊎◌, ◌+◌, ◌≤◌, [], true, false, length, map, Err, IfOk, OnOk, OnErr, IfErr};
-ghost use Rattle.txc_stream.specs.Names.{HasRow};
+ghost use Rattle.std.specs.Prelude.{◌≡◌, ◌⊎◌, ◌+◌, ◌≤◌, [], true, false, length, map, Err, IfOk, OnOk, OnErr, IfErr, IfSome};
 ghost use Rattle.txc_rows.specs.declared.query.Change.TheVariants.{Put};
 ghost use Rattle.txc_db.specs.History.{state_at};
 ghost use Rattle.txc_db.specs.DatabaseValue.{newest, newest_state, after_commit, after_vacuum};
-ghost use Rattle.txc_db.specs.Room.{events_room, HasCapacity};
+ghost use Rattle.txc_db.specs.Room.{events_room};
 ghost use Rattle.txc_db.specs.Calls.{IsCommitRefused};
 ghost use Rattle.txc_carry.specs.Carried.{HasCarried, IsCarryRefused, IsCarryStepRefused, IsNotTooMany};
+ghost use Rattle.txc_carry.specs.Rooms.{IsHistoryFor, room_for};
 
+use crate::beginning::new_database;
 use crate::error::CarryError;
 use std::alloc::{AllocError, Global};
 use txc_db::{DbCore, DbError};
@@ -30,7 +31,7 @@ fn puts_of(alloc: Global, rows: Vec<Row>) -> Result<Vec<Change>, AllocError>
 /// Puts the rows, in one commit.
 fn put_rows(alloc: Global, new: &mut DbCore, rows: Vec<Row>) -> Result<Stamp, DbError>
     requires whole { new.old.broken ≡ false }
-    requires row { HasRow new.old.events }
+    requires tags { new.old.horizon ≡ 0 }
     ensures after { OnOk result (new.new ≡ after_commit new.old (map Put rows.items)) }
     ensures refused { IfErr result (IsCommitRefused new.old 0 [] (map Put rows.items)) }
 {
@@ -54,10 +55,10 @@ fn carry_range(
     requires whole { old.old.broken ≡ false }
     requires stamp { stamp ≡ newest old.old }
     requires some { first ≤ last }
-    requires carried { HasCarried old.old (events_room new.old.events) table first new.old }
+    requires carried { HasCarried old.old new.old.events table first new.old }
     ensures same { old.new ≡ old.old }
     ensures carried { OnOk result
-        (HasCarried old.old (events_room new.old.events) table (last + 1) new.new) }
+        (HasCarried old.old new.old.events table (last + 1) new.new) }
     ensures refused { IfErr result (IsCarryStepRefused old.old (events_room new.old.events)) }
 {
     states_are_maps();
@@ -90,10 +91,10 @@ fn carry_table(
 ) -> Result<(), CarryError>
     requires whole { old.old.broken ≡ false }
     requires stamp { stamp ≡ newest old.old }
-    requires carried { HasCarried old.old (events_room new.old.events) table 0 new.old }
+    requires carried { HasCarried old.old new.old.events table 0 new.old }
     ensures same { old.new ≡ old.old }
     ensures carried { OnOk result
-        (HasCarried old.old (events_room new.old.events) (table + 1) 0 new.new) }
+        (HasCarried old.old new.old.events (table + 1) 0 new.new) }
     ensures refused { IfErr result (IsCarryStepRefused old.old (events_room new.old.events)) }
 {
     old.is_sound();
@@ -109,10 +110,10 @@ fn carry_tables(
 ) -> Result<(), CarryError>
     requires whole { old.old.broken ≡ false }
     requires stamp { stamp ≡ newest old.old }
-    requires carried { HasCarried old.old (events_room new.old.events) 0 0 new.old }
+    requires carried { HasCarried old.old new.old.events 0 0 new.old }
     ensures same { old.new ≡ old.old }
     ensures carried { OnOk result
-        (HasCarried old.old (events_room new.old.events) (LAST_TABLE + 1) 0 new.new) }
+        (HasCarried old.old new.old.events (LAST_TABLE + 1) 0 new.new) }
     ensures refused { IfErr result (IsCarryStepRefused old.old (events_room new.old.events)) }
 {
     for number in 0..LAST_TABLE + 1 {
@@ -131,22 +132,22 @@ fn newest_stamp(old: &DbCore) -> Result<Stamp, AllocError>
     Ok(old.front()?.newest())
 }
 
-/// A database with room for `room` events whose newest state is the old one's.
+/// A database whose newest state is the old one's: with a row for `room` events; or, where no number is given, with a
+/// history that is not stored.
 ///
 /// The old one is vacuumed first, so that where no stamp is held each row has one version. Of the room, the new
 /// one's first events put the rows: at most one event for each row, and mostly one for several hundred.
-pub fn carry(alloc: Global, old: &mut DbCore, room: usize) -> Result<DbCore, CarryError>
-    requires least { 1 ≤ room }
-    requires most { room ≤ MAX_CAPACITY }
+pub fn carry(alloc: Global, old: &mut DbCore, room: Option<usize>) -> Result<DbCore, CarryError>
+    requires { IfSome room (λ room. (1 ≤ room) × (room ≤ MAX_CAPACITY)) }
     ensures state { IfOk result (λ new. state_at new.history (length new.history)
         ≡ state_at old.old.history (length old.old.history)) }
     ensures whole { IfOk result (λ new. new.broken ≡ false) }
     ensures holds { IfOk result (λ new. new.holds ≡ []) }
-    ensures room { IfOk result (λ new. HasCapacity new.events room) }
+    ensures room { IfOk result (λ new. IsHistoryFor room new.events) }
     ensures few { IfOk result (λ new. length new.history ≤ length (newest_state new)) }
     ensures vacuumed { OnOk result (old.new ≡ after_vacuum old.old) }
     ensures left { OnErr result ((old.new ≡ old.old) ⊎ (old.new ≡ after_vacuum old.old)) }
-    ensures refused { IfErr result (IsCarryRefused old.new room) }
+    ensures refused { IfErr result (IsCarryRefused old.new (room_for room)) }
     ensures broken { old.old.broken ≡ true → result ≡ Err (CarryError.Old DbError.Broken) }
     ensures one { old.old.holds ≡ [] → IfErr result IsNotTooMany }
 {
@@ -157,7 +158,7 @@ pub fn carry(alloc: Global, old: &mut DbCore, room: usize) -> Result<DbCore, Car
     let Ok(stamp) = newest_stamp(old) else {
         return Err(CarryError::Old(DbError::Memory));
     };
-    match DbCore::new(alloc, room) {
+    match new_database(alloc, room) {
         Ok(mut new) => match carry_tables(alloc, old, &mut new, stamp) {
             Ok(()) => Ok(new),
             Err(refusal) => Err(refusal),

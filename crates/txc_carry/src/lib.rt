@@ -1,10 +1,12 @@
 //! A database that goes on from the newest state of another one, with room for more events.
 #![tactic(auto)]
 
+mod beginning;
 mod carrying;
 mod error;
 mod laws;
 
+pub use beginning::new_database;
 pub use carrying::carry;
 pub use error::CarryError;
 pub use laws::worked_order;

@@ -1,5 +1,5 @@
 -- One generation more.
-use Rattle.std.proofs.Common.{◌≡◌, ◌⊎◌, inl, inr, ◌∙◌, ℕ, ◌+◌, ◌≤◌, Bool, true, false, List, [], ◌∷◌, ◌++◌, Result, Ok, Err, map, length, refl, sym, ap, subst, append-nil, length-append, arith}
+use Rattle.std.proofs.Common.{◌≡◌, ◌⊎◌, inl, inr, ◌∙◌, ℕ, ◌+◌, ◌≤◌, Bool, true, false, List, [], ◌∷◌, ◌++◌, Option, Result, Ok, Err, map, length, refl, sym, ap, subst, append-nil, length-append, arith}
 use Rattle.std.specs.Prelude.{All, IfErr, Vec}
 use Rattle.std.specs.Result.{IsErrAnd}
 use Rattle.std.specs.declared.alloc.Global.{Global}
@@ -13,7 +13,7 @@ use Rattle.txc_db.specs.Seen.{FrontValue}
 use Rattle.txc_stream.specs.Names.{Name}
 use Rattle.txc_site.specs.declared.error.GenerationError.{GenerationError}
 use Rattle.txc_site.specs.declared.error.GenerationError.TheVariants as generations
-use Rattle.txc_site.specs.declared.plan.Plan.{Plan}
+use Rattle.txc_visits.specs.declared.plan.Plan.{Plan}
 use Rattle.txc_site.specs.declared.returning.Generation.{Generation}
 use Rattle.txc_site.specs.Generations.{AreInTurn, ComeAfter, ComesAfter, GenerationsHaveEnded, HaveServed, IsEndRefused, IsGeneration, IsGenerationRefused, IsNextRefused, last_state}
 
@@ -64,13 +64,13 @@ no_front numbers (Ok u) error is h = tt
 no_front numbers (Err e) error is h = subst (IsGenerationRefused numbers) (sym is) h
 
 -- nor was there memory for that of the next one
-pub no_next_front : {U : Type 0} (room : ℕ) (ended : FrontValue) (end : Result U GenerationError) → IsErrAnd end (λ e. e ≡ generations.Memory)
+pub no_next_front : {U : Type 0} (room : Option ℕ) (ended : FrontValue) (end : Result U GenerationError) → IsErrAnd end (λ e. e ≡ generations.Memory)
     → IfErr end (IsNextRefused room ended)
 no_next_front room ended (Ok u) is = tt
 no_next_front room ended (Err e) is = subst (IsNextRefused room ended) (sym is) tt
 
 -- what ends a generation ends all
-end_so : {T : Type 0} (room : ℕ) (numbers : List ℕ) (gs : List (Generation T)) (error : GenerationError) → IsGenerationRefused numbers error
+end_so : {T : Type 0} (room : Option ℕ) (numbers : List ℕ) (gs : List (Generation T)) (error : GenerationError) → IsGenerationRefused numbers error
     → IsEndRefused room numbers gs error
 end_so room numbers gs (generations.Visit error) h = h
 end_so room numbers gs (generations.Ended error) h = h
@@ -78,7 +78,7 @@ end_so room numbers gs (generations.Carry error) h = absurd h
 end_so room numbers gs generations.Memory h = absurd h
 
 -- and so does what refuses the next one
-next_so : {T : Type 0} (room : ℕ) (numbers : List ℕ) (gs : List (Generation T)) (g : Generation T) (error : GenerationError) → IsNextRefused room g.ended error
+next_so : {T : Type 0} (room : Option ℕ) (numbers : List ℕ) (gs : List (Generation T)) (g : Generation T) (error : GenerationError) → IsNextRefused room g.ended error
     → IsEndRefused room numbers (gs ++ g ∷ []) error
 next_so room numbers gs g (generations.Visit error) h = absurd h
 next_so room numbers gs g (generations.Ended error) h = absurd h

@@ -1,11 +1,11 @@
 -- The generations of a site, one after the other.
-use Rattle.std.specs.Prelude.{◌≡◌, ◌⊎◌, ℕ, ◌+◌, Bool, true, false, List, [], ◌∷◌, ◌++◌, All, Result, Ok, Err, Vec, length, map, vec_len}
+use Rattle.std.specs.Prelude.{◌≡◌, ◌⊎◌, ℕ, ◌+◌, Bool, true, false, List, [], ◌∷◌, ◌++◌, All, Option, Result, Ok, Err, Vec, length, map, vec_len}
 use Rattle.std.specs.declared.alloc.Global.{Global}
 use Rattle.txc_stream.specs.Names.{Name}
-use Rattle.txc_db.specs.Room.{HasCapacity}
 use mathlib.Core.List.{IsPrefix}
 use Rattle.txc_app.specs.Eval.{Next}
 use Rattle.txc_carry.specs.Carried.{IsCarryRefused}
+use Rattle.txc_carry.specs.Rooms.{IsHistoryFor, room_for}
 use Rattle.txc_db.specs.declared.error.DbError.TheVariants as databases
 use Rattle.txc_db.specs.DatabaseValue.{DatabaseValue, front_of}
 use Rattle.txc_db.specs.History.{state_at}
@@ -15,22 +15,21 @@ use Rattle.txc_rw.specs.Core.{RwValue}
 use Rattle.txc_site.specs.declared.error.GenerationError.{GenerationError}
 use Rattle.txc_site.specs.declared.error.GenerationError.TheVariants as generations
 use Rattle.txc_site.specs.declared.generations.Served.{Served}
-use Rattle.txc_site.specs.declared.plan.Plan.{Plan}
+use Rattle.txc_visits.specs.declared.plan.Plan.{Plan}
 use Rattle.txc_site.specs.declared.returning.Generation.{Generation}
-use Rattle.txc_site.specs.Opened.{IsVisitRefused}
-use Rattle.txc_site.specs.Sites.{HaveCome}
-use Rattle.txc_site.specs.Tending.{IsTendedAsPlanned}
-use Rattle.txc_site.specs.Writes.{IsWritten}
+use Rattle.txc_visits.specs.Sites.{IsVisitRefused, HaveCome}
+use Rattle.txc_visits.specs.Tended.{IsTendedAsPlanned}
+use Rattle.txc_ledger.specs.Writes.{IsWritten}
 
 -- the state after all events that a front shows
 abbrev pub last_state : FrontValue → State
 last_state front = state_at front.history (length front.history)
 
--- A generation over a database whose row has room for as many events as the plan says. Its history at the end goes on from that at the beginning.
+-- A generation over a database whose history is kept as the plan says. Its history at the end goes on from that at the beginning.
 -- There are so many outputs, each of which is what the thread of its number comes to there. Its own keeper came to what the plan
 -- says, at moments of the clock.
 pub record IsGeneration {T : Type 0} (plan : Plan) (tells : ℕ → Type 0) (count : ℕ) (gives : Plan → Name → ℕ → T → Type 0) (g : Generation T) : Type 0 where
-  pub room : HasCapacity g.begun.events plan.events
+  pub room : IsHistoryFor plan.events g.begun.events
   pub row : g.ended.events ≡ g.begun.events
   pub goes_on : IsPrefix g.begun.history g.ended.history
   pub each : vec_len g.outputs ≡ count
@@ -65,25 +64,25 @@ IsGenerationRefused numbers (generations.Ended error) = (error ≡ databases.Mem
 IsGenerationRefused numbers error = ⊥
 
 -- of the next one: the carry of a database of that history was refused; or out of memory
-abbrev pub IsNextRefused : ℕ → FrontValue → GenerationError → Type 0
-IsNextRefused room ended (generations.Carry error) = (d : DatabaseValue) × (front_of d ≡ ended) × IsCarryRefused d room error
+abbrev pub IsNextRefused : Option ℕ → FrontValue → GenerationError → Type 0
+IsNextRefused room ended (generations.Carry error) = (d : DatabaseValue) × (front_of d ≡ ended) × IsCarryRefused d (room_for room) error
 IsNextRefused room ended generations.Memory = Unit {0}
 IsNextRefused room ended error = ⊥
 
 -- after these generations: the next one was refused, or what the last one leaves was not carried over, or there was no memory
-abbrev pub IsEndRefused : {T : Type 0} → ℕ → List ℕ → List (Generation T) → GenerationError → Type 0
+abbrev pub IsEndRefused : {T : Type 0} → Option ℕ → List ℕ → List (Generation T) → GenerationError → Type 0
 IsEndRefused {T} room numbers all (generations.Carry error) =
     (before : List (Generation T)) × (last : Generation T) × IsLast before last all × IsNextRefused room last.ended (generations.Carry error)
 IsEndRefused room numbers all generations.Memory = Unit {0}
 IsEndRefused room numbers all error = IsGenerationRefused numbers error
 
 -- The visitors wanted another generation after each but the last, and none after that; or one after each, and there was none.
-abbrev pub GenerationsHaveEnded : {T U : Type 0} → (Generation T → Bool → Type 0) → ℕ → List ℕ → List (Generation T) → Result U GenerationError → Type 0
+abbrev pub GenerationsHaveEnded : {T U : Type 0} → (Generation T → Bool → Type 0) → Option ℕ → List ℕ → List (Generation T) → Result U GenerationError → Type 0
 GenerationsHaveEnded {T} goes room numbers all (Ok u) = (before : List (Generation T)) × (last : Generation T) × IsLast before last all
     × All (λ g. goes g true) before × goes last false
 GenerationsHaveEnded goes room numbers all (Err error) = All (λ g. goes g true) all × IsEndRefused room numbers all error
 
--- The generations came in turn, from what the opening left on, each over a database of its own with the plan's room. What they came to stands in
+-- The generations came in turn, from what the opening left on, each over a database of its own whose history is kept as the plan says. What they came to stands in
 -- their order.
 pub record HaveServed {T U : Type 0} (plan : Plan) (tells : ℕ → Type 0) (count : ℕ) (numbers : List ℕ) (gives : Plan → Name → ℕ → T → Type 0)
     (goes : Generation T → Bool → Type 0) (opened : FrontValue) (came : List (Vec T Global)) (end : Result U GenerationError) : Type 0 where
@@ -93,10 +92,10 @@ pub record HaveServed {T U : Type 0} (plan : Plan) (tells : ℕ → Type 0) (cou
   pub turns : AreInTurn opened generations
   pub ended : GenerationsHaveEnded goes plan.events numbers generations end
 
--- Over a database whose row has room for as many events as the plan says, the opening was written in its first run. The generations came after it.
+-- Over a database whose history is kept as the plan says, the opening was written in its first run. The generations came after it.
 pub record IsServed {O T : Type 0} (next : Next) (plan : Plan) (tells : ℕ → Type 0) (count : ℕ) (numbers : List ℕ) (makes : RwValue → O → Type 0)
     (gives : Plan → Name → ℕ → T → Type 0) (goes : Generation T → Bool → Type 0) (served : Served O T) : Type 0 where
-  pub room : HasCapacity served.opening.committed.front.events plan.events
+  pub room : IsHistoryFor plan.events served.opening.committed.front.events
   pub opened : IsWritten next served.opening.committed.front.events makes served.opening.output served.opening.committed
   pub once : vec_len served.opening.conflicts ≡ 0
   pub came : HaveServed plan tells count numbers gives goes served.opening.committed.front served.generations.items served.end

@@ -1,18 +1,5 @@
-pub mod Attempts
-pub mod Counted
 pub mod Generations
-pub mod Guests
-pub mod Keeping
-pub mod Keeps
 pub mod Opened
-pub mod Histories
-pub mod Pages
-pub mod Plans
-pub mod Retired
-pub mod Sites
-pub mod Stations
-pub mod Tending
-pub mod Writes
 pub use Rattle.txc_app.specs.Eval
 pub use Rattle.txc_app.specs.declared.ask.Answer
 pub use Rattle.txc_app.specs.declared.ask.Ask
@@ -23,7 +10,17 @@ pub use Rattle.txc_cushion.specs.declared.pin.Pin
 pub use Rattle.txc_db.specs.History
 pub use Rattle.txc_db.specs.Seen
 pub use Rattle.txc_definition.specs.Straight
+pub use Rattle.txc_keeper.specs.Keeping
+pub use Rattle.txc_keeper.specs.Keeps
+pub use Rattle.txc_keeper.specs.Room
+pub use Rattle.txc_keeper.specs.Stations
+pub use Rattle.txc_keeper.specs.Tending
+pub use Rattle.txc_ledger.specs.Counted
+pub use Rattle.txc_ledger.specs.Writes
+pub use Rattle.txc_ledger.specs.declared.run_error.RunError
 pub use Rattle.txc_node.specs.declared.value.TheConstants as ValueLimits
+pub use Rattle.txc_pages.specs.Pages
+pub use Rattle.txc_pages.specs.declared.reading.Shown
 pub use Rattle.txc_ports.specs.declared.bounds.Bounds
 pub use Rattle.txc_ports.specs.declared.recorded.Recorded
 pub use Rattle.txc_registry.specs.Activity
@@ -37,3 +34,7 @@ pub use Rattle.txc_rw.specs.Txn as RwTxn
 pub use Rattle.txc_rw.specs.declared.given.Given
 pub use Rattle.txc_tags.specs.Keys
 pub use Rattle.txc_txn.specs.Core as TxnCore
+pub use Rattle.txc_visits.specs.Plans
+pub use Rattle.txc_visits.specs.Sites
+pub use Rattle.txc_visits.specs.Tended
+pub use Rattle.txc_visits.specs.declared.plan.Plan

@@ -1,36 +1,36 @@
 -- What a site that is opened comes to.
-use Rattle.std.specs.Prelude.{◌≡◌, ℕ, List, vec_len}
+use Rattle.std.specs.Prelude.{◌≡◌, ℕ, List, Option, vec_len}
 use Rattle.txc_stream.specs.Names.{Name}
-use Rattle.txc_db.specs.Room.{HasCapacity}
+use Rattle.txc_carry.specs.Rooms.{IsHistoryFor}
 use Rattle.txc_app.specs.Eval.{Next}
-use Rattle.txc_site.specs.declared.run_error.RunError.{RunError}
+use Rattle.txc_ledger.specs.declared.run_error.RunError.{RunError}
 use Rattle.txc_rw.specs.Core.{RwValue}
-use Rattle.txc_site.specs.declared.error.OpenError.{OpenError}
-use Rattle.txc_site.specs.declared.error.OpenError.TheVariants as opens
-use Rattle.txc_site.specs.declared.error.WriteError.{WriteError}
+use Rattle.txc_visits.specs.declared.error.OpenError.{OpenError}
+use Rattle.txc_visits.specs.declared.error.OpenError.TheVariants as opens
+use Rattle.txc_ledger.specs.declared.error.WriteError.{WriteError}
 use Rattle.txc_site.specs.declared.opening.Visited.{Visited}
-use Rattle.txc_site.specs.declared.plan.Plan.{Plan}
-use Rattle.txc_site.specs.Plans.{IsPlan}
-use Rattle.txc_site.specs.Sites.{HaveCome, IsClientRefused, IsRegistryRefused, IsSiteRefused}
-use Rattle.txc_site.specs.Writes.{IsWritten, IsSiteWriteRefused}
+use Rattle.txc_visits.specs.declared.plan.Plan.{Plan}
+use Rattle.txc_visits.specs.Plans.{IsPlan}
+use Rattle.txc_visits.specs.Sites.{HaveCome, IsRegistryRefused, IsSiteRefused}
+use Rattle.txc_ledger.specs.Writes.{IsWritten, IsSiteWriteRefused}
 
--- Over a database whose row has room for as many events as the plan says, the opening was written in its first run.
--- There are so many outputs, each of which is what the thread of its number comes to there. What is left is of that row.
+-- Over a database whose history is kept as the plan says, the opening was written in its first run.
+-- There are so many outputs, each of which is what the thread of its number comes to there. What is left is of that history.
 pub record IsVisited {O T : Type 0} (next : Next) (plan : Plan) (count : ℕ) (makes : RwValue → O → Type 0)
     (gives : Plan → Name → ℕ → T → Type 0) (visited : Visited O T) : Type 0 where
   pub row : Name
-  pub room : HasCapacity row plan.events
+  pub room : IsHistoryFor plan.events row
   pub opened : IsWritten next row makes visited.opening.output visited.opening.committed
   pub once : vec_len visited.opening.conflicts ≡ 0
   pub each : vec_len visited.outputs ≡ count
   pub came : HaveCome (gives plan row) visited.outputs.items
   pub last : visited.last.events ≡ row
 
--- a database with room for so many events refused the opening, in one try
-pub record IsUnopened {T : Type 0} (events : ℕ) (makes : RwValue → T → Type 0) (refuses : RunError → Type 0) (error : WriteError)
+-- a database whose history is kept so refused the opening, in one try
+pub record IsUnopened {T : Type 0} (events : Option ℕ) (makes : RwValue → T → Type 0) (refuses : RunError → Type 0) (error : WriteError)
     : Type 0 where
   pub row : Name
-  pub room : HasCapacity row events
+  pub room : IsHistoryFor events row
   pub refused : IsSiteWriteRefused row makes refuses 1 error
 
 -- of a site: it was not made; or its opening was refused; or there was no memory for the threads
@@ -46,9 +46,3 @@ abbrev pub IsOpeningRefused : {T : Type 0} → List ℕ → Name → (RwValue �
 IsOpeningRefused numbers row makes refuses (opens.Site error) = IsRegistryRefused numbers error
 IsOpeningRefused numbers row makes refuses (opens.Opening error) = IsSiteWriteRefused row makes refuses 1 error
 IsOpeningRefused numbers row makes refuses opens.Threads = ⊥
-
--- of the visit: as a client is; or there was no memory for the threads
-abbrev pub IsVisitRefused : List ℕ → OpenError → Type 0
-IsVisitRefused numbers (opens.Site error) = IsClientRefused numbers error
-IsVisitRefused numbers (opens.Opening error) = ⊥
-IsVisitRefused numbers opens.Threads = Unit {0}

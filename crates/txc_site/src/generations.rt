@@ -1,27 +1,24 @@
 //! A site that goes on: one generation after the other.
 ghost use Rattle.std.specs.Prelude.{◌≡◌, ◌⊎◌, [], Err, IfErr, IfOk, length};
 ghost use mathlib.Core.List.{IsPrefix};
-ghost use Rattle.txc_db.specs.Room.{HasCapacity};
+ghost use Rattle.txc_carry.specs.Rooms.{IsHistoryFor};
 ghost use Rattle.txc_db.specs.DatabaseValue.{front_of};
 ghost use Rattle.txc_site.specs.Generations.{HaveServed, IsGeneration, IsGenerationRefused, IsNextRefused, IsServed, last_state};
 ghost use Rattle.txc_site.specs.Opened.{IsOpenRefused};
-ghost use Rattle.txc_site.specs.Plans.{IsPlan};
+ghost use Rattle.txc_visits.specs.Plans.{IsPlan};
 
-use crate::application::Application;
-use crate::change::Change;
-use crate::clock::{Clock, CountedClock};
-use crate::error::{GenerationError, OpenError, SiteError};
-use crate::histories::{Visits, over_new_histories};
+use crate::error::GenerationError;
 use crate::opening::opened;
-use crate::plan::Plan;
 use crate::returning::{Generation, Returning};
-use crate::writing::Written;
 use std::alloc::Global;
 use std::sync::Wait;
 use std::thread::Threads;
 use txc_carry::carry;
 use txc_db::{DbCore, DbError, HistoryFront};
 use txc_definition::Definition;
+use txc_keeper::{Clock, CountedClock, SiteError};
+use txc_ledger::{Change, Written};
+use txc_visits::{Application, OpenError, Plan, Visits, over_new_histories};
 
 /// What a site came to in all its generations.
 #[derive(Drop)]
@@ -57,7 +54,7 @@ fn whole_front(core: &DbCore, seen: &HistoryFront) -> Result<HistoryFront, DbErr
 }
 
 /// One generation: it begins with this database, and ends once all threads have.
-#[tactic(auto, using(crate::proofs::Tending::tended_at))]
+#[tactic(auto, using(txc_visits::proofs::Tended::tended_at))]
 fn generation<A, D, V, C, R>(
     rt: &R,
     alloc: Global,
@@ -76,7 +73,7 @@ where
     R: Threads + Wait + Sync,
     requires plan { IsPlan plan }
     requires row { begun.core.events ≡ begun.front.events }
-    requires room { HasCapacity begun.front.events plan.events }
+    requires room { IsHistoryFor plan.events begun.front.events }
     ensures generation { IfOk result (λ ended.
         IsGeneration plan (C.tells clock.now) count (V.gives visitors.now) ended.0) }
     ensures number { IfOk result (λ ended. ended.0.number ≡ number) }
@@ -110,7 +107,7 @@ where
 fn next(alloc: Global, plan: Plan, mut core: DbCore) -> Result<Begun, GenerationError>
     requires { IsPlan plan }
     ensures row { IfOk result (λ begun. begun.core.events ≡ begun.front.events) }
-    ensures room { IfOk result (λ begun. HasCapacity begun.front.events plan.events) }
+    ensures room { IfOk result (λ begun. IsHistoryFor plan.events begun.front.events) }
     ensures state { IfOk result (λ begun. last_state begun.front ≡ last_state (front_of core)) }
     ensures refused { IfErr result (IsNextRefused plan.events (front_of core)) }
 {
@@ -220,7 +217,7 @@ where
     R: Threads + Wait + Sync,
     requires plan { IsPlan plan }
     requires row { begun.core.events ≡ begun.front.events }
-    requires room { HasCapacity begun.front.events plan.events }
+    requires room { IsHistoryFor plan.events begun.front.events }
     requires none { generations.old.items ≡ [] }
     ensures { HaveServed plan (C.tells clock.now) count A.numbers (V.gives visitors.now) (V.goes visitors.now)
         begun.front generations.new.items result }

@@ -13,58 +13,26 @@
 //! has a new database that begins with the state of the one before, and new nodes.
 #![tactic(auto)]
 
-mod application;
-mod change;
-mod client;
-mod clock;
 mod error;
-mod foundation;
 mod generations;
-mod histories;
-mod keeper;
-mod keeping;
-mod last_state;
-pub mod laws;
-mod ledger;
-mod node_history;
-mod numbers;
 mod opening;
-mod page;
-mod page_txn;
-mod plan;
-mod reading;
 mod returning;
-mod room;
-mod run_error;
-mod station;
-mod visiting;
-mod visitor;
-mod writing;
 
-pub use application::Application;
-pub use change::{Change, ChangeTxn};
-pub use client::SiteClient;
-pub use clock::{Clock, CountedClock, SystemClock};
-pub use error::{GenerationError, LastError, OpenError, ReadError, SiteError, WriteError};
+pub use error::GenerationError;
 pub use generations::{Served, with_generations, with_generations_at};
-pub use keeper::{Ended, Keeper, Kept, KeptNode, MAX_TAKEN};
-pub use keeping::{Keeping, Tended};
-pub use last_state::LastState;
-pub use ledger::Horizon;
-pub use numbers::Numbers;
 pub use opening::{Visited, with_clock, with_site};
-pub use page::{OneCall, Page};
-pub use page_txn::{Begun, PageTxn};
-pub use plan::{MAX_NODES, Plan};
-pub use reading::Shown;
 pub use returning::{Generation, Returning};
-pub use room::{events_left, records_left};
-pub use run_error::RunError;
 pub use txc_app::{Answer, App, Ask, Bytes};
 pub use txc_cushion::Pin;
 pub use txc_db::{Answered, DbError, HistoryFront, Naming};
 pub use txc_definition::{Definition, Function, InTurn, Or, Straight};
+pub use txc_keeper::{
+    Clock, CountedClock, Ended, Keeper, Keeping, Kept, KeptNode, MAX_TAKEN, SiteError, SystemClock,
+    Tended, events_left, records_left,
+};
+pub use txc_ledger::{Change, ChangeTxn, Horizon, RunError, WriteError, Written};
 pub use txc_node::{Counts, Value};
+pub use txc_pages::{Begun, OneCall, Page, PageTxn, ReadError, Shown, laws};
 pub use txc_ports::{Bounds, Recorded, TxnError};
 pub use txc_rows::{Query, Row, RowError};
 pub use txc_rw::{Committed, Given, RwTxn};
@@ -72,5 +40,6 @@ pub use txc_shared::NodeError;
 pub use txc_stamp::Stamp;
 pub use txc_tags::{Key, KeyError, Table};
 pub use txc_txn::Receipt;
-pub use visitor::Visitor;
-pub use writing::Written;
+pub use txc_visits::{
+    Application, LastError, LastState, MAX_NODES, Numbers, OpenError, Plan, SiteClient, Visitor,
+};

@@ -1,32 +1,26 @@
 //! The opening of a site.
 ghost use Rattle.std.specs.Prelude.{◌≡◌, Err, IfErr, IfOk, length, vec_len};
-ghost use Rattle.txc_db.specs.Room.{HasCapacity};
+ghost use Rattle.txc_carry.specs.Rooms.{IsHistoryFor};
 ghost use Rattle.txc_db.specs.Shared.{IsDatabaseOf};
 ghost use Rattle.txc_site.specs.Opened.{IsOpeningRefused, IsOpenRefused, IsVisited};
-ghost use Rattle.txc_site.specs.Plans.{IsPlan};
-ghost use Rattle.txc_site.specs.Sites.{IsDatabaseRefused};
-ghost use Rattle.txc_site.specs.Tending.{IsTendedAsPlanned};
-ghost use Rattle.txc_site.specs.Writes.{IsWritten};
+ghost use Rattle.txc_visits.specs.Plans.{IsPlan};
+ghost use Rattle.txc_visits.specs.Sites.{IsDatabaseRefused};
+ghost use Rattle.txc_visits.specs.Tended.{IsTendedAsPlanned};
+ghost use Rattle.txc_ledger.specs.Writes.{IsWritten};
 
-use crate::application::{Application, registry};
-use crate::change::Change;
-use crate::clock::{Clock, CountedClock};
-use crate::error::{OpenError, SiteError};
-use crate::histories::{Visits, over_new_histories};
-use crate::keeping::Tended;
-use crate::last_state::LastState;
-use crate::ledger::Ledger;
-use crate::numbers::Numbers;
-use crate::plan::Plan;
-use crate::visitor::Visitor;
-use crate::writing::{Written, write_change};
 use std::alloc::Global;
 use std::marker::Brand;
 use std::sync::Wait;
 use std::thread::Threads;
+use txc_carry::new_database;
 use txc_db::{DbCore, Naming};
 use txc_definition::Definition;
+use txc_keeper::{Clock, CountedClock, SiteError, Tended};
+use txc_ledger::{Change, Ledger, Written, write_change};
 use txc_permits::PermitPool;
+use txc_visits::{
+    Application, LastState, Numbers, OpenError, Plan, Visitor, Visits, over_new_histories, registry,
+};
 
 /// What a site came to.
 #[derive(Drop)]
@@ -46,10 +40,10 @@ pub struct Visited<O, T> {
 /// A new database, as the plan says.
 fn new_core(alloc: Global, plan: Plan) -> Result<DbCore, SiteError>
     requires { IsPlan plan }
-    ensures room { IfOk result (λ core. HasCapacity core.events plan.events) }
+    ensures room { IfOk result (λ core. IsHistoryFor plan.events core.events) }
     ensures refused { IfErr result IsDatabaseRefused }
 {
-    Ok(DbCore::new(alloc, plan.events)?)
+    Ok(new_database(alloc, plan.events)?)
 }
 
 /// Opens a site as [`with_clock`] does, at a clock that counts how often it was looked at.
@@ -85,7 +79,7 @@ where
 ///
 /// The threads have the numbers from 0, and outputs come in that order. Where no thread can be made, some run
 /// one after the other, so that none may wait for another.
-#[tactic(auto, using(crate::proofs::Opened::visit_so, crate::proofs::Tending::tended_at))]
+#[tactic(auto, using(crate::proofs::Opened::visit_so, txc_visits::proofs::Tended::tended_at))]
 pub fn with_clock<A, D, O, V, C, R>(
     rt: &R,
     alloc: Global,
@@ -148,7 +142,7 @@ where
     requires { IsPlan plan }
     ensures opened { IfOk result (λ opened. IsWritten A.next opened.1.events (O.makes opening.now)
         opened.0.output opened.0.committed) }
-    ensures room { IfOk result (λ opened. HasCapacity opened.1.events plan.events) }
+    ensures room { IfOk result (λ opened. IsHistoryFor plan.events opened.1.events) }
     ensures once { IfOk result (λ opened. vec_len opened.0.conflicts ≡ 0) }
     ensures refused { IfErr result
         (IsOpenRefused plan A.numbers (O.makes opening.now) (O.refuses opening.now)) }

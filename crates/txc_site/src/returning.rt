@@ -1,10 +1,8 @@
-use crate::error::SiteError;
-use crate::keeping::Tended;
-use crate::numbers::Numbers;
-use crate::visitor::Visitor;
 use txc_app::App;
 use txc_db::HistoryFront;
 use txc_definition::Definition;
+use txc_keeper::{SiteError, Tended};
+use txc_visits::{Numbers, Visitor};
 
 /// A generation of a site that has ended: each has a database and nodes of its own.
 #[derive(Drop)]

@@ -1,17 +1,16 @@
-use Rattle.std.proofs.Common.{◌≡◌, subst, ℕ, length}
+use Rattle.std.proofs.Common.{◌≡◌, subst, ℕ}
 use Rattle.txc_db.specs.History.{state_at}
 use Rattle.txc_db.specs.DatabaseValue.{newest}
 use Rattle.txc_rows.specs.States.{answer}
 use Rattle.txc_rows.specs.declared.query.Query.TheVariants.{Range}
-use Rattle.txc_db.specs.Room.{events_room}
-use Rattle.txc_carry.proofs.Steps.{range_done, put_refused, capacity_row}
+use Rattle.txc_carry.proofs.Steps.{range_done, put_refused}
 use Rattle.txc_carry.proofs.carrying.+carry_range.Goals as goal
 
 pub returns-in-Ok-put_rows-clause-carried : goal.returns-in-Ok-put_rows-clause-carried
 returns-in-Ok-put_rows-clause-carried t c =
     let old = c.args.old.now in
     let stamp : c.args.stamp ≡ newest old = c.requires.stamp in
-    range_done old c.args.new.now (events_room c.args.new.now.events) c.args.table c.args.first c.args.last c.in-Ok.found.rows.items c.states_are_maps.ensures.states c.requires.some c.requires.carried
+    range_done old c.args.new.now c.args.new.now.events c.args.table c.args.first c.args.last c.in-Ok.found.rows.items c.states_are_maps.ensures.states c.requires.some c.requires.carried
     (subst (λ (n : ℕ). c.in-Ok.found.rows.items ≡ answer (Range c.args.table c.args.first c.args.last) (state_at old.history n)) stamp c.in-Ok.ensures.answer.rows)
     c.net_changes_are_differences.ensures.leads c.put_rows.new.new c.in-Ok-put_rows.ensures.after
 
@@ -19,9 +18,6 @@ pub returns-in-Ok-clause-refused : goal.returns-in-Ok-clause-refused
 returns-in-Ok-clause-refused t c =
     let old = c.args.old.now in
     let stamp : c.args.stamp ≡ newest old = c.requires.stamp in
-    put_refused old c.args.new.now (events_room c.args.new.now.events) c.args.table c.args.first c.args.last c.in-Ok.found.rows.items c.states_are_maps.ensures.states c.requires.some c.requires.carried
+    put_refused old c.args.new.now c.args.new.now.events c.args.table c.args.first c.args.last c.in-Ok.found.rows.items c.states_are_maps.ensures.states c.requires.some c.requires.carried
     (subst (λ (n : ℕ). c.in-Ok.found.rows.items ≡ answer (Range c.args.table c.args.first c.args.last) (state_at old.history n)) stamp c.in-Ok.ensures.answer.rows)
     c.in-Err-put_rows.refusal c.in-Err-put_rows.ensures.refused
-
-pub put_rows-requires-clause-row : goal.put_rows-requires-clause-row
-put_rows-requires-clause-row t c = capacity_row c.args.new.now.events (events_room c.args.new.now.events) c.requires.carried.room

@@ -1,5 +1,3 @@
-use Rattle.std.proofs.Common.{length}
-use Rattle.txc_db.specs.Room.{events_room}
 use Rattle.txc_carry.proofs.Refusing.{then_ok}
 use Rattle.txc_carry.proofs.Steps.{table_carried}
 use Rattle.txc_carry.proofs.carrying.carry_table.Goals as goal
@@ -7,4 +5,4 @@ use Rattle.txc_carry.proofs.carrying.carry_table.Goals as goal
 pub returns-clause-carried : goal.returns-clause-carried
 returns-clause-carried c =
     then_ok c.carry_range.result c.carry_range.ensures.carried
-    (table_carried c.args.old.now c.carry_range.new.new (events_room c.args.new.now.events) c.args.table (c.is_sound.ensures c.requires.whole))
+    (table_carried c.args.old.now c.carry_range.new.new c.args.new.now.events c.args.table (c.is_sound.ensures c.requires.whole))

@@ -1,5 +1,5 @@
 use Rattle.std.proofs.Common.{◌≡◌}
-use Rattle.txc_db.specs.Room.{HasCapacity}
+use Rattle.txc_carry.specs.Rooms.{IsHistoryFor}
 use Rattle.txc_site.proofs.Turns.{HaveGoneOn}
 use Rattle.txc_site.proofs.generations.go_on.Given as goal
 
@@ -9,5 +9,5 @@ invariant-loop g l = record {
       HaveGoneOn l.plan (g.C.Clock.tells l.clock) l.count g.A.Application.numbers (g.V.Visitor.gives l.visitors) (g.V.Returning.goes l.visitors) l.fn.begun.front l.generations.items
       l.begun.front;
   row : l.begun.core.events ≡ l.begun.front.events;
-  room : HasCapacity l.begun.front.events l.plan.events;
+  room : IsHistoryFor l.plan.events l.begun.front.events;
 }

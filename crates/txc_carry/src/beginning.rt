@@ -1,0 +1,24 @@
+//! Databases without events.
+ghost use Rattle.std.specs.Prelude.{◌≡◌, ◌≤◌, [], false, IfErr, IfOk, IfSome};
+ghost use Rattle.txc_db.specs.Refusals.{IsWant};
+ghost use Rattle.txc_carry.specs.Rooms.{IsHistoryFor};
+
+use std::alloc::Global;
+use txc_db::{DbCore, DbError};
+use txc_stream::{MAX_CAPACITY, Pen};
+
+/// An empty database with a row for so many events; or, where no number is given, with a history that is not stored
+/// and has room for as many events as there are stamps.
+pub fn new_database(alloc: Global, room: Option<usize>) -> Result<DbCore, DbError>
+    requires { IfSome room (λ room. (1 ≤ room) × (room ≤ MAX_CAPACITY)) }
+    ensures history { IfOk result (λ d. d.history ≡ []) }
+    ensures room { IfOk result (λ d. IsHistoryFor room d.events) }
+    ensures kept { IfOk result (λ d. (d.versions ≡ []) × (d.horizon ≡ 0)) }
+    ensures holds { IfOk result (λ d. (d.holds ≡ []) × (d.broken ≡ false)) }
+    ensures refused { IfErr result IsWant }
+{
+    match room {
+        Some(room) => DbCore::new(alloc, room),
+        None => DbCore::unstored(alloc, Pen::new()),
+    }
+}

@@ -1,0 +1,3 @@
+pub mod NoPass
+mod NodesKept
+mod Tending

@@ -1,0 +1,86 @@
+-- What a keeper did with one node more.
+use Rattle.std.proofs.Common.{◌≡◌, ◌∙◌, ℕ, ◌+◌, ◌<◌, List, [], ◌∷◌, ◌++◌, Option, map, length, get_or, take, sym, ap, subst, rules}
+use Rattle.std.proofs.lemmas.List.{append_assoc, map-append, take_more}
+use Rattle.std.proofs.lemmas.List.Elements.{All-append}
+use Rattle.std.specs.Prelude.{All}
+use Rattle.txc_stream.specs.Names.{Name}
+use Rattle.txc_shared.specs.declared.advanced.Advanced.TheVariants as advances
+use Rattle.txc_shared.specs.declared.settings.NodeSettings.{NodeSettings}
+use Rattle.txc_shared.specs.Passes.{PassValue, HasGrown, HasTaken}
+use Rattle.txc_keeper.specs.Keeping.{HasKeptNode, HasTakenEach, HaveKept}
+use Rattle.txc_keeper.specs.Stations.{StationValue, HasNotRefused, IsSamePass}
+use Rattle.txc_keeper.specs.declared.keeper.KeptNode.{KeptNode}
+
+-- a pass that has grown is the same pass
+pub same_settings : (old new : PassValue) → HasGrown old new → new.settings ≡ old.settings
+same_settings old new grown = ap (λ (p : PassValue). p.settings) grown.is
+
+pub same_number : (old new : PassValue) → HasGrown old new → new.pass ≡ old.pass
+same_number old new grown = ap (λ (p : PassValue). p.pass) grown.is
+
+pub same_pass : (old new : StationValue) → HasGrown old.pass new.pass → IsSamePass old new
+same_pass old new grown =
+    record { settings = same_settings old.pass new.pass grown; pass = same_number old.pass new.pass grown }
+
+pub same_then : (old mid new : StationValue) → IsSamePass old mid → IsSamePass mid new → IsSamePass old new
+same_then old mid new a b = record { settings = b.settings ∙ a.settings; pass = b.pass ∙ a.pass }
+
+-- one event more was taken
+pub one_taken_more : (row : Name) (old last new : StationValue) (stamps : List ℕ) (stamp closed : ℕ) → HasTakenEach row old stamps last
+    → HasTaken row last.pass new.pass (advances.Taken stamp closed) → HasNotRefused last new → HasTakenEach row old (stamp ∷ stamps) new
+one_taken_more row old last new stamps stamp closed before taken answered = (last, closed, before, taken, answered)
+
+one_kept_more : (row : Name) (histories : ℕ → Name) (h : Option ℕ) (olds : List StationValue) (all : List KeptNode) (news : List StationValue)
+    (old : StationValue) (kept : KeptNode) (new : StationValue) → HaveKept row histories h olds all news → HasKeptNode row histories h old kept new
+    → HaveKept row histories h (olds ++ old ∷ []) (all ++ kept ∷ []) (news ++ new ∷ [])
+one_kept_more row histories h [] [] [] old kept new before one = (one, tt)
+one_kept_more row histories h (o ∷ olds) (k ∷ all) (n ∷ news) old kept new before one =
+    (before.0, one_kept_more row histories h olds all news old kept new before.1 one)
+one_kept_more row histories h [] [] (n ∷ news) old kept new before one = absurd before
+one_kept_more row histories h [] (k ∷ all) news old kept new before one = absurd before
+one_kept_more row histories h (o ∷ olds) [] news old kept new before one = absurd before
+one_kept_more row histories h (o ∷ olds) (k ∷ all) [] old kept new before one = absurd before
+
+-- none was kept
+pub none_kept : (row : Name) (histories : ℕ → Name) (h : Option ℕ) (nodes : List KeptNode) (left : List StationValue) → nodes ≡ [] → left ≡ []
+    → HaveKept row histories h [] nodes left
+none_kept row histories h nodes left no_node none =
+    subst (λ (all : List KeptNode). HaveKept row histories h [] all left) (sym no_node)
+    (subst (λ (xs : List StationValue). HaveKept row histories h [] [] xs) (sym none) tt)
+
+-- one station more was kept, and is left with those that were
+pub one_left_more : (row : Name) (histories : ℕ → Name) (h : Option ℕ) (olds : List StationValue) (nodes more : List KeptNode)
+    (left others : List StationValue) (kept : KeptNode) (station after : StationValue)
+    → HaveKept row histories h olds nodes left → HasKeptNode row histories h station kept after
+    → more ≡ nodes ++ kept ∷ [] → others ≡ left ++ after ∷ []
+    → HaveKept row histories h (olds ++ station ∷ []) more others
+one_left_more row histories h olds nodes more left others kept station after before one is added =
+    subst (λ (all : List KeptNode). HaveKept row histories h (olds ++ station ∷ []) all others) (sym is)
+    (subst (λ (xs : List StationValue). HaveKept row histories h (olds ++ station ∷ []) (nodes ++ kept ∷ []) xs) (sym added)
+    (one_kept_more row histories h olds nodes left station kept after before one))
+
+-- the stations that were kept and those that are not are all
+pub one_station_less : (olds all : List StationValue) (station : StationValue) (rest before : List StationValue)
+    → olds ++ before ≡ all → before ≡ station ∷ rest → (olds ++ station ∷ []) ++ rest ≡ all
+one_station_less olds all station rest before so_far step =
+    append_assoc olds (station ∷ []) rest ∙ sym (ap (λ (xs : List StationValue). olds ++ xs) step) ∙ so_far
+
+-- one station more has a new pass
+module _ (stations more : List StationValue) (s : StationValue) (added : more ≡ stations ++ s ∷ []) where
+  abbrev settings_of : StationValue → NodeSettings
+  settings_of x = x.pass.settings
+
+  pub one_station_more : (nodes : List NodeSettings) (i : ℕ) (node : NodeSettings) → i < length nodes
+      → map (λ x. x.pass.settings) stations ≡ take i nodes → s.pass.settings ≡ node → node ≡ get_or nodes i node
+      → map (λ x. x.pass.settings) more ≡ take (i + 1) nodes
+  one_station_more nodes i node within before own at =
+      ap (map settings_of) added
+      ∙ map-append settings_of stations (s ∷ [])
+      ∙ ap (λ (l : List NodeSettings). l ++ s.pass.settings ∷ []) before
+      ∙ ap (λ (n : NodeSettings). take i nodes ++ n ∷ []) (own ∙ at)
+      ∙ sym (take_more nodes i node within)
+
+  pub none_has_seen : All (λ x. x.pass.records ≡ []) stations → s.pass.records ≡ [] → All (λ x. x.pass.records ≡ []) more
+  none_has_seen before own =
+      subst (All (λ x. x.pass.records ≡ [])) (sym added)
+      (All-append (λ x. x.pass.records ≡ []) stations (s ∷ []) before (λ k d within. search rules))

@@ -1,0 +1,6 @@
+pub mod Keeping
+pub mod Keeps
+pub mod Refusals
+pub mod Room
+pub mod Stations
+pub mod Tending

@@ -1,0 +1,29 @@
+-- A keeper's pass through a node, and what the node was asked through it.
+use Rattle.std.specs.Prelude.{◌≡◌, ℕ}
+use Rattle.txc_stream.specs.Names.{Name}
+use Rattle.txc_shared.specs.declared.error.NodeError.{NodeError}
+use Rattle.txc_shared.specs.Nodes.{NodeValue}
+use Rattle.txc_shared.specs.Passes.{PassValue, IsPassLeft}
+use Rattle.txc_shared.specs.Refusals.{IsRefusedThrough, NodeMayRefuse}
+use Rattle.txc_ledger.specs.Counted.{counted_again}
+
+-- the pass, and how often the node has refused what it was asked through it
+pub record StationValue : Type 0 where
+  pub pass : PassValue
+  pub refusals : ℕ
+
+-- it is the same pass through the same node
+pub record IsSamePass (old new : StationValue) : Type 0 where
+  pub settings : new.pass.settings ≡ old.pass.settings
+  pub pass : new.pass.pass ≡ old.pass.pass
+
+-- the node was asked, and did not refuse
+abbrev pub HasNotRefused : StationValue → StationValue → Type 0
+HasNotRefused old new = new.refusals ≡ old.refusals
+
+-- the node was asked, and refused as some node of its history refuses such a step, which leaves the pass so
+pub record HasBeenRefused (histories : ℕ → Name) (refused : NodeValue → NodeError → Type 0) (old : StationValue) (error : NodeError)
+    (new : StationValue) : Type 0 where
+  pub once_more : new.refusals ≡ counted_again old.refusals
+  pub reason : NodeMayRefuse histories (λ n. IsRefusedThrough refused n old.pass) error
+  pub left : IsPassLeft (histories old.pass.settings.number) old.pass new.pass error

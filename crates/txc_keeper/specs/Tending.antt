@@ -1,0 +1,61 @@
+-- What the keeper of a site that keeps itself did.
+use Rattle.std.specs.Prelude.{◌≡◌, ◌⊎◌, ℕ, List, [], ◌∷◌, All, IfErr, IfOk, None, Option, Result, Some, map}
+use Rattle.txc_db.specs.declared.error.DbError.{DbError}
+use Rattle.txc_shared.specs.declared.settings.NodeSettings.{NodeSettings}
+use Rattle.txc_stream.specs.Names.{Name}
+use Rattle.txc_ledger.specs.Counted.{counted_again}
+use Rattle.txc_keeper.specs.declared.error.SiteError.{SiteError}
+use Rattle.txc_keeper.specs.declared.keeping.Keeping.{Keeping}
+use Rattle.txc_keeper.specs.declared.keeping.Tended.{Tended}
+use Rattle.txc_keeper.specs.Keeps.{IsKeep, IsNoKeep, KeepTold}
+use Rattle.txc_keeper.specs.Refusals.{IsKeeperRefused}
+use Rattle.txc_keeper.specs.Stations.{StationValue}
+
+-- a keeper's stations, and what it came to
+pub record OwnKeeperValue : Type 0 where
+  pub stations : List StationValue
+  pub tended : Tended
+
+-- it has a new pass through each of these nodes, and has not kept yet
+pub record IsNewOwnKeeper (all : List NodeSettings) (own : OwnKeeperValue) : Type 0 where
+  pub nodes : map (λ s. s.pass.settings) own.stations ≡ all
+  pub records : All (λ s. s.pass.records ≡ []) own.stations
+  pub tended : own.tended ≡ record { keeps = 0; refused = None }
+
+-- what a keeper came to, with one keep more
+abbrev pub tended_after : Tended → Option DbError → Tended
+tended_after t None = record t { keeps = counted_again t.keeps }
+tended_after t (Some error) = record { keeps = counted_again t.keeps; refused = Some error }
+
+-- it kept once more, or was refused that; and tells it
+abbrev pub HasTended : Name → (ℕ → Name) → ℕ → ℕ → OwnKeeperValue → OwnKeeperValue → Type 0
+HasTended row histories now age old new =
+    ((told : KeepTold) × IsKeep row histories now age old.stations told new.stations × (new.tended ≡ tended_after old.tended None))
+    ⊎ ((error : DbError) × IsNoKeep row old.stations error new.stations × (new.tended ≡ tended_after old.tended (Some error)))
+
+-- it kept at each of these moments, the latest first, which the clock told
+abbrev pub HaveTended : Name → (ℕ → Name) → (ℕ → Type 0) → ℕ → OwnKeeperValue → List ℕ → OwnKeeperValue → Type 0
+HaveTended row histories tells age first [] last = last ≡ first
+HaveTended row histories tells age first (now ∷ earlier) last = (before : OwnKeeperValue)
+    × HaveTended row histories tells age first earlier before × tells now × HasTended row histories now age before last
+
+-- it began as a new keeper of these nodes, and did nothing but keep
+pub record HasTendedSince (row : Name) (histories : ℕ → Name) (nodes : List NodeSettings) (tells : ℕ → Type 0) (age : ℕ) (own : OwnKeeperValue) : Type 0 where
+  pub first : OwnKeeperValue
+  pub moments : List ℕ
+  pub new : IsNewOwnKeeper nodes first
+  pub kept : HaveTended row histories tells age first moments own
+
+-- such a keeper of these nodes, whatever their histories, came to this
+pub record IsTendedBy (row : Name) (nodes : List NodeSettings) (tells : ℕ → Type 0) (age : ℕ) (tended : Tended) : Type 0 where
+  pub histories : ℕ → Name
+  pub own : OwnKeeperValue
+  pub since : HasTendedSince row histories nodes tells age own
+  pub told : tended ≡ own.tended
+
+-- The site's own keeper: none where the plan has none. Else it came to this, or there was none, since a node gave it no
+-- pass, or for want of memory.
+abbrev pub IsTendedAs : Option Keeping → List NodeSettings → (ℕ → Type 0) → Name → Option (Result Tended SiteError) → Type 0
+IsTendedAs None nodes tells row came = came ≡ None
+IsTendedAs (Some keeping) nodes tells row came = (result : Result Tended SiteError) × (came ≡ Some result)
+    × IfOk result (IsTendedBy row nodes tells keeping.age) × IfErr result IsKeeperRefused

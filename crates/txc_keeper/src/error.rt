@@ -1,0 +1,70 @@
+//! Why a site, or a part of it, is not made.
+use std::alloc::{AllocError, AllocFailed};
+use thiserror::Error;
+use txc_db::DbError;
+use txc_shared::NodeError;
+
+/// Why a site, a client or a keeper of it was not made. The passes that were drawn by then stay counted at the
+/// nodes.
+#[derive(Clone, Copy, Debug, PartialEq, Eq, Error)]
+pub enum SiteError {
+    /// A number of the plan is none, or more than there may be.
+    #[error("a number of the plan is out of its limits")]
+    Plan,
+    /// Two functions have this number.
+    #[error("two functions have the number {0}")]
+    Twice(u8),
+    /// The database was not made.
+    #[error("{0}")]
+    Database(DbError),
+    /// A node gave no pass.
+    #[error("{0}")]
+    Node(NodeError),
+    /// A growth was refused.
+    #[error("out of memory")]
+    Memory,
+}
+
+impl From<AllocError> for SiteError {
+    ghost use Rattle.std.specs.Prelude.{◌≡◌};
+    ghost use Rattle.txc_keeper.specs.declared.error.SiteError.TheVariants.{Memory};
+
+    ghost from_gives = { λ _ it. it ≡ Memory };
+
+    fn from(_: AllocError) -> SiteError {
+        SiteError::Memory
+    }
+}
+
+impl<T: Drop> From<AllocFailed<T>> for SiteError {
+    ghost use Rattle.std.specs.Prelude.{◌≡◌};
+    ghost use Rattle.txc_keeper.specs.declared.error.SiteError.TheVariants.{Memory};
+
+    ghost from_gives = { λ _ it. it ≡ Memory };
+
+    fn from(_: AllocFailed<T>) -> SiteError {
+        SiteError::Memory
+    }
+}
+
+impl From<DbError> for SiteError {
+    ghost use Rattle.std.specs.Prelude.{◌≡◌};
+    ghost use Rattle.txc_keeper.specs.declared.error.SiteError.TheVariants.{Database};
+
+    ghost from_gives = { λ cause it. it ≡ Database cause };
+
+    fn from(cause: DbError) -> SiteError {
+        SiteError::Database(cause)
+    }
+}
+
+impl From<NodeError> for SiteError {
+    ghost use Rattle.std.specs.Prelude.{◌≡◌};
+    ghost use Rattle.txc_keeper.specs.declared.error.SiteError.TheVariants.{Node};
+
+    ghost from_gives = { λ cause it. it ≡ Node cause };
+
+    fn from(cause: NodeError) -> SiteError {
+        SiteError::Node(cause)
+    }
+}

@@ -1,0 +1,313 @@
+//! The keeping of a site.
+ghost use Rattle.std.specs.Prelude.{◌≡◌, ◌≤◌, ◌⊎◌, [], All, IfErr, IfOk, Some, map, vec_capacity, vec_len};
+ghost use Rattle.txc_cushion.specs.Cushion.{retired};
+ghost use Rattle.txc_cushion.specs.Shared.{CushionMayAnswer};
+ghost use Rattle.txc_db.specs.Calls.{IsHoldRefused, IsPinRefused};
+ghost use Rattle.txc_db.specs.History.{event_at, pin_event};
+ghost use Rattle.txc_db.specs.Shared.{MayRefuse};
+ghost use Rattle.txc_keeper.specs.Keeping.{HasKeptNode, HasSwept, HasTakenEvents, HaveKept, ok_of};
+ghost use Rattle.txc_keeper.specs.Keeps.{keep_told, IsKeep, IsNoKeep};
+ghost use Rattle.txc_keeper.specs.Refusals.{IsKeeperRefused};
+ghost use Rattle.txc_keeper.specs.Stations.{IsSamePass};
+
+use crate::error::SiteError;
+use crate::room::{events_left, records_left};
+use crate::station::Station;
+use std::alloc::{AllocError, Global};
+use std::marker::Model;
+use std::sync::Wait;
+use txc_app::App;
+use txc_db::{DbError, HistoryFront, Naming, Pinned};
+use txc_ledger::{Horizon, Ledger};
+use txc_shared::{Advanced, NodeError, SharedNode};
+use txc_stamp::Stamp;
+
+/// The most events that a node takes in one call of [`Keeper::keep`].
+pub const MAX_TAKEN: usize = 4096;
+
+/// How the taking of events by a node ended.
+#[derive(Clone, Copy, Debug, PartialEq, Eq)]
+pub enum Ended {
+    /// It has taken all events that it has seen.
+    Idle,
+    /// It has taken [`MAX_TAKEN`] events.
+    Paused,
+    /// It refused the next one.
+    Refused(NodeError),
+}
+
+/// What was done with a node.
+#[derive(Drop)]
+pub struct KeptNode {
+    /// How many events it took.
+    pub taken: usize,
+    /// How the taking ended.
+    pub ended: Ended,
+    /// How many entries were swept. None where there was no horizon.
+    pub swept: Option<Result<usize, NodeError>>,
+    /// How many records there is room for after those that the keeper has seen, where they are stored.
+    pub records_left: Option<usize>,
+}
+
+/// What a keeper did, and what room is left.
+#[derive(Drop)]
+pub struct Kept<J: Naming> {
+    /// The history, as it was seen once the present was pinned.
+    pub seen: HistoryFront,
+    /// How many events there is room for after those.
+    pub events_left: usize,
+    /// The stamp of the pin of the present.
+    pub pinned: Result<Stamp, DbError>,
+    /// The stamps of the pins that were retired, and whose holds were taken away.
+    pub retired: Result<Vec<Stamp>, AllocError>,
+    /// The horizon that the vacuum left.
+    pub horizon: Result<Horizon<J>, DbError>,
+    /// What was done with each node, in order.
+    pub nodes: Vec<KeptNode>,
+}
+
+/// Who pins the present, lets the nodes take events, and tidies. One of a site is enough.
+#[derive(Drop)]
+pub struct Keeper<'a, A: App, J: Naming> {
+    ledger: &'a Ledger<J>,
+    stations: Vec<Station<'a, A, J>>,
+}
+
+/// Lets the node take events, [`MAX_TAKEN`] at most.
+#[tactic(auto, using(crate::proofs::NodesKept::same_then))]
+fn advance<A: App, J: Naming>(
+    rt: &impl Wait,
+    alloc: Global,
+    station: &mut Station<'_, A, J>,
+) -> (usize, Ended)
+    ensures did { HasTakenEvents J.database_history J.node_histories station.old result.0 result.1 station.new }
+    ensures same { IsSamePass station.old station.new }
+{
+    let mut taken = 0;
+    for _ in 0..MAX_TAKEN {
+        match station.advance(rt, alloc) {
+            Ok(Advanced::Taken { .. }) => taken += 1,
+            Ok(Advanced::Idle) => return (taken, Ended::Idle),
+            Err(error) => return (taken, Ended::Refused(error)),
+        }
+    }
+    (taken, Ended::Paused)
+}
+
+/// Sweeps the node, where there is a horizon.
+fn sweep<A: App, J: Naming>(
+    rt: &impl Wait,
+    alloc: Global,
+    station: &mut Station<'_, A, J>,
+    horizon: &Result<Horizon<J>, DbError>,
+) -> Option<Result<usize, NodeError>>
+    ensures did { HasSwept J.node_histories station.old (ok_of horizon.now) result station.new }
+    ensures same { IsSamePass station.old station.new }
+{
+    match horizon {
+        Ok(horizon) => Some(station.sweep(rt, alloc, horizon)),
+        Err(_) => None,
+    }
+}
+
+/// Each node with a new pass through it.
+#[tactic(auto, using(crate::proofs::NoPass::no_new_pass))]
+fn stations<'a, A: App, J: Naming>(
+    rt: &impl Wait,
+    alloc: Global,
+    nodes: &'a [SharedNode<A, J>],
+) -> Result<Vec<Station<'a, A, J>>, SiteError>
+    ensures nodes { IfOk result (λ stations. map (λ s. s.pass.settings) stations.items ≡ nodes.now) }
+    ensures records { IfOk result (λ stations. All (λ s. s.pass.records ≡ []) stations.items) }
+    ensures refused { IfErr result IsKeeperRefused }
+{
+    let mut stations = Vec::with_capacity(alloc, nodes.len())?;
+    for node in nodes {
+        stations.push(Station::new(rt, node)?)?;
+    }
+    Ok(stations)
+}
+
+/// Keeps the node of a station.
+#[tactic(auto, using(crate::proofs::NodesKept::same_then))]
+fn keep_node<'a, A: App, J: Naming>(
+    rt: &impl Wait,
+    alloc: Global,
+    station: Station<'a, A, J>,
+    horizon: &Result<Horizon<J>, DbError>,
+) -> (KeptNode, Station<'a, A, J>)
+    ensures { HasKeptNode J.database_history J.node_histories (ok_of horizon.now) station.entry result.0 result.1 }
+{
+    let mut station = station;
+    let (taken, ended) = advance(rt, alloc, &mut station);
+    let swept = sweep(rt, alloc, &mut station, horizon);
+    let kept = KeptNode {
+        taken,
+        ended,
+        swept,
+        records_left: records_left(station.pass()),
+    };
+    (kept, station)
+}
+
+/// Pins the present, and gives the pin to the pincushion, with no user. Where that does not take it, its hold
+/// is taken away. Where there is no pin, a hold shows the history.
+fn pin<J: Naming>(
+    rt: &impl Wait,
+    alloc: Global,
+    ledger: &Ledger<J>,
+    now: u64,
+) -> Result<(HistoryFront, Result<Stamp, DbError>), DbError>
+    ensures row { IfOk result (λ seen. seen.0.events ≡ J.database_history) }
+    ensures pinned { IfOk result (λ seen. IfOk seen.1 (λ stamp.
+        event_at seen.0.history stamp ≡ Some (pin_event now))) }
+    ensures refused { IfOk result (λ seen. IfErr seen.1
+        (MayRefuse J.database_history (λ d. IsPinRefused d 0))) }
+    ensures unseen { IfErr result (λ error. (error ≡ DbError.Memory)
+        ⊎ MayRefuse J.database_history IsHoldRefused error) }
+{
+    let pin = match ledger.pin(rt, alloc, now) {
+        Ok(pin) => pin,
+        Err(cause) => {
+            let front = ledger.seen(rt, alloc)?;
+            return Ok((front, Err(cause)));
+        }
+    };
+    let Pinned {
+        stamp,
+        moment: _,
+        front,
+    } = match ledger.add(rt, pin) {
+        Ok(used) => ledger.give_back(rt, used),
+        Err(pin) => ledger.unpin(rt, pin),
+    };
+    Ok((front, Ok(stamp)))
+}
+
+/// Retires the pins that no transaction may use and that are too old, and takes their holds away.
+pub fn retire<J: Naming>(
+    rt: &impl Wait,
+    alloc: Global,
+    ledger: &Ledger<J>,
+    now: u64,
+    age: u64,
+) -> Result<Vec<Stamp>, AllocError>
+    ensures { IfOk result (CushionMayAnswer J.database_history (λ c stamps. stamps.items ≡ retired c now age)) }
+{
+    let mut pins = ledger.retire(rt, alloc, now, age)?;
+    let count = pins.len();
+    for _ in 0..count {
+        ledger.unpin_retired(rt, pins.take());
+    }
+    Ok(pins.stamps())
+}
+
+/// Keeps each node. There is room for what is done with them.
+fn keep_all<'a, A: App, J: Naming>(
+    rt: &impl Wait,
+    alloc: Global,
+    horizon: &Result<Horizon<J>, DbError>,
+    stations: Vec<Station<'a, A, J>>,
+    mut nodes: Vec<KeptNode>,
+    mut left: Vec<Station<'a, A, J>>,
+) -> (Vec<KeptNode>, Vec<Station<'a, A, J>>)
+    requires none { nodes.items ≡ [] }
+    requires none_left { left.items ≡ [] }
+    requires room { vec_len stations ≤ vec_capacity nodes }
+    requires room_left { vec_len stations ≤ vec_capacity left }
+    ensures { HaveKept J.database_history J.node_histories (ok_of horizon.now) stations.entry.items result.0.items result.1.items }
+{
+    for station in stations {
+        let (kept, station) = keep_node(rt, alloc, station, horizon);
+        nodes.push_reserved(kept);
+        left.push_reserved(station);
+    }
+    (nodes, left)
+}
+
+/// Keeps the nodes of these stations, and their database.
+fn keep_stations<'a, A: App, J: Naming>(
+    rt: &impl Wait,
+    alloc: Global,
+    ledger: &Ledger<J>,
+    stations: Vec<Station<'a, A, J>>,
+    now: u64,
+    age: u64,
+) -> (Result<Kept<J>, DbError>, Vec<Station<'a, A, J>>)
+    ensures kept { IfOk result.0 (λ kept. IsKeep J.database_history J.node_histories now age
+        stations.entry.items (keep_told kept) result.1.items) }
+    ensures refused { IfErr result.0 (λ error.
+        IsNoKeep J.database_history stations.entry.items error result.1.items) }
+{
+    let Ok(nodes) = Vec::with_capacity(alloc, stations.len()) else {
+        return (Err(DbError::Memory), stations);
+    };
+    let Ok(left) = Vec::with_capacity(alloc, stations.len()) else {
+        return (Err(DbError::Memory), stations);
+    };
+    let (seen, pinned) = match pin(rt, alloc, ledger, now) {
+        Ok(seen) => seen,
+        Err(error) => return (Err(error), stations),
+    };
+    let retired = retire(rt, alloc, ledger, now, age);
+    let horizon = ledger.vacuum(rt);
+    let (nodes, stations) = keep_all(rt, alloc, &horizon, stations, nodes, left);
+    let kept = Kept {
+        events_left: events_left(&seen),
+        seen,
+        pinned,
+        retired,
+        horizon,
+        nodes,
+    };
+    (Ok(kept), stations)
+}
+
+impl<'a, A: App, J: Naming> Model for Keeper<'a, A, J> {
+    ghost use Rattle.std.specs.Prelude.{List};
+    ghost use Rattle.txc_keeper.specs.Stations.{StationValue};
+
+    ghost Value = { List StationValue };
+
+    ghost view = { λ k. k.stations.items };
+}
+
+impl<'a, A: App, J: Naming> Keeper<'a, A, J> {
+    /// A keeper of the ledger and of these nodes, with a pass of its own through each.
+    pub fn new(
+        rt: &impl Wait,
+        alloc: Global,
+        ledger: &'a Ledger<J>,
+        nodes: &'a [SharedNode<A, J>],
+    ) -> Result<Keeper<'a, A, J>, SiteError>
+        ensures nodes { IfOk result (λ keeper. map (λ s. s.pass.settings) keeper ≡ nodes.now) }
+        ensures records { IfOk result (λ keeper. All (λ s. s.pass.records ≡ []) keeper) }
+        ensures refused { IfErr result IsKeeperRefused }
+    {
+        let stations = stations(rt, alloc, nodes)?;
+        Ok(Keeper { ledger, stations })
+    }
+
+    /// Pins the present of the moment `now`, so that transactions find a fresh pin. Takes away the pins that
+    /// none may use and whose moment is more than `age` before, and the states below the least that is held.
+    /// Lets each node take the events and drop what it can't show any more. All in milliseconds.
+    ///
+    /// What a part of it refuses stands in the result, and the others are done. An error comes before
+    /// anything was done but that a pin was refused.
+    pub fn keep(
+        self,
+        rt: &impl Wait,
+        alloc: Global,
+        now: u64,
+        age: u64,
+    ) -> (Result<Kept<J>, DbError>, Self)
+        ensures kept { IfOk result.0 (λ kept.
+            IsKeep J.database_history J.node_histories now age self.entry (keep_told kept) result.1) }
+        ensures refused { IfErr result.0 (λ error.
+            IsNoKeep J.database_history self.entry error result.1) }
+    {
+        let Keeper { ledger, stations } = self;
+        let (kept, stations) = keep_stations(rt, alloc, ledger, stations, now, age);
+        (kept, Keeper { ledger, stations })
+    }
+}

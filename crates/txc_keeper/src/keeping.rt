@@ -1,0 +1,125 @@
+//! A site that keeps itself.
+ghost use Rattle.std.specs.Prelude.{IfErr, IfOk};
+ghost use Rattle.txc_keeper.specs.Refusals.{IsKeeperRefused};
+ghost use Rattle.txc_keeper.specs.Tending.{HasTended, IsNewOwnKeeper, IsTendedBy};
+
+use crate::clock::{Clock, Moment, Signal};
+use crate::error::SiteError;
+use crate::keeper::Keeper;
+use std::alloc::Global;
+use std::marker::Model;
+use std::sync::Wait;
+use std::thread;
+use txc_app::App;
+use txc_db::{DbError, Naming};
+use txc_ledger::Ledger;
+use txc_shared::SharedNode;
+
+/// How a site keeps itself: each time `every` milliseconds have gone by, it does what
+/// [`Keeper::keep`](crate::Keeper::keep) does, where pins stay for `age`.
+#[derive(Clone, Copy, Debug, PartialEq, Eq)]
+pub struct Keeping {
+    pub every: u64,
+    pub age: u64,
+}
+
+/// What the keeper of a site that keeps itself came to.
+#[derive(Clone, Copy, Debug, PartialEq, Eq)]
+pub struct Tended {
+    /// How often it kept. The number begins anew after 2^64.
+    pub keeps: u64,
+    /// Why the last keep that did nothing was refused; none where each did something.
+    pub refused: Option<DbError>,
+}
+
+/// A keeper with what it came to, which only [`OwnKeeper::keep`] changes.
+#[derive(Drop)]
+struct OwnKeeper<'a, A: App, J: Naming> {
+    keeper: Keeper<'a, A, J>,
+    tended: Tended,
+}
+
+impl<'a, A: App, J: Naming> Model for OwnKeeper<'a, A, J> {
+    ghost use Rattle.txc_keeper.specs.Tending.{OwnKeeperValue};
+
+    ghost Value = { OwnKeeperValue };
+
+    ghost view = { λ own. record { stations = own.keeper; tended = own.tended } };
+}
+
+impl<'a, A: App, J: Naming> OwnKeeper<'a, A, J> {
+    fn new(
+        rt: &impl Wait,
+        alloc: Global,
+        ledger: &'a Ledger<J>,
+        nodes: &'a [SharedNode<A, J>],
+    ) -> Result<Self, SiteError>
+        ensures new { IfOk result (IsNewOwnKeeper nodes.now) }
+        ensures refused { IfErr result IsKeeperRefused }
+    {
+        Ok(OwnKeeper {
+            keeper: Keeper::new(rt, alloc, ledger, nodes)?,
+            tended: Tended {
+                keeps: 0,
+                refused: None,
+            },
+        })
+    }
+
+    /// Keeps the site, and counts that.
+    fn keep(self, rt: &impl Wait, alloc: Global, now: u64, age: u64) -> Self
+        ensures { HasTended J.database_history J.node_histories now age self.entry result }
+    {
+        let OwnKeeper { keeper, tended } = self;
+        let keeps = tended.keeps.wrapping_add(1);
+        let (kept, keeper) = keeper.keep(rt, alloc, now, age);
+        match kept {
+            Ok(_kept) => OwnKeeper {
+                keeper,
+                tended: Tended { keeps, ..tended },
+            },
+            Err(cause) => OwnKeeper {
+                keeper,
+                tended: Tended {
+                    keeps,
+                    refused: Some(cause),
+                },
+            },
+        }
+    }
+}
+
+/// Keeps the ledger and these nodes at this clock until the visitors have ended. The moment is what the clock told
+/// last.
+#[tactic(auto, using(crate::proofs::Tending::since_begun, crate::proofs::Tending::once_more, crate::proofs::Tending::told_so))]
+pub fn keep_until_ended<A: App, J: Naming, C: Clock, R: Wait>(
+    rt: &R,
+    alloc: Global,
+    ledger: &Ledger<J>,
+    nodes: &[SharedNode<A, J>],
+    moment: &Moment,
+    keeping: Keeping,
+    clock: &C,
+    ended: &Signal,
+) -> Result<Tended, SiteError>
+    ensures tended { IfOk result
+        (IsTendedBy J.database_history nodes.now (C.tells clock.now) keeping.age) }
+    ensures refused { IfErr result IsKeeperRefused }
+{
+    let mut own = OwnKeeper::new(rt, alloc, ledger, nodes)?;
+    let mut next = 0;
+    for _ in rt.forever() {
+        let now = clock.now();
+        moment.set(now);
+        if ended.is_given() {
+            return Ok(own.tended);
+        }
+        if now < next {
+            thread::yield_now();
+        } else {
+            next = now.saturating_add(keeping.every);
+            own = own.keep(rt, alloc, now, keeping.age);
+        }
+    }
+    unreachable!()
+}

@@ -1,0 +1,19 @@
+//! Who keeps a site.
+//!
+//! A [`Keeper`] pins the present, lets the nodes take events and tidies, and tells how much room is left. A site that
+//! keeps itself does so at a [`Clock`], as its [`Keeping`] says, until its visitors have ended
+//! ([`keep_until_ended`]).
+#![tactic(auto)]
+
+mod clock;
+mod error;
+mod keeper;
+mod keeping;
+mod room;
+mod station;
+
+pub use clock::{Clock, CountedClock, Moment, Signal, SystemClock};
+pub use error::SiteError;
+pub use keeper::{Ended, Keeper, Kept, KeptNode, MAX_TAKEN, retire};
+pub use keeping::{Keeping, Tended, keep_until_ended};
+pub use room::{events_left, records_left};

@@ -1,0 +1,97 @@
+//! The nodes of a site, as a keeper reaches them.
+ghost use Rattle.std.specs.Prelude.{◌≡◌, [], IfErr, IfOk};
+ghost use Rattle.txc_node.specs.declared.op.Op.TheVariants.{Sweep};
+ghost use Rattle.txc_node.specs.declared.reply.Reply.TheVariants.{Swept};
+ghost use Rattle.txc_shared.specs.Passes.{HasMade, HasTaken};
+ghost use Rattle.txc_shared.specs.Refusals.{IsNewPassRefused, IsStepRefused, IsTakingRefused, NodeMayRefuse};
+ghost use Rattle.txc_keeper.specs.Stations.{HasNotRefused, HasBeenRefused, IsSamePass};
+
+use std::alloc::Global;
+use std::marker::Model;
+use std::sync::Wait;
+use txc_app::App;
+use txc_db::Naming;
+use txc_ledger::Horizon;
+use txc_shared::{Advanced, NodeError, NodePass, SharedNode};
+
+/// A node, and a pass through it. It counts how often the node refused.
+#[derive(Drop)]
+pub(crate) struct Station<'a, A: App, J: Naming> {
+    node: &'a SharedNode<A, J>,
+    pass: NodePass<J>,
+    refusals: u64,
+}
+
+impl<'a, A: App, J: Naming> Model for Station<'a, A, J> {
+    ghost use Rattle.txc_keeper.specs.Stations.{StationValue};
+
+    ghost Value = { StationValue };
+
+    ghost view = { λ s. record { pass = s.pass; refusals = s.refusals } };
+}
+
+impl<'a, A: App, J: Naming> Station<'a, A, J> {
+    /// A new pass through the node.
+    pub(crate) fn new(
+        rt: &impl Wait,
+        node: &'a SharedNode<A, J>,
+    ) -> Result<Station<'a, A, J>, NodeError>
+        ensures settings { IfOk result (λ station. station.pass.settings ≡ node.now) }
+        ensures records { IfOk result (λ station. station.pass.records ≡ []) }
+        ensures refused { IfErr result (NodeMayRefuse J.node_histories (IsNewPassRefused node.now)) }
+    {
+        let pass = node.pass(rt)?;
+        Ok(Station {
+            node,
+            pass,
+            refusals: 0,
+        })
+    }
+
+    /// The pass.
+    pub(crate) fn pass(&self) -> &NodePass<J>
+        ensures { result.now ≡ self.now.pass }
+    {
+        &self.pass
+    }
+
+    /// Lets the node take the next event.
+    #[tactic(auto, using(crate::proofs::NodesKept::same_settings, crate::proofs::NodesKept::same_pass))]
+    pub(crate) fn advance(&mut self, rt: &impl Wait, alloc: Global) -> Result<Advanced, NodeError>
+        ensures same { IsSamePass self.old self.new }
+        ensures taken { IfOk result (λ advanced. HasTaken J.database_history self.old.pass self.new.pass advanced) }
+        ensures answered { IfOk result (λ advanced. HasNotRefused self.old self.new) }
+        ensures refused { IfErr result (λ error. HasBeenRefused J.node_histories IsTakingRefused self.old error self.new) }
+    {
+        match self.pass.advance(rt, alloc, self.node) {
+            Ok(advanced) => Ok(advanced),
+            Err(error) => {
+                self.refusals = self.refusals.wrapping_add(1);
+                Err(error)
+            }
+        }
+    }
+
+    /// Drops what the node can't show any more from the horizon on.
+    #[tactic(auto, using(crate::proofs::NodesKept::same_settings, crate::proofs::NodesKept::same_pass))]
+    pub(crate) fn sweep(
+        &mut self,
+        rt: &impl Wait,
+        alloc: Global,
+        horizon: &Horizon<J>,
+    ) -> Result<usize, NodeError>
+        ensures same { IsSamePass self.old self.new }
+        ensures made { IfOk result (λ count.
+            HasMade self.old.pass self.new.pass (Sweep horizon.now) (Swept count)) }
+        ensures answered { IfOk result (λ count. HasNotRefused self.old self.new) }
+        ensures refused { IfErr result (λ error. HasBeenRefused J.node_histories IsStepRefused self.old error self.new) }
+    {
+        match self.pass.sweep(rt, alloc, self.node, horizon.stamp()) {
+            Ok(count) => Ok(count),
+            Err(error) => {
+                self.refusals = self.refusals.wrapping_add(1);
+                Err(error)
+            }
+        }
+    }
+}

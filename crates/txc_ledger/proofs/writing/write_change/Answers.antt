@@ -1,0 +1,30 @@
+use Rattle.std.proofs.Common.{sym, subst, ◌∙◌, arith}
+use Rattle.std.proofs.lemmas.List.Elements.{All-push, All-same}
+use Rattle.txc_db.specs.declared.answered.CommitError.TheVariants as commits
+use Rattle.txc_registry.specs.Objects.{AllIdle}
+use Rattle.txc_ledger.specs.Writes.{IsRefusedCommit}
+use Rattle.txc_ledger.proofs.Tried.{conflict_so, refused_so, uncounted_so}
+use Rattle.txc_ledger.proofs.writing.write_change.Goals as goal
+
+pub returns-in-Refused-clause-refused : goal.returns-in-Refused-clause-refused
+returns-in-Refused-clause-refused g c =
+    refused_so g.A.App.next g.J.Naming.database_history (g.C.Change.makes c.args.change.now) (g.C.Change.refuses c.args.change.now) c.run_once-outcome.result.0 c.in-Refused.error
+    c.run_once-outcome.ensures.attempted c.in-Refused.is c.args.tries
+
+pub loop-preserved : goal.loop-preserved
+loop-preserved g c =
+    let before = c.loop.invariant in
+    let makes = g.C.Change.makes c.args.change.now in
+    let row = g.J.Naming.database_history in
+    let conflict = conflict_so g.A.App.next row makes (g.C.Change.refuses c.args.change.now) c.run_once-outcome.result.0 c.in-Conflict.conflict c.run_once-outcome.ensures.attempted c.in-Conflict.is in
+    let pushed = c.push_reserved.ensures in
+    record {
+      registry = c.run_once-outcome.ensures.registry ∙ before.registry;
+      idle = subst AllIdle (sym c.run_once-outcome.ensures.registry) before.idle;
+      uncounted = uncounted_so c.run_once-outcome.result.0 c.in-Conflict.conflict _ _ c.run_once-outcome.ensures.counted c.in-Conflict.is ∙ before.uncounted;
+      conflicts =
+          All-same (λ x. IsRefusedCommit row makes (commits.Conflict x)) _ _ pushed.items
+          (All-push (λ x. IsRefusedCommit row makes (commits.Conflict x)) _ _ before.conflicts conflict);
+      each = omega (arith, pushed.len, before.each);
+      room = omega (arith, pushed.capacity, before.room);
+    }

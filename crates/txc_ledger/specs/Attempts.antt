@@ -1,0 +1,31 @@
+-- Only private functions need this file: what one run of a change came to.
+use Rattle.std.specs.Prelude.{◌≡◌, ℕ}
+use Rattle.txc_stream.specs.Names.{Name}
+use Rattle.txc_app.specs.Eval.{Next}
+use Rattle.txc_db.specs.declared.answered.CommitError.TheVariants as commits
+use Rattle.txc_ledger.specs.declared.run_error.RunError.{RunError}
+use Rattle.txc_rw.specs.Core.{RwValue}
+use Rattle.txc_ledger.specs.declared.error.WriteError.{WriteError}
+use Rattle.txc_ledger.specs.declared.error.WriteError.TheVariants as writes
+use Rattle.txc_ledger.specs.declared.writing.Attempt.{Attempt}
+use Rattle.txc_ledger.specs.declared.writing.Attempt.TheVariants as attempts
+use Rattle.txc_ledger.specs.Counted.{counted_again}
+use Rattle.txc_ledger.specs.Writes.{IsRefusedCommit, IsSiteWriteRefused, IsWritten}
+
+-- it is no list of conflicts, and no lack of memory for one
+abbrev pub IsOfRun : WriteError → Type 0
+IsOfRun (writes.Conflicts conflicts) = ⊥
+IsOfRun writes.Memory = ⊥
+IsOfRun error = Unit {0}
+
+-- it was committed, or is a conflict, or was refused for another reason
+abbrev pub IsAttempted : {T : Type 0} → Next → Name → (RwValue → T → Type 0) → (RunError → Type 0) → Attempt T → Type 0
+IsAttempted next row makes refuses (attempts.Done output committed) = IsWritten next row makes output committed
+IsAttempted next row makes refuses (attempts.Conflict conflict) = IsRefusedCommit row makes (commits.Conflict conflict)
+IsAttempted next row makes refuses (attempts.Refused error) =
+    IsOfRun error × ((tries : ℕ) → IsSiteWriteRefused row makes refuses tries error)
+
+-- where it was done, the committer committed once more, and else not at all
+abbrev pub CountsAttempt : {T : Type 0} → Attempt T → ℕ → ℕ → Type 0
+CountsAttempt (attempts.Done output committed) old new = new ≡ counted_again old
+CountsAttempt attempt old new = new ≡ old

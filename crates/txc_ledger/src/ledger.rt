@@ -1,0 +1,160 @@
+//! The database of a site and its pincushion, and what is done to them.
+ghost use Rattle.std.specs.Prelude.{◌≡◌, ◌≤◌, ◌⊎◌, All, Any, IfErr, IfOk, length, map, [], ℕ};
+ghost use Rattle.txc_db.specs.Calls.{IsHoldRefused};
+ghost use Rattle.txc_db.specs.Shared.{IsDatabaseOf, MayRefuse};
+ghost use Rattle.txc_node.specs.declared.node.TheConstants.{MAX_CAPACITY, MAX_RECENT};
+ghost use Rattle.txc_registry.specs.Objects.{AllIdle};
+ghost use Rattle.txc_shared.specs.Refusals.{IsNewPassRefused, NodeMayRefuse};
+ghost use Rattle.txc_ledger.specs.Histories.{IsNew, history_name};
+
+mod pins;
+mod update;
+
+use crate::node_history::NodeHistory;
+pub use pins::{Horizon, PresentPin, RetiredPin, RetiredPins, UsedPin};
+use std::alloc::{AllocError, Global};
+use std::marker::{Model, PhantomData};
+use std::sync::Wait;
+use txc_app::App;
+use txc_client::Client;
+use txc_cushion::Pincushion;
+use txc_db::{Database, DbCore, DbError, HistoryFront, Naming};
+use txc_registry::{Cacheable, Registry};
+use txc_shared::{NodeError, NodeSettings, SharedNode};
+
+/// The database and its pincushion. Only this module and those below it reach them: whoever has a ledger
+/// commits by a [`Committer`], who counts it, and pins, retires and vacuums by values that show it.
+#[derive(Drop)]
+pub struct Ledger<J: Naming> {
+    database: Database<J>,
+    cushion: Pincushion<J>,
+}
+
+/// The source of a ledger's committers. Only a new ledger makes one.
+#[derive(Drop)]
+pub struct Committers<J: Naming> {
+    of: PhantomData<J>,
+}
+
+impl<J: Naming> Committers<J> {
+    /// A committer who has not committed yet.
+    pub fn committer(&self) -> Committer<J>
+        ensures { result ≡ 0 }
+    {
+        Committer {
+            commits: 0,
+            of: PhantomData,
+        }
+    }
+}
+
+/// Who commits to a ledger. Contracts see how often that was done.
+#[derive(Drop)]
+pub struct Committer<J: Naming> {
+    commits: u64,
+    of: PhantomData<J>,
+}
+
+impl<J: Naming> Model for Committer<J> {
+    ghost use Rattle.std.specs.Prelude.{ℕ};
+
+    ghost Value = { ℕ };
+
+    ghost view = { λ c. c.commits };
+}
+
+impl<J: Naming> Committer<J> {
+    /// How often it has committed.
+    pub fn commits(&self) -> u64
+        ensures { result ≡ self.now }
+    {
+        self.commits
+    }
+}
+
+impl<J: Naming> Ledger<J> {
+    /// Puts the database, whose row is the named one, under its lock.
+    pub fn new(alloc: Global, core: DbCore) -> Result<(Ledger<J>, Committers<J>), AllocError>
+        requires { core.events ≡ J.database_history }
+    {
+        let database = Database::<J>::new(alloc, core)?;
+        let cushion = Pincushion::new(alloc, &database)?;
+        Ok((Ledger { database, cushion }, Committers { of: PhantomData }))
+    }
+
+    /// The database without its lock, once no thread has it any more.
+    pub fn into_core(self) -> DbCore
+        ensures { IsDatabaseOf J.database_history result }
+    {
+        let Ledger {
+            database,
+            cushion: _,
+        } = self;
+        database.into_core()
+    }
+
+    /// The history, as a hold shows it that is given up at once.
+    pub fn seen(&self, rt: &impl Wait, alloc: Global) -> Result<HistoryFront, DbError>
+        ensures row { IfOk result (λ front. front.events ≡ J.database_history) }
+        ensures refused { IfErr result (λ error. (error ≡ DbError.Memory)
+            ⊎ MayRefuse J.database_history IsHoldRefused error) }
+    {
+        let held = self.database.hold(rt, alloc)?;
+        let front = held.front().again();
+        let _ = self.database.release(rt, held);
+        Ok(front?)
+    }
+
+    /// A node of the history, which will take the database's events.
+    pub fn node<A: App>(
+        &self,
+        rt: &impl Wait,
+        alloc: Global,
+        settings: NodeSettings,
+        history: NodeHistory,
+    ) -> Result<SharedNode<A, J>, AllocError>
+        requires capacity { (1 ≤ settings.capacity) × (settings.capacity ≤ MAX_CAPACITY) }
+        requires recent { (1 ≤ settings.recent) × (settings.recent ≤ MAX_RECENT) }
+        requires new { IsNew history }
+        requires named { history_name history ≡ J.node_histories settings.number }
+        ensures { IfOk result (λ node. node ≡ settings) }
+    {
+        match history {
+            NodeHistory::Stored(row) => {
+                SharedNode::new(rt, alloc, settings, row, &self.database)
+            }
+            NodeHistory::Unstored(pen) => {
+                SharedNode::unstored(rt, alloc, settings, pen, &self.database)
+            }
+        }
+    }
+
+    /// A client that reads, with a pass of its own through each node.
+    pub fn reader<'a, A: App, C: Cacheable>(
+        &'a self,
+        rt: &impl Wait,
+        alloc: Global,
+        nodes: &'a [SharedNode<A, J>],
+        registry: Registry<A, C>,
+        renew_after: u64,
+    ) -> Result<Client<'a, A, C, J>, NodeError>
+        requires some { 1 ≤ length nodes.now }
+        requires idle { AllIdle registry }
+        ensures nodes { IfOk result (λ client. map (λ pass. pass.settings) client.passes ≡ nodes.now) }
+        ensures records { IfOk result (λ client. All (λ pass. pass.records ≡ []) client.passes) }
+        ensures renew_after { IfOk result (λ client. client.renew_after ≡ renew_after) }
+        ensures functions { IfOk result (λ client. client.objects ≡ registry) }
+        ensures refused { IfErr result (λ e. (e ≡ NodeError.Memory)
+            ⊎ Any (λ node. NodeMayRefuse J.node_histories (IsNewPassRefused node) e) nodes.now) }
+    {
+        Client::new(
+            rt,
+            alloc,
+            &self.database,
+            &self.cushion,
+            nodes,
+            registry,
+            renew_after,
+        )
+    }
+}

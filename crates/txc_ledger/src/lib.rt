@@ -1,0 +1,22 @@
+//! The ledger of a site, and the changes that are written to it.
+//!
+//! A [`Ledger`] has a database and its pincushion, which nothing outside it reaches. A [`Change`] is written in one
+//! read-write transaction, and a [`Committer`] counts the commits. Who keeps pins, retires and vacuums by values
+//! that only the ledger makes and takes.
+#![tactic(auto)]
+
+mod change;
+mod error;
+mod ledger;
+mod node_history;
+mod run_error;
+mod writing;
+
+pub use change::{Change, ChangeTxn};
+pub use error::WriteError;
+pub use ledger::{
+    Committer, Committers, Horizon, Ledger, PresentPin, RetiredPin, RetiredPins, UsedPin,
+};
+pub use node_history::NodeHistory;
+pub use run_error::RunError;
+pub use writing::{Written, write_change};

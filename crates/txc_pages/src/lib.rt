@@ -1,0 +1,16 @@
+//! Pages: what is read in one read-only transaction.
+//!
+//! A [`Page`] makes calls in its [`PageTxn`], of which it is known what it began with. [`read_page`] runs it by a
+//! client, and returns a receipt of the calls that it made.
+#![tactic(auto)]
+
+mod error;
+pub mod laws;
+mod page;
+mod page_txn;
+mod reading;
+
+pub use error::ReadError;
+pub use page::{OneCall, Page};
+pub use page_txn::{Begun, PageTxn};
+pub use reading::{Shown, read_page};

@@ -1,0 +1,97 @@
+//! The reading of pages.
+ghost use Rattle.std.specs.Prelude.{◌≡◌, IfErr, IfOk};
+ghost use Rattle.txc_client.specs.Ports.{HaveGrown};
+ghost use Rattle.txc_pages.specs.Pages.{IsLeftByRefused, IsPageRun, IsPageRefused};
+ghost use Rattle.txc_txn.specs.Core.{Explains};
+ghost use Rattle.txc_txn.specs.Sessions.{IsAtLeast};
+
+use crate::error::ReadError;
+use crate::page::Page;
+use crate::page_txn::{Begun, PageTxn};
+use std::alloc::Global;
+use std::marker::Brand;
+use std::sync::Wait;
+use txc_app::App;
+use txc_client::Client;
+use txc_db::Naming;
+use txc_definition::{Definition, Function};
+use txc_ports::Bounds;
+use txc_txn::Receipt;
+
+/// What a page came to, with the receipt of its transaction.
+#[derive(Drop)]
+pub struct Shown<T> {
+    pub output: T,
+    pub receipt: Receipt,
+}
+
+/// Runs the page in a transaction of its own.
+pub fn read_page<'a, A: App, D: Definition, J: Naming, P: Page<A, D>, R: Wait>(
+    rt: &R,
+    alloc: Global,
+    client: Client<'a, A, Function<D>, J>,
+    bounds: Bounds,
+    page: &P,
+) -> (
+    Result<Shown<P::Output>, ReadError>,
+    Client<'a, A, Function<D>, J>,
+)
+    ensures shows { IfOk result.0 (λ shown.
+        P.shows page.now shown.receipt.answers.items shown.output) }
+    ensures explained { IfOk result.0 (λ shown. Explains A.next shown.receipt.seen.history bounds
+        shown.receipt.pin shown.receipt.answers.items) }
+    ensures not_before { IfOk result.0 (λ shown. IsAtLeast bounds.at_least shown.receipt.pin) }
+    ensures row { IfOk result.0 (λ shown. shown.receipt.seen.events ≡ J.database_history) }
+    ensures ran { IfOk result.0 (λ shown. IsPageRun A.next J.database_history J.node_histories client.entry bounds
+        shown.receipt.answers.items result.1) }
+    ensures refused { IfErr result.0 (IsPageRefused (P.refuses page.now)) }
+    ensures left { IfErr result.0 (λ error.
+        IsLeftByRefused A.next J.database_history J.node_histories client.entry bounds error result.1) }
+    ensures passes { HaveGrown client.entry.passes result.1.passes }
+    ensures functions { result.1.objects ≡ client.entry.objects }
+    ensures renew_after { result.1.renew_after ≡ client.entry.renew_after }
+{
+    read_begun::<A, D, J, P, Brand, R>(rt, alloc, client, bounds, page)
+}
+
+/// The same of a client and bounds that are the named ones.
+#[tactic(auto, using(crate::proofs::Pages::none_have_grown, crate::proofs::Pages::page_refused))]
+fn read_begun<'a, A: App, D: Definition, J: Naming, P: Page<A, D>, B: Begun, R: Wait>(
+    rt: &R,
+    alloc: Global,
+    client: Client<'a, A, Function<D>, J>,
+    bounds: Bounds,
+    page: &P,
+) -> (
+    Result<Shown<P::Output>, ReadError>,
+    Client<'a, A, Function<D>, J>,
+)
+    requires client { client ≡ B.client }
+    requires bounds { bounds ≡ B.bounds }
+    ensures shows { IfOk result.0 (λ shown.
+        P.shows page.now shown.receipt.answers.items shown.output) }
+    ensures explained { IfOk result.0 (λ shown. Explains A.next shown.receipt.seen.history B.bounds
+        shown.receipt.pin shown.receipt.answers.items) }
+    ensures not_before { IfOk result.0 (λ shown. IsAtLeast B.bounds.at_least shown.receipt.pin) }
+    ensures row { IfOk result.0 (λ shown. shown.receipt.seen.events ≡ J.database_history) }
+    ensures ran { IfOk result.0 (λ shown. IsPageRun A.next J.database_history J.node_histories B.client B.bounds
+        shown.receipt.answers.items result.1) }
+    ensures refused { IfErr result.0 (IsPageRefused (P.refuses page.now)) }
+    ensures left { IfErr result.0 (λ error.
+        IsLeftByRefused A.next J.database_history J.node_histories B.client B.bounds error result.1) }
+    ensures passes { HaveGrown B.client.passes result.1.passes }
+    ensures functions { result.1.objects ≡ B.client.objects }
+    ensures renew_after { result.1.renew_after ≡ B.client.renew_after }
+{
+    let mut txn: PageTxn<'_, A, D, J, B> = match PageTxn::begin(rt, alloc, client, bounds) {
+        Ok(txn) => txn,
+        Err((_, client)) => return (Err(ReadError::Memory), client),
+    };
+    match page.show(rt, alloc, &mut txn) {
+        Ok(output) => {
+            let (receipt, client) = txn.commit(rt);
+            (Ok(Shown { output, receipt }), client)
+        }
+        Err(cause) => (Err(ReadError::Page(cause)), txn.abort(rt)),
+    }
+}

@@ -1,0 +1,5 @@
+pub mod Crosses
+mod Guests
+mod Listing
+mod NodeHistories
+pub mod Tended

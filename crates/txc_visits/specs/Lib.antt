@@ -1,0 +1,5 @@
+pub mod Guests
+pub mod Histories
+pub mod Plans
+pub mod Sites
+pub mod Tended

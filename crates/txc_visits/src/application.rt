@@ -1,0 +1,43 @@
+//! The functions of a site.
+ghost use Rattle.std.specs.Prelude.{◌≡◌, All, IfErr, IfOk, List, map, ℕ};
+ghost use Rattle.txc_registry.specs.Objects.{numbers_of, AllIdle};
+ghost use Rattle.txc_visits.specs.Sites.{IsRegistryRefused};
+
+use std::alloc::{AllocError, Global};
+use txc_app::App;
+use txc_definition::{Definition, Function};
+use txc_keeper::SiteError;
+use txc_permits::PermitPool;
+use txc_registry::{Registry, enlist};
+
+/// An application whose functions are definitions of one type.
+pub trait Application<D: Definition>: App {
+    // The numbers of its functions, in order.
+    ghost numbers: { List ℕ };
+
+    /// The functions. Each client asks for them anew.
+    fn definitions(alloc: Global) -> Result<Vec<D>, AllocError>
+        ensures meaning { IfOk result (λ all. All (λ d. D.says d ≡ Self.next (D.number d)) all.items) }
+        ensures numbers { IfOk result (λ all. map D.number all.items ≡ numbers) };
+}
+
+/// A registry of the application's functions, which take their permits of the pool.
+pub fn registry<A: Application<D>, D: Definition>(
+    alloc: Global,
+    pool: &mut PermitPool,
+) -> Result<Registry<A, Function<D>>, SiteError>
+    ensures functions { IfOk result (λ registry. numbers_of registry ≡ A.numbers) }
+    ensures idle { IfOk result AllIdle }
+    ensures refused { IfErr result (IsRegistryRefused A.numbers) }
+{
+    let definitions = <A as Application<D>>::definitions(alloc)?;
+    let mut objects = Vec::with_capacity(alloc, definitions.len())?;
+    for definition in definitions {
+        let object = Function::new(alloc, pool.share()?, definition);
+        enlist::<A, Function<D>>(&mut objects, object)?;
+    }
+    match Registry::<A, Function<D>>::new(objects) {
+        Ok(registry) => Ok(registry),
+        Err(twice) => Err(SiteError::Twice(twice.0)),
+    }
+}

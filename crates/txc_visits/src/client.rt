@@ -1,0 +1,235 @@
+//! Clients of a site.
+ghost use Rattle.std.specs.Prelude.{◌≡◌, ◌+◌, ◌<◌, ◌≤◌, [], All, IfErr, IfOk, MatchOption, None, OnErr, OnOk, length, map, slice_get, vec_len};
+ghost use Rattle.txc_stream.specs.Names.{HasRow};
+ghost use Rattle.txc_node.specs.Counts.{AreCountsOf};
+ghost use Rattle.txc_client.specs.Ports.{CountsLeave, HaveGrown, IsCallAt};
+ghost use Rattle.txc_registry.specs.Objects.{AllIdle};
+ghost use Rattle.txc_pages.specs.Pages.{IsLeftByRefused, IsPageRun, IsPageRefused};
+ghost use Rattle.txc_ledger.specs.Counted.{counted_again};
+ghost use Rattle.txc_visits.specs.Plans.{nodes_of};
+ghost use Rattle.txc_keeper.specs.Refusals.{IsKeeperRefused};
+ghost use Rattle.txc_ledger.specs.Writes.{AreConflicts, IsWritten, IsSiteWriteRefused};
+ghost use Rattle.txc_txn.specs.Core.{Explains};
+ghost use Rattle.txc_txn.specs.Sessions.{IsAtLeast};
+
+use crate::foundation::Foundation;
+use crate::numbers::{Numbers, Tally};
+use std::alloc::Global;
+use std::marker::Model;
+use std::sync::Wait;
+use txc_app::App;
+use txc_client::Client;
+use txc_db::Naming;
+use txc_definition::{Definition, Function};
+use txc_keeper::{Keeper, SiteError};
+use txc_ledger::{Change, Committer, WriteError, Written, write_change};
+use txc_node::Counts;
+use txc_pages::{Page, ReadError, Shown, read_page};
+use txc_ports::Bounds;
+use txc_registry::Registry;
+
+/// A client of a site, for one thread. It reads pages and writes changes, one after the other.
+#[derive(Drop)]
+pub struct SiteClient<'a, A: App, D: Definition, J: Naming> {
+    foundation: &'a Foundation<A, J>,
+    reader: Client<'a, A, Function<D>, J>,
+    writer: Registry<A, Function<D>>,
+    committer: Committer<J>,
+    tally: &'a Tally,
+}
+
+impl<'a, A: App, D: Definition, J: Naming> Model for SiteClient<'a, A, D, J> {
+    ghost use Rattle.txc_registry.specs.Objects.{AllIdle};
+    ghost use Rattle.txc_visits.specs.Sites.{SiteClientValue};
+
+    ghost Value = { SiteClientValue };
+
+    ghost view = { λ c. record {
+      plan = c.foundation.now.plan;
+      reader = c.reader;
+      writer = c.writer;
+      commits = c.committer;
+    } };
+
+    ghost invariant = { λ c. AllIdle c.writer };
+}
+
+impl<'a, A: App, D: Definition, J: Naming> SiteClient<'a, A, D, J> {
+    pub(crate) fn new(
+        foundation: &'a Foundation<A, J>,
+        reader: Client<'a, A, Function<D>, J>,
+        writer: Registry<A, Function<D>>,
+        committer: Committer<J>,
+        tally: &'a Tally,
+    ) -> Self
+        requires { AllIdle writer }
+        ensures { result ≡ record {
+          plan = foundation.now.plan;
+          reader = reader.entry;
+          writer = writer;
+          commits = committer;
+        } }
+    {
+        SiteClient {
+            foundation,
+            reader,
+            writer,
+            committer,
+            tally,
+        }
+    }
+
+    /// Runs the page in one read-only transaction with these bounds, and commits that. The receipt is of the
+    /// calls that this page made: at the receipt's pin each has the value that it comes to without a cache. They
+    /// were made once, from the client as it was. Where the page is refused, its transaction is given up. Either
+    /// way the client is returned.
+    pub fn read<P: Page<A, D>, R: Wait>(
+        self,
+        rt: &R,
+        alloc: Global,
+        bounds: Bounds,
+        page: &P,
+    ) -> (Result<Shown<P::Output>, ReadError>, Self)
+        ensures shows { IfOk result.0 (λ shown.
+            P.shows page.now shown.receipt.answers.items shown.output) }
+        ensures explained { IfOk result.0 (λ shown. Explains A.next shown.receipt.seen.history bounds
+            shown.receipt.pin shown.receipt.answers.items) }
+        ensures not_before { IfOk result.0 (λ shown. IsAtLeast bounds.at_least shown.receipt.pin) }
+        ensures row { IfOk result.0 (λ shown. shown.receipt.seen.events ≡ J.database_history) }
+        ensures ran { IfOk result.0 (λ shown. IsPageRun A.next J.database_history J.node_histories self.entry.reader bounds
+            shown.receipt.answers.items result.1.reader) }
+        ensures refused { IfErr result.0 (IsPageRefused (P.refuses page.now)) }
+        ensures left { IfErr result.0 (λ error. IsLeftByRefused A.next J.database_history J.node_histories
+            self.entry.reader bounds error result.1.reader) }
+        ensures passes { HaveGrown self.entry.reader.passes result.1.reader.passes }
+        ensures functions { result.1.reader.objects ≡ self.entry.reader.objects }
+        ensures renew_after { result.1.reader.renew_after ≡ self.entry.reader.renew_after }
+        ensures plan { result.1.plan ≡ self.entry.plan }
+        ensures writer { result.1.writer ≡ self.entry.writer }
+        ensures commits { result.1.commits ≡ self.entry.commits }
+    {
+        let SiteClient {
+            foundation,
+            reader,
+            writer,
+            committer,
+            tally,
+        } = self;
+        let (shown, reader) = read_page(rt, alloc, reader, bounds, page);
+        tally.count_read(&shown);
+        let client = SiteClient {
+            foundation,
+            reader,
+            writer,
+            committer,
+            tally,
+        };
+        (shown, client)
+    }
+
+    /// Runs the change in a read-write transaction, and commits that. After a conflict it runs the change
+    /// anew, in a new transaction, as often as there are tries. What is returned is of the last run, which was
+    /// committed once. Where it is refused, nothing was. Either way the client is returned.
+    pub fn write<C: Change<A, D>, R: Wait>(
+        self,
+        rt: &R,
+        alloc: Global,
+        tries: u32,
+        change: &C,
+    ) -> (Result<Written<C::Output>, WriteError>, Self)
+        ensures written { IfOk result.0 (λ written.
+            IsWritten A.next J.database_history (C.makes change.now) written.output written.committed) }
+        ensures before { IfOk result.0 (λ written.
+            AreConflicts J.database_history (C.makes change.now) written.conflicts.items) }
+        ensures few { IfOk result.0 (λ written. vec_len written.conflicts + 1 ≤ tries) }
+        ensures refused { IfErr result.0
+            (IsSiteWriteRefused J.database_history (C.makes change.now) (C.refuses change.now) tries) }
+        ensures committed { OnOk result.0
+            (result.1 ≡ record self.entry { commits = counted_again self.entry.commits }) }
+        ensures not_committed { OnErr result.0 (result.1 ≡ self.entry) }
+    {
+        let SiteClient {
+            foundation,
+            reader,
+            writer,
+            mut committer,
+            tally,
+        } = self;
+        let (written, writer) = write_change(
+            rt,
+            alloc,
+            &foundation.ledger,
+            writer,
+            &mut committer,
+            tries,
+            change,
+        );
+        tally.count_write(&written);
+        let client = SiteClient {
+            foundation,
+            reader,
+            writer,
+            committer,
+            tally,
+        };
+        (written, client)
+    }
+
+    /// A keeper of the site, with a pass of its own through each node.
+    pub fn keeper(&self, rt: &impl Wait, alloc: Global) -> Result<Keeper<'a, A, J>, SiteError>
+        ensures nodes { IfOk result (λ keeper.
+            map (λ s. s.pass.settings) keeper ≡ nodes_of self.now.plan) }
+        ensures records { IfOk result (λ keeper. All (λ s. s.pass.records ≡ []) keeper) }
+        ensures refused { IfErr result IsKeeperRefused }
+    {
+        Keeper::new(rt, alloc, &self.foundation.ledger, &self.foundation.nodes)
+    }
+
+    /// How often it has committed a change.
+    pub fn commits(&self) -> u64
+        ensures { result ≡ self.now.commits }
+    {
+        self.committer.commits()
+    }
+
+    /// What the clock of a site that keeps itself told last, in milliseconds. 0 where no clock was looked at.
+    pub fn now(&self) -> u64 {
+        self.foundation.moment.get()
+    }
+
+    /// What all clients of the site have done by then, and what its nodes were asked, of which the client is then
+    /// shown all records. A node that refuses is left out.
+    pub fn numbers(&mut self, rt: &impl Wait) -> Numbers
+        ensures same { self.new ≡ record self.old { reader = self.new.reader } }
+        ensures reader { self.new.reader ≡ record self.old.reader { passes = self.new.reader.passes } }
+        ensures passes { HaveGrown self.old.reader.passes self.new.reader.passes }
+    {
+        let numbers = Numbers::of(&self.foundation.tallies);
+        numbers.with_nodes_of(rt, &mut self.reader)
+    }
+
+    /// The counts of what the client has seen of a node; none where there is no such node, or its records are not
+    /// stored.
+    pub fn counts(&self, node: usize) -> Option<Counts>
+        ensures { MatchOption (slice_get self.now.reader.passes node)
+            (result ≡ None)
+            (λ pass. MatchOption result
+            (¬ (HasRow (J.node_histories pass.settings.number)))
+            (AreCountsOf pass.records)) }
+    {
+        self.reader.counts(node)
+    }
+
+    /// The counts of all records of a node, stored or not, which the client is then shown; none where there is no
+    /// such node, or it refuses. It takes the node's lock, and no memory.
+    pub fn node_counts(&mut self, rt: &impl Wait, node: usize) -> Option<Counts>
+        ensures same { self.new ≡ record self.old { reader = self.new.reader } }
+        ensures reader { self.new.reader ≡ record self.old.reader { passes = self.new.reader.passes } }
+        ensures passes { HaveGrown self.old.reader.passes self.new.reader.passes }
+        ensures none { length self.old.reader.passes ≤ node → (result ≡ None) × (self.new ≡ self.old) }
+        ensures left { node < length self.old.reader.passes
+            → IsCallAt node (CountsLeave J.node_histories result) self.old.reader.passes self.new.reader.passes }
+    {
+        self.reader.node_counts(rt, node)
+    }
+}

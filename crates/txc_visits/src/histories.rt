@@ -1,0 +1,119 @@
+//! A visit of threads over histories that are named for it.
+ghost use Rattle.std.specs.Prelude.{◌≡◌, ◌≤◌, IfErr, IfOk, length, vec_len};
+ghost use Rattle.txc_db.specs.Shared.{IsDatabaseOf};
+ghost use Rattle.txc_visits.specs.Sites.{IsVisitRefused, HaveCome};
+ghost use Rattle.txc_visits.specs.Plans.{IsPlan, HaveHistoriesBy};
+ghost use Rattle.txc_visits.specs.Histories.{AreHistoriesOf};
+ghost use Rattle.txc_visits.specs.Tended.{IsTendedAsPlanned};
+
+use crate::application::Application;
+use crate::error::OpenError;
+use crate::foundation::Foundation;
+use crate::node_histories::new_histories;
+use crate::numbers::Numbers;
+use crate::plan::Plan;
+use crate::visiting::{Came, visit};
+use crate::visitor::Visitor;
+use std::alloc::Global;
+use std::marker::Brand;
+use std::sync::Wait;
+use std::thread::Threads;
+use txc_db::{DbCore, Naming};
+use txc_definition::Definition;
+use txc_keeper::{Clock, SiteError, Tended};
+use txc_ledger::NodeHistory;
+use txc_permits::PermitPool;
+
+/// What threads came to that visited a site, and the site's own keeper; what they did in all, and the database as
+/// they left it.
+#[derive(Drop)]
+pub struct Visits<T> {
+    pub outputs: Vec<T>,
+    pub tended: Option<Result<Tended, SiteError>>,
+    pub numbers: Numbers,
+    pub core: DbCore,
+}
+
+/// Lets the threads visit a site of the database and of new nodes.
+pub fn over_new_histories<A, D, V, C, R>(
+    rt: &R,
+    alloc: Global,
+    plan: Plan,
+    core: DbCore,
+    count: usize,
+    visitors: &V,
+    clock: &C,
+) -> Result<Visits<V::Output>, OpenError>
+where
+    A: Application<D> + Send + Sync,
+    D: Definition + Send,
+    V: Visitor<A, D> + Sync,
+    C: Clock + Sync,
+    R: Threads + Wait + Sync,
+    requires plan { IsPlan plan }
+    ensures each { IfOk result (λ visited. vec_len visited.outputs ≡ count) }
+    ensures gives { IfOk result (λ visited.
+        HaveCome (V.gives visitors.now plan core.events) visited.outputs.items) }
+    ensures tended { IfOk result (λ visited.
+        IsTendedAsPlanned plan (C.tells clock.now) core.events visited.tended) }
+    ensures database { IfOk result (λ visited. IsDatabaseOf core.events visited.core) }
+    ensures refused { IfErr result (IsVisitRefused A.numbers) }
+{
+    let histories = new_histories(alloc, plan.nodes, plan.records)?;
+    over_histories::<A, D, V, Brand, C, R>(rt, alloc, plan, core, histories, count, visitors, clock)
+}
+
+/// The same over histories that are the named ones.
+fn over_histories<A, D, V, J, C, R>(
+    rt: &R,
+    alloc: Global,
+    plan: Plan,
+    core: DbCore,
+    histories: Vec<NodeHistory>,
+    count: usize,
+    visitors: &V,
+    clock: &C,
+) -> Result<Visits<V::Output>, OpenError>
+where
+    A: Application<D> + Send + Sync,
+    D: Definition + Send,
+    V: Visitor<A, D> + Sync,
+    J: Naming + Send + Sync,
+    C: Clock + Sync,
+    R: Threads + Wait + Sync,
+    requires plan { IsPlan plan }
+    requires database { core.events ≡ J.database_history }
+    requires each { vec_len histories ≡ plan.nodes }
+    requires histories { AreHistoriesOf J.node_histories 0 histories.items }
+    requires stored_so { HaveHistoriesBy plan J.node_histories }
+    ensures each { IfOk result (λ visited. vec_len visited.outputs ≡ count) }
+    ensures gives { IfOk result (λ visited.
+        HaveCome (V.gives visitors.now plan J.database_history) visited.outputs.items) }
+    ensures tended { IfOk result (λ visited.
+        IsTendedAsPlanned plan (C.tells clock.now) J.database_history visited.tended) }
+    ensures database { IfOk result (λ visited. IsDatabaseOf J.database_history visited.core) }
+    ensures refused { IfErr result (IsVisitRefused A.numbers) }
+{
+    let (foundation, committers) = Foundation::<A, J>::new(
+        rt, alloc, plan, core, histories, count,
+    )?;
+    let mut pool = PermitPool::new(alloc, plan.permits)?;
+    let came = visit::<A, D, V, J, C, R>(
+        rt,
+        alloc,
+        &foundation,
+        &committers,
+        &mut pool,
+        count,
+        visitors,
+        clock,
+    )?;
+    let Came { outputs, tended } = came;
+    let numbers = Numbers::of(&foundation.tallies).with_nodes(rt, &foundation.nodes);
+    Ok(Visits {
+        outputs,
+        tended,
+        numbers,
+        core: foundation.into_core(rt, alloc),
+    })
+}

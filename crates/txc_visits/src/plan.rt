@@ -1,0 +1,91 @@
+//! How a site is made.
+ghost use Rattle.std.specs.Prelude.{◌≡◌, ◌≤◌, ◌↔◌, IsTrue, IfSome};
+ghost use Rattle.txc_stream.specs.declared.row.TheConstants.{MAX_CAPACITY as MAX_ROOM};
+ghost use Rattle.txc_visits.specs.Plans.{IsPlan};
+
+use txc_keeper::Keeping;
+use txc_node::{MAX_CAPACITY, MAX_RECENT};
+use txc_permits::MAX_PERMITS;
+use txc_stream::MAX_CAPACITY as MAX_ROOM;
+
+/// The most nodes of a site.
+pub const MAX_NODES: usize = 64;
+
+/// How a site is made, and how long it lasts.
+///
+/// Its database's history has room for `events`, which is fixed once it is made. Each commit that changes something is
+/// an event, and so is each pin: one for each [`Keeper::keep`](crate::Keeper::keep), and one for each transaction whose
+/// newest pin is too old. Once there are as many, no commit and no pin is made any more, and a transaction without a pin
+/// that its bounds allow is refused. Where they are stored, their row is never given back. Else the history exists in the
+/// proofs alone: what stands in memory of an event are its tags, until each node has taken it and a keeper has passed it.
+///
+/// Each lookup, insertion, event taken and sweep is a record of its node. These exist in the
+/// proofs alone, unless the plan asks for `records`; then, once there are as many, the node has nothing and keeps
+/// nothing, and all calls are computed. So a site of `e` events ends
+/// after `e` commits and pins: at ten a second [`Plan::DEFAULT`] lasts 109 minutes.
+/// [`Keeper::keep`](crate::Keeper::keep) tells what is left.
+///
+/// [`with_generations`](crate::with_generations) goes on from there: each generation has this room anew, less the
+/// events that carry the state over, which are at most one for each row.
+#[derive(Clone, Copy, Debug, PartialEq, Eq)]
+pub struct Plan {
+    /// How many nodes there are, from 1 to [`MAX_NODES`].
+    pub nodes: usize,
+    /// The most entries of a node, from 1 to [`txc_node::MAX_CAPACITY`].
+    pub capacity: usize,
+    /// How many of the last events a node keeps the tags of, from 1 to [`txc_node::MAX_RECENT`].
+    pub recent: usize,
+    /// After how many milliseconds a transaction renews its newest pin, where it may.
+    pub renew_after: u64,
+    /// How many calls of functions may run at once, from 1 to [`txc_permits::MAX_PERMITS`].
+    pub permits: u64,
+    /// How many commits and pins are stored, where anybody can read them: from 1 to [`txc_stream::MAX_CAPACITY`].
+    /// Without a number none is, and there is room for one for each stamp, [`txc_stamp::LAST_STAMP`] of them.
+    pub events: Option<usize>,
+    /// How many records of each node are stored, where anybody can read them: from 1 to
+    /// [`txc_stream::MAX_CAPACITY`]. Without a number none is, and a node's history has no end.
+    pub records: Option<usize>,
+    /// How the site keeps itself, in a thread of its own, until the visitors have ended. None where it does not.
+    pub keep: Option<Keeping>,
+}
+
+// Whether a row may have room for as many.
+fn may_be_stored(room: Option<usize>) -> bool
+    ensures { IsTrue result ↔ IfSome room (λ room. (1 ≤ room) × (room ≤ MAX_ROOM)) }
+{
+    match room {
+        Some(room) => 1 <= room && room <= MAX_ROOM,
+        None => true,
+    }
+}
+
+impl Plan {
+    /// Sixteen nodes of 4,096 entries each, whose records are not stored, and room for 65,536 events. It does not keep
+    /// itself.
+    pub const DEFAULT: Plan = Plan {
+        nodes: 16,
+        capacity: 4096,
+        recent: 64,
+        renew_after: 5000,
+        permits: 64,
+        events: Some(65_536),
+        records: None,
+        keep: None,
+    };
+
+    /// Whether each number is within its limits.
+    pub fn is_sound(&self) -> bool
+        ensures { IsTrue result ↔ IsPlan self.now }
+    {
+        1 <= self.nodes
+            && self.nodes <= MAX_NODES
+            && 1 <= self.capacity
+            && self.capacity <= MAX_CAPACITY
+            && 1 <= self.recent
+            && self.recent <= MAX_RECENT
+            && 1 <= self.permits
+            && self.permits <= MAX_PERMITS
+            && may_be_stored(self.events)
+            && may_be_stored(self.records)
+    }
+}

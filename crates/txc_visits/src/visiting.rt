@@ -1,0 +1,232 @@
+//! The threads of a site, and their clients.
+ghost use Rattle.std.specs.Prelude.{◌≡◌, ◌<◌, All, IfErr, IfOk, map, vec_len};
+ghost use Rattle.txc_registry.specs.Objects.{numbers_of};
+ghost use Rattle.txc_visits.specs.Plans.{HaveHistoriesBy, nodes_of, IsPlan};
+ghost use Rattle.txc_visits.specs.Sites.{IsVisitRefused, numbers_below, HaveCome, IsClientRefused, IsNewClient};
+ghost use Rattle.txc_visits.specs.Guests.{AreGuests};
+ghost use Rattle.txc_keeper.specs.Refusals.{IsKeeperRefused};
+ghost use Rattle.txc_visits.specs.Tended.{IsTendedAsPlanned};
+ghost use Rattle.txc_keeper.specs.Tending.{IsTendedBy};
+
+use crate::application::{Application, registry};
+use crate::client::SiteClient;
+use crate::error::OpenError;
+use crate::foundation::{Foundation, keep_until_ended};
+use crate::plan::Plan;
+use crate::visitor::Visitor;
+use std::alloc::Global;
+use std::sync::Wait;
+use std::thread::{self, Threads};
+use txc_db::Naming;
+use txc_definition::Definition;
+use txc_keeper::{Clock, Keeping, Signal, SiteError, Tended};
+use txc_ledger::Committers;
+use txc_permits::PermitPool;
+
+/// The client of this number, with a pass of its own through each node.
+#[tactic(auto, using(txc_keeper::proofs::NoPass::no_pass))]
+pub(crate) fn client<'a, A: Application<D>, D: Definition, J: Naming>(
+    rt: &impl Wait,
+    alloc: Global,
+    foundation: &'a Foundation<A, J>,
+    number: usize,
+    committers: &Committers<J>,
+    pool: &mut PermitPool,
+) -> Result<SiteClient<'a, A, D, J>, SiteError>
+    requires plan { IsPlan foundation.now.plan }
+    requires stored_so { HaveHistoriesBy foundation.now.plan J.node_histories }
+    requires number { number < vec_len foundation.now.tallies }
+    ensures plan { IfOk result (λ client. client.plan ≡ foundation.now.plan) }
+    ensures new { IfOk result (IsNewClient J.node_histories) }
+    ensures reader { IfOk result (λ client. numbers_of client.reader.objects ≡ A.numbers) }
+    ensures writer { IfOk result (λ client. numbers_of client.writer ≡ A.numbers) }
+    ensures refused { IfErr result (IsClientRefused A.numbers) }
+{
+    let functions = registry::<A, D>(alloc, pool)?;
+    let reader = foundation.ledger.reader(
+        rt,
+        alloc,
+        &foundation.nodes,
+        functions,
+        foundation.plan.renew_after,
+    )?;
+    let writer = registry::<A, D>(alloc, pool)?;
+    let tally = &foundation.tallies[number];
+    let committer = committers.committer();
+    Ok(SiteClient::new(foundation, reader, writer, committer, tally))
+}
+
+/// The client of the thread of this number.
+#[derive(Drop)]
+struct Guest<C> {
+    number: usize,
+    client: C,
+}
+
+/// A guest for each of so many threads.
+fn guests<'a, A: Application<D>, D: Definition, J: Naming>(
+    rt: &impl Wait,
+    alloc: Global,
+    foundation: &'a Foundation<A, J>,
+    committers: &Committers<J>,
+    pool: &mut PermitPool,
+    count: usize,
+) -> Result<Vec<Guest<SiteClient<'a, A, D, J>>>, SiteError>
+    requires plan { IsPlan foundation.now.plan }
+    requires stored_so { HaveHistoriesBy foundation.now.plan J.node_histories }
+    requires tallies { vec_len foundation.now.tallies ≡ count }
+    ensures each { IfOk result (λ guests. vec_len guests ≡ count) }
+    ensures numbers { IfOk result (λ guests.
+        map (λ guest. guest.number) guests.items ≡ numbers_below count) }
+    ensures plan { IfOk result (λ guests.
+        All (λ guest. guest.client.plan ≡ foundation.now.plan) guests.items) }
+    ensures new { IfOk result (λ guests.
+        All (λ guest. IsNewClient J.node_histories guest.client) guests.items) }
+    ensures refused { IfErr result (IsClientRefused A.numbers) }
+{
+    let mut guests = Vec::with_capacity(alloc, count)?;
+    for number in 0..count {
+        let client = client(rt, alloc, foundation, number, committers, pool)?;
+        guests.push(Guest { number, client })?;
+    }
+    Ok(guests)
+}
+
+/// Starts a thread for each guest, and returns what they came to, in the order of their numbers, once all have
+/// ended.
+fn visit_each<A, D, V, J, R>(
+    rt: &R,
+    alloc: Global,
+    plan: Plan,
+    guests: Vec<Guest<SiteClient<'_, A, D, J>>>,
+    visitors: &V,
+) -> Result<Vec<V::Output>, OpenError>
+where
+    A: Application<D> + Send + Sync,
+    D: Definition + Send,
+    V: Visitor<A, D> + Sync,
+    J: Naming + Send + Sync,
+    R: Threads + Wait + Sync,
+    requires { AreGuests J.node_histories plan guests.items }
+    ensures each { IfOk result (λ outputs. vec_len outputs ≡ vec_len guests.entry) }
+    ensures gives { IfOk result (λ outputs.
+        HaveCome (V.gives visitors.now plan J.database_history) outputs.items) }
+    ensures refused { IfErr result (λ error. error ≡ OpenError.Threads) }
+{
+    let visited = thread::map_vec(
+        rt,
+        guests,
+        &|guest: Guest<SiteClient<'_, A, D, J>>| -> V::Output
+            requires { IsNewClient J.node_histories guest.client }
+            ensures { V.gives visitors.entry.now guest.entry.client.plan J.database_history
+                guest.entry.number result }
+        {
+            let Guest { number, client } = guest;
+            visitors.visit(rt, alloc, number, &mut Some(client))
+        },
+    );
+    match visited {
+        Ok(outputs) => Ok(outputs),
+        Err(_) => Err(OpenError::Threads),
+    }
+}
+
+/// What the guests came to, and what the site's own keeper did, where it has one.
+#[derive(Drop)]
+pub(crate) struct Came<T> {
+    pub(crate) outputs: Vec<T>,
+    pub(crate) tended: Option<Result<Tended, SiteError>>,
+}
+
+/// The same, beside a thread that keeps the site until all guests have ended. Where none can be made, nobody does.
+fn visit_kept<A, D, V, J, C, R>(
+    rt: &R,
+    alloc: Global,
+    foundation: &Foundation<A, J>,
+    guests: Vec<Guest<SiteClient<'_, A, D, J>>>,
+    visitors: &V,
+    keeping: Keeping,
+    clock: &C,
+) -> (Result<Tended, SiteError>, Result<Vec<V::Output>, OpenError>)
+where
+    A: Application<D> + Send + Sync,
+    D: Definition + Send,
+    V: Visitor<A, D> + Sync,
+    J: Naming + Send + Sync,
+    C: Clock + Sync,
+    R: Threads + Wait + Sync,
+    requires { AreGuests J.node_histories foundation.now.plan guests.items }
+    ensures tended { IfOk result.0
+        (IsTendedBy J.database_history (nodes_of foundation.now.plan) (C.tells clock.now) keeping.age) }
+    ensures no_keeper { IfErr result.0 IsKeeperRefused }
+    ensures each { IfOk result.1 (λ outputs. vec_len outputs ≡ vec_len guests.entry) }
+    ensures gives { IfOk result.1 (λ outputs.
+        HaveCome (V.gives visitors.now foundation.now.plan J.database_history) outputs.items) }
+    ensures refused { IfErr result.1 (λ error. error ≡ OpenError.Threads) }
+{
+    let ended = Signal::new();
+    let plan = foundation.plan;
+    foundation.moment.set(clock.now());
+    thread::join(
+        rt,
+        || -> Result<Tended, SiteError>
+            ensures { IfOk result
+                (IsTendedBy J.database_history (nodes_of foundation.entry.now.plan) (C.tells clock.entry.now) keeping.age)
+                × IfErr result IsKeeperRefused }
+        { keep_until_ended(rt, alloc, foundation, keeping, clock, &ended) },
+        || -> Result<Vec<V::Output>, OpenError>
+            requires { AreGuests J.node_histories plan guests.items }
+            ensures { IfOk result (λ outputs. (vec_len outputs ≡ vec_len guests.entry)
+                × HaveCome (V.gives visitors.entry.now plan J.database_history) outputs.items)
+                × IfErr result (λ error. error ≡ OpenError.Threads) }
+        {
+            let visited = visit_each(rt, alloc, plan, guests, visitors);
+            ended.give();
+            visited
+        },
+    )
+}
+
+/// Starts so many threads, each with a client of its own, and returns what they came to, in the order of their
+/// numbers, once all have ended. Where the plan says so, one more keeps the site meanwhile.
+#[tactic(auto, using(crate::proofs::Tended::planned_none, crate::proofs::Tended::planned_some))]
+pub(crate) fn visit<A, D, V, J, C, R>(
+    rt: &R,
+    alloc: Global,
+    foundation: &Foundation<A, J>,
+    committers: &Committers<J>,
+    pool: &mut PermitPool,
+    count: usize,
+    visitors: &V,
+    clock: &C,
+) -> Result<Came<V::Output>, OpenError>
+where
+    A: Application<D> + Send + Sync,
+    D: Definition + Send,
+    V: Visitor<A, D> + Sync,
+    J: Naming + Send + Sync,
+    C: Clock + Sync,
+    R: Threads + Wait + Sync,
+    requires plan { IsPlan foundation.now.plan }
+    requires stored_so { HaveHistoriesBy foundation.now.plan J.node_histories }
+    requires tallies { vec_len foundation.now.tallies ≡ count }
+    ensures each { IfOk result (λ came. vec_len came.outputs ≡ count) }
+    ensures gives { IfOk result (λ came.
+        HaveCome (V.gives visitors.now foundation.now.plan J.database_history) came.outputs.items) }
+    ensures tended { IfOk result (λ came.
+        IsTendedAsPlanned foundation.now.plan (C.tells clock.now) J.database_history came.tended) }
+    ensures refused { IfErr result (IsVisitRefused A.numbers) }
+{
+    let guests = guests::<A, D, J>(rt, alloc, foundation, committers, pool, count)?;
+    let Some(keeping) = foundation.plan.keep else {
+        return Ok(Came {
+            outputs: visit_each(rt, alloc, foundation.plan, guests, visitors)?,
+            tended: None,
+        });
+    };
+    let (tended, outputs) = visit_kept(rt, alloc, foundation, guests, visitors, keeping, clock);
+    Ok(Came {
+        outputs: outputs?,
+        tended: Some(tended),
+    })
+}
