@@ -14,6 +14,7 @@ mod caller_txn;
 mod caller_write;
 mod engine;
 mod frames;
+mod keeping;
 mod nodes;
 mod ports;
 mod stand;
