@@ -142,6 +142,14 @@ typedef struct {
     uint64_t moment;
 } txc_receipt;
 
+/* What a keep did: how many pins it retired, the horizon that it left, below which nothing is read any more, and how many
+ * results the node dropped. */
+typedef struct {
+    size_t retired;
+    uint32_t horizon;
+    size_t swept;
+} txc_kept;
+
 /* A handle of a site: a database, its pins and a node. Its fields are not yours. */
 typedef struct {
     void *slot;
@@ -249,6 +257,12 @@ uint32_t txc_remove(txc_site *site, uint8_t table, uint32_t id);
 
 /* Commits the changes, and writes the newest stamp that they leave. */
 uint32_t txc_commit_write(txc_site *site, uint32_t *stamp);
+
+/* Tidies, while no transaction is open: retires the pins that are more than `age` milliseconds before `now`, and drops the
+ * versions of rows and the results that no transaction can read any more. Call it now and then: there is room for so many
+ * pins. What was done before a refusal is written and stays done.
+ * TXC_DONE, TXC_CLOSED, TXC_ALREADY_OPEN where a transaction is open, TXC_NO_MEMORY or TXC_REFUSED. */
+uint32_t txc_keep(txc_site *site, uint64_t now, uint64_t age, txc_kept *kept);
 
 #ifdef __cplusplus
 }

@@ -46,6 +46,10 @@ class _Receipt(c.Structure):
     _fields_ = [("answers", c.c_size_t), ("has_pin", c.c_bool), ("stamp", c.c_uint32), ("moment", c.c_uint64)]
 
 
+class _Kept(c.Structure):
+    _fields_ = [("retired", c.c_size_t), ("horizon", c.c_uint32), ("swept", c.c_size_t)]
+
+
 def _declare():
     site, size, u32, u64 = c.POINTER(_Handle), c.c_size_t, c.c_uint32, c.c_uint64
     out, text = [c.c_char_p, size, c.POINTER(size)], [c.c_char_p, size]
@@ -65,6 +69,7 @@ def _declare():
         "put": [c.c_uint8, u32, u32, *text],
         "remove": [c.c_uint8, u32],
         "commit_write": [c.POINTER(u32)],
+        "keep": [u64, u64, c.POINTER(_Kept)],
     }
     for name, kinds in parameters.items():
         function = getattr(_TXC, f"txc_{name}")
@@ -108,6 +113,14 @@ class Query(NamedTuple):
     @staticmethod
     def range(table, first, last):
         return Query(table, 3, first, last)
+
+
+class Kept(NamedTuple):
+    """How many pins were retired, the horizon that is left, below which nothing is read, and how many results were dropped."""
+
+    retired: int
+    horizon: int
+    swept: int
 
 
 class Receipt(NamedTuple):
@@ -173,6 +186,7 @@ class _Page(_Asking):
         receipt = _Receipt()
         number = self._site._ask("commit", c.byref(receipt))
         if number != _DONE:
+            self._site._ask("abort")
             _refuse(number)
         pin = (receipt.stamp, receipt.moment) if receipt.has_pin else (None, None)
         self.receipt = Receipt(receipt.answers, *pin)
@@ -240,6 +254,15 @@ class Site:
         if number != _DONE:
             _refuse(number)
         return _Write(self)
+
+    def keep(self, now, age):
+        """Tidies, while no transaction is open: retires the pins that are more than `age` before `now`, both in milliseconds, and
+        drops what no transaction can read any more. Call it now and then."""
+        kept = _Kept()
+        number = self._ask("keep", now, age, c.byref(kept))
+        if number != _DONE:
+            _refuse(number)
+        return Kept(kept.retired, kept.horizon, kept.swept)
 
     def _ask(self, name, *words):
         return getattr(_TXC, f"txc_{name}")(c.byref(self._handle), *words)

@@ -76,6 +76,14 @@ pub struct Receipt {
     pub moment: u64,
 }
 
+#[repr(C)]
+#[derive(Clone, Copy)]
+pub struct Kept {
+    pub retired: usize,
+    pub horizon: u32,
+    pub swept: usize,
+}
+
 pub const DONE: u32 = 0;
 pub const MISS: u32 = 1;
 pub const KEPT: u32 = 2;
@@ -152,4 +160,5 @@ extern "C" {
     pub fn txc_put(site: *mut Handle, table: u8, id: u32, group: u32, body: *const u8, len: usize) -> u32;
     pub fn txc_remove(site: *mut Handle, table: u8, id: u32) -> u32;
     pub fn txc_commit_write(site: *mut Handle, stamp: *mut u32) -> u32;
+    pub fn txc_keep(site: *mut Handle, now: u64, age: u64, kept: *mut Kept) -> u32;
 }

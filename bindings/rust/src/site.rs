@@ -134,6 +134,15 @@ pub struct Receipt {
     pub pin: Option<(u32, u64)>,
 }
 
+/// What a keep did: how many pins it retired, the horizon that it left, below which nothing is read any more, and how many
+/// results the node dropped.
+#[derive(Clone, Copy, Debug, PartialEq, Eq)]
+pub struct Kept {
+    pub retired: usize,
+    pub horizon: u32,
+    pub swept: usize,
+}
+
 /// What a function asks: rows, and values of other calls.
 ///
 /// What it asks next, or gives, is to be determined by its number, its arguments and what it was answered so far.
@@ -181,6 +190,22 @@ impl Site {
     pub fn write(&mut self) -> Result<Write<'_>, Error> {
         done(unsafe { ffi::txc_begin_write(&mut self.handle) })?;
         Ok(Write { site: self })
+    }
+
+    /// Retires the pins that are more than `age` before `now`, both in milliseconds, and drops what no transaction can read any
+    /// more. Call it now and then: there is room for so many pins.
+    pub fn keep(&mut self, now: u64, age: u64) -> Result<Kept, Error> {
+        let mut kept = ffi::Kept {
+            retired: 0,
+            horizon: 0,
+            swept: 0,
+        };
+        done(unsafe { ffi::txc_keep(&mut self.handle, now, age, &mut kept) })?;
+        Ok(Kept {
+            retired: kept.retired,
+            horizon: kept.horizon,
+            swept: kept.swept,
+        })
     }
 
     fn row(&mut self, at: usize) -> Result<Row, Error> {

@@ -12,3 +12,4 @@ pub mod Receipts
 pub mod Turning
 pub mod Telling
 pub mod Asking
+pub mod Keeping

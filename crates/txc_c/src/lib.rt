@@ -10,6 +10,7 @@ mod changing;
 mod counted;
 mod crossing;
 mod handle;
+mod keeping;
 mod node;
 mod numbers;
 mod opaque;
@@ -26,6 +27,7 @@ mod txn;
 
 pub use crossing::{TxcCounts, TxcKey, TxcReach, TxcStored, TxcTag};
 pub use handle::{TxcNode, handle_crosses};
+pub use keeping::TxcKept;
 pub use node::{
     txc_node_close, txc_node_count, txc_node_event, txc_node_insert, txc_node_lookup,
     txc_node_open, txc_node_sweep,
@@ -39,6 +41,6 @@ pub use receipts::{TxcQuery, TxcReceipt, TxcRow};
 pub use site_handle::TxcSite;
 pub use txn::{
     txc_abort, txc_answer, txc_begin, txc_begin_write, txc_call, txc_commit, txc_commit_write,
-    txc_finish, txc_give_up, txc_put, txc_query_rows, txc_remove, txc_row_at, txc_site_close,
+    txc_finish, txc_give_up, txc_keep, txc_put, txc_query_rows, txc_remove, txc_row_at, txc_site_close,
     txc_site_open,
 };

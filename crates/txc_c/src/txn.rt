@@ -2,6 +2,7 @@
 ghost use Rattle.std.specs.Prelude.{◌≡◌, ◌≢◌, None, IsTrue, ◌↔◌};
 ghost use Rattle.txc_app.specs.declared.ask.Ask.TheVariants as asks;
 ghost use Rattle.txc_c.specs.Crossing.{named_call};
+ghost use Rattle.txc_c.specs.Keeping.{KeepLeads};
 ghost use Rattle.txc_c.specs.Receipts.{query_of};
 ghost use Rattle.txc_c.specs.Sites.{open_site_number, is_room, HasNewSite, Leads};
 ghost use Rattle.txc_c.specs.SiteHeld.{site_held};
@@ -10,6 +11,7 @@ ghost use Rattle.txc_c.specs.Turning.{AbortLeads, BeginLeads, BeginWriteLeads, C
 ghost use Rattle.txc_c.specs.Asking.{buffer, CallLeads, FinishLeads, GiveUpLeads, HeldAsksNext, LastLeads, PutLeads, QueryLeads, RemoveLeads, RowLeads};
 
 use crate::crossing::TxcKey;
+use crate::keeping::TxcKept;
 use crate::node::are_sizes;
 use crate::numbers::{ALREADY_OPEN, BAD_ARGUMENT, CLOSED, DONE, NO_MEMORY};
 use crate::receipts::{TxcQuery, TxcReceipt, TxcRow};
@@ -296,6 +298,27 @@ pub extern "C" fn txc_commit_write(alloc: Global, handle: &mut TxcSite, stamp: &
         return CLOSED;
     };
     let (number, site) = site.commit_write(alloc, stamp);
+    handle.put(site, room);
+    number
+}
+
+/// Retires the pins that are more than `age` before `now`, both in milliseconds, and drops what no transaction can read any
+/// more, and writes what that came to.
+#[unsafe(no_mangle)]
+pub extern "C" fn txc_keep(
+    alloc: Global,
+    handle: &mut TxcSite,
+    now: u64,
+    age: u64,
+    kept: &mut TxcKept,
+) -> u32
+    ensures leads { Leads (KeepLeads now age kept.old kept.new) (site_held handle.old) result (site_held handle.new) }
+    ensures closed { site_held handle.old ≡ None → kept.new ≡ kept.old }
+{
+    let Some((mut site, room)) = handle.take(alloc) else {
+        return CLOSED;
+    };
+    let number = site.keep(alloc, now, age, kept);
     handle.put(site, room);
     number
 }
