@@ -2,6 +2,7 @@
 ghost use Rattle.std.specs.Prelude.{◌≡◌, Bool, true, false};
 ghost use Rattle.txc_c.specs.declared.site.SiteRoom.{SiteRoom as RoomValue};
 
+use crate::handle::crosses;
 use crate::parts::Parts;
 use crate::site::SiteRoom;
 use std::alloc::Global;
@@ -66,4 +67,12 @@ pub struct TxcSite {
     pub(crate) slot: SiteSlot,
     pub(crate) is_open: bool,
     ghost full: { is_open ≡ slot.is_full },
+}
+
+// What the slot points to may go to another thread, and so may the slot.
+unsafe impl Send for SiteSlot {}
+
+/// The handle of a site may go to another thread: this is compiled only where that is proved. It does nothing.
+pub fn site_crosses(handle: &TxcSite) {
+    crosses(handle);
 }
