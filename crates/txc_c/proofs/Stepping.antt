@@ -48,9 +48,14 @@ module _ (old new : CallerReading) (step : Result Step CallerError) (bytes bytes
     len_is = len_is;
     bytes_are = bytes_are;
   }
-  stepped_in None h = (number_is ∙ ap (step_number (length bytes) (given_of new)) h.0,
-    (h.1, buffer_is bytes bytes' len len' (bytes_are ∙ ap (λ (s : Result Step CallerError). step_bytes (given_of new) s bytes) h.0)
-      (len_is ∙ ap (λ (s : Result Step CallerError). step_len (given_of new) s len) h.0)))
+  stepped_in None h = (
+    number_is ∙ ap (step_number (length bytes) (given_of new)) h.0,
+    (
+      h.1,
+      buffer_is bytes bytes' len len' (bytes_are ∙ ap (λ (s : Result Step CallerError). step_bytes (given_of new) s bytes) h.0)
+          (len_is ∙ ap (λ (s : Result Step CallerError). step_len (given_of new) s len) h.0),
+    ),
+  )
 
 -- ---- giving up
 

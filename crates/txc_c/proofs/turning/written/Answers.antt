@@ -5,10 +5,13 @@ pub returns-in-Ok : goal.returns-in-Ok
 returns-in-Ok c = (refl, record { after = c.in-Ok.ensures.after; told = c.number.ensures ∙ c.in-Ok.ensures.answer; same = c.in-Ok.ensures.same })
 
 pub returns-in-Err : goal.returns-in-Err
-returns-in-Err c = (record {
-  error = c.in-Err.error;
-  number_is = c.database_number.ensures;
-  refused = c.in-Err.ensures.refused;
-  left_so = c.in-Err.ensures.left;
-  same = c.in-Err.ensures.handed_back;
-}, (refl, refl))
+returns-in-Err c = (
+  record {
+    error = c.in-Err.error;
+    number_is = c.database_number.ensures;
+    refused = c.in-Err.ensures.refused;
+    left_so = c.in-Err.ensures.left;
+    same = c.in-Err.ensures.handed_back;
+  },
+  (refl, refl),
+)
