@@ -11,7 +11,7 @@ use Rattle.txc_registry.specs.Objects.{numbers_of}
 use Rattle.txc_ports.specs.declared.bounds.Bounds.{Bounds}
 use Rattle.txc_txn.specs.Core.{left_pin, receipt_pin, Explains}
 use Rattle.txc_txn.specs.Sessions.{IsAtLeast}
-use Rattle.txc_caller.specs.Ports.{HasGivenBack, HasUnpinned}
+use Rattle.txc_caller.specs.Ports.{AreGivenBack, IsLetGo}
 use Rattle.txc_caller.specs.Reading.{caller_of, CallerReading, CallerValue}
 use Rattle.txc_caller.specs.Writing.{CallerWriting, IsBegunWrite}
 use Rattle.txc_c.specs.Crossing.{is_stamp}
@@ -77,7 +77,7 @@ pub record HasCommitted (r : CallerReading) (receipt : TxcReceipt) (c : CallerVa
       (receipt_pin r.txn.core.recorded r.txn.core.pins.members) r.txn.core.recorded
   pub not_before : IsAtLeast r.txn.core.bounds.at_least (receipt_pin r.txn.core.recorded r.txn.core.pins.members)
   pub row : r.txn.core.seen.events ≡ c.ports.database.events
-  pub given_back : HasGivenBack r.txn.core.taken r.ports.cushion c.ports.cushion
+  pub given_back : AreGivenBack r.txn.core.taken r.ports.cushion c.ports.cushion
   pub caller : c ≡ record (caller_of r) { ports = record r.ports { cushion = c.ports.cushion } }
 
 abbrev pub CommittedLeads : CallerReading → TxcReceipt → TxcReceipt → ℕ → Site → Type 0
@@ -99,7 +99,7 @@ pub record HasWritten (w : CallerWriting) (stamp : ℕ) (c : CallerValue) : Type
   }
 
 -- the database refused, and the transaction is open, with its changes
-pub record IsWriteRefused (w : CallerWriting) (number : ℕ) (left : CallerWriting) : Type 0 where
+pub record HasRefusedWrite (w : CallerWriting) (number : ℕ) (left : CallerWriting) : Type 0 where
   pub error : DbError
   pub number_is : number ≡ database_number error
   pub refused : IsCommitRefused w.caller.ports.database w.base [] w.changes error
@@ -110,7 +110,7 @@ pub record IsWriteRefused (w : CallerWriting) (number : ℕ) (left : CallerWriti
 
 abbrev pub WrittenLeads : CallerWriting → List RowValue → ℕ → ℕ → ℕ → Site → Type 0
 WrittenLeads w found was is number (Resting c) = (number ≡ DONE) × HasWritten w is c
-WrittenLeads w found was is number (Writing left rows) = IsWriteRefused w number left × (rows.items ≡ found) × (is ≡ was)
+WrittenLeads w found was is number (Writing left rows) = HasRefusedWrite w number left × (rows.items ≡ found) × (is ≡ was)
 WrittenLeads w found was is number (Reading r) = ⊥
 
 -- of one that writes; the stamp is written where it is done
@@ -124,8 +124,8 @@ pub record HasAborted (r : CallerReading) (c : CallerValue) : Type 0 where
   pub history : c.ports.database.history ≡ r.ports.database.history
   pub row : c.ports.database.events ≡ r.ports.database.events
   pub node : c.ports.node ≡ r.ports.node
-  pub given_back : HasGivenBack r.txn.core.taken r.ports.cushion c.ports.cushion
-  pub unpinned : HasUnpinned (left_pin r.txn.core.pinning) r.ports.database c.ports.database
+  pub given_back : AreGivenBack r.txn.core.taken r.ports.cushion c.ports.cushion
+  pub unpinned : IsLetGo (left_pin r.txn.core.pinning) r.ports.database c.ports.database
   pub renew_after : c.renew_after ≡ r.renew_after
 
 abbrev pub AbortLeads : Site → ℕ → Site → Type 0

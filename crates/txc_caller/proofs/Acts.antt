@@ -9,7 +9,7 @@ use Rattle.txc_ports.specs.declared.error.TxnError.{TxnError}
 use Rattle.txc_ports.specs.declared.reply.PortReply.{PortReply}
 use Rattle.txc_txn.specs.Core.{open_call, IsIdle}
 use Rattle.txc_txn.specs.Kept.{TxnValue}
-use Rattle.txc_caller.specs.Acting.{step_with, HasActed, IsActOf, IsStepOf, IsWaiting}
+use Rattle.txc_caller.specs.Acting.{step_with, HasCallerActed, IsActOf, IsStepOf, IsAwaitingCaller}
 use Rattle.txc_caller.specs.Ports.{CallerPorts}
 use Rattle.txc_caller.specs.Standing.{IsKeptBack, IsStanding, KeepsOn}
 use Rattle.txc_caller.specs.declared.acted.Acted.{Acted}
@@ -80,16 +80,16 @@ module _ (next : Next) (before : List Recorded) (t : TxnValue) where
 
 module _ (next : Next) (ports : CallerPorts) (t : TxnValue) (k : Call) where
   -- nothing was done
-  pub acted_self : (acted : Acted) → IsActOf next t.core.recorded k t acted → HasActed next ports ports t t k acted
+  pub acted_self : (acted : Acted) → IsActOf next t.core.recorded k t acted → HasCallerActed next ports ports t t k acted
   acted_self acted h = record { acted = h; keeps = keeps_self t; events = refl }
 
   -- another reply is kept back, which is one to what is asked too
-  pub waits_for : (reply other : PortReply) → IsWaiting next ports t k reply → IsKeptBack next t other → IsWaiting next ports t k other
+  pub waits_for : (reply other : PortReply) → IsAwaitingCaller next ports t k reply → IsKeptBack next t other → IsAwaitingCaller next ports t k other
   waits_for reply other waits kept = record { kept = kept; top = waits.top; row = waits.row; nodes = waits.nodes }
 
   -- the call has another name
-  pub waits_as : (j : Call) (reply : PortReply) → j ≡ k → IsWaiting next ports t k reply → IsWaiting next ports t j reply
-  waits_as j reply is waits = subst (λ (i : Call). IsWaiting next ports t i reply) (sym is) waits
+  pub waits_as : (j : Call) (reply : PortReply) → j ≡ k → IsAwaitingCaller next ports t k reply → IsAwaitingCaller next ports t j reply
+  waits_as j reply is waits = subst (λ (i : Call). IsAwaitingCaller next ports t i reply) (sym is) waits
 
 -- ---- one act after another
 
@@ -99,7 +99,7 @@ module _ (next : Next) (ports ports' : CallerPorts) (t t' : TxnValue) (k : Call)
   kept_stand = subst (λ (s : Stand). IsStanding next t.core.recorded k t' s) is stands
 
   -- it waits again
-  pub waits_then : t.core.seen.events ≡ ports.database.events → t.core.nodes ≡ 1 → IsWaiting next ports' t' k reply
+  pub waits_then : t.core.seen.events ≡ ports.database.events → t.core.nodes ≡ 1 → IsAwaitingCaller next ports' t' k reply
   waits_then row nodes = record {
     kept = kept_stand.0;
     top = kept_stand.1;
@@ -107,7 +107,7 @@ module _ (next : Next) (ports ports' : CallerPorts) (t t' : TxnValue) (k : Call)
     nodes = keeps.settings.nodes ∙ nodes;
   }
 
-  pub acted_then : (ports'' : CallerPorts) (t'' : TxnValue) (acted : Acted) → HasActed next ports' ports'' t' t'' k acted → HasActed next ports ports'' t t'' k acted
+  pub acted_then : (ports'' : CallerPorts) (t'' : TxnValue) (acted : Acted) → HasCallerActed next ports' ports'' t' t'' k acted → HasCallerActed next ports ports'' t t'' k acted
   acted_then ports'' t'' acted h = record {
     acted = subst (λ (rs : List Recorded). IsActOf next rs k t'' acted) kept_stand.2 h.acted;
     keeps = keeps_then t t' t'' keeps h.keeps;

@@ -57,7 +57,7 @@ pub record IsActOf (next : Next) (before : List Recorded) (k : Call) (t : TxnVal
   pub top : ForSome acted.doing (λ (o : OpenCall). open_call t.core ≡ Some o.frames.top)
 
 -- a reply is kept back for this call, which is open in a transaction of the ports' row
-pub record IsWaiting (next : Next) (ports : CallerPorts) (t : TxnValue) (k : Call) (reply : PortReply) : Type 0 where
+pub record IsAwaitingCaller (next : Next) (ports : CallerPorts) (t : TxnValue) (k : Call) (reply : PortReply) : Type 0 where
   pub kept : IsKeptBack next t reply
   pub top : open_call t.core ≡ Some k
   pub row : t.core.seen.events ≡ ports.database.events
@@ -65,7 +65,7 @@ pub record IsWaiting (next : Next) (ports : CallerPorts) (t : TxnValue) (k : Cal
 
 -- The act of this call came to that. The settings, the functions and the row are as before, and no less is seen of the
 -- one history.
-pub record HasActed (next : Next) (ports ports' : CallerPorts) (t t' : TxnValue) (k : Call) (it : Acted) : Type 0 where
+pub record HasCallerActed (next : Next) (ports ports' : CallerPorts) (t t' : TxnValue) (k : Call) (it : Acted) : Type 0 where
   pub acted : IsActOf next t.core.recorded k t' it
   pub keeps : KeepsOn t t'
   pub events : ports'.database.events ≡ ports.database.events

@@ -72,8 +72,8 @@ CallerAddLeads pinned old new (Ok added) = new ≡ record old { cushion = after_
 CallerAddLeads pinned old new (Err e) = (new ≡ old) × IsAddRefused old.cushion pinned.stamp e
 
 -- one user of each of the stamps is taken away; or one has none left, and nothing has changed
-abbrev pub HasGivenBack : List ℕ → CushionValue → CushionValue → Type 0
-HasGivenBack stamps old new =
+abbrev pub AreGivenBack : List ℕ → CushionValue → CushionValue → Type 0
+AreGivenBack stamps old new =
     (new ≡ after_give_back old stamps) ⊎ ((new ≡ old) × ((stamp : ℕ) × IsFirstUnused old.entries stamps stamp))
 
 -- there is one hold of the stamp fewer; or the database refused, and nothing has changed
@@ -83,21 +83,21 @@ CallerUnpinLeads stamp old new (Ok unpinned) = (new ≡ record old { database = 
 CallerUnpinLeads stamp old new (Err e) = (new ≡ old) × IsUnpinRefused old.database stamp e
 
 -- the hold of a pin that was not added is taken away, if there is one; or the database refused
-abbrev pub HasUnpinned : Option ℕ → DatabaseValue → DatabaseValue → Type 0
-HasUnpinned None old new = new ≡ old
-HasUnpinned (Some stamp) old new = (new ≡ after_unpin old stamp)
+abbrev pub IsLetGo : Option ℕ → DatabaseValue → DatabaseValue → Type 0
+IsLetGo None old new = new ≡ old
+IsLetGo (Some stamp) old new = (new ≡ after_unpin old stamp)
     ⊎ ((new ≡ old) × ((error : DbError) × IsUnpinRefused old stamp error))
 
 -- a hold of each of the stamps is taken away, one after another
-abbrev pub AreUnpinned : List ℕ → DatabaseValue → DatabaseValue → Type 0
-AreUnpinned [] old new = new ≡ old
-AreUnpinned (stamp ∷ stamps) old new =
-    (after : DatabaseValue) × HasUnpinned (Some stamp) old after × AreUnpinned stamps after new
+abbrev pub AreLetGo : List ℕ → DatabaseValue → DatabaseValue → Type 0
+AreLetGo [] old new = new ≡ old
+AreLetGo (stamp ∷ stamps) old new =
+    (after : DatabaseValue) × IsLetGo (Some stamp) old after × AreLetGo stamps after new
 
 -- the pins that no transaction uses and that are older are gone, and so is a hold of each
 pub record HasRetired (now age : ℕ) (old new : CallerPorts) : Type 0 where
   pub cushion : new.cushion ≡ after_retire old.cushion now age
-  pub holds : AreUnpinned (retired old.cushion now age) old.database new.database
+  pub holds : AreLetGo (retired old.cushion now age) old.database new.database
   pub node : new.node ≡ old.node
 
 -- ---- the database

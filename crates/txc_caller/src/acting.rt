@@ -5,7 +5,7 @@ ghost use Rattle.txc_tags.specs.Keys.{Call};
 ghost use Rattle.txc_ports.specs.declared.recorded.Recorded.{Recorded};
 ghost use Rattle.txc_txn.specs.Core.{open_call, IsIdle};
 ghost use Rattle.txc_txn.specs.Kept.{TxnValue};
-ghost use Rattle.txc_caller.specs.Acting.{ask_of, step_with, HasActed, HasRoom, HasRoomOnceTold, IsActOf, IsWaiting};
+ghost use Rattle.txc_caller.specs.Acting.{ask_of, step_with, HasCallerActed, HasRoom, HasRoomOnceTold, IsActOf, IsAwaitingCaller};
 ghost use Rattle.txc_caller.specs.Standing.{asks_next, IsKeptBack, IsStanding, KeepsOn};
 
 use crate::act::{Act, Awaited, Told};
@@ -139,8 +139,8 @@ fn feed_on<A: App, C: Suppliable>(
     given: Option<Answer>,
     kept: PortReply,
 ) -> Acted
-    requires { IsWaiting A.next ports.old txn.old frames.top kept }
-    ensures { HasActed A.next ports.old ports.new txn.old txn.new frames.top result }
+    requires { IsAwaitingCaller A.next ports.old txn.old frames.top kept }
+    ensures { HasCallerActed A.next ports.old ports.new txn.old txn.new frames.top result }
 {
     let stand = feed(alloc, ports, txn, kept);
     standing(stand, frames, given)
@@ -155,8 +155,8 @@ fn answered<A: App, C: Suppliable>(
     frames: Frames,
     kept: PortReply,
 ) -> Acted
-    requires { IsWaiting A.next ports.old txn.old frames.top kept }
-    ensures { HasActed A.next ports.old ports.new txn.old txn.new frames.top result }
+    requires { IsAwaitingCaller A.next ports.old txn.old frames.top kept }
+    ensures { HasCallerActed A.next ports.old ports.new txn.old txn.new frames.top result }
 {
     match given_by(alloc, &kept) {
         Ok(Some(answer)) => stays(frames.reach(), Some(answer), kept),
@@ -176,8 +176,8 @@ fn first_reply<A: App, C: Suppliable>(
     frames: Frames,
     kept: PortReply,
 ) -> Acted
-    requires { IsWaiting A.next ports.old txn.old frames.top kept }
-    ensures { HasActed A.next ports.old ports.new txn.old txn.new frames.top result }
+    requires { IsAwaitingCaller A.next ports.old txn.old frames.top kept }
+    ensures { HasCallerActed A.next ports.old ports.new txn.old txn.new frames.top result }
 {
     let reply = counted(kept, txn.core().members());
     if is_hit(&reply) {
@@ -195,9 +195,9 @@ fn inner_reply<A: App, C: Suppliable>(
     kept: PortReply,
     key: Key,
 ) -> Acted
-    requires waits { IsWaiting A.next ports.old txn.old frames.top kept }
+    requires waits { IsAwaitingCaller A.next ports.old txn.old frames.top kept }
     requires room { HasRoom (Awaited.Hit key) frames }
-    ensures { HasActed A.next ports.old ports.new txn.old txn.new frames.top result }
+    ensures { HasCallerActed A.next ports.old ports.new txn.old txn.new frames.top result }
 {
     let reply = counted(kept, txn.core().members());
     if is_hit(&reply) {
@@ -215,9 +215,9 @@ fn replied<A: App, C: Suppliable>(
     kept: PortReply,
     awaited: Awaited,
 ) -> Acted
-    requires waits { IsWaiting A.next ports.old txn.old frames.top kept }
+    requires waits { IsAwaitingCaller A.next ports.old txn.old frames.top kept }
     requires room { HasRoom awaited frames }
-    ensures { HasActed A.next ports.old ports.new txn.old txn.new frames.top result }
+    ensures { HasCallerActed A.next ports.old ports.new txn.old txn.new frames.top result }
 {
     match awaited {
         Awaited::Hit(key) => inner_reply(alloc, ports, txn, frames, kept, key),
@@ -235,9 +235,9 @@ fn wait_for<A: App, C: Suppliable>(
     kept: PortReply,
     awaited: Awaited,
 ) -> Acted
-    requires waits { IsWaiting A.next ports.old txn.old frames.top kept }
+    requires waits { IsAwaitingCaller A.next ports.old txn.old frames.top kept }
     requires room { HasRoom awaited frames }
-    ensures { HasActed A.next ports.old ports.new txn.old txn.new frames.top result }
+    ensures { HasCallerActed A.next ports.old ports.new txn.old txn.new frames.top result }
 {
     match feed(alloc, ports, txn, kept) {
         Stand::Kept(reply) => replied(alloc, ports, txn, frames, reply, awaited),
@@ -256,7 +256,7 @@ pub(crate) fn call_first<A: App, C: Suppliable>(
     requires idle { IsIdle txn.old.core }
     requires row { txn.old.core.seen.events ≡ ports.old.database.events }
     requires nodes { txn.old.core.nodes ≡ 1 }
-    ensures { HasActed A.next ports.old ports.new txn.old txn.new key result }
+    ensures { HasCallerActed A.next ports.old ports.new txn.old txn.new key result }
 {
     let frames = Frames::of(alloc, &key);
     match start(alloc, ports, txn, key) {
@@ -279,8 +279,8 @@ fn close<A: App, C: Suppliable>(
     kept: PortReply,
     value: Value,
 ) -> Acted
-    requires { IsWaiting A.next ports.old txn.old around.frames.top kept }
-    ensures { HasActed A.next ports.old ports.new txn.old txn.new around.frames.top result }
+    requires { IsAwaitingCaller A.next ports.old txn.old around.frames.top kept }
+    ensures { HasCallerActed A.next ports.old ports.new txn.old txn.new around.frames.top result }
 {
     let Around { frames, is_reached } = around;
     let given = Some(Answer::Value(value));
@@ -300,8 +300,8 @@ fn give<A: App, C: Suppliable>(
     kept: PortReply,
     bytes: Vec<u8>,
 ) -> Acted
-    requires { IsWaiting A.next ports.old txn.old frames.top kept }
-    ensures { HasActed A.next ports.old ports.new txn.old txn.new frames.top result }
+    requires { IsAwaitingCaller A.next ports.old txn.old frames.top kept }
+    ensures { HasCallerActed A.next ports.old ports.new txn.old txn.new frames.top result }
 {
     let Some(value) = Value::new(bytes) else {
         return feed_on(alloc, ports, txn, frames, None, kept);
@@ -321,9 +321,9 @@ fn go_on<A: App, C: Suppliable>(
     kept: PortReply,
     told: Told,
 ) -> Acted
-    requires waits { IsWaiting A.next ports.old txn.old frames.top kept }
+    requires waits { IsAwaitingCaller A.next ports.old txn.old frames.top kept }
     requires room { HasRoomOnceTold told frames }
-    ensures { HasActed A.next ports.old ports.new txn.old txn.new frames.top result }
+    ensures { HasCallerActed A.next ports.old ports.new txn.old txn.new frames.top result }
 {
     match told {
         Told::Waits(awaited) => wait_for(alloc, ports, txn, frames, kept, awaited),
@@ -341,9 +341,9 @@ fn hand_over<A: App, C: Suppliable>(
     told: Told,
 ) -> Acted
     requires asks { asks_next A.next txn.old.objects call.frames.inner.key call.given ≡ Some ask }
-    requires waits { IsWaiting A.next ports.old txn.old call.frames.top call.kept }
+    requires waits { IsAwaitingCaller A.next ports.old txn.old call.frames.top call.kept }
     requires room { HasRoomOnceTold told call.frames }
-    ensures { HasActed A.next ports.old ports.new txn.old txn.new call.frames.top result }
+    ensures { HasCallerActed A.next ports.old ports.new txn.old txn.new call.frames.top result }
 {
     let OpenCall {
         frames,
@@ -365,8 +365,8 @@ fn call_inside<A: App, C: Suppliable>(
     key: Key,
 ) -> Acted
     requires asks { asks_next A.next txn.old.objects call.frames.inner.key call.given ≡ Some (Ask.Call key) }
-    requires waits { IsWaiting A.next ports.old txn.old call.frames.top call.kept }
-    ensures { HasActed A.next ports.old ports.new txn.old txn.new call.frames.top result }
+    requires waits { IsAwaitingCaller A.next ports.old txn.old call.frames.top call.kept }
+    ensures { HasCallerActed A.next ports.old ports.new txn.old txn.new call.frames.top result }
 {
     let OpenCall {
         mut frames,
@@ -407,8 +407,8 @@ fn finish_inside<A: App, C: Suppliable>(
     bytes: Bytes,
 ) -> Acted
     requires asks { asks_next A.next txn.old.objects call.frames.inner.key call.given ≡ Some (Ask.Done bytes) }
-    requires waits { IsWaiting A.next ports.old txn.old call.frames.top call.kept }
-    ensures { HasActed A.next ports.old ports.new txn.old txn.new call.frames.top result }
+    requires waits { IsAwaitingCaller A.next ports.old txn.old call.frames.top call.kept }
+    ensures { HasCallerActed A.next ports.old ports.new txn.old txn.new call.frames.top result }
 {
     let Ok(copy) = Vec::from_slice(alloc, bytes.as_slice()) else {
         return unmoved(call);
@@ -425,8 +425,8 @@ pub(crate) fn act_inside<A: App, C: Suppliable>(
     act: Act,
 ) -> Acted
     requires asks { asks_next A.next txn.old.objects call.frames.inner.key call.given ≡ Some (ask_of act) }
-    requires waits { IsWaiting A.next ports.old txn.old call.frames.top call.kept }
-    ensures { HasActed A.next ports.old ports.new txn.old txn.new call.frames.top result }
+    requires waits { IsAwaitingCaller A.next ports.old txn.old call.frames.top call.kept }
+    ensures { HasCallerActed A.next ports.old ports.new txn.old txn.new call.frames.top result }
 {
     match act {
         Act::Call(key) => call_inside(alloc, ports, txn, call, key),

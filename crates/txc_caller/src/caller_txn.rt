@@ -5,7 +5,7 @@ ghost use Rattle.txc_txn.specs.Core.{left_pin, receipt_pin, Explains};
 ghost use Rattle.txc_txn.specs.Kept.{IsTxn};
 ghost use Rattle.txc_txn.specs.Sessions.{IsAtLeast};
 ghost use Rattle.txc_caller.specs.Acting.{ask_of, IsStepIn, IsStepOf};
-ghost use Rattle.txc_caller.specs.Ports.{HasGivenBack, HasUnpinned};
+ghost use Rattle.txc_caller.specs.Ports.{AreGivenBack, IsLetGo};
 ghost use Rattle.txc_caller.specs.Reading.{caller_of, top_or, AsksNext, KeepsReading};
 
 use crate::act::Act;
@@ -197,7 +197,7 @@ impl<A: App, C: Suppliable> CallerTxn<A, C> {
         ensures caller { IfOk result (λ it. it.1
             ≡ record (caller_of self) { ports = record self.ports { cushion = it.1.ports.cushion } }) }
         ensures given_back { IfOk result (λ it.
-            HasGivenBack self.txn.core.taken self.ports.cushion it.1.ports.cushion) }
+            AreGivenBack self.txn.core.taken self.ports.cushion it.1.ports.cushion) }
         ensures only_if { IsOk result → self.doing ≡ None }
         ensures handed_back { IfErr result (λ it. (it ≡ self) × IsSome self.doing) }
     {
@@ -227,8 +227,8 @@ impl<A: App, C: Suppliable> CallerTxn<A, C> {
         ensures history { result.ports.database.history ≡ self.ports.database.history }
         ensures row { result.ports.database.events ≡ self.ports.database.events }
         ensures node { result.ports.node ≡ self.ports.node }
-        ensures given_back { HasGivenBack self.txn.core.taken self.ports.cushion result.ports.cushion }
-        ensures unpinned { HasUnpinned (left_pin self.txn.core.pinning) self.ports.database result.ports.database }
+        ensures given_back { AreGivenBack self.txn.core.taken self.ports.cushion result.ports.cushion }
+        ensures unpinned { IsLetGo (left_pin self.txn.core.pinning) self.ports.database result.ports.database }
         ensures renew_after { result.renew_after ≡ self.renew_after }
     {
         let CallerTxn {

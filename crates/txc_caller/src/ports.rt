@@ -11,7 +11,7 @@ ghost use Rattle.txc_db.specs.Seen.{FrontValue};
 ghost use Rattle.txc_node.specs.declared.node.TheConstants.{MAX_CAPACITY, MAX_RECENT};
 ghost use Rattle.txc_stream.specs.declared.row.TheConstants.{MAX_CAPACITY as MAX_ROW};
 ghost use Rattle.txc_shared.specs.Nodes.{start_of};
-ghost use Rattle.txc_caller.specs.Ports.{CallerAddLeads, CallerFindLeads, CallerInsertLeads, CallerLookupLeads, CallerPinLeads, CallerSweepLeads, CallerUnpinLeads, AreUnpinned, HasGivenBack, HasRetired, HasUnpinned};
+ghost use Rattle.txc_caller.specs.Ports.{CallerAddLeads, CallerFindLeads, CallerInsertLeads, CallerLookupLeads, CallerPinLeads, CallerSweepLeads, CallerUnpinLeads, AreLetGo, AreGivenBack, HasRetired, IsLetGo};
 
 use crate::nodes;
 use std::alloc::{AllocError, Global};
@@ -191,7 +191,7 @@ impl<A: App> Ports<A> {
 
     /// Takes the hold of a pin away that was not added, if there is one. It takes no memory.
     pub(crate) fn let_go(&mut self, unpin: Option<Stamp>)
-        ensures unpinned { HasUnpinned unpin self.old.database self.new.database }
+        ensures unpinned { IsLetGo unpin self.old.database self.new.database }
         ensures history { self.new.database.history ≡ self.old.database.history }
         ensures events { self.new.database.events ≡ self.old.database.events }
         ensures same { self.new ≡ record self.old { database = self.new.database } }
@@ -217,7 +217,7 @@ impl<A: App> Ports<A> {
 
     // Takes a hold of each of the stamps away.
     fn let_each_go(&mut self, stamps: &[Stamp])
-        ensures unpinned { AreUnpinned stamps.now self.old.database self.new.database }
+        ensures unpinned { AreLetGo stamps.now self.old.database self.new.database }
         ensures same { self.new ≡ record self.old { database = self.new.database } }
     {
         for stamp in stamps {
@@ -306,7 +306,7 @@ impl<A: App> Ports<A> {
     /// Gives the pins back, one user of each. It takes no memory.
     pub(crate) fn give_back(&mut self, stamps: &[Stamp])
         ensures same { self.new ≡ record self.old { cushion = self.new.cushion } }
-        ensures after { HasGivenBack stamps.now self.old.cushion self.new.cushion }
+        ensures after { AreGivenBack stamps.now self.old.cushion self.new.cushion }
     {
         match self.cushion.give_back(stamps) {
             Ok(()) => (),

@@ -1,6 +1,6 @@
 use Rattle.std.proofs.Common.{subst}
 use Rattle.txc_tags.specs.Keys.{Call}
-use Rattle.txc_caller.specs.Acting.{HasActed}
+use Rattle.txc_caller.specs.Acting.{HasCallerActed}
 use Rattle.txc_caller.specs.Standing.{IsStanding}
 use Rattle.txc_caller.specs.declared.stand.Stand.{Stand}
 use Rattle.txc_caller.proofs.Acts.{acted_then, waits_as, waits_then}
@@ -16,7 +16,7 @@ pub returns-in-Kept : goal.returns-in-Kept
 returns-in-Kept g c =
     acted_then g.A.App.next c.args.ports.now c.start.new.ports c.args.txn.now c.start.new.txn c.args.key c.start.ensures.keeps c.start.ensures.events
     c.start.result c.start.ensures.stands c.in-Kept.kept c.in-Kept.is c.first_reply.new.ports c.first_reply.new.txn c.first_reply.result
-    (subst (λ (k : Call). HasActed g.A.App.next c.start.new.ports c.first_reply.new.ports c.start.new.txn c.first_reply.new.txn k c.first_reply.result) c.of-frames.ensures c.first_reply.ensures)
+    (subst (λ (k : Call). HasCallerActed g.A.App.next c.start.new.ports c.first_reply.new.ports c.start.new.txn c.first_reply.new.txn k c.first_reply.result) c.of-frames.ensures c.first_reply.ensures)
 
 pub returns-in-Value : goal.returns-in-Value
 returns-in-Value g c =

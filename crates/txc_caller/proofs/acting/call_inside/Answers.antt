@@ -1,7 +1,7 @@
 use Rattle.std.proofs.Common.{◌≡◌, ◌∙◌, Some, ap, sym, subst}
 use Rattle.txc_tags.specs.Keys.{Call}
 use Rattle.txc_app.specs.declared.ask.Ask.TheVariants as asks
-use Rattle.txc_caller.specs.Acting.{HasActed, IsActOf}
+use Rattle.txc_caller.specs.Acting.{HasCallerActed, IsActOf}
 use Rattle.txc_caller.specs.Standing.{asks_next}
 use Rattle.txc_caller.specs.declared.frames.Called.{Called}
 use Rattle.txc_caller.proofs.Acts.{acted_self, waits_as}
@@ -22,4 +22,4 @@ hand_over-requires g c = record {
 
 pub returns : goal.returns
 returns g c =
-    subst (λ (k : Call). HasActed g.A.App.next c.args.ports.now c.hand_over.new.ports c.args.txn.now c.hand_over.new.txn k c.hand_over.result) c.make_room.ensures.top c.hand_over.ensures
+    subst (λ (k : Call). HasCallerActed g.A.App.next c.args.ports.now c.hand_over.new.ports c.args.txn.now c.hand_over.new.txn k c.hand_over.result) c.make_room.ensures.top c.hand_over.ensures
