@@ -10,9 +10,9 @@ use Rattle.txc_caller.specs.declared.frames.OpenCall.{OpenCall}
 use Rattle.txc_caller.specs.declared.step.CallerError.{CallerError}
 use Rattle.txc_caller.specs.declared.step.Step.{Step}
 use Rattle.txc_caller.specs.declared.step.Step.TheVariants as steps
-use Rattle.txc_c.specs.Asking.{buffer, given_up_number, Buffer, HasSteppedIn}
+use Rattle.txc_c.specs.Asking.{buffer, given_up_number, Buffer, HasOpenCallStepped}
 use Rattle.txc_c.specs.Opaque.{opaque_next}
-use Rattle.txc_c.specs.Telling.{given_of, step_bytes, step_len, step_number}
+use Rattle.txc_c.specs.Telling.{last_given, step_bytes, step_len, step_number}
 use Rattle.txc_c.specs.Told.{written_in}
 use Rattle.txc_c.specs.declared.numbers.TheConstants.{DONE, MISS}
 
@@ -36,9 +36,9 @@ buffer_is : (bytes bytes' : List ℕ) (len len' : ℕ) → bytes' ≡ bytes → 
 buffer_is bytes bytes' len len' same lens = ap (λ (b : List ℕ). buffer b len') same ∙ ap (λ (l : ℕ). buffer bytes l) lens
 
 module _ (old new : CallerReading) (step : Result Step CallerError) (bytes bytes' : List ℕ) (len len' number : ℕ) (keeps : KeepsReading old new) (meant : IsTxn opaque_next new.txn)
-    (number_is : number ≡ step_number (length bytes) (given_of new) step) (len_is : len' ≡ step_len (given_of new) step len)
-    (bytes_are : bytes' ≡ step_bytes (given_of new) step bytes) where
-  pub stepped_in : (doing : Option OpenCall) → IsStepIn doing old new step → HasSteppedIn doing old new number (buffer bytes len) (buffer bytes' len')
+    (number_is : number ≡ step_number (length bytes) (last_given new) step) (len_is : len' ≡ step_len (last_given new) step len)
+    (bytes_are : bytes' ≡ step_bytes (last_given new) step bytes) where
+  pub stepped_in : (doing : Option OpenCall) → IsStepIn doing old new step → HasOpenCallStepped doing old new number (buffer bytes len) (buffer bytes' len')
   stepped_in (Some o) h = record {
     step = step;
     is_step = h;
@@ -49,11 +49,11 @@ module _ (old new : CallerReading) (step : Result Step CallerError) (bytes bytes
     bytes_are = bytes_are;
   }
   stepped_in None h = (
-    number_is ∙ ap (step_number (length bytes) (given_of new)) h.0,
+    number_is ∙ ap (step_number (length bytes) (last_given new)) h.0,
     (
       h.1,
-      buffer_is bytes bytes' len len' (bytes_are ∙ ap (λ (s : Result Step CallerError). step_bytes (given_of new) s bytes) h.0)
-          (len_is ∙ ap (λ (s : Result Step CallerError). step_len (given_of new) s len) h.0),
+      buffer_is bytes bytes' len len' (bytes_are ∙ ap (λ (s : Result Step CallerError). step_bytes (last_given new) s bytes) h.0)
+          (len_is ∙ ap (λ (s : Result Step CallerError). step_len (last_given new) s len) h.0),
     ),
   )
 

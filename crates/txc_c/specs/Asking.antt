@@ -27,7 +27,7 @@ use Rattle.txc_c.specs.Crossing.{is_call, named_call}
 use Rattle.txc_c.specs.Opaque.{opaque_next}
 use Rattle.txc_c.specs.Receipts.{crossing_row, is_query, query_of}
 use Rattle.txc_c.specs.Sites.{Stays}
-use Rattle.txc_c.specs.Telling.{bytes_number, given_of, last_bytes, last_len, last_number, step_bytes, step_len, step_number}
+use Rattle.txc_c.specs.Telling.{bytes_number, last_given, last_bytes, last_len, last_number, step_bytes, step_len, step_number}
 use Rattle.txc_c.specs.Told.{written_in}
 use Rattle.txc_c.specs.Turning.{database_number}
 use Rattle.txc_c.specs.declared.crossing.TxcKey.{TxcKey}
@@ -61,30 +61,30 @@ buffer bytes len = record { bytes = bytes; len = len }
 
 -- The step of that call has come to this, and is told by this number and in the buffer. The transaction explains
 -- its answers as before.
-pub record HasStepped (k : Call) (old new : CallerReading) (number : ℕ) (was is : Buffer) : Type 0 where
+pub record HasCallStepped (k : Call) (old new : CallerReading) (number : ℕ) (was is : Buffer) : Type 0 where
   pub step : Result Step CallerError
   pub is_step : IsStepOf old.txn.core.recorded k new.txn.core.recorded new.doing step
   pub keeps : KeepsReading old new
   pub meant : IsTxn opaque_next new.txn
-  pub number_is : number ≡ step_number (length was.bytes) (given_of new) step
-  pub len_is : is.len ≡ step_len (given_of new) step was.len
-  pub bytes_are : is.bytes ≡ step_bytes (given_of new) step was.bytes
+  pub number_is : number ≡ step_number (length was.bytes) (last_given new) step
+  pub len_is : is.len ≡ step_len (last_given new) step was.len
+  pub bytes_are : is.bytes ≡ step_bytes (last_given new) step was.bytes
 
 -- the step of the open call; without one it is refused, and all is as it was
-abbrev pub HasSteppedIn : Option OpenCall → CallerReading → CallerReading → ℕ → Buffer → Buffer → Type 0
-HasSteppedIn (Some o) old new number was is = HasStepped o.frames.top old new number was is
-HasSteppedIn None old new number was is = (number ≡ NOT_OPEN) × (new ≡ old) × (is ≡ was)
+abbrev pub HasOpenCallStepped : Option OpenCall → CallerReading → CallerReading → ℕ → Buffer → Buffer → Type 0
+HasOpenCallStepped (Some o) old new number was is = HasCallStepped o.frames.top old new number was is
+HasOpenCallStepped None old new number was is = (number ≡ NOT_OPEN) × (new ≡ old) × (is ≡ was)
 
 -- ---- a call
 
-abbrev pub CallSiteLeads : Call → Buffer → Buffer → Site → ℕ → Site → Type 0
-CallSiteLeads k was is (Reading old) number (Reading new) = HasStepped (top_or old.doing k) old new number was is
-CallSiteLeads k was is (Reading old) number new = ⊥
-CallSiteLeads k was is old number new = Stays NOT_OPEN old number new × (is ≡ was)
+abbrev pub CallSiteComesTo : Call → Buffer → Buffer → Site → ℕ → Site → Type 0
+CallSiteComesTo k was is (Reading old) number (Reading new) = HasCallStepped (top_or old.doing k) old new number was is
+CallSiteComesTo k was is (Reading old) number new = ⊥
+CallSiteComesTo k was is old number new = Stays NOT_OPEN old number new × (is ≡ was)
 
-abbrev pub CallLeads : TxcKey → Buffer → Buffer → Site → ℕ → Site → Type 0
-CallLeads key was is old number new =
-    MatchBool (is_call key) (CallSiteLeads (named_call key) was is old number new)
+abbrev pub CallComesTo : TxcKey → Buffer → Buffer → Site → ℕ → Site → Type 0
+CallComesTo key was is old number new =
+    MatchBool (is_call key) (CallSiteComesTo (named_call key) was is old number new)
     (Stays BAD_ARGUMENT old number new × (is ≡ was))
 
 -- ---- the value of a function
@@ -92,12 +92,12 @@ CallLeads key was is old number new =
 -- such a step; or there was no memory for the bytes, and all is as it was
 abbrev pub HasFinished : CallerReading → CallerReading → ℕ → Buffer → Buffer → Type 0
 HasFinished old new number was is =
-    HasSteppedIn old.doing old new number was is ⊎ ((number ≡ NO_MEMORY) × (new ≡ old) × (is ≡ was))
+    HasOpenCallStepped old.doing old new number was is ⊎ ((number ≡ NO_MEMORY) × (new ≡ old) × (is ≡ was))
 
-abbrev pub FinishLeads : Buffer → Buffer → Site → ℕ → Site → Type 0
-FinishLeads was is (Reading old) number (Reading new) = HasFinished old new number was is
-FinishLeads was is (Reading old) number new = ⊥
-FinishLeads was is old number new = Stays NOT_OPEN old number new × (is ≡ was)
+abbrev pub FinishComesTo : Buffer → Buffer → Site → ℕ → Site → Type 0
+FinishComesTo was is (Reading old) number (Reading new) = HasFinished old new number was is
+FinishComesTo was is (Reading old) number new = ⊥
+FinishComesTo was is old number new = Stays NOT_OPEN old number new × (is ≡ was)
 
 -- ---- a query
 
@@ -119,18 +119,18 @@ abbrev pub HasAskedRows : Query → CallerWriting → ℕ → ℕ → ℕ → Li
 HasAskedRows query old number count count' found rows =
     HasFoundRows query old number count count' rows ⊎ HasRefusedRows query old number count count' found rows
 
-abbrev pub QuerySiteLeads : Query → ℕ → ℕ → Site → ℕ → Site → Type 0
-QuerySiteLeads query count count' (Reading old) number (Reading new) =
-    HasSteppedIn old.doing old new number (buffer [] count) (buffer [] count')
-QuerySiteLeads query count count' (Reading old) number new = ⊥
-QuerySiteLeads query count count' (Writing old found) number (Writing new rows) =
+abbrev pub QuerySiteComesTo : Query → ℕ → ℕ → Site → ℕ → Site → Type 0
+QuerySiteComesTo query count count' (Reading old) number (Reading new) =
+    HasOpenCallStepped old.doing old new number (buffer [] count) (buffer [] count')
+QuerySiteComesTo query count count' (Reading old) number new = ⊥
+QuerySiteComesTo query count count' (Writing old found) number (Writing new rows) =
     (new ≡ old) × HasAskedRows query old number count count' found.items rows.items
-QuerySiteLeads query count count' (Writing old found) number new = ⊥
-QuerySiteLeads query count count' (Resting c) number new = Stays NOT_OPEN (Resting c) number new × (count' ≡ count)
+QuerySiteComesTo query count count' (Writing old found) number new = ⊥
+QuerySiteComesTo query count count' (Resting c) number new = Stays NOT_OPEN (Resting c) number new × (count' ≡ count)
 
-abbrev pub QueryLeads : TxcQuery → ℕ → ℕ → Site → ℕ → Site → Type 0
-QueryLeads query count count' old number new =
-    MatchBool (is_query query) (QuerySiteLeads (query_of query) count count' old number new)
+abbrev pub QueryComesTo : TxcQuery → ℕ → ℕ → Site → ℕ → Site → Type 0
+QueryComesTo query count count' old number new =
+    MatchBool (is_query query) (QuerySiteComesTo (query_of query) count count' old number new)
     (Stays BAD_ARGUMENT old number new × (count' ≡ count))
 
 -- the rows that were found last
@@ -138,10 +138,10 @@ abbrev pub given_rows : Option Answer → List RowValue
 given_rows (Some (Rows rows)) = rows
 given_rows given = []
 
-abbrev pub rows_in : Site → List RowValue
-rows_in (Reading r) = given_rows (given_of r)
-rows_in (Writing w rows) = rows.items
-rows_in (Resting c) = []
+abbrev pub found_rows : Site → List RowValue
+found_rows (Reading r) = given_rows (last_given r)
+found_rows (Writing w rows) = rows.items
+found_rows (Resting c) = []
 
 -- ---- giving up
 
@@ -150,17 +150,17 @@ given_up_number (Some o) = DONE
 given_up_number None = MISS
 
 -- no call is open, and the answers are as before
-pub record HasGivenUp (old : CallerReading) (number : ℕ) (new : CallerReading) : Type 0 where
+pub record HasGivenCallUp (old : CallerReading) (number : ℕ) (new : CallerReading) : Type 0 where
   pub number_is : number ≡ given_up_number old.doing
   pub none : new.doing ≡ None
   pub recorded : new.txn.core.recorded ≡ old.txn.core.recorded
   pub keeps : KeepsReading old new
   pub meant : IsTxn opaque_next new.txn
 
-abbrev pub GiveUpLeads : Site → ℕ → Site → Type 0
-GiveUpLeads (Reading old) number (Reading new) = HasGivenUp old number new
-GiveUpLeads (Reading old) number new = ⊥
-GiveUpLeads old number new = Stays NOT_OPEN old number new
+abbrev pub GiveUpComesTo : Site → ℕ → Site → Type 0
+GiveUpComesTo (Reading old) number (Reading new) = HasGivenCallUp old number new
+GiveUpComesTo (Reading old) number new = ⊥
+GiveUpComesTo old number new = Stays NOT_OPEN old number new
 
 -- ---- changes
 
@@ -179,24 +179,24 @@ abbrev pub ChangeKept : Change → CallerWriting → ℕ → CallerWriting → T
 ChangeKept change old number new = (kept : Result (Unit {0}) TxnError) × (number ≡ change_number kept)
     × ChangeLeaves change old new kept
 
-abbrev pub ChangeLeads : Change → Site → ℕ → Site → Type 0
-ChangeLeads change (Writing old found) number (Writing new rows) = ChangeKept change old number new × (rows ≡ found)
-ChangeLeads change (Writing old found) number new = ⊥
-ChangeLeads change old number new = Stays NOT_OPEN old number new
+abbrev pub ChangeComesTo : Change → Site → ℕ → Site → Type 0
+ChangeComesTo change (Writing old found) number (Writing new rows) = ChangeKept change old number new × (rows ≡ found)
+ChangeComesTo change (Writing old found) number new = ⊥
+ChangeComesTo change old number new = Stays NOT_OPEN old number new
 
 -- a put of that row: there is no such table; or its body is none, or memory is wanting; or it is kept as a change
-abbrev pub PutRowLeads : RowValue → Site → ℕ → Site → Type 0
-PutRowLeads row old number new = (Stays BAD_ARGUMENT old number new × ¬ IsBody row.body)
-    ⊎ (Stays NO_MEMORY old number new ⊎ (IsBody row.body × ChangeLeads (Put row) old number new))
+abbrev pub PutRowComesTo : RowValue → Site → ℕ → Site → Type 0
+PutRowComesTo row old number new = (Stays BAD_ARGUMENT old number new × ¬ IsBody row.body)
+    ⊎ (Stays NO_MEMORY old number new ⊎ (IsBody row.body × ChangeComesTo (Put row) old number new))
 
-abbrev pub PutLeads : RowValue → Site → ℕ → Site → Type 0
-PutLeads row old number new =
-    MatchBool (nat_le row.table LAST_TABLE) (PutRowLeads row old number new) (Stays BAD_ARGUMENT old number new)
+abbrev pub PutComesTo : RowValue → Site → ℕ → Site → Type 0
+PutComesTo row old number new =
+    MatchBool (nat_le row.table LAST_TABLE) (PutRowComesTo row old number new) (Stays BAD_ARGUMENT old number new)
 
 -- a removal
-abbrev pub RemoveLeads : ℕ → ℕ → Site → ℕ → Site → Type 0
-RemoveLeads table id old number new =
-    MatchBool (nat_le table LAST_TABLE) (ChangeLeads (Remove table id) old number new) (Stays BAD_ARGUMENT old number new)
+abbrev pub RemoveComesTo : ℕ → ℕ → Site → ℕ → Site → Type 0
+RemoveComesTo table id old number new =
+    MatchBool (nat_le table LAST_TABLE) (ChangeComesTo (Remove table id) old number new) (Stays BAD_ARGUMENT old number new)
 
 -- ---- what is written once more
 
@@ -206,9 +206,9 @@ RowTold None number row row' was is = (number ≡ MISS) × (row' ≡ row) × (is
 RowTold (Some r) number row row' was is = (number ≡ bytes_number DONE (length was.bytes) r.body)
     × (row' ≡ crossing_row r) × (is.len ≡ length r.body) × (is.bytes ≡ written_in r.body was.bytes)
 
-abbrev pub RowLeads : ℕ → TxcRow → TxcRow → Buffer → Buffer → Site → ℕ → Site → Type 0
-RowLeads at row row' was is old number new =
-    (new ≡ old) × RowTold (slice_get (rows_in old) at) number row row' was is
+abbrev pub RowComesTo : ℕ → TxcRow → TxcRow → Buffer → Buffer → Site → ℕ → Site → Type 0
+RowComesTo at row row' was is old number new =
+    (new ≡ old) × RowTold (slice_get (found_rows old) at) number row row' was is
 
 -- what was answered last
 abbrev pub LastTold : Buffer → Buffer → Site → ℕ → Type 0
@@ -216,5 +216,5 @@ LastTold was is (Reading r) number = (number ≡ last_number (length was.bytes) 
     × (is.len ≡ last_len r was.len) × (is.bytes ≡ last_bytes r was.bytes)
 LastTold was is site number = (number ≡ NOT_OPEN) × (is ≡ was)
 
-abbrev pub LastLeads : Buffer → Buffer → Site → ℕ → Site → Type 0
-LastLeads was is old number new = (new ≡ old) × LastTold was is old number
+abbrev pub LastComesTo : Buffer → Buffer → Site → ℕ → Site → Type 0
+LastComesTo was is old number new = (new ≡ old) × LastTold was is old number

@@ -31,7 +31,7 @@ sweep_told (Ok count) was = record was { swept = count }
 sweep_told (Err error) was = was
 
 -- it drops what ends at the horizon or before it, and tells how many entries; or it refuses
-pub record HasSwept (horizon : ℕ) (old : CallerValue) (number : ℕ) (was is : TxcKept) (new : CallerValue) : Type 0 where
+pub record HasSweptNode (horizon : ℕ) (old : CallerValue) (number : ℕ) (was is : TxcKept) (new : CallerValue) : Type 0 where
   pub swept : Result ℕ NodeError
   pub leads : CallerSweepLeads horizon old.ports.node new.ports.node swept
   pub same : new ≡ record old { ports = record old.ports { node = new.ports.node } }
@@ -54,7 +54,7 @@ pub record HasRefusedVacuum (old : CallerValue) (number : ℕ) (was is : TxcKept
 -- the horizon is the least stamp held, or the newest, and is told, and the node is swept up to it
 abbrev pub HasVacuumed : CallerValue → ℕ → TxcKept → TxcKept → CallerValue → Type 0
 HasVacuumed old number was is new =
-    HasSwept (next_horizon old.ports.database) (vacuumed old) number (record was { horizon = next_horizon old.ports.database }) is new
+    HasSweptNode (next_horizon old.ports.database) (vacuumed old) number (record was { horizon = next_horizon old.ports.database }) is new
     ⊎ HasRefusedVacuum old number was is new
 
 -- ---- the pins
@@ -71,7 +71,7 @@ abbrev pub HasKept : ℕ → ℕ → CallerValue → ℕ → TxcKept → TxcKept
 HasKept now age old number was is new =
     HasKeptOn now age old number was is new ⊎ ((number ≡ NO_MEMORY) × (new ≡ old) × (is ≡ was))
 
-abbrev pub KeepLeads : ℕ → ℕ → TxcKept → TxcKept → Site → ℕ → Site → Type 0
-KeepLeads now age was is (Resting old) number (Resting new) = HasKept now age old number was is new
-KeepLeads now age was is (Resting old) number new = ⊥
-KeepLeads now age was is old number new = Stays ALREADY_OPEN old number new × (is ≡ was)
+abbrev pub KeepComesTo : ℕ → ℕ → TxcKept → TxcKept → Site → ℕ → Site → Type 0
+KeepComesTo now age was is (Resting old) number (Resting new) = HasKept now age old number was is new
+KeepComesTo now age was is (Resting old) number new = ⊥
+KeepComesTo now age was is old number new = Stays ALREADY_OPEN old number new × (is ≡ was)

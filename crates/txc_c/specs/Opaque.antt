@@ -11,11 +11,11 @@ pub opaque_next : Next
 opaque_next function args answers = Some (Done [])
 
 -- something is asked
-abbrev IsAsked : Option Ask → Type 0
-IsAsked None = ⊥
-IsAsked (Some ask) = Unit {0}
+abbrev AsksSome : Option Ask → Type 0
+AsksSome None = ⊥
+AsksSome (Some ask) = Unit {0}
 
 -- but that a function refuses no arguments
 pub takes_all : (function : ℕ) (args : List ℕ) → opaque_next function args [] ≢ None
 unfolding opaque_next
-takes_all function args is = subst IsAsked is tt
+takes_all function args is = subst AsksSome is tt

@@ -48,7 +48,7 @@ abbrev pub Stays : ℕ → Site → ℕ → Site → Type 0
 Stays wanted old number new = (number ≡ wanted) × (new ≡ old)
 
 -- What comes of a call of a handle: it has no site; or its site was led so.
-abbrev pub Leads : (Site → ℕ → Site → Type 0) → Option Site → ℕ → Option Site → Type 0
-Leads act None number new = (number ≡ CLOSED) × (new ≡ None)
-Leads act (Some old) number (Some new) = act old number new
-Leads act (Some old) number None = ⊥
+abbrev pub ComesTo : (Site → ℕ → Site → Type 0) → Option Site → ℕ → Option Site → Type 0
+ComesTo act None number new = (number ≡ CLOSED) × (new ≡ None)
+ComesTo act (Some old) number (Some new) = act old number new
+ComesTo act (Some old) number None = ⊥

@@ -35,8 +35,8 @@ abbrev pub given_in : Option OpenCall → Option Answer
 given_in None = None
 given_in (Some o) = o.given
 
-abbrev pub given_of : CallerReading → Option Answer
-given_of r = given_in r.doing
+abbrev pub last_given : CallerReading → Option Answer
+last_given r = given_in r.doing
 
 -- ---- a step
 
@@ -78,8 +78,8 @@ step_bytes given step old = old
 
 -- ---- what was answered last
 
-abbrev pub last_of : List Recorded → Option Recorded
-last_of recorded = slice_get recorded (length recorded - 1)
+abbrev pub last_recorded : List Recorded → Option Recorded
+last_recorded recorded = slice_get recorded (length recorded - 1)
 
 -- the value that the outermost call was answered last
 abbrev pub value_number : ℕ → Option Recorded → ℕ
@@ -101,21 +101,21 @@ computed_number room None = MISS
 -- to the function that is computed, or else to the outermost call
 abbrev pub last_number_in : ℕ → Option OpenCall → List Recorded → ℕ
 last_number_in room (Some o) recorded = computed_number room o.given
-last_number_in room None recorded = value_number room (last_of recorded)
+last_number_in room None recorded = value_number room (last_recorded recorded)
 
 abbrev pub last_number : ℕ → CallerReading → ℕ
 last_number room r = last_number_in room r.doing r.txn.core.recorded
 
 abbrev pub last_len_in : Option OpenCall → List Recorded → ℕ → ℕ
 last_len_in (Some o) recorded old = given_len o.given old
-last_len_in None recorded old = value_len (last_of recorded) old
+last_len_in None recorded old = value_len (last_recorded recorded) old
 
 abbrev pub last_len : CallerReading → ℕ → ℕ
 last_len r old = last_len_in r.doing r.txn.core.recorded old
 
 abbrev pub last_bytes_in : Option OpenCall → List Recorded → List ℕ → List ℕ
 last_bytes_in (Some o) recorded old = given_bytes o.given old
-last_bytes_in None recorded old = value_bytes (last_of recorded) old
+last_bytes_in None recorded old = value_bytes (last_recorded recorded) old
 
 abbrev pub last_bytes : CallerReading → List ℕ → List ℕ
 last_bytes r old = last_bytes_in r.doing r.txn.core.recorded old

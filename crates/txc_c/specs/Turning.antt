@@ -32,7 +32,7 @@ database_number error = REFUSED
 -- ---- beginnings
 
 -- it has the newest of the pins that its bounds allow, and the present; no call is open, and none was answered
-pub record IsBegun (bounds : Bounds) (c : CallerValue) (r : CallerReading) : Type 0 where
+pub record IsReadBegun (bounds : Bounds) (c : CallerValue) (r : CallerReading) : Type 0 where
   pub bounds : r.txn.core.bounds ≡ bounds
   pub recorded : r.txn.core.recorded ≡ []
   pub members : r.txn.core.pins.members ≡ handed_out c.ports.cushion bounds.now bounds.staleness bounds.at_least
@@ -41,31 +41,31 @@ pub record IsBegun (bounds : Bounds) (c : CallerValue) (r : CallerReading) : Typ
   pub caller : caller_of r ≡ record c { ports = record c.ports { cushion = r.ports.cushion } }
 
 -- at rest: the transaction begins; or memory is wanting
-abbrev pub BegunLeads : Bounds → CallerValue → ℕ → Site → Type 0
-BegunLeads bounds c number (Reading r) = (number ≡ DONE) × IsBegun bounds c r
-BegunLeads bounds c number (Resting left) = (number ≡ NO_MEMORY)
+abbrev pub BegunComesTo : Bounds → CallerValue → ℕ → Site → Type 0
+BegunComesTo bounds c number (Reading r) = (number ≡ DONE) × IsReadBegun bounds c r
+BegunComesTo bounds c number (Resting left) = (number ≡ NO_MEMORY)
     × (left ≡ record c { ports = record c.ports { cushion = left.ports.cushion } })
-BegunLeads bounds c number (Writing w rows) = ⊥
+BegunComesTo bounds c number (Writing w rows) = ⊥
 
-abbrev pub BeginAtRestLeads : Bounds → Site → ℕ → Site → Type 0
-BeginAtRestLeads bounds (Resting c) number new = BegunLeads bounds c number new
-BeginAtRestLeads bounds old number new = Stays ALREADY_OPEN old number new
+abbrev pub BeginAtRestComesTo : Bounds → Site → ℕ → Site → Type 0
+BeginAtRestComesTo bounds (Resting c) number new = BegunComesTo bounds c number new
+BeginAtRestComesTo bounds old number new = Stays ALREADY_OPEN old number new
 
 -- of a transaction that only reads
-abbrev pub BeginLeads : ℕ → ℕ → ℕ → Site → ℕ → Site → Type 0
-BeginLeads now staleness at_least old number new = MatchBool (is_stamp at_least)
-    (BeginAtRestLeads (record { now = now; staleness = staleness; at_least = at_least }) old number new)
+abbrev pub BeginComesTo : ℕ → ℕ → ℕ → Site → ℕ → Site → Type 0
+BeginComesTo now staleness at_least old number new = MatchBool (is_stamp at_least)
+    (BeginAtRestComesTo (record { now = now; staleness = staleness; at_least = at_least }) old number new)
     (Stays BAD_ARGUMENT old number new)
 
 -- of one that writes
-abbrev pub BegunWriteLeads : CallerValue → ℕ → Site → Type 0
-BegunWriteLeads c number (Writing w rows) = (number ≡ DONE) × IsBegunWrite c w × (rows.items ≡ [])
-BegunWriteLeads c number (Resting left) = (number ≡ NO_MEMORY) × (left ≡ c)
-BegunWriteLeads c number (Reading r) = ⊥
+abbrev pub BegunWriteComesTo : CallerValue → ℕ → Site → Type 0
+BegunWriteComesTo c number (Writing w rows) = (number ≡ DONE) × IsBegunWrite c w × (rows.items ≡ [])
+BegunWriteComesTo c number (Resting left) = (number ≡ NO_MEMORY) × (left ≡ c)
+BegunWriteComesTo c number (Reading r) = ⊥
 
-abbrev pub BeginWriteLeads : Site → ℕ → Site → Type 0
-BeginWriteLeads (Resting c) number new = BegunWriteLeads c number new
-BeginWriteLeads old number new = Stays ALREADY_OPEN old number new
+abbrev pub BeginWriteComesTo : Site → ℕ → Site → Type 0
+BeginWriteComesTo (Resting c) number new = BegunWriteComesTo c number new
+BeginWriteComesTo old number new = Stays ALREADY_OPEN old number new
 
 -- ---- ends
 
@@ -80,18 +80,18 @@ pub record HasCommitted (r : CallerReading) (receipt : TxcReceipt) (c : CallerVa
   pub given_back : AreGivenBack r.txn.core.taken r.ports.cushion c.ports.cushion
   pub caller : c ≡ record (caller_of r) { ports = record r.ports { cushion = c.ports.cushion } }
 
-abbrev pub CommittedLeads : CallerReading → TxcReceipt → TxcReceipt → ℕ → Site → Type 0
-CommittedLeads r was is number (Resting c) = (number ≡ DONE) × HasCommitted r is c
-CommittedLeads r was is number (Reading left) = (number ≡ MID_CALL) × (left ≡ r) × IsSome r.doing × (is ≡ was)
-CommittedLeads r was is number (Writing w rows) = ⊥
+abbrev pub CommittedComesTo : CallerReading → TxcReceipt → TxcReceipt → ℕ → Site → Type 0
+CommittedComesTo r was is number (Resting c) = (number ≡ DONE) × HasCommitted r is c
+CommittedComesTo r was is number (Reading left) = (number ≡ MID_CALL) × (left ≡ r) × IsSome r.doing × (is ≡ was)
+CommittedComesTo r was is number (Writing w rows) = ⊥
 
 -- of a transaction that only reads; the receipt is written where it is done
-abbrev pub CommitLeads : TxcReceipt → TxcReceipt → Site → ℕ → Site → Type 0
-CommitLeads was is (Reading r) number new = CommittedLeads r was is number new
-CommitLeads was is old number new = Stays NOT_OPEN old number new × (is ≡ was)
+abbrev pub CommitComesTo : TxcReceipt → TxcReceipt → Site → ℕ → Site → Type 0
+CommitComesTo was is (Reading r) number new = CommittedComesTo r was is number new
+CommitComesTo was is old number new = Stays NOT_OPEN old number new × (is ≡ was)
 
 -- the changes are made of the newest state, whose stamp is told
-pub record HasWritten (w : CallerWriting) (stamp : ℕ) (c : CallerValue) : Type 0 where
+pub record HasCommittedWrite (w : CallerWriting) (stamp : ℕ) (c : CallerValue) : Type 0 where
   pub after : c.ports.database ≡ after_commit w.caller.ports.database w.changes
   pub told : stamp ≡ newest c.ports.database
   pub same : c ≡ record w.caller {
@@ -108,15 +108,15 @@ pub record HasRefusedWrite (w : CallerWriting) (number : ℕ) (left : CallerWrit
     caller = record w.caller { ports = record w.caller.ports { database = left.caller.ports.database } };
   }
 
-abbrev pub WrittenLeads : CallerWriting → List RowValue → ℕ → ℕ → ℕ → Site → Type 0
-WrittenLeads w found was is number (Resting c) = (number ≡ DONE) × HasWritten w is c
-WrittenLeads w found was is number (Writing left rows) = HasRefusedWrite w number left × (rows.items ≡ found) × (is ≡ was)
-WrittenLeads w found was is number (Reading r) = ⊥
+abbrev pub WrittenComesTo : CallerWriting → List RowValue → ℕ → ℕ → ℕ → Site → Type 0
+WrittenComesTo w found was is number (Resting c) = (number ≡ DONE) × HasCommittedWrite w is c
+WrittenComesTo w found was is number (Writing left rows) = HasRefusedWrite w number left × (rows.items ≡ found) × (is ≡ was)
+WrittenComesTo w found was is number (Reading r) = ⊥
 
 -- of one that writes; the stamp is written where it is done
-abbrev pub CommitWriteLeads : ℕ → ℕ → Site → ℕ → Site → Type 0
-CommitWriteLeads was is (Writing w rows) number new = WrittenLeads w rows.items was is number new
-CommitWriteLeads was is old number new = Stays NOT_OPEN old number new × (is ≡ was)
+abbrev pub CommitWriteComesTo : ℕ → ℕ → Site → ℕ → Site → Type 0
+CommitWriteComesTo was is (Writing w rows) number new = WrittenComesTo w rows.items was is number new
+CommitWriteComesTo was is old number new = Stays NOT_OPEN old number new × (is ≡ was)
 
 -- the transaction is given up: what it has kept at the node stays, and so does the history
 pub record HasAborted (r : CallerReading) (c : CallerValue) : Type 0 where
@@ -128,8 +128,8 @@ pub record HasAborted (r : CallerReading) (c : CallerValue) : Type 0 where
   pub unpinned : IsLetGo (left_pin r.txn.core.pinning) r.ports.database c.ports.database
   pub renew_after : c.renew_after ≡ r.renew_after
 
-abbrev pub AbortLeads : Site → ℕ → Site → Type 0
-AbortLeads (Reading r) number (Resting c) = (number ≡ DONE) × HasAborted r c
-AbortLeads (Writing w rows) number (Resting c) = (number ≡ DONE) × (c ≡ w.caller)
-AbortLeads (Resting c) number new = Stays NOT_OPEN (Resting c) number new
-AbortLeads old number new = ⊥
+abbrev pub AbortComesTo : Site → ℕ → Site → Type 0
+AbortComesTo (Reading r) number (Resting c) = (number ≡ DONE) × HasAborted r c
+AbortComesTo (Writing w rows) number (Resting c) = (number ≡ DONE) × (c ≡ w.caller)
+AbortComesTo (Resting c) number new = Stays NOT_OPEN (Resting c) number new
+AbortComesTo old number new = ⊥

@@ -2,7 +2,7 @@
 ghost use Rattle.std.specs.Prelude.{◌≡◌, [], IsSome};
 ghost use Rattle.txc_app.specs.declared.ask.Ask.TheVariants as asks;
 ghost use Rattle.txc_caller.specs.Reading.{top_or, AsksNext};
-ghost use Rattle.txc_c.specs.Asking.{buffer, HasAskedRows, HasFinished, HasGivenUp, HasStepped, HasSteppedIn};
+ghost use Rattle.txc_c.specs.Asking.{buffer, HasAskedRows, HasFinished, HasGivenCallUp, HasCallStepped, HasOpenCallStepped};
 ghost use Rattle.txc_c.specs.Opaque.{opaque_next};
 
 use crate::numbers::{ANSWERED, DONE, MISS, NO_MEMORY};
@@ -24,7 +24,7 @@ pub(crate) fn call(
     len: &mut usize,
 ) -> u32
     requires { AsksNext opaque_next txn.old (asks.Call key) }
-    ensures { HasStepped (top_or txn.old.doing key) txn.old txn.new result
+    ensures { HasCallStepped (top_or txn.old.doing key) txn.old txn.new result
         (buffer value.old len.old) (buffer value.new len.new) }
 {
     let step = txn.call(alloc, key);
@@ -39,7 +39,7 @@ pub(crate) fn query(
     count: &mut usize,
 ) -> u32
     requires { AsksNext opaque_next txn.old (asks.Query query) }
-    ensures { HasSteppedIn txn.old.doing txn.old txn.new result (buffer [] count.old) (buffer [] count.new) }
+    ensures { HasOpenCallStepped txn.old.doing txn.old txn.new result (buffer [] count.old) (buffer [] count.new) }
 {
     let step = txn.query(alloc, query);
     tell_step(txn, step, &mut [], count)
@@ -54,7 +54,7 @@ fn finish_with(
     len: &mut usize,
 ) -> u32
     requires { AsksNext opaque_next txn.old (asks.Done bytes.items) }
-    ensures { HasSteppedIn txn.old.doing txn.old txn.new result
+    ensures { HasOpenCallStepped txn.old.doing txn.old txn.new result
         (buffer value.old len.old) (buffer value.new len.new) }
 {
     let step = txn.finish(alloc, bytes);
@@ -80,7 +80,7 @@ pub(crate) fn finish(
 
 /// Gives the open call up.
 pub(crate) fn give_up(txn: &mut CallerTxn<Opaque, Object>) -> u32
-    ensures { HasGivenUp txn.old result txn.new }
+    ensures { HasGivenCallUp txn.old result txn.new }
 {
     if txn.give_up() { DONE } else { MISS }
 }

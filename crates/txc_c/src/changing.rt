@@ -1,7 +1,7 @@
 //! What a transaction of a site changes that writes.
 ghost use Rattle.std.specs.Prelude.{◌≡◌};
 ghost use Rattle.txc_rows.specs.declared.query.Change.TheVariants.{Put, Remove};
-ghost use Rattle.txc_c.specs.Asking.{change_number, ChangeKept, ChangeLeads, PutLeads, PutRowLeads, RemoveLeads};
+ghost use Rattle.txc_c.specs.Asking.{change_number, ChangeKept, ChangeComesTo, PutComesTo, PutRowComesTo, RemoveComesTo};
 
 use crate::numbers::{BAD_ARGUMENT, DONE, NO_MEMORY, NOT_OPEN, REFUSED};
 use crate::opaque::Opaque;
@@ -42,7 +42,7 @@ fn remove(write: &mut CallerWrite<Opaque, Object>, table: Table, id: u32) -> u32
 impl Site {
     // The row is to stand once the transaction is committed.
     fn put_row(&mut self, row: Row) -> u32
-        ensures { ChangeLeads (Put row) self.old result self.new }
+        ensures { ChangeComesTo (Put row) self.old result self.new }
     {
         match self {
             Site::Writing(write, _) => put(write, row),
@@ -53,7 +53,7 @@ impl Site {
 
     // The same of a row of that table, with a copy of the body.
     fn put_in(&mut self, alloc: Global, table: Table, id: u32, group: u32, body: &[u8]) -> u32
-        ensures { PutRowLeads (record { table = table; id = id; group = group; body = body.now })
+        ensures { PutRowComesTo (record { table = table; id = id; group = group; body = body.now })
             self.old result self.new }
     {
         let Ok(copy) = body.to_vec(alloc) else {
@@ -67,7 +67,7 @@ impl Site {
 
     /// A row is to stand once the transaction is committed.
     pub(crate) fn put(&mut self, alloc: Global, table: u8, id: u32, group: u32, body: &[u8]) -> u32
-        ensures { PutLeads (record { table = table; id = id; group = group; body = body.now })
+        ensures { PutComesTo (record { table = table; id = id; group = group; body = body.now })
             self.old result self.new }
     {
         let Some(table) = Table::new(table) else {
@@ -78,7 +78,7 @@ impl Site {
 
     // No row is to stand there once the transaction is committed.
     fn remove_row(&mut self, table: Table, id: u32) -> u32
-        ensures { ChangeLeads (Remove table id) self.old result self.new }
+        ensures { ChangeComesTo (Remove table id) self.old result self.new }
     {
         match self {
             Site::Writing(write, _) => remove(write, table, id),
@@ -89,7 +89,7 @@ impl Site {
 
     /// No row is to stand at the table and id once the transaction is committed.
     pub(crate) fn remove(&mut self, table: u8, id: u32) -> u32
-        ensures { RemoveLeads table id self.old result self.new }
+        ensures { RemoveComesTo table id self.old result self.new }
     {
         let Some(table) = Table::new(table) else {
             return BAD_ARGUMENT;

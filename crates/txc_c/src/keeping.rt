@@ -1,6 +1,6 @@
 //! What keeps a site small, while no transaction is open.
 ghost use Rattle.std.specs.Prelude.{◌≡◌};
-ghost use Rattle.txc_c.specs.Keeping.{node_number, HasKept, HasSwept, HasVacuumed, KeepLeads};
+ghost use Rattle.txc_c.specs.Keeping.{node_number, HasKept, HasSweptNode, HasVacuumed, KeepComesTo};
 
 use crate::numbers::{ALREADY_OPEN, DONE, NO_MEMORY, REFUSED};
 use crate::opaque::Opaque;
@@ -37,7 +37,7 @@ fn sweep(
     horizon: Stamp,
     kept: &mut TxcKept,
 ) -> u32
-    ensures { HasSwept horizon caller.old result kept.old kept.new caller.new }
+    ensures { HasSweptNode horizon caller.old result kept.old kept.new caller.new }
 {
     match caller.sweep(alloc, horizon) {
         Ok(count) => {
@@ -81,7 +81,7 @@ fn keep(
 impl Site {
     /// Retires the pins that are more than `age` before `now`, both in milliseconds, and drops what no transaction can read any more.
     pub(crate) fn keep(&mut self, alloc: Global, now: u64, age: u64, kept: &mut TxcKept) -> u32
-        ensures { KeepLeads now age kept.old kept.new self.old result self.new }
+        ensures { KeepComesTo now age kept.old kept.new self.old result self.new }
     {
         match self {
             Site::Resting(caller) => keep(alloc, caller, now, age, kept),

@@ -3,8 +3,8 @@ ghost use Rattle.std.specs.Prelude.{◌≡◌, MatchOption, None, Some, slice_ge
 ghost use Rattle.txc_app.specs.declared.ask.Ask.TheVariants as asks;
 ghost use Rattle.txc_c.specs.Crossing.{named_call};
 ghost use Rattle.txc_c.specs.Receipts.{query_of};
-ghost use Rattle.txc_c.specs.Asking.{buffer, given_rows, rows_in, CallLeads, CallSiteLeads, FinishLeads, GiveUpLeads, LastTold, QueryLeads, QuerySiteLeads, RowTold, SiteAsksNext};
-ghost use Rattle.txc_c.specs.Telling.{given_of};
+ghost use Rattle.txc_c.specs.Asking.{buffer, given_rows, found_rows, CallComesTo, CallSiteComesTo, FinishComesTo, GiveUpComesTo, LastTold, QueryComesTo, QuerySiteComesTo, RowTold, SiteAsksNext};
+ghost use Rattle.txc_c.specs.Telling.{last_given};
 
 use crate::asking;
 use crate::crossing::TxcKey;
@@ -32,8 +32,8 @@ fn row_in(answer: &Answer, at: usize) -> Option<&Row>
 
 // A row of those that the function was answered last.
 fn row_given(txn: &CallerTxn<Opaque, Object>, at: usize) -> Option<&Row>
-    ensures { MatchOption result (slice_get (given_rows (given_of txn.now)) at ≡ None)
-        (λ row. slice_get (given_rows (given_of txn.now)) at ≡ Some row.now) }
+    ensures { MatchOption result (slice_get (given_rows (last_given txn.now)) at ≡ None)
+        (λ row. slice_get (given_rows (last_given txn.now)) at ≡ Some row.now) }
 {
     match txn.answer() {
         Some(answer) => row_in(answer, at),
@@ -45,7 +45,7 @@ impl Site {
     // Asks for the value of a call.
     fn call_key(&mut self, alloc: Global, key: Key, value: &mut [u8], len: &mut usize) -> u32
         requires { SiteAsksNext (asks.Call key) self.old }
-        ensures { CallSiteLeads key (buffer value.old len.old) (buffer value.new len.new)
+        ensures { CallSiteComesTo key (buffer value.old len.old) (buffer value.new len.new)
             self.old result self.new }
     {
         match self {
@@ -64,7 +64,7 @@ impl Site {
         len: &mut usize,
     ) -> u32
         requires { SiteAsksNext (asks.Call (named_call key.now)) self.old }
-        ensures { CallLeads key.now (buffer value.old len.old) (buffer value.new len.new)
+        ensures { CallComesTo key.now (buffer value.old len.old) (buffer value.new len.new)
             self.old result self.new }
     {
         let Some(key) = key.key() else {
@@ -76,7 +76,7 @@ impl Site {
     // Asks for the rows of a query.
     fn ask_query(&mut self, alloc: Global, query: Query, count: &mut usize) -> u32
         requires { SiteAsksNext (asks.Query query) self.old }
-        ensures { QuerySiteLeads query count.old count.new self.old result self.new }
+        ensures { QuerySiteComesTo query count.old count.new self.old result self.new }
     {
         match self {
             Site::Reading(txn) => asking::query(alloc, txn, query, count),
@@ -88,7 +88,7 @@ impl Site {
     /// Asks for the rows of a query: by the function that is computed, or by the transaction that writes.
     pub(crate) fn query(&mut self, alloc: Global, query: &TxcQuery, count: &mut usize) -> u32
         requires { SiteAsksNext (asks.Query (query_of query.now)) self.old }
-        ensures { QueryLeads query.now count.old count.new self.old result self.new }
+        ensures { QueryComesTo query.now count.old count.new self.old result self.new }
     {
         let Some(query) = query.query() else {
             return BAD_ARGUMENT;
@@ -98,8 +98,8 @@ impl Site {
 
     // A row of those that were found last.
     fn row_at(&self, at: usize) -> Option<&Row>
-        ensures { MatchOption result (slice_get (rows_in self.now) at ≡ None)
-            (λ row. slice_get (rows_in self.now) at ≡ Some row.now) }
+        ensures { MatchOption result (slice_get (found_rows self.now) at ≡ None)
+            (λ row. slice_get (found_rows self.now) at ≡ Some row.now) }
     {
         match self {
             Site::Reading(txn) => row_given(txn, at),
@@ -116,7 +116,7 @@ impl Site {
         body: &mut [u8],
         len: &mut usize,
     ) -> u32
-        ensures { RowTold (slice_get (rows_in self.now) at) result row.old row.new
+        ensures { RowTold (slice_get (found_rows self.now) at) result row.old row.new
             (buffer body.old len.old) (buffer body.new len.new) }
     {
         let Some(found) = self.row_at(at) else {
@@ -135,7 +135,7 @@ impl Site {
         len: &mut usize,
     ) -> u32
         requires { SiteAsksNext (asks.Done bytes.now) self.old }
-        ensures { FinishLeads (buffer value.old len.old) (buffer value.new len.new)
+        ensures { FinishComesTo (buffer value.old len.old) (buffer value.new len.new)
             self.old result self.new }
     {
         match self {
@@ -158,7 +158,7 @@ impl Site {
 
     /// Gives the open call up.
     pub(crate) fn give_up(&mut self) -> u32
-        ensures { GiveUpLeads self.old result self.new }
+        ensures { GiveUpComesTo self.old result self.new }
     {
         match self {
             Site::Reading(txn) => asking::give_up(txn),

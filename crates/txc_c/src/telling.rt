@@ -1,6 +1,6 @@
 //! What is told of a step, and written for the caller.
 ghost use Rattle.std.specs.Prelude.{◌≡◌, length};
-ghost use Rattle.txc_c.specs.Telling.{answer_bytes, answer_len, answer_number, bytes_number, given_of, last_bytes, last_len, last_number, step_bytes, step_len, step_number};
+ghost use Rattle.txc_c.specs.Telling.{answer_bytes, answer_len, answer_number, bytes_number, last_given, last_bytes, last_len, last_number, step_bytes, step_len, step_number};
 ghost use Rattle.txc_c.specs.Told.{written_in};
 
 use crate::numbers::{
@@ -77,9 +77,9 @@ pub(crate) fn tell_step(
     value: &mut [u8],
     len: &mut usize,
 ) -> u32
-    ensures number { result ≡ step_number (length value.old) (given_of txn.now) step }
-    ensures len { len.new ≡ step_len (given_of txn.now) step len.old }
-    ensures bytes { value.new ≡ step_bytes (given_of txn.now) step value.old }
+    ensures number { result ≡ step_number (length value.old) (last_given txn.now) step }
+    ensures len { len.new ≡ step_len (last_given txn.now) step len.old }
+    ensures bytes { value.new ≡ step_bytes (last_given txn.now) step value.old }
 {
     match step {
         Ok(Step::Compute) => COMPUTE,

@@ -1,6 +1,6 @@
 //! Transactions of a site that begin and end.
 ghost use Rattle.std.specs.Prelude.{◌≡◌};
-ghost use Rattle.txc_c.specs.Turning.{database_number, BegunLeads, BegunWriteLeads, CommittedLeads, WrittenLeads};
+ghost use Rattle.txc_c.specs.Turning.{database_number, BegunComesTo, BegunWriteComesTo, CommittedComesTo, WrittenComesTo};
 
 use crate::numbers::{
     ALREADY_OPEN, BAD_ARGUMENT, CONFLICT, DONE, MID_CALL, NO_MEMORY, NOT_OPEN, REFUSED,
@@ -28,7 +28,7 @@ pub(crate) fn database_number(error: DbError) -> u32
 
 // A site at rest begins a transaction that only reads.
 fn begun(alloc: Global, caller: Caller<Opaque, Object>, bounds: Bounds) -> (u32, Site)
-    ensures { BegunLeads bounds caller result.0 result.1 }
+    ensures { BegunComesTo bounds caller result.0 result.1 }
 {
     match caller.begin(alloc, bounds) {
         Ok(txn) => (DONE, Site::Reading(txn)),
@@ -38,7 +38,7 @@ fn begun(alloc: Global, caller: Caller<Opaque, Object>, bounds: Bounds) -> (u32,
 
 // A site at rest begins a transaction that writes.
 fn begun_write(alloc: Global, caller: Caller<Opaque, Object>) -> (u32, Site)
-    ensures { BegunWriteLeads caller result.0 result.1 }
+    ensures { BegunWriteComesTo caller result.0 result.1 }
 {
     match caller.begin_write(alloc) {
         Ok(write) => (DONE, Site::Writing(write, Vec::new(alloc))),
@@ -48,7 +48,7 @@ fn begun_write(alloc: Global, caller: Caller<Opaque, Object>) -> (u32, Site)
 
 // A transaction that only reads ends, and its receipt is written.
 fn committed(txn: CallerTxn<Opaque, Object>, receipt: &mut TxcReceipt) -> (u32, Site)
-    ensures { CommittedLeads txn receipt.old receipt.new result.0 result.1 }
+    ensures { CommittedComesTo txn receipt.old receipt.new result.0 result.1 }
 {
     match txn.commit() {
         Ok((given, caller)) => {
@@ -66,7 +66,7 @@ fn written(
     rows: Vec<Row>,
     stamp: &mut u32,
 ) -> (u32, Site)
-    ensures { WrittenLeads write rows.items stamp.old stamp.new result.0 result.1 }
+    ensures { WrittenComesTo write rows.items stamp.old stamp.new result.0 result.1 }
 {
     match write.commit(alloc) {
         Ok((newest, caller)) => {
@@ -78,11 +78,11 @@ fn written(
 }
 
 impl Site {
-    ghost use Rattle.txc_c.specs.Turning.{AbortLeads, BeginLeads, BeginWriteLeads, CommitLeads, CommitWriteLeads};
+    ghost use Rattle.txc_c.specs.Turning.{AbortComesTo, BeginComesTo, BeginWriteComesTo, CommitComesTo, CommitWriteComesTo};
 
     /// Begins a transaction that only reads.
     pub(crate) fn begin(self, alloc: Global, now: u64, staleness: u64, at_least: u32) -> (u32, Site)
-        ensures { BeginLeads now staleness at_least self result.0 result.1 }
+        ensures { BeginComesTo now staleness at_least self result.0 result.1 }
     {
         let Ok(at_least) = Stamp::new(at_least) else {
             return (BAD_ARGUMENT, self);
@@ -101,7 +101,7 @@ impl Site {
 
     /// Begins a transaction that writes.
     pub(crate) fn begin_write(self, alloc: Global) -> (u32, Site)
-        ensures { BeginWriteLeads self result.0 result.1 }
+        ensures { BeginWriteComesTo self result.0 result.1 }
     {
         match self {
             Site::Resting(caller) => begun_write(alloc, caller),
@@ -112,7 +112,7 @@ impl Site {
 
     /// Ends the transaction that only reads, and writes its receipt.
     pub(crate) fn commit(self, receipt: &mut TxcReceipt) -> (u32, Site)
-        ensures { CommitLeads receipt.old receipt.new self result.0 result.1 }
+        ensures { CommitComesTo receipt.old receipt.new self result.0 result.1 }
     {
         match self {
             Site::Reading(txn) => committed(txn, receipt),
@@ -123,7 +123,7 @@ impl Site {
 
     /// Commits the changes of the transaction that writes, and writes the newest stamp.
     pub(crate) fn commit_write(self, alloc: Global, stamp: &mut u32) -> (u32, Site)
-        ensures { CommitWriteLeads stamp.old stamp.new self result.0 result.1 }
+        ensures { CommitWriteComesTo stamp.old stamp.new self result.0 result.1 }
     {
         match self {
             Site::Writing(write, rows) => written(alloc, write, rows, stamp),
@@ -134,7 +134,7 @@ impl Site {
 
     /// Gives the open transaction up.
     pub(crate) fn abort(self) -> (u32, Site)
-        ensures { AbortLeads self result.0 result.1 }
+        ensures { AbortComesTo self result.0 result.1 }
     {
         match self {
             Site::Resting(caller) => (NOT_OPEN, Site::Resting(caller)),

@@ -2,13 +2,13 @@
 ghost use Rattle.std.specs.Prelude.{◌≡◌, ◌≢◌, None, IsTrue, ◌↔◌};
 ghost use Rattle.txc_app.specs.declared.ask.Ask.TheVariants as asks;
 ghost use Rattle.txc_c.specs.Crossing.{named_call};
-ghost use Rattle.txc_c.specs.Keeping.{KeepLeads};
+ghost use Rattle.txc_c.specs.Keeping.{KeepComesTo};
 ghost use Rattle.txc_c.specs.Receipts.{query_of};
-ghost use Rattle.txc_c.specs.Sites.{open_site_number, is_room, HasNewSite, Leads};
+ghost use Rattle.txc_c.specs.Sites.{open_site_number, is_room, HasNewSite, ComesTo};
 ghost use Rattle.txc_c.specs.SiteHeld.{site_held};
 ghost use Rattle.txc_c.specs.Life.{close_number};
-ghost use Rattle.txc_c.specs.Turning.{AbortLeads, BeginLeads, BeginWriteLeads, CommitLeads, CommitWriteLeads};
-ghost use Rattle.txc_c.specs.Asking.{buffer, CallLeads, FinishLeads, GiveUpLeads, HeldAsksNext, LastLeads, PutLeads, QueryLeads, RemoveLeads, RowLeads};
+ghost use Rattle.txc_c.specs.Turning.{AbortComesTo, BeginComesTo, BeginWriteComesTo, CommitComesTo, CommitWriteComesTo};
+ghost use Rattle.txc_c.specs.Asking.{buffer, CallComesTo, FinishComesTo, GiveUpComesTo, HeldAsksNext, LastComesTo, PutComesTo, QueryComesTo, RemoveComesTo, RowComesTo};
 
 use crate::crossing::TxcKey;
 use crate::keeping::TxcKept;
@@ -89,7 +89,7 @@ pub extern "C" fn txc_begin(
     staleness: u64,
     at_least: u32,
 ) -> u32
-    ensures { Leads (BeginLeads now staleness at_least) (site_held handle.old) result (site_held handle.new) }
+    ensures { ComesTo (BeginComesTo now staleness at_least) (site_held handle.old) result (site_held handle.new) }
 {
     let Some((site, room)) = handle.take(alloc) else {
         return CLOSED;
@@ -109,7 +109,7 @@ pub extern "C" fn txc_call(
     len: &mut usize,
 ) -> u32
     requires { HeldAsksNext (asks.Call (named_call key.now)) (site_held handle.old) }
-    ensures leads { Leads (CallLeads key.now (buffer value.old len.old) (buffer value.new len.new)) (site_held handle.old) result (site_held handle.new) }
+    ensures leads { ComesTo (CallComesTo key.now (buffer value.old len.old) (buffer value.new len.new)) (site_held handle.old) result (site_held handle.new) }
     ensures closed { site_held handle.old ≡ None → (value.new ≡ value.old) × (len.new ≡ len.old) }
 {
     let Some((mut site, room)) = handle.take(alloc) else {
@@ -129,7 +129,7 @@ pub extern "C" fn txc_query_rows(
     count: &mut usize,
 ) -> u32
     requires { HeldAsksNext (asks.Query (query_of query.now)) (site_held handle.old) }
-    ensures leads { Leads (QueryLeads query.now count.old count.new) (site_held handle.old) result (site_held handle.new) }
+    ensures leads { ComesTo (QueryComesTo query.now count.old count.new) (site_held handle.old) result (site_held handle.new) }
     ensures closed { site_held handle.old ≡ None → count.new ≡ count.old }
 {
     let Some((mut site, room)) = handle.take(alloc) else {
@@ -150,7 +150,7 @@ pub extern "C" fn txc_row_at(
     body: &mut [u8],
     len: &mut usize,
 ) -> u32
-    ensures leads { Leads (RowLeads at row.old row.new (buffer body.old len.old) (buffer body.new len.new)) (site_held handle.old) result (site_held handle.new) }
+    ensures leads { ComesTo (RowComesTo at row.old row.new (buffer body.old len.old) (buffer body.new len.new)) (site_held handle.old) result (site_held handle.new) }
     ensures closed { site_held handle.old ≡ None
         → (row.new ≡ row.old) × (body.new ≡ body.old) × (len.new ≡ len.old) }
 {
@@ -170,7 +170,7 @@ pub extern "C" fn txc_answer(
     value: &mut [u8],
     len: &mut usize,
 ) -> u32
-    ensures leads { Leads (LastLeads (buffer value.old len.old) (buffer value.new len.new)) (site_held handle.old) result (site_held handle.new) }
+    ensures leads { ComesTo (LastComesTo (buffer value.old len.old) (buffer value.new len.new)) (site_held handle.old) result (site_held handle.new) }
     ensures closed { site_held handle.old ≡ None → (value.new ≡ value.old) × (len.new ≡ len.old) }
 {
     let Some((site, room)) = handle.take(alloc) else {
@@ -191,7 +191,7 @@ pub extern "C" fn txc_finish(
     len: &mut usize,
 ) -> u32
     requires { HeldAsksNext (asks.Done bytes.now) (site_held handle.old) }
-    ensures leads { Leads (FinishLeads (buffer value.old len.old) (buffer value.new len.new)) (site_held handle.old) result (site_held handle.new) }
+    ensures leads { ComesTo (FinishComesTo (buffer value.old len.old) (buffer value.new len.new)) (site_held handle.old) result (site_held handle.new) }
     ensures closed { site_held handle.old ≡ None → (value.new ≡ value.old) × (len.new ≡ len.old) }
 {
     let Some((mut site, room)) = handle.take(alloc) else {
@@ -205,7 +205,7 @@ pub extern "C" fn txc_finish(
 /// Gives the open call up.
 #[unsafe(no_mangle)]
 pub extern "C" fn txc_give_up(alloc: Global, handle: &mut TxcSite) -> u32
-    ensures { Leads GiveUpLeads (site_held handle.old) result (site_held handle.new) }
+    ensures { ComesTo GiveUpComesTo (site_held handle.old) result (site_held handle.new) }
 {
     let Some((mut site, room)) = handle.take(alloc) else {
         return CLOSED;
@@ -218,7 +218,7 @@ pub extern "C" fn txc_give_up(alloc: Global, handle: &mut TxcSite) -> u32
 /// Ends the transaction that only reads, and writes its receipt.
 #[unsafe(no_mangle)]
 pub extern "C" fn txc_commit(alloc: Global, handle: &mut TxcSite, receipt: &mut TxcReceipt) -> u32
-    ensures leads { Leads (CommitLeads receipt.old receipt.new) (site_held handle.old) result (site_held handle.new) }
+    ensures leads { ComesTo (CommitComesTo receipt.old receipt.new) (site_held handle.old) result (site_held handle.new) }
     ensures closed { site_held handle.old ≡ None → receipt.new ≡ receipt.old }
 {
     let Some((site, room)) = handle.take(alloc) else {
@@ -232,7 +232,7 @@ pub extern "C" fn txc_commit(alloc: Global, handle: &mut TxcSite, receipt: &mut 
 /// Gives the open transaction up.
 #[unsafe(no_mangle)]
 pub extern "C" fn txc_abort(alloc: Global, handle: &mut TxcSite) -> u32
-    ensures { Leads AbortLeads (site_held handle.old) result (site_held handle.new) }
+    ensures { ComesTo AbortComesTo (site_held handle.old) result (site_held handle.new) }
 {
     let Some((site, room)) = handle.take(alloc) else {
         return CLOSED;
@@ -245,7 +245,7 @@ pub extern "C" fn txc_abort(alloc: Global, handle: &mut TxcSite) -> u32
 /// Begins a transaction that writes.
 #[unsafe(no_mangle)]
 pub extern "C" fn txc_begin_write(alloc: Global, handle: &mut TxcSite) -> u32
-    ensures { Leads BeginWriteLeads (site_held handle.old) result (site_held handle.new) }
+    ensures { ComesTo BeginWriteComesTo (site_held handle.old) result (site_held handle.new) }
 {
     let Some((site, room)) = handle.take(alloc) else {
         return CLOSED;
@@ -265,7 +265,7 @@ pub extern "C" fn txc_put(
     group: u32,
     body: &[u8],
 ) -> u32
-    ensures { Leads (PutLeads (record { table = table; id = id; group = group; body = body.now })) (site_held handle.old) result (site_held handle.new) }
+    ensures { ComesTo (PutComesTo (record { table = table; id = id; group = group; body = body.now })) (site_held handle.old) result (site_held handle.new) }
 {
     let Some((mut site, room)) = handle.take(alloc) else {
         return CLOSED;
@@ -278,7 +278,7 @@ pub extern "C" fn txc_put(
 /// No row is to stand at the table and id once the transaction is committed.
 #[unsafe(no_mangle)]
 pub extern "C" fn txc_remove(alloc: Global, handle: &mut TxcSite, table: u8, id: u32) -> u32
-    ensures { Leads (RemoveLeads table id) (site_held handle.old) result (site_held handle.new) }
+    ensures { ComesTo (RemoveComesTo table id) (site_held handle.old) result (site_held handle.new) }
 {
     let Some((mut site, room)) = handle.take(alloc) else {
         return CLOSED;
@@ -291,7 +291,7 @@ pub extern "C" fn txc_remove(alloc: Global, handle: &mut TxcSite, table: u8, id:
 /// Commits the changes, and writes the newest stamp.
 #[unsafe(no_mangle)]
 pub extern "C" fn txc_commit_write(alloc: Global, handle: &mut TxcSite, stamp: &mut u32) -> u32
-    ensures leads { Leads (CommitWriteLeads stamp.old stamp.new) (site_held handle.old) result (site_held handle.new) }
+    ensures leads { ComesTo (CommitWriteComesTo stamp.old stamp.new) (site_held handle.old) result (site_held handle.new) }
     ensures closed { site_held handle.old ≡ None → stamp.new ≡ stamp.old }
 {
     let Some((site, room)) = handle.take(alloc) else {
@@ -312,7 +312,7 @@ pub extern "C" fn txc_keep(
     age: u64,
     kept: &mut TxcKept,
 ) -> u32
-    ensures leads { Leads (KeepLeads now age kept.old kept.new) (site_held handle.old) result (site_held handle.new) }
+    ensures leads { ComesTo (KeepComesTo now age kept.old kept.new) (site_held handle.old) result (site_held handle.new) }
     ensures closed { site_held handle.old ≡ None → kept.new ≡ kept.old }
 {
     let Some((mut site, room)) = handle.take(alloc) else {
