@@ -4,3 +4,5 @@ pub mod Made
 pub mod Tagged
 pub mod Stepping
 pub mod Changing
+pub mod Telling
+pub mod Keeping

@@ -61,8 +61,8 @@ module _ (old new : CallerReading) (step : Result Step CallerError) (bytes bytes
 
 pub gave_up : (doing : Option OpenCall) (was : Bool) → was ≡ true → (IsTrue was ↔ IsSome doing) → DONE ≡ given_up_number doing
 gave_up (Some o) was is h = refl
-gave_up None was is h = grind arith
+gave_up None was is h = absurd (cc (h.0 is))
 
 pub gave_none_up : (doing : Option OpenCall) (was : Bool) → was ≡ false → (IsTrue was ↔ IsSome doing) → MISS ≡ given_up_number doing
 gave_none_up None was is h = refl
-gave_none_up (Some o) was is h = grind arith
+gave_none_up (Some o) was is h = absurd (cc (sym (h.1 refl) ∙ is))

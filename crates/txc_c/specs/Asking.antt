@@ -138,10 +138,10 @@ abbrev pub given_rows : Option Answer → List RowValue
 given_rows (Some (Rows rows)) = rows
 given_rows given = []
 
-abbrev pub found_rows : Site → List RowValue
-found_rows (Reading r) = given_rows (last_given r)
-found_rows (Writing w rows) = rows.items
-found_rows (Resting c) = []
+abbrev pub rows_found : Site → List RowValue
+rows_found (Reading r) = given_rows (last_given r)
+rows_found (Writing w rows) = rows.items
+rows_found (Resting c) = []
 
 -- ---- giving up
 
@@ -208,7 +208,7 @@ RowTold (Some r) number row row' was is = (number ≡ bytes_number DONE (length 
 
 abbrev pub RowComesTo : ℕ → TxcRow → TxcRow → Buffer → Buffer → Site → ℕ → Site → Type 0
 RowComesTo at row row' was is old number new =
-    (new ≡ old) × RowTold (slice_get (found_rows old) at) number row row' was is
+    (new ≡ old) × RowTold (slice_get (rows_found old) at) number row row' was is
 
 -- what was answered last
 abbrev pub LastTold : Buffer → Buffer → Site → ℕ → Type 0

@@ -3,7 +3,7 @@ ghost use Rattle.std.specs.Prelude.{◌≡◌, MatchOption, None, Some, slice_ge
 ghost use Rattle.txc_app.specs.declared.ask.Ask.TheVariants as asks;
 ghost use Rattle.txc_c.specs.Crossing.{named_call};
 ghost use Rattle.txc_c.specs.Receipts.{query_of};
-ghost use Rattle.txc_c.specs.Asking.{buffer, given_rows, found_rows, CallComesTo, CallSiteComesTo, FinishComesTo, GiveUpComesTo, LastTold, QueryComesTo, QuerySiteComesTo, RowTold, SiteAsksNext};
+ghost use Rattle.txc_c.specs.Asking.{buffer, given_rows, rows_found, CallComesTo, CallSiteComesTo, FinishComesTo, GiveUpComesTo, LastTold, QueryComesTo, QuerySiteComesTo, RowTold, SiteAsksNext};
 ghost use Rattle.txc_c.specs.Telling.{last_given};
 
 use crate::asking;
@@ -12,7 +12,7 @@ use crate::numbers::{BAD_ARGUMENT, DONE, MISS, NOT_OPEN};
 use crate::opaque::Opaque;
 use crate::receipts::{TxcQuery, TxcRow};
 use crate::site::{Object, Site};
-use crate::telling::{tell, tell_last};
+use crate::telling::{given, tell, tell_last};
 use std::alloc::Global;
 use txc_app::Answer;
 use txc_caller::CallerTxn;
@@ -35,7 +35,7 @@ fn row_given(txn: &CallerTxn<Opaque, Object>, at: usize) -> Option<&Row>
     ensures { MatchOption result (slice_get (given_rows (last_given txn.now)) at ≡ None)
         (λ row. slice_get (given_rows (last_given txn.now)) at ≡ Some row.now) }
 {
-    match txn.answer() {
+    match given(txn) {
         Some(answer) => row_in(answer, at),
         None => None,
     }
@@ -98,8 +98,8 @@ impl Site {
 
     // A row of those that were found last.
     fn row_at(&self, at: usize) -> Option<&Row>
-        ensures { MatchOption result (slice_get (found_rows self.now) at ≡ None)
-            (λ row. slice_get (found_rows self.now) at ≡ Some row.now) }
+        ensures { MatchOption result (slice_get (rows_found self.now) at ≡ None)
+            (λ row. slice_get (rows_found self.now) at ≡ Some row.now) }
     {
         match self {
             Site::Reading(txn) => row_given(txn, at),
@@ -116,7 +116,7 @@ impl Site {
         body: &mut [u8],
         len: &mut usize,
     ) -> u32
-        ensures { RowTold (slice_get (found_rows self.now) at) result row.old row.new
+        ensures { RowTold (slice_get (rows_found self.now) at) result row.old row.new
             (buffer body.old len.old) (buffer body.new len.new) }
     {
         let Some(found) = self.row_at(at) else {

@@ -1,6 +1,6 @@
 //! What is told of a step, and written for the caller.
-ghost use Rattle.std.specs.Prelude.{◌≡◌, length};
-ghost use Rattle.txc_c.specs.Telling.{answer_bytes, answer_len, answer_number, bytes_number, last_given, last_bytes, last_len, last_number, step_bytes, step_len, step_number};
+ghost use Rattle.std.specs.Prelude.{◌≡◌, MatchOption, None, Some, length};
+ghost use Rattle.txc_c.specs.Telling.{answer_bytes, answer_len, answer_number, bytes_number, computed_number, given_bytes, given_len, given_number, last_bytes, last_given, last_len, last_number, last_recorded, step_bytes, step_len, step_number, value_bytes, value_len, value_number};
 ghost use Rattle.txc_c.specs.Told.{written_in};
 
 use crate::numbers::{
@@ -10,6 +10,7 @@ use crate::opaque::Opaque;
 use crate::site::Object;
 use txc_app::Answer;
 use txc_caller::{CallerError, CallerTxn, Step};
+use txc_ports::Recorded;
 
 /// Writes the bytes, where there is room for them, and how many they are.
 pub(crate) fn tell(number: u32, bytes: &[u8], value: &mut [u8], len: &mut usize) -> u32
@@ -52,6 +53,51 @@ fn error_number(error: CallerError) -> u32
     }
 }
 
+/// What the function that is computed was answered last.
+pub(crate) fn given(txn: &CallerTxn<Opaque, Object>) -> Option<&Answer>
+    ensures { MatchOption result (last_given txn.now ≡ None) (λ answer. last_given txn.now ≡ Some answer.now) }
+{
+    match txn.answer() {
+        Some(answer) => Some(answer),
+        None => None,
+    }
+}
+
+// The same, written.
+fn tell_given(txn: &CallerTxn<Opaque, Object>, value: &mut [u8], len: &mut usize) -> u32
+    ensures number { result ≡ computed_number (length value.old) (last_given txn.now) }
+    ensures len { len.new ≡ given_len (last_given txn.now) len.old }
+    ensures bytes { value.new ≡ given_bytes (last_given txn.now) value.old }
+{
+    match given(txn) {
+        Some(answer) => tell_answer(answer, value, len),
+        None => MISS,
+    }
+}
+
+// What the outermost call was answered last.
+fn last_recorded(txn: &CallerTxn<Opaque, Object>) -> Option<&Recorded>
+    ensures { MatchOption result (last_recorded txn.now.txn.core.recorded ≡ None)
+        (λ it. last_recorded txn.now.txn.core.recorded ≡ Some it.now) }
+{
+    match txn.answers().last() {
+        Some(recorded) => Some(recorded),
+        None => None,
+    }
+}
+
+// The same, written.
+fn tell_value(txn: &CallerTxn<Opaque, Object>, value: &mut [u8], len: &mut usize) -> u32
+    ensures number { result ≡ value_number (length value.old) (last_recorded txn.now.txn.core.recorded) }
+    ensures len { len.new ≡ value_len (last_recorded txn.now.txn.core.recorded) len.old }
+    ensures bytes { value.new ≡ value_bytes (last_recorded txn.now.txn.core.recorded) value.old }
+{
+    match last_recorded(txn) {
+        Some(recorded) => tell(DONE, recorded.value.bytes(), value, len),
+        None => MISS,
+    }
+}
+
 /// Writes what was answered last: to the function that is computed, or else to the outermost call.
 pub(crate) fn tell_last(txn: &CallerTxn<Opaque, Object>, value: &mut [u8], len: &mut usize) -> u32
     ensures number { result ≡ last_number (length value.old) txn.now }
@@ -59,14 +105,20 @@ pub(crate) fn tell_last(txn: &CallerTxn<Opaque, Object>, value: &mut [u8], len: 
     ensures bytes { value.new ≡ last_bytes txn.now value.old }
 {
     if txn.is_computing() {
-        return match txn.answer() {
-            Some(answer) => tell_answer(answer, value, len),
-            None => MISS,
-        };
+        return tell_given(txn, value, len);
     }
-    match txn.answers().last() {
-        Some(recorded) => tell(DONE, recorded.value.bytes(), value, len),
-        None => MISS,
+    tell_value(txn, value, len)
+}
+
+// The answer of the function that goes on with it.
+fn tell_answered(txn: &CallerTxn<Opaque, Object>, value: &mut [u8], len: &mut usize) -> u32
+    ensures number { result ≡ given_number (length value.old) (last_given txn.now) }
+    ensures len { len.new ≡ given_len (last_given txn.now) len.old }
+    ensures bytes { value.new ≡ given_bytes (last_given txn.now) value.old }
+{
+    match given(txn) {
+        Some(answer) => tell_answer(answer, value, len),
+        None => ANSWERED,
     }
 }
 
@@ -84,10 +136,7 @@ pub(crate) fn tell_step(
     match step {
         Ok(Step::Compute) => COMPUTE,
         Ok(Step::Value(got)) => tell(DONE, got.bytes(), value, len),
-        Ok(Step::Answered) => match txn.answer() {
-            Some(answer) => tell_answer(answer, value, len),
-            None => ANSWERED,
-        },
+        Ok(Step::Answered) => tell_answered(txn, value, len),
         Err(error) => error_number(error),
     }
 }
