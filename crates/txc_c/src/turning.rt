@@ -51,7 +51,8 @@ fn committed(txn: CallerTxn<Opaque, Object>, receipt: &mut TxcReceipt) -> (u32, 
     ensures { CommittedComesTo txn receipt.old receipt.new result.0 result.1 }
 {
     match txn.commit() {
-        Ok((given, caller)) => {
+        Ok(done) => {
+            let (given, caller) = done;
             *receipt = TxcReceipt::of(given.pin, given.answers.len());
             (DONE, Site::Resting(caller))
         }
@@ -69,11 +70,15 @@ fn written(
     ensures { WrittenComesTo write rows.items stamp.old stamp.new result.0 result.1 }
 {
     match write.commit(alloc) {
-        Ok((newest, caller)) => {
+        Ok(done) => {
+            let (newest, caller) = done;
             *stamp = newest.number();
             (DONE, Site::Resting(caller))
         }
-        Err((error, write)) => (database_number(error), Site::Writing(write, rows)),
+        Err(back) => {
+            let (error, write) = back;
+            (database_number(error), Site::Writing(write, rows))
+        }
     }
 }
 

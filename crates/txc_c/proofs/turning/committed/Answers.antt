@@ -11,7 +11,7 @@ use Rattle.txc_c.proofs.turning.committed.Goals as goal
 pub returns-in-Ok : goal.returns-in-Ok
 returns-in-Ok c =
     let core = c.args.txn.txn.core in
-    let given = c.in-Ok.given in (
+    let given = c.in-Ok.done.0 in (
       refl,
       record {
         told = c.of.ensures ∙ (ap (λ (p : Option Pin). crossing_receipt p c.len.result) c.in-Ok.ensures.pin
