@@ -6,3 +6,4 @@ pub mod Stepping
 pub mod Changing
 pub mod Telling
 pub mod Keeping
+pub mod Functions

@@ -91,7 +91,8 @@ fn registry(alloc: Global) -> Result<Registry<Opaque, Object>, AllocError>
     for function in 0..LAST_FUNCTION + 1 {
         objects.add(alloc, function)?;
     }
-    objects.into_registry()
+    let registry = objects.into_registry()?;
+    Ok(registry)
 }
 
 impl Site {

@@ -1,4 +1,5 @@
-use Rattle.std.proofs.Common.{ℕ, ◌<◌, Contains}
+use Rattle.std.proofs.Common.{ℕ, ◌<◌}
+use Rattle.std.specs.List.{Contains}
 use Rattle.txc_c.proofs.site.registry.Given as goal
 
 -- the functions so far
