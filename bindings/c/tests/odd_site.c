@@ -49,6 +49,7 @@ static size_t len, count;
 static txc_row row;
 static txc_receipt receipt;
 static uint32_t stamp;
+static txc_kept kept;
 
 static uint32_t call(txc_site *site, const txc_key *key, size_t room) { return txc_call(site, key, value, room, &len); }
 static uint32_t rows(txc_site *site) { return txc_query_rows(site, &GROUP, &count); }
@@ -73,6 +74,8 @@ static void try_closed(txc_site *site) {
     CHECK(txc_abort(site) == TXC_CLOSED);
     CHECK(put(site, "110") == TXC_CLOSED && txc_remove(site, 1, 1) == TXC_CLOSED);
     CHECK(txc_commit_write(site, &stamp) == TXC_CLOSED && stamp == 77);
+    kept.retired = kept.swept = kept.horizon = 77;
+    CHECK(txc_keep(site, 0, 0, &kept) == TXC_CLOSED && kept.retired == 77 && kept.horizon == 77 && kept.swept == 77);
     CHECK(txc_site_close(site) == TXC_CLOSED && !site->is_open);
 }
 
@@ -103,6 +106,8 @@ static void try_at_rest(txc_site *site) {
 static void try_writing(txc_site *site) {
     CHECK(txc_begin_write(site) == TXC_DONE);
     CHECK(txc_begin_write(site) == TXC_ALREADY_OPEN && txc_begin(site, 0, 0, 0) == TXC_ALREADY_OPEN);
+    kept.retired = 77;
+    CHECK(txc_keep(site, 0, 0, &kept) == TXC_ALREADY_OPEN && kept.retired == 77);
     CHECK(put(site, "") == TXC_BAD_ARGUMENT && put(site, "two words") == TXC_BAD_ARGUMENT);
     CHECK(txc_put(site, TXC_LAST_TABLE + 1, 1, 7, (const uint8_t *)"1", 1) == TXC_BAD_ARGUMENT);
     CHECK(txc_put(site, 1, 1, 7, NULL, 0) == TXC_BAD_ARGUMENT);
@@ -161,7 +166,8 @@ static bool is_page(void) {
         && txc_commit_write(&site, &stamp) == TXC_DONE && txc_begin(&site, 1000, 30000, 0) == TXC_DONE
         && call(&site, &HIGHEST, 8) == TXC_COMPUTE && rows(&site) == TXC_ANSWERED && finish(&site, "110") == TXC_DONE
         && call(&site, &BIDS, 8) == TXC_COMPUTE && call(&site, &HIGHEST, 8) == TXC_ANSWERED && rows(&site) == TXC_ANSWERED
-        && finish(&site, "110,110") == TXC_DONE && txc_commit(&site, &receipt) == TXC_DONE && receipt.answers == 2;
+        && finish(&site, "110,110") == TXC_DONE && txc_commit(&site, &receipt) == TXC_DONE && receipt.answers == 2
+        && txc_keep(&site, 100000, 1, &kept) == TXC_DONE && kept.retired == 1;
     txc_site_close(&site);
     return is_whole && !site.is_open;
 }
@@ -187,6 +193,7 @@ int main(void) {
     try_writing(&site);
     try_reading(&site);
     try_other_ask(&site);
+    try_keeping(&site);
     CHECK(txc_site_close(&site) == TXC_DONE && !site.is_open);
     try_closed(&site);
     long refused = refuse_each();

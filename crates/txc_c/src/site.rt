@@ -75,7 +75,8 @@ impl IdleObjects {
         ensures functions { IfOk result (λ registry. numbers_of registry ≡ self) }
         ensures idle { IfOk result AllIdle }
     {
-        match Registry::<Opaque, Object>::new(self.items) {
+        let IdleObjects { items } = self;
+        match Registry::<Opaque, Object>::new(items) {
             Ok(registry) => Ok(registry),
             Err(_) => Err(AllocError),
         }
