@@ -19,13 +19,23 @@ use txc_caller::CallerTxn;
 use txc_rows::{Query, Row};
 use txc_tags::Key;
 
+// The row at that place, if there is one.
+fn row_of(rows: &[Row], at: usize) -> Option<&Row>
+    ensures { MatchOption result (slice_get rows.now at ≡ None) (λ row. slice_get rows.now at ≡ Some row.now) }
+{
+    match rows.get(at) {
+        Some(row) => Some(row),
+        None => None,
+    }
+}
+
 // A row of an answer.
 fn row_in(answer: &Answer, at: usize) -> Option<&Row>
     ensures { MatchOption result (slice_get (given_rows (Some answer.now)) at ≡ None)
         (λ row. slice_get (given_rows (Some answer.now)) at ≡ Some row.now) }
 {
     match answer {
-        Answer::Rows(rows) => rows.as_slice().get(at),
+        Answer::Rows(rows) => row_of(rows.as_slice(), at),
         Answer::Value(_) => None,
     }
 }
@@ -103,7 +113,7 @@ impl Site {
     {
         match self {
             Site::Reading(txn) => row_given(txn, at),
-            Site::Writing(_, rows) => rows.get(at),
+            Site::Writing(_, rows) => row_of(rows, at),
             Site::Resting(_) => None,
         }
     }
