@@ -157,6 +157,19 @@ static void try_other_ask(txc_site *site) {
     CHECK(txc_commit(site, &receipt) == TXC_DONE && receipt.answers == 1 && receipt.has_pin);
 }
 
+/* Pins stay for their age, and then go with what only they showed. */
+static void try_keeping(txc_site *site) {
+    CHECK(txc_begin(site, 1000, 30000, 0) == TXC_DONE && txc_keep(site, 0, 0, &kept) == TXC_ALREADY_OPEN && txc_abort(site) == TXC_DONE);
+    CHECK(txc_keep(site, 1000, 30000, &kept) == TXC_DONE && kept.retired == 0);
+    uint32_t held = kept.horizon;
+    CHECK(txc_begin_write(site) == TXC_DONE && put(site, "130") == TXC_DONE && txc_commit_write(site, &stamp) == TXC_DONE && stamp > held);
+    CHECK(txc_keep(site, 31000, 30000, &kept) == TXC_DONE && kept.retired == 0 && kept.horizon == held);
+    CHECK(txc_keep(site, 31001, 30000, &kept) == TXC_DONE && kept.retired == 1 && kept.horizon == stamp && kept.swept > 0);
+    CHECK(txc_keep(site, 31001, 30000, &kept) == TXC_DONE && kept.retired == 0 && kept.horizon == stamp && kept.swept == 0);
+    CHECK(txc_begin(site, 31001, 30000, 0) == TXC_DONE && call(site, &HIGHEST, 8) == TXC_COMPUTE && rows(site) == TXC_ANSWERED);
+    CHECK(row_at(site, 0, 8) == TXC_DONE && !memcmp(body, "130", 3) && txc_abort(site) == TXC_DONE);
+}
+
 /* ---- a page */
 
 /* The page, as far as memory is at hand; and then all is given up. */
