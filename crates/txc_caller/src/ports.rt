@@ -310,9 +310,7 @@ impl<A: App> Ports<A> {
     {
         match self.cushion.give_back(stamps) {
             Ok(()) => (),
-            Err(unknown) => {
-                let _unknown = unknown;
-            }
+            Err(_) => (),
         }
     }
 

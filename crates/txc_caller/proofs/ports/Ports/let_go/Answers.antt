@@ -12,8 +12,8 @@ unpinned_by stamp old new (Err e) h = inr (ap (λ (p : CallerPorts). p.database)
 
 pub returns-in-Some-clause-unpinned : goal.returns-in-Some-clause-unpinned
 returns-in-Some-clause-unpinned g c =
-    subst (λ (u : Option ℕ). IsLetGo u c.args.self.now.database c.unpin-_unpinned.new.self.database) (sym c.in-Some.is)
-    (unpinned_by c.in-Some.stamp c.args.self.now c.unpin-_unpinned.new.self c.unpin-_unpinned.result c.unpin-_unpinned.ensures.leads)
+    subst (λ (u : Option ℕ). IsLetGo u c.args.self.now.database c.unpin-unpinned.new.self.database) (sym c.in-Some.is)
+    (unpinned_by c.in-Some.stamp c.args.self.now c.unpin-unpinned.new.self c.unpin-unpinned.result c.unpin-unpinned.ensures.leads)
 
 pub returns-in-None-clause-unpinned : goal.returns-in-None-clause-unpinned
 returns-in-None-clause-unpinned g c = subst (λ (u : Option ℕ). IsLetGo u c.args.self.now.database c.args.self.now.database) (sym c.in-None.is) refl
