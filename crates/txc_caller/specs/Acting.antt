@@ -77,12 +77,12 @@ ask_of (acts.Query query) = asks.Query query
 ask_of (acts.Finish bytes) = asks.Done bytes
 
 -- where a call of the innermost function is looked up, there is room for one call more that waits
-abbrev pub HasRoom : Awaited → Frames → Type 0
-HasRoom (Hit key) frames = vec_len frames.outer < vec_capacity frames.outer
-HasRoom awaited frames = Unit {0}
+abbrev pub HasRoomFor : Awaited → Frames → Type 0
+HasRoomFor (Hit key) frames = vec_len frames.outer < vec_capacity frames.outer
+HasRoomFor awaited frames = Unit {0}
 
 abbrev pub HasRoomOnceTold : Told → Frames → Type 0
-HasRoomOnceTold (Waits awaited) frames = HasRoom awaited frames
+HasRoomOnceTold (Waits awaited) frames = HasRoomFor awaited frames
 HasRoomOnceTold (Gives bytes) frames = Unit {0}
 
 -- the step in an open call whose innermost function was answered this last

@@ -5,7 +5,7 @@ ghost use Rattle.txc_tags.specs.Keys.{Call};
 ghost use Rattle.txc_ports.specs.declared.recorded.Recorded.{Recorded};
 ghost use Rattle.txc_txn.specs.Core.{open_call, IsIdle};
 ghost use Rattle.txc_txn.specs.Kept.{TxnValue};
-ghost use Rattle.txc_caller.specs.Acting.{ask_of, step_with, HasCallerActed, HasRoom, HasRoomOnceTold, IsActOf, IsAwaitingCaller};
+ghost use Rattle.txc_caller.specs.Acting.{ask_of, step_with, HasCallerActed, HasRoomFor, HasRoomOnceTold, IsActOf, IsAwaitingCaller};
 ghost use Rattle.txc_caller.specs.Standing.{asks_next, IsKeptBack, IsStanding, KeepsOn};
 
 use crate::act::{Act, Awaited, Told};
@@ -196,7 +196,7 @@ fn inner_reply<A: App, C: Suppliable>(
     key: Key,
 ) -> Acted
     requires waits { IsAwaitingCaller A.next ports.old txn.old frames.top kept }
-    requires room { HasRoom (Awaited.Hit key) frames }
+    requires room { HasRoomFor (Awaited.Hit key) frames }
     ensures { HasCallerActed A.next ports.old ports.new txn.old txn.new frames.top result }
 {
     let reply = counted(kept, txn.core().members());
@@ -216,7 +216,7 @@ fn replied<A: App, C: Suppliable>(
     awaited: Awaited,
 ) -> Acted
     requires waits { IsAwaitingCaller A.next ports.old txn.old frames.top kept }
-    requires room { HasRoom awaited frames }
+    requires room { HasRoomFor awaited frames }
     ensures { HasCallerActed A.next ports.old ports.new txn.old txn.new frames.top result }
 {
     match awaited {
@@ -236,7 +236,7 @@ fn wait_for<A: App, C: Suppliable>(
     awaited: Awaited,
 ) -> Acted
     requires waits { IsAwaitingCaller A.next ports.old txn.old frames.top kept }
-    requires room { HasRoom awaited frames }
+    requires room { HasRoomFor awaited frames }
     ensures { HasCallerActed A.next ports.old ports.new txn.old txn.new frames.top result }
 {
     match feed(alloc, ports, txn, kept) {
