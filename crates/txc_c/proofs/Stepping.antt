@@ -50,11 +50,9 @@ module _ (old new : CallerReading) (step : Result Step CallerError) (bytes bytes
   }
   stepped_in None h = (
     number_is ∙ ap (step_number (length bytes) (last_given new)) h.0,
-    (
-      h.1,
-      buffer_is bytes bytes' len len' (bytes_are ∙ ap (λ (s : Result Step CallerError). step_bytes (last_given new) s bytes) h.0)
-          (len_is ∙ ap (λ (s : Result Step CallerError). step_len (last_given new) s len) h.0),
-    ),
+    h.1,
+    buffer_is bytes bytes' len len' (bytes_are ∙ ap (λ (s : Result Step CallerError). step_bytes (last_given new) s bytes) h.0)
+        (len_is ∙ ap (λ (s : Result Step CallerError). step_len (last_given new) s len) h.0),
   )
 
 -- ---- giving up

@@ -5,7 +5,7 @@ use Rattle.txc_c.specs.Opaque.{opaque_next}
 use Rattle.txc_c.proofs.asking.finish.Goals as goal
 
 pub returns-in_default : goal.returns-in_default
-returns-in_default c = inr (refl, (refl, refl))
+returns-in_default c = inr (refl, refl, refl)
 
 pub finish_with-requires : goal.finish_with-requires
 finish_with-requires c = subst (λ (bytes : List ℕ). AsksNext opaque_next c.args.txn.now (asks.Done bytes)) (sym c.in-Ok.ensures) c.requires

@@ -3,7 +3,7 @@ use Rattle.txc_c.specs.Keeping.{HasVacuumed}
 use Rattle.txc_c.proofs.keeping.keep.Goals as goal
 
 pub returns-in_default : goal.returns-in_default
-returns-in_default c = inr (refl, (c.in_default.ensures.unchanged, refl))
+returns-in_default c = inr (refl, c.in_default.ensures.unchanged, refl)
 
 pub returns : goal.returns
 returns c = inl (record {

@@ -27,4 +27,4 @@ returns-in-Ok c =
     )
 
 pub returns-in-Err : goal.returns-in-Err
-returns-in-Err c = (refl, (c.in-Err.ensures.handed_back.0, (c.in-Err.ensures.handed_back.1, refl)))
+returns-in-Err c = (refl, c.in-Err.ensures.handed_back.0, c.in-Err.ensures.handed_back.1, refl)

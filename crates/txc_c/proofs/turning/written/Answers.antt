@@ -13,5 +13,6 @@ returns-in-Err c = (
     left_so = c.in-Err.ensures.left;
     same = c.in-Err.ensures.handed_back;
   },
-  (refl, refl),
+  refl,
+  refl,
 )
