@@ -3,7 +3,7 @@ pub mod SiteAsBox
 pub mod Made
 pub mod Tagged
 pub mod Stepping
-pub mod Changing
-pub mod Telling
-pub mod Keeping
+pub mod Changes
+pub mod LastAnswers
+pub mod Kept
 pub mod Functions

@@ -1,5 +1,5 @@
 use Rattle.txc_rows.specs.declared.query.Change.TheVariants.{Put}
-use Rattle.txc_c.proofs.Changing.{change_leaves}
+use Rattle.txc_c.proofs.Changes.{change_leaves}
 use Rattle.txc_c.proofs.changing.put.Goals as goal
 
 pub returns : goal.returns

@@ -1,6 +1,6 @@
 use Rattle.std.proofs.Common.{refl}
 use Rattle.std.specs.Prelude.{Ok, Err}
-use Rattle.txc_c.proofs.Keeping.{swept_so}
+use Rattle.txc_c.proofs.Kept.{swept_so}
 use Rattle.txc_c.proofs.keeping.sweep.Goals as goal
 
 pub returns-in-Ok : goal.returns-in-Ok

@@ -1,6 +1,6 @@
 use Rattle.std.proofs.Common.{◌∙◌, inl, inr, ℕ, ap, refl, subst}
 use Rattle.txc_c.specs.Keeping.{vacuumed, HasSweptNode}
-use Rattle.txc_c.proofs.Keeping.{vacuumed_then}
+use Rattle.txc_c.proofs.Kept.{vacuumed_then}
 use Rattle.txc_c.proofs.keeping.vacuum.Goals as goal
 
 pub returns-in-Ok : goal.returns-in-Ok

@@ -1,4 +1,4 @@
-use Rattle.txc_c.proofs.Telling.{given_none, given_some}
+use Rattle.txc_c.proofs.LastAnswers.{given_none, given_some}
 use Rattle.txc_c.proofs.telling.given.Goals as goal
 
 pub returns-in-Some : goal.returns-in-Some

@@ -1,5 +1,5 @@
 use Rattle.std.proofs.Common.{◌∙◌, length}
-use Rattle.txc_c.proofs.Telling.{bytes_given, bytes_valued, len_given, len_valued, none_computed, number_given, number_valued}
+use Rattle.txc_c.proofs.LastAnswers.{bytes_given, bytes_valued, len_given, len_valued, none_computed, number_given, number_valued}
 use Rattle.txc_c.proofs.telling.tell_last.Goals as goal
 
 pub returns-then-is_computing : goal.returns-then-is_computing
