@@ -1,20 +1,26 @@
 -- How a call stands after an act, by how its step ended.
-use Rattle.std.proofs.Common.{◌≡◌, ℕ, List, [], ◌∷◌, ◌++◌, Option, Some, None, Ok, Err, refl, sym, subst}
+use Rattle.std.proofs.Common.{◌≡◌, ◌∙◌, ℕ, List, [], ◌∷◌, ◌++◌, Option, Some, None, Ok, Err, refl, ap, sym, subst}
 use Rattle.std.specs.Option.{ForSome}
 use Rattle.txc_tags.specs.Keys.{Call}
 use Rattle.txc_app.specs.Eval.{Next}
 use Rattle.txc_app.specs.declared.ask.Answer.{Answer}
 use Rattle.txc_ports.specs.declared.recorded.Recorded.{Recorded}
 use Rattle.txc_ports.specs.declared.error.TxnError.{TxnError}
+use Rattle.txc_ports.specs.declared.reply.PortReply.{PortReply}
 use Rattle.txc_txn.specs.Core.{open_call, IsIdle}
 use Rattle.txc_txn.specs.Kept.{TxnValue}
-use Rattle.txc_caller.specs.Acting.{step_with, IsActOf, IsStepOf}
-use Rattle.txc_caller.specs.Standing.{IsKeptBack}
+use Rattle.txc_caller.specs.Acting.{step_with, HasCallerActed, IsActOf, IsStepOf, IsAwaitingCaller}
+use Rattle.txc_caller.specs.Ports.{CallerPorts}
+use Rattle.txc_caller.specs.Standing.{IsKeptBack, IsStanding, KeepsOn}
+use Rattle.txc_caller.specs.declared.acted.Acted.{Acted}
+use Rattle.txc_caller.specs.declared.stand.Stand.{Stand}
+use Rattle.txc_caller.specs.declared.stand.Stand.TheVariants.{Kept}
 use Rattle.txc_caller.specs.declared.frames.OpenCall.{OpenCall}
 use Rattle.txc_caller.specs.declared.step.CallerError.{CallerError}
 use Rattle.txc_caller.specs.declared.step.CallerError.TheVariants.{Txn}
 use Rattle.txc_caller.specs.declared.step.Step.{Step}
 use Rattle.txc_caller.specs.declared.step.Step.TheVariants.{Value}
+use Rattle.txc_caller.proofs.Turning.{keeps_self, keeps_then}
 
 -- what holds of a value holds of the one that there is
 pub for_this : {X : Type 0} (P : X → Type 0) (x : X) → P x → ForSome (Some x) P
@@ -69,3 +75,41 @@ module _ (next : Next) (before : List Recorded) (t : TxnValue) where
       kept = for_none (λ (p : OpenCall). IsKeptBack next t p.kept);
       top = for_none (λ (p : OpenCall). open_call t.core ≡ Some p.frames.top);
     }
+
+-- ---- acts
+
+module _ (next : Next) (ports : CallerPorts) (t : TxnValue) (k : Call) where
+  -- nothing was done
+  pub acted_self : (acted : Acted) → IsActOf next t.core.recorded k t acted → HasCallerActed next ports ports t t k acted
+  acted_self acted h = record { acted = h; keeps = keeps_self t; events = refl }
+
+  -- another reply is kept back, which is one to what is asked too
+  pub waits_for : (reply other : PortReply) → IsAwaitingCaller next ports t k reply → IsKeptBack next t other → IsAwaitingCaller next ports t k other
+  waits_for reply other waits kept = record { kept = kept; top = waits.top; row = waits.row; nodes = waits.nodes }
+
+  -- the call has another name
+  pub waits_as : (j : Call) (reply : PortReply) → j ≡ k → IsAwaitingCaller next ports t k reply → IsAwaitingCaller next ports t j reply
+  waits_as j reply is waits = subst (λ (i : Call). IsAwaitingCaller next ports t i reply) (sym is) waits
+
+-- ---- one act after another
+
+module _ (next : Next) (ports ports' : CallerPorts) (t t' : TxnValue) (k : Call) (keeps : KeepsOn t t') (events : ports'.database.events ≡ ports.database.events)
+    (stand : Stand) (stands : IsStanding next t.core.recorded k t' stand) (reply : PortReply) (is : stand ≡ Kept reply) where
+  kept_stand : IsStanding next t.core.recorded k t' (Kept reply)
+  kept_stand = subst (λ (s : Stand). IsStanding next t.core.recorded k t' s) is stands
+
+  -- it waits again
+  pub waits_then : t.core.seen.events ≡ ports.database.events → t.core.nodes ≡ 1 → IsAwaitingCaller next ports' t' k reply
+  waits_then row nodes = record {
+    kept = kept_stand.0;
+    top = kept_stand.1;
+    row = keeps.events ∙ (row ∙ sym events);
+    nodes = keeps.settings.nodes ∙ nodes;
+  }
+
+  pub acted_then : (ports'' : CallerPorts) (t'' : TxnValue) (acted : Acted) → HasCallerActed next ports' ports'' t' t'' k acted → HasCallerActed next ports ports'' t t'' k acted
+  acted_then ports'' t'' acted h = record {
+    acted = subst (λ (rs : List Recorded). IsActOf next rs k t'' acted) kept_stand.2 h.acted;
+    keeps = keeps_then t t' t'' keeps h.keeps;
+    events = h.events ∙ events;
+  }

@@ -31,7 +31,7 @@ use Rattle.txc_caller.specs.Ports.{CallerPorts, AreCallerPorts, CallerAddLeads, 
 node_same : (old new : NodeValue) → new ≡ old → KeepsNode old new
 node_same old new is = record { row = ap (λ (n : NodeValue). n.seen.events) is; passes = ap (λ (n : NodeValue). n.passes) is }
 
-node_after : (old new : NodeValue) (op : Op) → new ≡ after_call old 0 op → KeepsNode old new
+pub node_after : (old new : NodeValue) (op : Op) → new ≡ after_call old 0 op → KeepsNode old new
 node_after old new op is = record { row = ap (λ (n : NodeValue). n.seen.events) is; passes = ap (λ (n : NodeValue). n.passes) is }
 
 pub node_left : (old new : NodeValue) (e : NodeError) → IsNodeLeft old new e → KeepsNode old new

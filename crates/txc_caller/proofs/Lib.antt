@@ -4,3 +4,4 @@ pub mod Fresh
 pub mod Asked
 pub mod Reading
 pub mod Committing
+pub mod Letting

@@ -1,14 +1,14 @@
 -- The plain ports of a caller: a database, a pincushion and one node.
-use Rattle.std.specs.Prelude.{◌≡◌, ◌⊎◌, ◌≤◌, ℕ, true, Option, Some, None, Result, Ok, Err, [], ◌∷◌}
+use Rattle.std.specs.Prelude.{◌≡◌, ◌⊎◌, ◌≤◌, ℕ, true, List, Option, Some, None, Result, Ok, Err, [], ◌∷◌}
 use Rattle.txc_tags.specs.Keys.{Call}
 use Rattle.txc_rows.specs.declared.query.Query.{Query as RowQuery}
 use Rattle.txc_rows.specs.RowTags.{query_tag}
 use Rattle.txc_validity.specs.declared.answer.Found.{Found}
 use Rattle.txc_validity.specs.Answers.{IsAnswer}
-use Rattle.txc_node.specs.Cache.{lookup_answer, outcome}
+use Rattle.txc_node.specs.Cache.{lookup_answer, outcome, swept_count}
 use Rattle.txc_node.specs.declared.entry.Entry.{Entry}
 use Rattle.txc_node.specs.declared.hit.Shown.{Shown}
-use Rattle.txc_node.specs.declared.op.Op.TheVariants.{Insert, Lookup}
+use Rattle.txc_node.specs.declared.op.Op.TheVariants.{Insert, Lookup, Sweep}
 use Rattle.txc_db.specs.Calls.{IsLeft, IsQueryRefused, IsPinRefused, IsUnpinRefused}
 use Rattle.txc_db.specs.DatabaseValue.{DatabaseValue, after_pin, after_unpin, front_of, is_held, newest}
 use Rattle.txc_db.specs.History.{moment_at, state_at}
@@ -17,8 +17,8 @@ use Rattle.txc_db.specs.declared.answered.Answered.{Answered}
 use Rattle.txc_db.specs.declared.error.DbError.{DbError}
 use Rattle.txc_db.specs.declared.pinned.Pinned.{Pinned}
 use Rattle.txc_cushion.specs.declared.error.AddError.{AddError}
-use Rattle.txc_cushion.specs.Cushion.{CushionValue, after_add}
-use Rattle.txc_cushion.specs.Refusals.{IsAddRefused}
+use Rattle.txc_cushion.specs.Cushion.{CushionValue, after_add, after_give_back, after_retire, retired}
+use Rattle.txc_cushion.specs.Refusals.{IsAddRefused, IsFirstUnused}
 use Rattle.txc_app.specs.Eval.{Next}
 use Rattle.txc_shared.specs.Nodes.{NodeValue, after_call, seeing, insertion_of, IsLonger}
 use Rattle.txc_shared.specs.Refusals.{IsLookupRefused, IsNodeLeft, IsStepRefused}
@@ -71,11 +71,34 @@ abbrev pub CallerAddLeads : {A : Type 0} → Pinned → CallerPorts → CallerPo
 CallerAddLeads pinned old new (Ok added) = new ≡ record old { cushion = after_add old.cushion pinned }
 CallerAddLeads pinned old new (Err e) = (new ≡ old) × IsAddRefused old.cushion pinned.stamp e
 
+-- one user of each of the stamps is taken away; or one has none left, and nothing has changed
+abbrev pub AreGivenBack : List ℕ → CushionValue → CushionValue → Type 0
+AreGivenBack stamps old new =
+    (new ≡ after_give_back old stamps) ⊎ ((new ≡ old) × ((stamp : ℕ) × IsFirstUnused old.entries stamps stamp))
+
 -- there is one hold of the stamp fewer; or the database refused, and nothing has changed
 abbrev pub CallerUnpinLeads : {A : Type 0} → ℕ → CallerPorts → CallerPorts → Result A DbError → Type 0
 CallerUnpinLeads stamp old new (Ok unpinned) = (new ≡ record old { database = after_unpin old.database stamp })
     × (is_held stamp old.database.holds ≡ true)
 CallerUnpinLeads stamp old new (Err e) = (new ≡ old) × IsUnpinRefused old.database stamp e
+
+-- the hold of a pin that was not added is taken away, if there is one; or the database refused
+abbrev pub IsLetGo : Option ℕ → DatabaseValue → DatabaseValue → Type 0
+IsLetGo None old new = new ≡ old
+IsLetGo (Some stamp) old new = (new ≡ after_unpin old stamp)
+    ⊎ ((new ≡ old) × ((error : DbError) × IsUnpinRefused old stamp error))
+
+-- a hold of each of the stamps is taken away, one after another
+abbrev pub AreLetGo : List ℕ → DatabaseValue → DatabaseValue → Type 0
+AreLetGo [] old new = new ≡ old
+AreLetGo (stamp ∷ stamps) old new =
+    (after : DatabaseValue) × IsLetGo (Some stamp) old after × AreLetGo stamps after new
+
+-- the pins that no transaction uses and that are older are gone, and so is a hold of each
+pub record HasRetired (now age : ℕ) (old new : CallerPorts) : Type 0 where
+  pub cushion : new.cushion ≡ after_retire old.cushion now age
+  pub holds : AreLetGo (retired old.cushion now age) old.database new.database
+  pub node : new.node ≡ old.node
 
 -- ---- the database
 
@@ -124,6 +147,12 @@ HasRefusedStep old new = (e : NodeError) × IsStepRefused old e × IsNodeLeft ol
 abbrev pub CallerInsertLeads : FrontValue → Entry → NodeValue → NodeValue → Option Kept → Type 0
 CallerInsertLeads seen entry old new (Some kept) = HasTakenEntry seen entry old new kept
 CallerInsertLeads seen entry old new None = HasRefusedStep old new
+
+-- the node drops the entries that end at the horizon or before it; or it refuses the step
+abbrev pub CallerSweepLeads : ℕ → NodeValue → NodeValue → Result ℕ NodeError → Type 0
+CallerSweepLeads horizon old new (Ok count) =
+    (new ≡ after_call old 0 (Sweep horizon)) × (count ≡ swept_count old.cache horizon)
+CallerSweepLeads horizon old new (Err e) = IsStepRefused old e × IsNodeLeft old new e
 
 -- a step keeps the row of the node, and its passes
 pub record KeepsNode (old new : NodeValue) : Type 0 where

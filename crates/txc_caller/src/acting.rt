@@ -1,13 +1,14 @@
 //! What a caller does in an open call, and how the call stands after it.
-ghost use Rattle.std.specs.Prelude.{◌≡◌, ◌<◌, ◌++◌, ◌∷◌, [], List, Some, vec_capacity, vec_len};
+ghost use Rattle.std.specs.Prelude.{◌≡◌, ◌++◌, ◌∷◌, [], List, Some};
 ghost use Rattle.txc_app.specs.Eval.{Next};
 ghost use Rattle.txc_tags.specs.Keys.{Call};
 ghost use Rattle.txc_ports.specs.declared.recorded.Recorded.{Recorded};
 ghost use Rattle.txc_txn.specs.Core.{open_call, IsIdle};
 ghost use Rattle.txc_txn.specs.Kept.{TxnValue};
-ghost use Rattle.txc_caller.specs.Acting.{step_with, IsActOf};
+ghost use Rattle.txc_caller.specs.Acting.{ask_of, step_with, HasCallerActed, HasRoomFor, HasRoomOnceTold, IsActOf, IsAwaitingCaller};
 ghost use Rattle.txc_caller.specs.Standing.{asks_next, IsKeptBack, IsStanding, KeepsOn};
 
+use crate::act::{Act, Awaited, Told};
 use crate::acted::Acted;
 use crate::asking::{counted, given_by, supply};
 use crate::engine::{feed, start};
@@ -20,7 +21,6 @@ use txc_app::{Answer, App, Ask, Bytes};
 use txc_node::Value;
 use txc_ports::{PortReply, TxnError};
 use txc_registry::Suppliable;
-use txc_rows::Query;
 use txc_tags::Key;
 use txc_txn::RunningTxn;
 
@@ -124,15 +124,27 @@ pub(crate) fn end_call<A: App, C: Suppliable>(ports: &mut Ports<A>, txn: &mut Ru
     ensures keeps { KeepsOn txn.old txn.new }
     ensures events { ports.new.database.events ≡ ports.old.database.events }
 {
-    match txn.give_up() {
-        Some(stamp) => {
-            let _ = ports.unpin(stamp);
-        }
-        None => (),
-    }
+    let unpin = txn.give_up();
+    ports.let_go(unpin);
 }
 
 // ---- replies
+
+// Goes on with the reply that was kept back. Where the call waits again, its innermost function has this answer.
+fn feed_on<A: App, C: Suppliable>(
+    alloc: Global,
+    ports: &mut Ports<A>,
+    txn: &mut RunningTxn<A, C>,
+    frames: Frames,
+    given: Option<Answer>,
+    kept: PortReply,
+) -> Acted
+    requires { IsAwaitingCaller A.next ports.old txn.old frames.top kept }
+    ensures { HasCallerActed A.next ports.old ports.new txn.old txn.new frames.top result }
+{
+    let stand = feed(alloc, ports, txn, kept);
+    standing(stand, frames, given)
+}
 
 // The innermost function has its answer, of which the caller gets a copy. A reply that gives none ends the call. Out of
 // memory, the call is refused.
@@ -143,20 +155,12 @@ fn answered<A: App, C: Suppliable>(
     frames: Frames,
     kept: PortReply,
 ) -> Acted
-    requires kept { IsKeptBack A.next txn.old kept }
-    requires top { open_call txn.old.core ≡ Some frames.top }
-    requires row { txn.old.core.seen.events ≡ ports.old.database.events }
-    requires nodes { txn.old.core.nodes ≡ 1 }
-    ensures acted { IsActOf A.next txn.old.core.recorded frames.top txn.new result }
-    ensures keeps { KeepsOn txn.old txn.new }
-    ensures events { ports.new.database.events ≡ ports.old.database.events }
+    requires { IsAwaitingCaller A.next ports.old txn.old frames.top kept }
+    ensures { HasCallerActed A.next ports.old ports.new txn.old txn.new frames.top result }
 {
     match given_by(alloc, &kept) {
         Ok(Some(answer)) => stays(frames.reach(), Some(answer), kept),
-        Ok(None) => {
-            let stand = feed(alloc, ports, txn, kept);
-            standing(stand, frames, None)
-        }
+        Ok(None) => feed_on(alloc, ports, txn, frames, None, kept),
         Err(_) => {
             end_call(ports, txn);
             ended(TxnError::Memory)
@@ -172,18 +176,12 @@ fn first_reply<A: App, C: Suppliable>(
     frames: Frames,
     kept: PortReply,
 ) -> Acted
-    requires kept { IsKeptBack A.next txn.old kept }
-    requires top { open_call txn.old.core ≡ Some frames.top }
-    requires row { txn.old.core.seen.events ≡ ports.old.database.events }
-    requires nodes { txn.old.core.nodes ≡ 1 }
-    ensures acted { IsActOf A.next txn.old.core.recorded frames.top txn.new result }
-    ensures keeps { KeepsOn txn.old txn.new }
-    ensures events { ports.new.database.events ≡ ports.old.database.events }
+    requires { IsAwaitingCaller A.next ports.old txn.old frames.top kept }
+    ensures { HasCallerActed A.next ports.old ports.new txn.old txn.new frames.top result }
 {
     let reply = counted(kept, txn.core().members());
     if is_hit(&reply) {
-        let stand = feed(alloc, ports, txn, reply);
-        return standing(stand, frames, None);
+        return feed_on(alloc, ports, txn, frames, None, reply);
     }
     stays(frames, None, reply)
 }
@@ -197,14 +195,9 @@ fn inner_reply<A: App, C: Suppliable>(
     kept: PortReply,
     key: Key,
 ) -> Acted
-    requires kept { IsKeptBack A.next txn.old kept }
-    requires top { open_call txn.old.core ≡ Some frames.top }
-    requires row { txn.old.core.seen.events ≡ ports.old.database.events }
-    requires nodes { txn.old.core.nodes ≡ 1 }
-    requires room { vec_len frames.outer < vec_capacity frames.outer }
-    ensures acted { IsActOf A.next txn.old.core.recorded frames.top txn.new result }
-    ensures keeps { KeepsOn txn.old txn.new }
-    ensures events { ports.new.database.events ≡ ports.old.database.events }
+    requires waits { IsAwaitingCaller A.next ports.old txn.old frames.top kept }
+    requires room { HasRoomFor (Awaited.Hit key) frames }
+    ensures { HasCallerActed A.next ports.old ports.new txn.old txn.new frames.top result }
 {
     let reply = counted(kept, txn.core().members());
     if is_hit(&reply) {
@@ -213,7 +206,45 @@ fn inner_reply<A: App, C: Suppliable>(
     stays(frames.enter(key), None, reply)
 }
 
-// ---- calls
+// The reply has come that the call waited for.
+fn replied<A: App, C: Suppliable>(
+    alloc: Global,
+    ports: &mut Ports<A>,
+    txn: &mut RunningTxn<A, C>,
+    frames: Frames,
+    kept: PortReply,
+    awaited: Awaited,
+) -> Acted
+    requires waits { IsAwaitingCaller A.next ports.old txn.old frames.top kept }
+    requires room { HasRoomFor awaited frames }
+    ensures { HasCallerActed A.next ports.old ports.new txn.old txn.new frames.top result }
+{
+    match awaited {
+        Awaited::Hit(key) => inner_reply(alloc, ports, txn, frames, kept, key),
+        Awaited::Rows => answered(alloc, ports, txn, frames, kept),
+        Awaited::Kept => feed_on(alloc, ports, txn, frames, None, kept),
+    }
+}
+
+// Goes on with the reply that was kept back, up to the one that the call waits for.
+fn wait_for<A: App, C: Suppliable>(
+    alloc: Global,
+    ports: &mut Ports<A>,
+    txn: &mut RunningTxn<A, C>,
+    frames: Frames,
+    kept: PortReply,
+    awaited: Awaited,
+) -> Acted
+    requires waits { IsAwaitingCaller A.next ports.old txn.old frames.top kept }
+    requires room { HasRoomFor awaited frames }
+    ensures { HasCallerActed A.next ports.old ports.new txn.old txn.new frames.top result }
+{
+    match feed(alloc, ports, txn, kept) {
+        Stand::Kept(reply) => replied(alloc, ports, txn, frames, reply, awaited),
+        Stand::Value(value) => valued(value),
+        Stand::Refused(error) => ended(error),
+    }
+}
 
 /// The outermost call begins.
 pub(crate) fn call_first<A: App, C: Suppliable>(
@@ -225,9 +256,7 @@ pub(crate) fn call_first<A: App, C: Suppliable>(
     requires idle { IsIdle txn.old.core }
     requires row { txn.old.core.seen.events ≡ ports.old.database.events }
     requires nodes { txn.old.core.nodes ≡ 1 }
-    ensures acted { IsActOf A.next txn.old.core.recorded key txn.new result }
-    ensures keeps { KeepsOn txn.old txn.new }
-    ensures events { ports.new.database.events ≡ ports.old.database.events }
+    ensures { HasCallerActed A.next ports.old ports.new txn.old txn.new key result }
 {
     let frames = Frames::of(alloc, &key);
     match start(alloc, ports, txn, key) {
@@ -237,165 +266,7 @@ pub(crate) fn call_first<A: App, C: Suppliable>(
     }
 }
 
-// What the innermost function asks, a call, was handed over.
-fn go_on_to_call<A: App, C: Suppliable>(
-    alloc: Global,
-    ports: &mut Ports<A>,
-    txn: &mut RunningTxn<A, C>,
-    frames: Frames,
-    kept: PortReply,
-    key: Key,
-) -> Acted
-    requires kept { IsKeptBack A.next txn.old kept }
-    requires top { open_call txn.old.core ≡ Some frames.top }
-    requires row { txn.old.core.seen.events ≡ ports.old.database.events }
-    requires nodes { txn.old.core.nodes ≡ 1 }
-    requires room { vec_len frames.outer < vec_capacity frames.outer }
-    ensures acted { IsActOf A.next txn.old.core.recorded frames.top txn.new result }
-    ensures keeps { KeepsOn txn.old txn.new }
-    ensures events { ports.new.database.events ≡ ports.old.database.events }
-{
-    match feed(alloc, ports, txn, kept) {
-        Stand::Kept(reply) => inner_reply(alloc, ports, txn, frames, reply, key),
-        Stand::Value(value) => valued(value),
-        Stand::Refused(error) => ended(error),
-    }
-}
-
-// Hands over that the innermost function asks for the call, and goes on.
-fn hand_call<A: App, C: Suppliable>(
-    alloc: Global,
-    ports: &mut Ports<A>,
-    txn: &mut RunningTxn<A, C>,
-    frames: Frames,
-    given: Option<Answer>,
-    kept: PortReply,
-    key: Key,
-) -> Acted
-    requires asks { asks_next A.next txn.old.objects frames.inner.key given ≡ Some (Ask.Call key) }
-    requires kept { IsKeptBack A.next txn.old kept }
-    requires top { open_call txn.old.core ≡ Some frames.top }
-    requires row { txn.old.core.seen.events ≡ ports.old.database.events }
-    requires nodes { txn.old.core.nodes ≡ 1 }
-    requires room { vec_len frames.outer < vec_capacity frames.outer }
-    ensures acted { IsActOf A.next txn.old.core.recorded frames.top txn.new result }
-    ensures keeps { KeepsOn txn.old txn.new }
-    ensures events { ports.new.database.events ≡ ports.old.database.events }
-{
-    match supply(alloc, txn, &frames.inner.key, given, Ask::Call(key.copy())) {
-        Ok(()) => go_on_to_call(alloc, ports, txn, frames, kept, key),
-        Err(error) => refused(frames, None, kept, error),
-    }
-}
-
-/// The function asks for the value of another call.
-pub(crate) fn call_inside<A: App, C: Suppliable>(
-    alloc: Global,
-    ports: &mut Ports<A>,
-    txn: &mut RunningTxn<A, C>,
-    call: OpenCall,
-    key: Key,
-) -> Acted
-    requires asks { asks_next A.next txn.old.objects call.frames.inner.key call.given ≡ Some (Ask.Call key) }
-    requires kept { IsKeptBack A.next txn.old call.kept }
-    requires top { open_call txn.old.core ≡ Some call.frames.top }
-    requires row { txn.old.core.seen.events ≡ ports.old.database.events }
-    requires nodes { txn.old.core.nodes ≡ 1 }
-    ensures acted { IsActOf A.next txn.old.core.recorded call.frames.top txn.new result }
-    ensures keeps { KeepsOn txn.old txn.new }
-    ensures events { ports.new.database.events ≡ ports.old.database.events }
-{
-    let OpenCall {
-        mut frames,
-        given,
-        kept,
-    } = call;
-    let Ok(()) = frames.make_room() else {
-        return out_of_memory(frames, given, kept);
-    };
-    hand_call(alloc, ports, txn, frames, given, kept, key)
-}
-
-// ---- queries
-
-// What the innermost function asks, a query, was handed over.
-fn go_on_to_query<A: App, C: Suppliable>(
-    alloc: Global,
-    ports: &mut Ports<A>,
-    txn: &mut RunningTxn<A, C>,
-    frames: Frames,
-    kept: PortReply,
-) -> Acted
-    requires kept { IsKeptBack A.next txn.old kept }
-    requires top { open_call txn.old.core ≡ Some frames.top }
-    requires row { txn.old.core.seen.events ≡ ports.old.database.events }
-    requires nodes { txn.old.core.nodes ≡ 1 }
-    ensures acted { IsActOf A.next txn.old.core.recorded frames.top txn.new result }
-    ensures keeps { KeepsOn txn.old txn.new }
-    ensures events { ports.new.database.events ≡ ports.old.database.events }
-{
-    match feed(alloc, ports, txn, kept) {
-        Stand::Kept(reply) => answered(alloc, ports, txn, frames, reply),
-        Stand::Value(value) => valued(value),
-        Stand::Refused(error) => ended(error),
-    }
-}
-
-/// The function asks for the rows of a query.
-pub(crate) fn query_inside<A: App, C: Suppliable>(
-    alloc: Global,
-    ports: &mut Ports<A>,
-    txn: &mut RunningTxn<A, C>,
-    call: OpenCall,
-    query: Query,
-) -> Acted
-    requires asks { asks_next A.next txn.old.objects call.frames.inner.key call.given ≡ Some (Ask.Query query) }
-    requires kept { IsKeptBack A.next txn.old call.kept }
-    requires top { open_call txn.old.core ≡ Some call.frames.top }
-    requires row { txn.old.core.seen.events ≡ ports.old.database.events }
-    requires nodes { txn.old.core.nodes ≡ 1 }
-    ensures acted { IsActOf A.next txn.old.core.recorded call.frames.top txn.new result }
-    ensures keeps { KeepsOn txn.old txn.new }
-    ensures events { ports.new.database.events ≡ ports.old.database.events }
-{
-    let OpenCall {
-        frames,
-        given,
-        kept,
-    } = call;
-    match supply(alloc, txn, &frames.inner.key, given, Ask::Query(query)) {
-        Ok(()) => go_on_to_query(alloc, ports, txn, frames, kept),
-        Err(error) => refused(frames, None, kept, error),
-    }
-}
-
-// ---- values
-
-// The outermost function is done: the call has its value, which is kept at the node first where it depends on a row.
-fn conclude<A: App, C: Suppliable>(
-    alloc: Global,
-    ports: &mut Ports<A>,
-    txn: &mut RunningTxn<A, C>,
-    frames: Frames,
-    kept: PortReply,
-) -> Acted
-    requires kept { IsKeptBack A.next txn.old kept }
-    requires top { open_call txn.old.core ≡ Some frames.top }
-    requires row { txn.old.core.seen.events ≡ ports.old.database.events }
-    requires nodes { txn.old.core.nodes ≡ 1 }
-    ensures acted { IsActOf A.next txn.old.core.recorded frames.top txn.new result }
-    ensures keeps { KeepsOn txn.old txn.new }
-    ensures events { ports.new.database.events ≡ ports.old.database.events }
-{
-    match feed(alloc, ports, txn, kept) {
-        Stand::Kept(inserted) => {
-            let stand = feed(alloc, ports, txn, inserted);
-            standing(stand, frames, None)
-        }
-        Stand::Value(value) => valued(value),
-        Stand::Refused(error) => ended(error),
-    }
-}
+// ---- what the innermost function does
 
 // An inner function is done with this value, which is the next answer of the one around it. One that depends on a row is
 // kept at the node first. Of another nothing is fed: its object is done at once, and then the one around it goes on
@@ -408,25 +279,20 @@ fn close<A: App, C: Suppliable>(
     kept: PortReply,
     value: Value,
 ) -> Acted
-    requires kept { IsKeptBack A.next txn.old kept }
-    requires top { open_call txn.old.core ≡ Some around.frames.top }
-    requires row { txn.old.core.seen.events ≡ ports.old.database.events }
-    requires nodes { txn.old.core.nodes ≡ 1 }
-    ensures acted { IsActOf A.next txn.old.core.recorded around.frames.top txn.new result }
-    ensures keeps { KeepsOn txn.old txn.new }
-    ensures events { ports.new.database.events ≡ ports.old.database.events }
+    requires { IsAwaitingCaller A.next ports.old txn.old around.frames.top kept }
+    ensures { HasCallerActed A.next ports.old ports.new txn.old txn.new around.frames.top result }
 {
     let Around { frames, is_reached } = around;
     let given = Some(Answer::Value(value));
     if !is_reached {
         return stays(frames, given, kept);
     }
-    let stand = feed(alloc, ports, txn, kept);
-    standing(stand, frames, given)
+    feed_on(alloc, ports, txn, frames, given, kept)
 }
 
-// What the innermost function gives was handed over. A call whose value is too long is refused.
-fn go_on_to_value<A: App, C: Suppliable>(
+// The innermost function gives these bytes. A call whose value is too long is refused. The value of the outermost is kept
+// at the node first where it depends on a row.
+fn give<A: App, C: Suppliable>(
     alloc: Global,
     ports: &mut Ports<A>,
     txn: &mut RunningTxn<A, C>,
@@ -434,51 +300,89 @@ fn go_on_to_value<A: App, C: Suppliable>(
     kept: PortReply,
     bytes: Vec<u8>,
 ) -> Acted
-    requires kept { IsKeptBack A.next txn.old kept }
-    requires top { open_call txn.old.core ≡ Some frames.top }
-    requires row { txn.old.core.seen.events ≡ ports.old.database.events }
-    requires nodes { txn.old.core.nodes ≡ 1 }
-    ensures acted { IsActOf A.next txn.old.core.recorded frames.top txn.new result }
-    ensures keeps { KeepsOn txn.old txn.new }
-    ensures events { ports.new.database.events ≡ ports.old.database.events }
+    requires { IsAwaitingCaller A.next ports.old txn.old frames.top kept }
+    ensures { HasCallerActed A.next ports.old ports.new txn.old txn.new frames.top result }
 {
     let Some(value) = Value::new(bytes) else {
-        let stand = feed(alloc, ports, txn, kept);
-        return standing(stand, frames, None);
+        return feed_on(alloc, ports, txn, frames, None, kept);
     };
     match frames.leave() {
         Ok(around) => close(alloc, ports, txn, around, kept, value),
-        Err(outermost) => conclude(alloc, ports, txn, outermost, kept),
+        Err(outermost) => wait_for(alloc, ports, txn, outermost, kept, Awaited::Kept),
     }
 }
 
-// Hands over what the innermost function gives, of which there is a copy, and goes on.
-fn hand_value<A: App, C: Suppliable>(
+// The object of the innermost function was told what that does.
+fn go_on<A: App, C: Suppliable>(
+    alloc: Global,
+    ports: &mut Ports<A>,
+    txn: &mut RunningTxn<A, C>,
+    frames: Frames,
+    kept: PortReply,
+    told: Told,
+) -> Acted
+    requires waits { IsAwaitingCaller A.next ports.old txn.old frames.top kept }
+    requires room { HasRoomOnceTold told frames }
+    ensures { HasCallerActed A.next ports.old ports.new txn.old txn.new frames.top result }
+{
+    match told {
+        Told::Waits(awaited) => wait_for(alloc, ports, txn, frames, kept, awaited),
+        Told::Gives(bytes) => give(alloc, ports, txn, frames, kept, bytes),
+    }
+}
+
+// Tells the object of the innermost function what that asks, and goes on.
+fn hand_over<A: App, C: Suppliable>(
     alloc: Global,
     ports: &mut Ports<A>,
     txn: &mut RunningTxn<A, C>,
     call: OpenCall,
-    bytes: Bytes,
-    copy: Vec<u8>,
+    ask: Ask,
+    told: Told,
 ) -> Acted
-    requires asks { asks_next A.next txn.old.objects call.frames.inner.key call.given ≡ Some (Ask.Done bytes) }
-    requires kept { IsKeptBack A.next txn.old call.kept }
-    requires top { open_call txn.old.core ≡ Some call.frames.top }
-    requires row { txn.old.core.seen.events ≡ ports.old.database.events }
-    requires nodes { txn.old.core.nodes ≡ 1 }
-    ensures acted { IsActOf A.next txn.old.core.recorded call.frames.top txn.new result }
-    ensures keeps { KeepsOn txn.old txn.new }
-    ensures events { ports.new.database.events ≡ ports.old.database.events }
+    requires asks { asks_next A.next txn.old.objects call.frames.inner.key call.given ≡ Some ask }
+    requires waits { IsAwaitingCaller A.next ports.old txn.old call.frames.top call.kept }
+    requires room { HasRoomOnceTold told call.frames }
+    ensures { HasCallerActed A.next ports.old ports.new txn.old txn.new call.frames.top result }
 {
     let OpenCall {
         frames,
         given,
         kept,
     } = call;
-    match supply(alloc, txn, &frames.inner.key, given, Ask::Done(bytes)) {
-        Ok(()) => go_on_to_value(alloc, ports, txn, frames, kept, copy),
+    match supply(alloc, txn, &frames.inner.key, given, ask) {
+        Ok(()) => go_on(alloc, ports, txn, frames, kept, told),
         Err(error) => refused(frames, None, kept, error),
     }
+}
+
+// The innermost function asks for the value of another call.
+fn call_inside<A: App, C: Suppliable>(
+    alloc: Global,
+    ports: &mut Ports<A>,
+    txn: &mut RunningTxn<A, C>,
+    call: OpenCall,
+    key: Key,
+) -> Acted
+    requires asks { asks_next A.next txn.old.objects call.frames.inner.key call.given ≡ Some (Ask.Call key) }
+    requires waits { IsAwaitingCaller A.next ports.old txn.old call.frames.top call.kept }
+    ensures { HasCallerActed A.next ports.old ports.new txn.old txn.new call.frames.top result }
+{
+    let OpenCall {
+        mut frames,
+        given,
+        kept,
+    } = call;
+    let Ok(()) = frames.make_room() else {
+        return out_of_memory(frames, given, kept);
+    };
+    let call = OpenCall {
+        frames,
+        given,
+        kept,
+    };
+    let told = Told::Waits(Awaited::Hit(key.copy()));
+    hand_over(alloc, ports, txn, call, Ask::Call(key), told)
 }
 
 // The open call, as it was, for want of memory.
@@ -494,25 +398,42 @@ fn unmoved(call: OpenCall) -> Acted
     out_of_memory(frames, given, kept)
 }
 
-/// The function is done, with these bytes.
-pub(crate) fn finish_inside<A: App, C: Suppliable>(
+// The innermost function is done, with these bytes.
+fn finish_inside<A: App, C: Suppliable>(
     alloc: Global,
     ports: &mut Ports<A>,
     txn: &mut RunningTxn<A, C>,
     call: OpenCall,
-    bytes: Vec<u8>,
+    bytes: Bytes,
 ) -> Acted
-    requires asks { asks_next A.next txn.old.objects call.frames.inner.key call.given ≡ Some (Ask.Done bytes.items) }
-    requires kept { IsKeptBack A.next txn.old call.kept }
-    requires top { open_call txn.old.core ≡ Some call.frames.top }
-    requires row { txn.old.core.seen.events ≡ ports.old.database.events }
-    requires nodes { txn.old.core.nodes ≡ 1 }
-    ensures acted { IsActOf A.next txn.old.core.recorded call.frames.top txn.new result }
-    ensures keeps { KeepsOn txn.old txn.new }
-    ensures events { ports.new.database.events ≡ ports.old.database.events }
+    requires asks { asks_next A.next txn.old.objects call.frames.inner.key call.given ≡ Some (Ask.Done bytes) }
+    requires waits { IsAwaitingCaller A.next ports.old txn.old call.frames.top call.kept }
+    ensures { HasCallerActed A.next ports.old ports.new txn.old txn.new call.frames.top result }
 {
-    let Ok(copy) = Vec::from_slice(alloc, &bytes) else {
+    let Ok(copy) = Vec::from_slice(alloc, bytes.as_slice()) else {
         return unmoved(call);
     };
-    hand_value(alloc, ports, txn, call, Bytes::new(bytes), copy)
+    hand_over(alloc, ports, txn, call, Ask::Done(bytes), Told::Gives(copy))
+}
+
+/// What the innermost function does.
+pub(crate) fn act_inside<A: App, C: Suppliable>(
+    alloc: Global,
+    ports: &mut Ports<A>,
+    txn: &mut RunningTxn<A, C>,
+    call: OpenCall,
+    act: Act,
+) -> Acted
+    requires asks { asks_next A.next txn.old.objects call.frames.inner.key call.given ≡ Some (ask_of act) }
+    requires waits { IsAwaitingCaller A.next ports.old txn.old call.frames.top call.kept }
+    ensures { HasCallerActed A.next ports.old ports.new txn.old txn.new call.frames.top result }
+{
+    match act {
+        Act::Call(key) => call_inside(alloc, ports, txn, call, key),
+        Act::Query(query) => {
+            let told = Told::Waits(Awaited::Rows);
+            hand_over(alloc, ports, txn, call, Ask::Query(query), told)
+        }
+        Act::Finish(bytes) => finish_inside(alloc, ports, txn, call, bytes),
+    }
 }

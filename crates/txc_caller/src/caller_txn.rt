@@ -1,21 +1,23 @@
 //! A caller's transaction that only reads.
-ghost use Rattle.std.specs.Prelude.{◌≡◌, ◌≢◌, ◌↔◌, ◌∷◌, [], Err, IfErr, IfOk, IsNone, IsOk, IsSome, IsTrue, MatchOption, None, Ok, Some};
+ghost use Rattle.std.specs.Prelude.{◌≡◌, ◌≢◌, ◌↔◌, ◌∷◌, [], IfErr, IfOk, IsNone, IsOk, IsSome, IsTrue, MatchOption, None, Ok, Some};
 ghost use Rattle.txc_registry.specs.Objects.{numbers_of, AllIdle};
-ghost use Rattle.txc_txn.specs.Core.{receipt_pin, Explains};
+ghost use Rattle.txc_txn.specs.Core.{left_pin, receipt_pin, Explains};
 ghost use Rattle.txc_txn.specs.Kept.{IsTxn};
 ghost use Rattle.txc_txn.specs.Sessions.{IsAtLeast};
-ghost use Rattle.txc_caller.specs.Acting.{IsStepOf};
+ghost use Rattle.txc_caller.specs.Acting.{ask_of, IsStepIn, IsStepOf};
+ghost use Rattle.txc_caller.specs.Ports.{AreGivenBack, IsLetGo};
 ghost use Rattle.txc_caller.specs.Reading.{caller_of, top_or, AsksNext, KeepsReading};
 
+use crate::act::Act;
 use crate::acted::Acted;
-use crate::acting::{call_first, call_inside, end_call, finish_inside, query_inside};
+use crate::acting::{act_inside, call_first, end_call};
 use crate::caller::Caller;
 use crate::frames::OpenCall;
 use crate::ports::Ports;
 use crate::step::{CallerError, Step};
 use std::alloc::Global;
 use std::marker::Model;
-use txc_app::{Answer, App};
+use txc_app::{Answer, App, Bytes};
 use txc_cushion::Pin;
 use txc_ports::Recorded;
 use txc_registry::Suppliable;
@@ -63,61 +65,36 @@ impl<A: App, C: Suppliable> CallerTxn<A, C> {
         step
     }
 
-    // Asks for the value of a call, by the function that is computed.
-    fn call_by_function(&mut self, alloc: Global, key: Key) -> Result<Step, CallerError>
+    // What the function that is computed does.
+    fn act(&mut self, alloc: Global, act: Act) -> Result<Step, CallerError>
         requires some { IsSome self.old.doing }
-        requires asks { AsksNext A.next self.old (asks.Call key) }
-        ensures step { MatchOption self.old.doing (result ≡ Err CallerError.NoFunction)
-            (λ o. IsStepOf self.old.txn.core.recorded o.frames.top self.new.txn.core.recorded self.new.doing result) }
+        requires asks { AsksNext A.next self.old (ask_of act) }
+        ensures step { IsStepIn self.old.doing self.old self.new result }
         ensures keeps { KeepsReading self.old self.new }
         ensures meant { IsTxn A.next self.new.txn }
     {
         let Some(call) = self.doing.take() else {
             unreachable!()
         };
-        let acted = call_inside(alloc, &mut self.ports, &mut self.txn, call, key);
+        let acted = act_inside(alloc, &mut self.ports, &mut self.txn, call, act);
         let Acted { doing, step } = acted;
         self.doing = doing;
         self.txn.is_kept();
         step
     }
 
-    // Asks for the rows of a query, by the function that is computed.
-    fn query_by_function(&mut self, alloc: Global, query: Query) -> Result<Step, CallerError>
-        requires some { IsSome self.old.doing }
-        requires asks { AsksNext A.next self.old (asks.Query query) }
-        ensures step { MatchOption self.old.doing (result ≡ Err CallerError.NoFunction)
-            (λ o. IsStepOf self.old.txn.core.recorded o.frames.top self.new.txn.core.recorded self.new.doing result) }
+    // What a function does, if one is computed.
+    fn act_if_computing(&mut self, alloc: Global, act: Act) -> Result<Step, CallerError>
+        requires { AsksNext A.next self.old (ask_of act) }
+        ensures step { IsStepIn self.old.doing self.old self.new result }
         ensures keeps { KeepsReading self.old self.new }
         ensures meant { IsTxn A.next self.new.txn }
     {
-        let Some(call) = self.doing.take() else {
-            unreachable!()
-        };
-        let acted = query_inside(alloc, &mut self.ports, &mut self.txn, call, query);
-        let Acted { doing, step } = acted;
-        self.doing = doing;
-        self.txn.is_kept();
-        step
-    }
-
-    // The function that is computed gives these bytes.
-    fn finish_function(&mut self, alloc: Global, bytes: Vec<u8>) -> Result<Step, CallerError>
-        requires some { IsSome self.old.doing }
-        requires asks { AsksNext A.next self.old (asks.Done bytes.items) }
-        ensures step { MatchOption self.old.doing (result ≡ Err CallerError.NoFunction)
-            (λ o. IsStepOf self.old.txn.core.recorded o.frames.top self.new.txn.core.recorded self.new.doing result) }
-        ensures keeps { KeepsReading self.old self.new }
-        ensures meant { IsTxn A.next self.new.txn }
-    {
-        let Some(call) = self.doing.take() else {
-            unreachable!()
-        };
-        let acted = finish_inside(alloc, &mut self.ports, &mut self.txn, call, bytes);
-        let Acted { doing, step } = acted;
-        self.doing = doing;
-        self.txn.is_kept();
-        step
+        if self.doing.is_none() {
+            self.txn.is_kept();
+            return Err(CallerError::NoFunction);
+        }
+        self.act(alloc, act)
     }
 
     /// Asks for the value of a call: by no function the outermost one, else by the function that is computed.
@@ -132,38 +109,28 @@ impl<A: App, C: Suppliable> CallerTxn<A, C> {
         if self.doing.is_none() {
             return self.call_outermost(alloc, key);
         }
-        self.call_by_function(alloc, key)
+        self.act(alloc, Act::Call(key))
     }
 
     /// Asks for the rows of a query, by the function that is computed.
     pub fn query(&mut self, alloc: Global, query: Query) -> Result<Step, CallerError>
         requires { AsksNext A.next self.old (asks.Query query) }
-        ensures step { MatchOption self.old.doing (result ≡ Err CallerError.NoFunction)
-            (λ o. IsStepOf self.old.txn.core.recorded o.frames.top self.new.txn.core.recorded self.new.doing result) }
+        ensures step { IsStepIn self.old.doing self.old self.new result }
         ensures keeps { KeepsReading self.old self.new }
         ensures meant { IsTxn A.next self.new.txn }
     {
-        if self.doing.is_none() {
-            self.txn.is_kept();
-            return Err(CallerError::NoFunction);
-        }
-        self.query_by_function(alloc, query)
+        self.act_if_computing(alloc, Act::Query(query))
     }
 
     /// Says that the function that is computed gives these bytes. They are kept at the node, under its call, with
     /// the reach and the tags of what it was answered, where that depends on a row.
     pub fn finish(&mut self, alloc: Global, bytes: Vec<u8>) -> Result<Step, CallerError>
         requires { AsksNext A.next self.old (asks.Done bytes.items) }
-        ensures step { MatchOption self.old.doing (result ≡ Err CallerError.NoFunction)
-            (λ o. IsStepOf self.old.txn.core.recorded o.frames.top self.new.txn.core.recorded self.new.doing result) }
+        ensures step { IsStepIn self.old.doing self.old self.new result }
         ensures keeps { KeepsReading self.old self.new }
         ensures meant { IsTxn A.next self.new.txn }
     {
-        if self.doing.is_none() {
-            self.txn.is_kept();
-            return Err(CallerError::NoFunction);
-        }
-        self.finish_function(alloc, bytes)
+        self.act_if_computing(alloc, Act::Finish(Bytes::new(bytes)))
     }
 
     /// Gives the open call up, if one is, and returns whether one was. The transaction stays open, and its answers
@@ -180,6 +147,13 @@ impl<A: App, C: Suppliable> CallerTxn<A, C> {
         end_call(&mut self.ports, &mut self.txn);
         self.txn.is_kept();
         was_open
+    }
+
+    /// Whether a function is computed, so that a call is open.
+    pub fn is_computing(&self) -> bool
+        ensures { IsTrue result ↔ IsSome self.now.doing }
+    {
+        self.doing.is_some()
     }
 
     /// What the function that is computed was answered last; none where it has asked nothing yet, or none is
@@ -222,6 +196,8 @@ impl<A: App, C: Suppliable> CallerTxn<A, C> {
         ensures row { IfOk result (λ it. it.0.seen.events ≡ it.1.ports.database.events) }
         ensures caller { IfOk result (λ it. it.1
             ≡ record (caller_of self) { ports = record self.ports { cushion = it.1.ports.cushion } }) }
+        ensures given_back { IfOk result (λ it.
+            AreGivenBack self.txn.core.taken self.ports.cushion it.1.ports.cushion) }
         ensures only_if { IsOk result → self.doing ≡ None }
         ensures handed_back { IfErr result (λ it. (it ≡ self) × IsSome self.doing) }
     {
@@ -251,6 +227,8 @@ impl<A: App, C: Suppliable> CallerTxn<A, C> {
         ensures history { result.ports.database.history ≡ self.ports.database.history }
         ensures row { result.ports.database.events ≡ self.ports.database.events }
         ensures node { result.ports.node ≡ self.ports.node }
+        ensures given_back { AreGivenBack self.txn.core.taken self.ports.cushion result.ports.cushion }
+        ensures unpinned { IsLetGo (left_pin self.txn.core.pinning) self.ports.database result.ports.database }
         ensures renew_after { result.renew_after ≡ self.renew_after }
     {
         let CallerTxn {
@@ -262,9 +240,7 @@ impl<A: App, C: Suppliable> CallerTxn<A, C> {
         let (left, registry) = txn.cancel();
         let mut ports = ports;
         ports.give_back(&left.give_back);
-        if let Some(stamp) = left.unpin {
-            let _ = ports.unpin(stamp);
-        }
+        ports.let_go(left.unpin);
         Caller {
             ports,
             renew_after,

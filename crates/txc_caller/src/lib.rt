@@ -5,6 +5,7 @@
 //! reply of a port back until the caller has said what his function asks next, since the core goes on at once.
 #![tactic(auto)]
 
+mod act;
 mod acted;
 mod acting;
 mod asking;
@@ -13,6 +14,7 @@ mod caller_txn;
 mod caller_write;
 mod engine;
 mod frames;
+mod keeping;
 mod nodes;
 mod ports;
 mod stand;

@@ -2,14 +2,14 @@
 ghost use Rattle.std.specs.Prelude.{◌≡◌, IfSome};
 ghost use Rattle.txc_app.specs.Claims.{IsTrueIn, entry_shown};
 ghost use Rattle.txc_shared.specs.Passes.{shown_of_entry};
-ghost use Rattle.txc_caller.specs.Ports.{kept_as, CallerInsertLeads, KeepsNode, CallerLookupLeads};
+ghost use Rattle.txc_caller.specs.Ports.{kept_as, CallerInsertLeads, CallerLookupLeads, CallerSweepLeads, KeepsNode};
 
 use std::alloc::Global;
 use txc_app::App;
 use txc_db::{Answered, HistoryFront};
 use txc_node::{Entry, Shown};
 use txc_ports::Kept;
-use txc_shared::{Advanced, Finding, Insertion, StoredNode};
+use txc_shared::{Advanced, Finding, Insertion, NodeError, StoredNode};
 use txc_stamp::Stamp;
 use txc_tags::Key;
 
@@ -98,5 +98,21 @@ pub(crate) fn take_event<A: App>(
             let _refusal = refusal;
             false
         }
+    }
+}
+
+/// Has the node drop the entries that end at the horizon or before it, and counts them.
+pub(crate) fn sweep<A: App>(
+    alloc: Global,
+    node: &mut StoredNode<A>,
+    horizon: Stamp,
+) -> Result<usize, NodeError>
+    requires { node.old.passes ≡ 1 }
+    ensures leads { CallerSweepLeads horizon node.old node.new result }
+    ensures keeps { KeepsNode node.old node.new }
+{
+    match node.sweep(alloc, 0, horizon) {
+        Ok(count) => Ok(count),
+        Err(refusal) => Err(refusal),
     }
 }

@@ -1,9 +1,9 @@
 //! The plain ports of a caller, for one thread.
-ghost use Rattle.std.specs.Prelude.{◌≡◌, ◌≤◌, ◌⊎◌, [], All, IfErr, IfOk, IfSome, OnOk};
+ghost use Rattle.std.specs.Prelude.{◌≡◌, ◌≤◌, [], All, IfErr, IfOk, IfSome, OnErr, OnOk, length};
 ghost use Rattle.txc_app.specs.Claims.{IsTrueIn, entry_shown};
-ghost use Rattle.txc_cushion.specs.Cushion.{after_give_back, handed_out};
-ghost use Rattle.txc_db.specs.Calls.{IsCommitRefused, IsLeft, IsQueryRefused};
-ghost use Rattle.txc_db.specs.DatabaseValue.{after_commit, newest};
+ghost use Rattle.txc_cushion.specs.Cushion.{after_retire, handed_out, retired};
+ghost use Rattle.txc_db.specs.Calls.{IsCommitRefused, IsLeft, IsQueryRefused, IsVacuumRefused};
+ghost use Rattle.txc_db.specs.DatabaseValue.{after_commit, after_vacuum, newest, next_horizon};
 ghost use Rattle.txc_db.specs.History.{state_at, IsAllowed};
 ghost use Rattle.txc_rows.specs.States.{answer};
 ghost use Rattle.txc_db.specs.Refusals.{IsWant};
@@ -11,7 +11,7 @@ ghost use Rattle.txc_db.specs.Seen.{FrontValue};
 ghost use Rattle.txc_node.specs.declared.node.TheConstants.{MAX_CAPACITY, MAX_RECENT};
 ghost use Rattle.txc_stream.specs.declared.row.TheConstants.{MAX_CAPACITY as MAX_ROW};
 ghost use Rattle.txc_shared.specs.Nodes.{start_of};
-ghost use Rattle.txc_caller.specs.Ports.{CallerAddLeads, CallerFindLeads, CallerInsertLeads, CallerLookupLeads, CallerPinLeads, CallerUnpinLeads};
+ghost use Rattle.txc_caller.specs.Ports.{CallerAddLeads, CallerFindLeads, CallerInsertLeads, CallerLookupLeads, CallerPinLeads, CallerSweepLeads, CallerUnpinLeads, AreLetGo, AreGivenBack, HasRetired, IsLetGo};
 
 use crate::nodes;
 use std::alloc::{AllocError, Global};
@@ -23,7 +23,7 @@ use txc_db::{Answered, DbCore, DbError, HistoryFront, Pinned};
 use txc_node::{Entry, Shown};
 use txc_ports::{Kept, PortReply, PortRequest};
 use txc_rows::{Change, Query, Row};
-use txc_shared::{NodeSettings, StoredNode};
+use txc_shared::{NodeError, NodeSettings, StoredNode};
 use txc_stamp::Stamp;
 use txc_stream::Pen;
 use txc_tags::{Key, TagSet};
@@ -189,6 +189,75 @@ impl<A: App> Ports<A> {
         }
     }
 
+    /// Takes the hold of a pin away that was not added, if there is one. It takes no memory.
+    pub(crate) fn let_go(&mut self, unpin: Option<Stamp>)
+        ensures unpinned { IsLetGo unpin self.old.database self.new.database }
+        ensures history { self.new.database.history ≡ self.old.database.history }
+        ensures events { self.new.database.events ≡ self.old.database.events }
+        ensures same { self.new ≡ record self.old { database = self.new.database } }
+    {
+        match unpin {
+            Some(stamp) => {
+                let _unpinned = self.unpin(stamp);
+            }
+            None => (),
+        }
+    }
+
+    // Takes the pins out that no transaction uses and that are more than `age` before `now`.
+    fn retire_pins(&mut self, alloc: Global, now: u64, age: u64) -> Result<Vec<Stamp>, AllocError>
+        ensures after { OnOk result (self.new
+            ≡ record self.old { cushion = after_retire self.old.cushion now age }) }
+        ensures answer { IfOk result (λ stamps. stamps.items ≡ retired self.old.cushion now age) }
+        ensures unchanged { OnErr result (self.new ≡ self.old) }
+    {
+        let stamps = self.cushion.retire(alloc, now, age)?;
+        Ok(stamps)
+    }
+
+    // Takes a hold of each of the stamps away.
+    fn let_each_go(&mut self, stamps: &[Stamp])
+        ensures unpinned { AreLetGo stamps.now self.old.database self.new.database }
+        ensures same { self.new ≡ record self.old { database = self.new.database } }
+    {
+        for stamp in stamps {
+            self.let_go(Some(*stamp));
+        }
+    }
+
+    /// Retires the pins that no transaction uses and that are more than `age` before `now`, both in milliseconds: takes
+    /// them out, and their holds away. It answers how many they were.
+    pub(crate) fn retire(&mut self, alloc: Global, now: u64, age: u64) -> Result<usize, AllocError>
+        ensures retired { OnOk result (HasRetired now age self.old self.new) }
+        ensures answer { IfOk result (λ count. count ≡ length (retired self.old.cushion now age)) }
+        ensures unchanged { OnErr result (self.new ≡ self.old) }
+    {
+        let stamps = self.retire_pins(alloc, now, age)?;
+        self.let_each_go(&stamps);
+        Ok(stamps.len())
+    }
+
+    /// Makes the horizon the least stamp that is held, or the newest, and drops the versions that no stamp from there
+    /// on shows.
+    pub(crate) fn vacuum(&mut self) -> Result<Stamp, DbError>
+        ensures after { OnOk result (self.new
+            ≡ record self.old { database = after_vacuum self.old.database }) }
+        ensures answer { IfOk result (λ horizon. horizon ≡ next_horizon self.old.database) }
+        ensures refused { IfErr result (IsVacuumRefused self.old.database) }
+        ensures unchanged { OnErr result (self.new ≡ self.old) }
+    {
+        let horizon = self.database.vacuum()?;
+        Ok(horizon)
+    }
+
+    /// Has the node drop the entries that end at the horizon or before it, and counts them.
+    pub(crate) fn sweep(&mut self, alloc: Global, horizon: Stamp) -> Result<usize, NodeError>
+        ensures leads { CallerSweepLeads horizon self.old.node self.new.node result }
+        ensures same { self.new ≡ record self.old { node = self.new.node } }
+    {
+        nodes::sweep(alloc, &mut self.node, horizon)
+    }
+
     /// An empty database with room for so many events, an empty pincushion and an empty node.
     pub(crate) fn new(
         alloc: Global,
@@ -237,7 +306,7 @@ impl<A: App> Ports<A> {
     /// Gives the pins back, one user of each. It takes no memory.
     pub(crate) fn give_back(&mut self, stamps: &[Stamp])
         ensures same { self.new ≡ record self.old { cushion = self.new.cushion } }
-        ensures after { (self.new.cushion ≡ after_give_back self.old.cushion stamps.now) ⊎ (self.new ≡ self.old) }
+        ensures after { AreGivenBack stamps.now self.old.cushion self.new.cushion }
     {
         match self.cushion.give_back(stamps) {
             Ok(()) => (),

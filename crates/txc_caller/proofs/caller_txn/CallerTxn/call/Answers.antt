@@ -1,12 +1,10 @@
-use Rattle.std.proofs.Common.{◌≡◌, ◌∙◌, true, false, List, Option, Some, None, refl, ap, subst, sym}
-use Rattle.std.specs.Prelude.{MatchOption, Result, Err, is_some, not}
+use Rattle.std.proofs.Common.{◌≡◌, ◌∙◌, true, false, Option, Some, None, refl, ap, subst, sym}
+use Rattle.std.specs.Prelude.{Result, is_some, not}
 use Rattle.txc_tags.specs.Keys.{Call}
-use Rattle.txc_ports.specs.declared.recorded.Recorded.{Recorded}
-use Rattle.txc_caller.specs.Acting.{IsStepOf}
+use Rattle.txc_caller.specs.Acting.{IsStepIn, IsStepOf}
 use Rattle.txc_caller.specs.Reading.{top_or, CallerReading}
 use Rattle.txc_caller.specs.declared.frames.OpenCall.{OpenCall}
 use Rattle.txc_caller.specs.declared.step.CallerError.{CallerError}
-use Rattle.txc_caller.specs.declared.step.CallerError.TheVariants.{NoFunction}
 use Rattle.txc_caller.specs.declared.step.Step.{Step}
 use Rattle.txc_caller.proofs.caller_txn.CallerTxn.call.Goals as goal
 
@@ -16,11 +14,10 @@ top_alone None k none = refl
 top_alone (Some o) k none = absurd (cc none)
 
 -- else of the outermost
-step_of_open : (before recorded : List Recorded) (was doing : Option OpenCall) (k : Call) (result : Result Step CallerError) → is_some was ≡ true
-    → MatchOption was (result ≡ Err NoFunction) (λ (o : OpenCall). IsStepOf before o.frames.top recorded doing result)
-    → IsStepOf before (top_or was k) recorded doing result
-step_of_open before recorded (Some o) doing k result some h = h
-step_of_open before recorded None doing k result some h = absurd (cc some)
+step_of_open : (was : Option OpenCall) (old new : CallerReading) (k : Call) (result : Result Step CallerError) → is_some was ≡ true → IsStepIn was old new result
+    → IsStepOf old.txn.core.recorded (top_or was k) new.txn.core.recorded new.doing result
+step_of_open (Some o) old new k result some h = h
+step_of_open None old new k result some h = absurd (cc some)
 
 pub returns-then-is_none-clause-step : goal.returns-then-is_none-clause-step
 returns-then-is_none-clause-step g c =
@@ -35,5 +32,4 @@ pub returns-clause-step : goal.returns-clause-step
 returns-clause-step g c =
     let some : is_some c.args.self.now.doing ≡ true =
     sym (ap (λ (r : CallerReading). is_some r.doing) c.self.view_is) ∙ (c.is_none.ensures ∙ ap not c.if-is_none.false) in
-    step_of_open c.args.self.now.txn.core.recorded c.call_by_function.new.self.txn.core.recorded c.args.self.now.doing c.call_by_function.new.self.doing c.args.key
-    c.call_by_function.result some c.call_by_function.ensures.step
+    step_of_open c.args.self.now.doing c.args.self.now c.act.new.self c.args.key c.act.result some c.act.ensures.step

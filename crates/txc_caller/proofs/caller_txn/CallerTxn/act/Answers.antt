@@ -1,0 +1,38 @@
+use Rattle.std.proofs.Common.{◌≡◌, ◌∙◌, Option, Some, refl, sym, subst}
+use Rattle.txc_caller.specs.Acting.{ask_of, IsStepIn}
+use Rattle.txc_caller.specs.Reading.{AsksNext, CallerReading, KeepsReading}
+use Rattle.txc_caller.specs.declared.frames.OpenCall.{OpenCall}
+use Rattle.txc_caller.proofs.Reading.{reading_after}
+use Rattle.txc_caller.proofs.caller_txn.CallerTxn.act.Goals as goal
+
+pub act_inside-acted-requires : goal.act_inside-acted-requires
+act_inside-acted-requires g c =
+    let at : c.self.inside.doing ≡ Some c.in-Some.call = sym c.take.ensures.value ∙ c.in-Some.is in
+    record {
+      asks = subst (λ (r : CallerReading). AsksNext g.A.App.next r (ask_of c.args.act)) (sym c.self.view_is) c.requires.asks c.in-Some.call at;
+      waits = record {
+        kept = c.self.invariant.kept c.in-Some.call at;
+        top = c.self.invariant.top c.in-Some.call at;
+        row = c.self.invariant.row;
+        nodes = c.self.invariant.nodes;
+      };
+    }
+
+pub invariant_of-self : goal.invariant_of-self
+invariant_of-self g c =
+    let old : CallerReading = record { ports = c.self.inside.ports; renew_after = c.self.inside.renew_after; txn = c.self.inside.txn; doing = c.self.inside.doing } in
+    let new : CallerReading = record { ports = c.act_inside-acted.new.ports; renew_after = c.self.inside.renew_after; txn = c.act_inside-acted.new.txn; doing = c.act_inside-acted.result.doing } in
+    reading_after g.A.App.next old new c.act_inside-acted.ensures.keeps c.act_inside-acted.ensures.events refl c.self.inside.txn.core.recorded c.in-Some.call.frames.top c.act_inside-acted.result refl c.act_inside-acted.ensures.acted c.self.invariant
+
+pub returns-clause-step : goal.returns-clause-step
+returns-clause-step g c =
+    let at : c.self.inside.doing ≡ Some c.in-Some.call = sym c.take.ensures.value ∙ c.in-Some.is in
+    let old : CallerReading = record { ports = c.self.inside.ports; renew_after = c.self.inside.renew_after; txn = c.self.inside.txn; doing = c.self.inside.doing } in
+    let new : CallerReading = record { ports = c.act_inside-acted.new.ports; renew_after = c.self.inside.renew_after; txn = c.act_inside-acted.new.txn; doing = c.act_inside-acted.result.doing } in
+    subst (λ (r : CallerReading). IsStepIn r.doing r new c.act_inside-acted.result.step) c.self.view_is
+    (subst (λ (d : Option OpenCall). IsStepIn d old new c.act_inside-acted.result.step) (sym at) c.act_inside-acted.ensures.acted.step)
+
+pub returns-clause-keeps : goal.returns-clause-keeps
+returns-clause-keeps g c =
+    let new : CallerReading = record { ports = c.act_inside-acted.new.ports; renew_after = c.self.inside.renew_after; txn = c.act_inside-acted.new.txn; doing = c.act_inside-acted.result.doing } in
+    subst (λ (r : CallerReading). KeepsReading r new) c.self.view_is (record { txn = c.act_inside-acted.ensures.keeps; row = c.act_inside-acted.ensures.events; renew_after = refl })
