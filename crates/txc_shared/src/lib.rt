@@ -5,7 +5,6 @@
 mod advanced;
 mod counting;
 mod error;
-mod finding;
 mod held;
 mod history;
 mod insertion;
@@ -21,7 +20,6 @@ mod stored_node;
 
 pub use advanced::Advanced;
 pub use error::NodeError;
-pub use finding::Finding;
 pub use insertion::Insertion;
 pub use log::MAX_PASSES;
 pub use node_front::NodeFront;
