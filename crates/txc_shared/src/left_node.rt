@@ -12,6 +12,7 @@ use txc_stamp::Stamp;
 /// What a node leaves that ends: its entries, each of which is true in what it has seen of the database's history.
 #[derive(Drop)]
 pub struct LeftNode<A: App> {
+    pub(crate) number: usize,
     pub(crate) entries: Leaving,
     pub(crate) processed: Stamp,
     pub(crate) seen: HistoryFront,
@@ -23,17 +24,27 @@ impl<A: App> Model for LeftNode<A> {
 
     ghost Value = { LeftValue };
 
-    ghost view = { λ l. record { entries = l.entries; processed = l.processed; seen = l.seen } };
+    ghost view = { λ l. record {
+      number = l.number;
+      entries = l.entries;
+      processed = l.processed;
+      seen = l.seen;
+    } };
 
-    ghost invariant = { λ l. IsLeftNode A.next (record { entries = l.entries; processed = l.processed; seen = l.seen }) };
+    ghost invariant = { λ l. IsLeftNode A.next (record {
+      number = l.number;
+      entries = l.entries;
+      processed = l.processed;
+      seen = l.seen;
+    }) };
 }
 
 impl<A: App> LeftNode<A> {
-    /// How many events it took, with those before it.
-    pub fn processed(&self) -> Stamp
-        ensures { result ≡ self.now.processed }
+    /// The number of the node.
+    pub fn number(&self) -> usize
+        ensures { result ≡ self.now.number }
     {
-        self.processed
+        self.number
     }
 
     /// What it has seen of the database's history.

@@ -136,14 +136,19 @@ impl<A: App, J: Naming> SharedNode<A, J> {
 
     /// What the node holds, once no thread has it any more. It takes no memory.
     pub fn leave(self) -> LeftNode<A>
-        ensures { result.seen.events ≡ J.database_history }
+        ensures number { result.number ≡ self.number }
+        ensures seen { result.seen.events ≡ J.database_history }
     {
         let SharedNode {
-            settings: _,
+            settings,
             start: _,
             lock,
         } = self;
-        lock.into_inner().leave()
+        let left = lock.into_inner().leave();
+        LeftNode {
+            number: settings.number,
+            ..left
+        }
     }
 
     /// The row of its records, where they are stored, which anybody reads without the lock. Whoever appends to

@@ -185,12 +185,13 @@ impl<A: App> StoredNode<A> {
 
     /// What it holds, once it is not wanted any more. It takes no memory.
     pub fn leave(self) -> LeftNode<A>
+        ensures number { result.number ≡ self.settings.number }
         ensures entries { result.entries ≡ self.cache.entries }
         ensures processed { result.processed ≡ self.cache.processed }
         ensures seen { result.seen ≡ self.seen }
     {
         let StoredNode {
-            settings: _,
+            settings,
             from: _,
             core,
             log: _,
@@ -201,6 +202,7 @@ impl<A: App> StoredNode<A> {
         } = self;
         let processed = core.processed();
         LeftNode {
+            number: settings.number,
             entries: core.leave(),
             processed,
             seen,

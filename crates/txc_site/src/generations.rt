@@ -3,9 +3,10 @@ ghost use Rattle.std.specs.Prelude.{◌≡◌, ◌⊎◌, [], All, Err, IfErr, I
 ghost use mathlib.Core.List.{IsPrefix};
 ghost use Rattle.txc_carry.specs.Rooms.{IsHistoryFor};
 ghost use Rattle.txc_db.specs.DatabaseValue.{front_of};
-ghost use Rattle.txc_site.specs.Generations.{HaveServed, IsGeneration, IsGenerationRefused, IsNextRefused, IsServed, last_state};
+ghost use Rattle.txc_site.specs.Generations.{HaveServed, IsGeneration, IsGenerationRefused, IsNextRefused, IsServed};
 ghost use Rattle.txc_site.specs.Opened.{IsOpenRefused};
 ghost use Rattle.txc_visits.specs.Plans.{IsPlan};
+ghost use Rattle.txc_visits.specs.Warming.{last_state};
 
 use crate::error::GenerationError;
 use crate::opening::opened;

@@ -94,18 +94,17 @@ impl<A: App, J: Naming> Foundation<A, J> {
             whole,
             front,
         } = warmth;
-        let mut number = 0;
         for left in nodes {
-            let mut left = left;
+            let number = left.number();
             if number < self.nodes.len() {
-                warm(rt, alloc, &self.nodes[number], &mut left, &whole, &front);
-                number += 1;
+                warm(rt, alloc, &self.nodes[number], left, &whole, &front);
             }
         }
     }
 
-    /// The database without its lock, once no thread has it any more, and what its nodes held, in order. No pin is held
-    /// but one that is lost. Out of memory, fewer nodes are told of.
+    /// The database without its lock, once no thread has it any more, and what its nodes held, where their records are
+    /// not stored: each entry that goes over takes a record. No pin is held but one that is lost. Out of memory, fewer
+    /// nodes are told of.
     pub(crate) fn into_parts(self, rt: &impl Wait, alloc: Global) -> (DbCore, Vec<LeftNode<A>>)
         ensures database { IsDatabaseOf J.database_history result.0 }
         ensures left { All (λ left. left.seen.events ≡ J.database_history) result.1.items }
@@ -113,18 +112,20 @@ impl<A: App, J: Naming> Foundation<A, J> {
         let Foundation {
             ledger,
             nodes,
-            plan: _,
+            plan,
             tallies: _,
             moment: _,
         } = self;
         let _ = retire(rt, alloc, &ledger, u64::MAX, 0);
-        let mut all = Vec::new(alloc);
-        for node in nodes {
-            let Ok(()) = all.push(leave(rt, alloc, node)) else {
-                continue;
-            };
+        let mut left = Vec::new(alloc);
+        if plan.records.is_none() {
+            for node in nodes {
+                let Ok(()) = left.push(leave(rt, alloc, node)) else {
+                    break;
+                };
+            }
         }
-        (ledger.into_core(), all)
+        (ledger.into_core(), left)
     }
 }
 

@@ -35,7 +35,7 @@ pub struct Visits<A: App, T> {
     pub tended: Option<Result<Tended, SiteError>>,
     pub numbers: Numbers,
     pub core: DbCore,
-    /// What its nodes held, in order.
+    /// What its nodes held, where their records are not stored.
     pub left: Vec<LeftNode<A>>,
 }
 

@@ -1,8 +1,8 @@
 //! What nodes hold goes over to the nodes of a site that goes on from the same state.
-ghost use Rattle.std.specs.Prelude.{◌≡◌, ◌≤◌, All, length};
-ghost use mathlib.Core.List.{IsPrefix};
+ghost use Rattle.std.specs.Prelude.{◌≡◌, All, MatchOption, length};
 ghost use Rattle.txc_app.specs.Claims.{IsTrueIn};
-ghost use Rattle.txc_visits.specs.Warming.{last_state};
+ghost use Rattle.txc_app.specs.Laws.{begun_at};
+ghost use Rattle.txc_visits.specs.Warming.{IsValidAtEnd, last_state};
 
 use std::alloc::Global;
 use std::sync::Wait;
@@ -13,7 +13,7 @@ use txc_node::Entry;
 use txc_shared::{Advanced, LeftNode, NodePass, SharedNode};
 use txc_stamp::{LAST_STAMP, Reach};
 
-/// What the nodes of a site left, by their numbers, for those of a site that goes on from the same state.
+/// What the nodes of a site left, for those of a site that goes on from the same state.
 #[derive(Drop)]
 pub struct Warmth<A: App> {
     pub nodes: Vec<LeftNode<A>>,
@@ -43,20 +43,39 @@ pub(crate) fn leave<A: App, J: Naming>(
     alloc: Global,
     node: SharedNode<A, J>,
 ) -> LeftNode<A>
-    ensures { result.seen.events ≡ J.database_history }
+    ensures number { result.number ≡ node.entry.number }
+    ensures seen { result.seen.events ≡ J.database_history }
 {
     take_all(rt, alloc, &node);
     node.leave()
 }
 
-/// Inserts an entry that holds at the newest stamp of the one history and is still valid there, as it begins at the
-/// newest stamp of the other. What is refused is left out.
+/// An entry that holds at the newest stamp of the one history and is still valid there, as it begins at the newest
+/// stamp of the other. No other goes over.
+fn begun(mut entry: Entry, whole: &HistoryFront, front: &HistoryFront) -> Option<Entry>
+    ensures { MatchOption result
+        (¬ (IsValidAtEnd whole.now.history entry))
+        (λ begun. IsValidAtEnd whole.now.history entry
+            × (begun ≡ begun_at (length front.now.history) entry)) }
+{
+    if !entry.reach.is_still() || !entry.reach.holds(whole.newest()) {
+        return None;
+    }
+    let newest = front.newest();
+    let Ok(reach) = Reach::from_stamps(newest, newest, true) else {
+        unreachable!();
+    };
+    entry.reach = reach;
+    Some(entry)
+}
+
+/// Inserts an entry as it begins, where it goes over. What is refused is left out.
 fn begin<A: App, J: Naming>(
     rt: &impl Wait,
     alloc: Global,
     node: &SharedNode<A, J>,
     pass: &mut NodePass<J>,
-    mut entry: Entry,
+    entry: Entry,
     whole: &HistoryFront,
     front: &HistoryFront,
 )
@@ -65,33 +84,28 @@ fn begin<A: App, J: Naming>(
     requires is_true { IsTrueIn A.next whole.now.history entry }
 {
     carried_entries_are_true();
-    if !entry.reach.is_still() || !entry.reach.holds(whole.newest()) {
-        return;
+    if let Some(begun) = begun(entry, whole, front) {
+        let _ = pass.insert(rt, alloc, node, begun, front);
     }
-    let newest = front.newest();
-    let Ok(reach) = Reach::from_stamps(newest, newest, true) else {
-        return;
-    };
-    entry.reach = reach;
-    let _ = pass.insert(rt, alloc, node, entry, front);
 }
 
-/// What a node left that has taken all events goes over to another, the least recently used first, so that it stands
-/// there in the same order.
+/// What a node left goes over to that of its number, the least recently used first, so that it stands there in the
+/// same order.
 pub(crate) fn warm<A: App, J: Naming>(
     rt: &impl Wait,
     alloc: Global,
     node: &SharedNode<A, J>,
-    left: &mut LeftNode<A>,
+    mut left: LeftNode<A>,
     whole: &HistoryFront,
     front: &HistoryFront,
 )
+    requires number { node.now.number ≡ left.number }
     requires row { front.now.events ≡ J.database_history }
-    requires seen { left.old.seen.events ≡ whole.now.events }
+    requires seen { left.seen.events ≡ whole.now.events }
     requires state { last_state whole.now ≡ last_state front.now }
 {
     true_entries_stay();
-    if left.processed() != whole.newest() || left.seen().len() > whole.len() {
+    if left.seen().len() > whole.len() {
         return;
     }
     left.seen().agree(whole);
