@@ -12,6 +12,7 @@ loop-init g c = record {
       c.args.generations.now.items c.requires.none;
   row = c.requires.row;
   room = c.requires.room;
+  warm = c.requires.warm;
 }
 
 pub returns-then-not-goes_on : goal.returns-then-not-goes_on
@@ -48,4 +49,5 @@ loop-preserved g c =
           (c.in_ok-begun.ensures.state ∙ ap last_state (sym c.in_ok-generation.ensures.ended));
       row = c.in_ok-begun.ensures.row;
       room = c.in_ok-begun.ensures.room;
+      warm = c.in_ok-begun.ensures.warm;
     }
