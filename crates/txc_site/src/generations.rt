@@ -209,8 +209,9 @@ where
 /// visitors answer whether they come again. Where they do, the newest state is carried over to a new database
 /// with the plan's room, with new nodes, and `count` threads visit that; and so on.
 ///
-/// Stamps begin anew in each generation, and the nodes have nothing. What was refused after the opening stands
-/// in the result, beside what the generations before came to.
+/// Stamps begin anew in each generation. Where the plan stores no records, each node begins with what the one of its
+/// number held that was still valid at the end; else with nothing. What was refused after the opening stands in the
+/// result, beside what the generations before came to.
 pub fn with_generations_at<A, D, O, V, C, R>(
     rt: &R,
     alloc: Global,

@@ -13,7 +13,7 @@ number_of_node plan nodes k node made within is =
     let made_at = λ (n : ℕ). settings_of_node plan n in
     let many = length-map-range_with_len made_at 0 plan.nodes in
     ap (λ (s : NodeSettings). s.number) (is ∙ ap (λ (xs : List NodeSettings). get_or xs k node) made
-      ∙ get_or-map-range_with_len made_at 0 plan.nodes k k node (omega (arith, within, ap length made, many)) refl)
+    ∙ get_or-map-range_with_len made_at 0 plan.nodes k k node (omega (arith, within, ap length made, many)) refl)
 
 -- what holds of each of a list holds of its first, and of each after it
 pub first_of : {X : Type 0} (P : X → Type 0) (all rest : List X) (x : X) → All P all → all ≡ x ∷ rest → P x

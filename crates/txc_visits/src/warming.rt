@@ -56,7 +56,7 @@ fn begun(mut entry: Entry, whole: &HistoryFront, front: &HistoryFront) -> Option
     ensures { MatchOption result
         (¬ (IsValidAtEnd whole.now.history entry))
         (λ begun. IsValidAtEnd whole.now.history entry
-            × (begun ≡ begun_at (length front.now.history) entry)) }
+        × (begun ≡ begun_at (length front.now.history) entry)) }
 {
     if !entry.reach.is_still() || !entry.reach.holds(whole.newest()) {
         return None;
