@@ -179,7 +179,6 @@ impl NodeCore {
             entries,
             processed: _,
             recent: _,
-            looked: _,
         } = self;
         entries.leave()
     }
