@@ -2,7 +2,7 @@
 
 ghost use Rattle.std.specs.Prelude.{◌≡◌, ◌≤◌, ◌++◌, IfOk, IfErr, OnOk, Some, map};
 ghost use Rattle.std.specs.List.{AllByRecursion};
-ghost use Rattle.txc_stamp.specs.declared.stamp.TheConstants.{LAST_STAMP};
+ghost use Rattle.txc_stamp.specs.declared.stamp.TheConstants.{MOST_STAMP};
 ghost use Rattle.txc_rows.specs.Values.{IsBody};
 ghost use Rattle.txc_rows.specs.Placed.{version_of, AreAmong};
 ghost use Rattle.txc_rows.specs.Stored.{placed_from, version_shown};
@@ -17,7 +17,7 @@ use txc_stamp::Stamp;
 use txc_tags::Table;
 
 fn death_from(number: Option<u32>) -> Option<Stamp>
-    requires { (d : _) → number ≡ Some d → d ≤ LAST_STAMP }
+    requires { (d : _) → number ≡ Some d → d ≤ MOST_STAMP }
     ensures { result ≡ number }
 {
     match number {
