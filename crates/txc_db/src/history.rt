@@ -1,7 +1,7 @@
 //! The history of a database, and who lengthens it.
 ghost use Rattle.std.specs.Prelude.{◌≡◌, ◌+◌, ◌<◌, ◌≤◌, ◌++◌, ◌∷◌, [], true, false, length, max, ◌⊎◌, IfOk, OnOk, OnErr, MatchOption};
 ghost use Rattle.std.specs.Arc.{arc_value};
-ghost use Rattle.txc_stamp.specs.declared.stamp.TheConstants.{LAST_STAMP};
+ghost use Rattle.txc_stamp.specs.declared.stamp.TheConstants.{MOST_STAMP};
 ghost use Rattle.txc_stream.specs.Names.{stored, unstored, HasRow};
 ghost use Rattle.txc_rows.specs.RowTags.{tags_between};
 ghost use Rattle.txc_db.specs.Facts.{commit, net_of};
@@ -83,7 +83,7 @@ impl History {
     /// How many events it has.
     pub(crate) fn len(&self) -> usize
         ensures shown { result ≡ length self.now.history }
-        ensures most { result ≤ LAST_STAMP }
+        ensures most { result ≤ MOST_STAMP }
     {
         self.front.len()
     }
@@ -99,7 +99,7 @@ impl History {
     pub(crate) fn is_full(&self) -> bool
         ensures full { result ≡ true → length self.now.history ≡ events_room self.now.events }
         ensures room { result ≡ false → length self.now.history < events_room self.now.events }
-        ensures next { result ≡ false → length self.now.history < LAST_STAMP }
+        ensures next { result ≡ false → length self.now.history < MOST_STAMP }
     {
         self.front.is_full()
     }

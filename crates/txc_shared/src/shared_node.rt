@@ -16,6 +16,7 @@ use crate::error::NodeError;
 use crate::held::Held;
 use crate::history::History;
 use crate::insertion::Insertion;
+use crate::left_node::LeftNode;
 use crate::log::MAX_PASSES;
 use crate::node_front::NodeFront;
 use crate::node_pass::NodePass;
@@ -131,6 +132,23 @@ impl<A: App, J: Naming> SharedNode<A, J> {
         ensures refused { IfErr result (NodeMayRefuse J.node_histories (IsNewPassRefused self.now)) }
     {
         lock_soon(rt, &self.lock).pass(self.settings)
+    }
+
+    /// What the node holds, once no thread has it any more. It takes no memory.
+    pub fn leave(self) -> LeftNode<A>
+        ensures number { result.number ≡ self.number }
+        ensures seen { result.seen.events ≡ J.database_history }
+    {
+        let SharedNode {
+            settings,
+            start: _,
+            lock,
+        } = self;
+        let left = lock.into_inner().leave();
+        LeftNode {
+            number: settings.number,
+            ..left
+        }
     }
 
     /// The row of its records, where they are stored, which anybody reads without the lock. Whoever appends to
