@@ -7,8 +7,8 @@ from sources import ROOT
 
 FOLDER = ROOT / "docs/crates"
 HEAD = """
-Made by `make docs` from the crate's `src/` and `specs/`. Below a clause stand its words, each a link to its definition. What is no link is of
-Rattle's own library: [how a clause is read](../promise/signs.md).
+Made by `make docs` from the crate's `src/` and `specs/`. At the end of a section stand its words, each a link to its definition. What is no
+link is of Rattle's own library: [how a clause is read](../promise/signs.md).
 """
 
 
@@ -23,7 +23,8 @@ def link(word, here):
 
 
 def words_line(words, here):
-    found = [it for n, it in enumerate(words) if it not in words[:n]]
+    """The words of a section, in the order of the alphabet."""
+    found = sorted({it.key: it for it in words}.values(), key=lambda it: it.name.lower())
     return "Words: " + ", ".join(link(it, here) for it in found) + ".\n\n" if found else ""
 
 
@@ -71,19 +72,25 @@ def type_entry(kind, calls):
     text = "".join(f'<a id="{it}"></a>' for it in anchors) + f"\n\n### `{kind.name}`\n\n"
     text += paragraphs(kind.said) + "\n\n" if kind.said else ""
     text += fenced(kind.shown, "rust") + seen_as(kind)
-    if not sources.model_of(kind):
-        text += words_line([it for it in kind.uses if it.key in needed()], kind.crate)
-    return text if is_trait else text + "".join(call_entry(it) for it in calls)
+    words = [] if sources.model_of(kind) else [it for it in kind.uses if it.key in needed()]
+    return text + call_entries([] if is_trait else calls, kind.crate, words)
+
+
+def call_entries(calls, crate, words=()):
+    """The calls of a section, and at its end the words of theirs and these."""
+    text = "".join(call_entry(it) for it in calls)
+    return text + words_line([*words, *(it for call in calls for it in call.words())], crate)
 
 
 def call_entry(call):
     text = f'<a id="{anchor_of(call)}"></a>\n\n#### `{call.path}`\n\n' + (paragraphs(call.said) + "\n\n" if call.said else "")
-    return text + fenced(call.text(), "rust") + words_line(call.words(), call.crate)
+    return text + fenced(call.text(), "rust")
 
 
-def word_entry(word):
-    text = f'<a id="{word.anchor}"></a>\n\n' + fenced(word.code, "text")
-    return text + words_line(word.uses, word.crate)
+def word_entries(words, crate):
+    """The words of a file, and at its end those that they are made of and that stand elsewhere."""
+    text = "".join(f'<a id="{it.anchor}"></a>\n\n' + fenced(it.code, "text") for it in words)
+    return text + words_line([it for word in words for it in word.uses if it not in words], crate)
 
 
 def page(crate):
@@ -100,14 +107,14 @@ def page(crate):
     names = {kind.name for kind in types}
     others = [it for it in calls if it.owner not in names]
     if others:
-        text += "### Functions and laws\n\n" + "".join(call_entry(it) for it in others)
+        text += "### Functions and laws\n\n" + call_entries(others, crate)
     if words:
         text += "## Words\n\nBy file, in the order in which they stand there.\n\n"
         for file in sorted({it.file for it in words}):
             inside = [it for it in words if it.file == file]
             text += f"### `{'specs/' + file + '.antt' if not inside[0].is_rust else file}`\n\n"
             order = [it.name for it in inside] if inside[0].is_rust else list(sources.spec_file(crate, file))
-            text += "".join(word_entry(it) for it in sorted(inside, key=lambda it: order.index(it.name)))
+            text += word_entries(sorted(inside, key=lambda it: order.index(it.name)), crate)
     return text.rstrip() + "\n"
 
 

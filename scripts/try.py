@@ -1,5 +1,5 @@
 #!/usr/bin/env python3
-"""Prints what the program makes of scripts, from a fresh clone in some three minutes of one core. It proves nothing:
+"""Prints what the program makes of scripts, from a fresh clone in some four minutes of one core. It proves nothing:
 `rt try` compiles the program with checks of its own, and runs it.
 
 usage: scripts/try.py [--mode MODE] [--settings TEXT] SCRIPT..
@@ -30,7 +30,7 @@ def main():
     found = [(it, mode_of(it, given.mode), settings_of(it, given.settings)) for it in scripts_of(given.script)]
     if len({tuple(how) for _, *how in found}) > 1:
         sys.exit(refused("these scripts have several modes or settings: try those of one at a time"))
-    print("compiling, some three minutes of one core ..", file=sys.stderr, flush=True)
+    print("compiling, some four minutes of one core ..", file=sys.stderr, flush=True)
     replies, statuses, said = run(found)
     say(said)
     for number, (script, mode, _) in enumerate(found):
