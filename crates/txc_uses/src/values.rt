@@ -52,12 +52,10 @@ fn counted(alloc: Global, reply: Reply<Hit<'_>>) -> Result<(u64, bool)> {
 pub fn misses(alloc: Global) -> Result<(u64, bool)> {
     let mut node = NodeCore::new(alloc, 8, 4)?;
     let key = Key::read(b"f1(7)")?;
-    let search = node.search(&key, Stamp::ZERO, Stamp::after(1))?;
-    if let Some(hit) = node.hit(&key, &search) {
-        return counted(alloc, Reply::Hit(hit));
+    match node.lookup(&key, Stamp::ZERO, Stamp::after(1))? {
+        Some(hit) => counted(alloc, Reply::Hit(hit)),
+        None => Ok((0, node.is_empty())),
     }
-    node.mark_used(&key, &search);
-    Ok((search.looked, node.is_empty()))
 }
 
 /// What a version answers, and what is written of it.
