@@ -1,4 +1,4 @@
--- The codes of refusals, with the numbers that go with them.
+-- The codes of refusals.
 use Rattle.std.specs.Prelude.{ℕ, List, codes}
 use Rattle.txc_rows.specs.declared.store_error.StoreError.{StoreError}
 use Rattle.txc_rows.specs.declared.store_error.StoreError.TheVariants as store

@@ -26,7 +26,7 @@ pub enum StoreError {
 }
 
 impl StoreError {
-    /// Writes its code, and the numbers that go with it.
+    /// Writes its code.
     pub fn write_code<W: fmt::Write>(&self, f: &mut fmt::Formatter<W>) -> fmt::Result
         ensures { WritesOnOk W.write_str_gives f.old result (store_code self.now) f.new }
     {

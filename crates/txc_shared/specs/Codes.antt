@@ -1,4 +1,4 @@
--- The codes of refusals, with the numbers that go with them.
+-- The codes of refusals.
 use Rattle.std.specs.Prelude.{ℕ, List, codes}
 use Rattle.txc_shared.specs.declared.error.NodeError.{NodeError}
 use Rattle.txc_shared.specs.declared.error.NodeError.TheVariants as nodes
