@@ -7,7 +7,7 @@ ghost use Rattle.txc_ports.specs.Asking.{AddsSuch};
 ghost use Rattle.txc_ports.specs.Turns.{IsAsk};
 ghost use Rattle.txc_world.specs.Acted.{ActsAt, ActsThere, IsActed};
 ghost use Rattle.txc_world.specs.Actors.{counted, holds_any, AddsPart, CoreHasBegun, DropsNone, HasAsked, HasBegunWithin, IsActor, IsActorThere, IsNoted, IsOpenTxn};
-ghost use Rattle.txc_world.specs.Acts.{ActLeads, LeavingLeads, ReadingLeads, RestingLeads};
+ghost use Rattle.txc_world.specs.Acts.{ActTransition, LeavingTransition, ReadingTransition, RestingTransition};
 ghost use Rattle.txc_world.specs.ActorValues.{actor_value, opened, reading_value, reads};
 ghost use Rattle.txc_world.specs.Holdings.{account_of_core, nothing, HasLost, IsFair};
 ghost use Rattle.txc_world.specs.Losing.{IfDidLose, IfTurnLost};
@@ -75,7 +75,7 @@ fn begin_ro<A: App, C: Cacheable>(
     requires idle { AllIdle registry }
     requires nodes { 1 ≤ length ports.old.nodes }
     ensures acted { IsActed A.next (Act.BeginRo bounds) ports.old ports.new (Actor.Idle registry) result.0 result.1 }
-    ensures leads { RestingLeads renew_after (Act.BeginRo bounds) ports.old ports.new registry
+    ensures leads { RestingTransition renew_after (Act.BeginRo bounds) ports.old ports.new registry
         (actor_value result.0) result.1 }
 {
     match begun(alloc, ports, renew_after, bounds) {
@@ -97,7 +97,7 @@ fn start<A: App, C: Cacheable>(
     requires fits { IsOpenTxn (whole_of whole.now) (length whole.now.nodes) current.old }
     ensures acted { IsActed A.next (Act.Start key.now) whole.now whole.now
         (Actor.Reading current.old) (Actor.Reading current.new) result }
-    ensures leads { (next : Next) (pass : ℕ) → ReadingLeads next pass (Act.Start key.now) whole.now whole.now
+    ensures leads { (next : Next) (pass : ℕ) → ReadingTransition next pass (Act.Start key.now) whole.now whole.now
         (reading_value current.old) (reads (reading_value current.new)) result }
 {
     if current.call.is_some() {
@@ -195,7 +195,7 @@ fn request_call<A: App, C: Cacheable>(
     requires fits { IsOpenTxn (whole_of ports.old) (length ports.old.nodes) current.old }
     ensures acted { IsActed A.next Act.Request ports.old ports.new
         (Actor.Reading current.old) (Actor.Reading current.new) result }
-    ensures leads { ReadingLeads A.next pass Act.Request ports.old ports.new
+    ensures leads { ReadingTransition A.next pass Act.Request ports.old ports.new
         (reading_value current.old) (reads (reading_value current.new)) result }
 {
     let Some(OpenCall { key, turn }) = current.call.take() else {
@@ -220,7 +220,7 @@ fn leave<A: App, C: Cacheable>(
 ) -> (Actor<A, C>, Reply)
     requires { AllIdle registry }
     ensures acted { IsActed A.next Act.Request ports.old ports.new (Actor.Leaving registry stamp) result.0 result.1 }
-    ensures leads { LeavingLeads Act.Request ports.old ports.new registry stamp (actor_value result.0) result.1 }
+    ensures leads { LeavingTransition Act.Request ports.old ports.new registry stamp (actor_value result.0) result.1 }
 {
     ports.count_right();
     match ports.unpin(stamp) {
@@ -240,7 +240,7 @@ fn commit<A: App, C: Cacheable>(
     requires fits { IsOpenTxn (whole_of ports.old) (length ports.old.nodes) current }
     requires no_call { current.call ≡ None }
     ensures acted { IsActed A.next Act.Commit ports.old ports.new (Actor.Reading current) result.0 result.1 }
-    ensures leads { (next : Next) (pass : ℕ) → ReadingLeads next pass Act.Commit ports.old ports.new
+    ensures leads { (next : Next) (pass : ℕ) → ReadingTransition next pass Act.Commit ports.old ports.new
         (reading_value current) (actor_value result.0) result.1 }
 {
     let OpenTxn { txn, call: _ } = current;
@@ -252,7 +252,7 @@ fn commit<A: App, C: Cacheable>(
 // Gives the transaction up, in the middle of a call too, and its pins back.
 fn abort<A: App, C: Cacheable>(ports: &mut Ports<A>, current: OpenTxn<A, C>) -> (Actor<A, C>, Reply)
     ensures acted { IsActed A.next Act.Abort ports.old ports.new (Actor.Reading current) result.0 result.1 }
-    ensures leads { (next : Next) (pass : ℕ) → ReadingLeads next pass Act.Abort ports.old ports.new
+    ensures leads { (next : Next) (pass : ℕ) → ReadingTransition next pass Act.Abort ports.old ports.new
         (reading_value current) (actor_value result.0) result.1 }
 {
     let (left, registry) = current.txn.cancel();
@@ -274,7 +274,7 @@ fn act_idle<A: App, C: Cacheable>(
     requires idle { AllIdle registry }
     requires nodes { 1 ≤ length ports.old.nodes }
     ensures acted { IsActed A.next act.now ports.old ports.new (Actor.Idle registry) result.0 result.1 }
-    ensures leads { RestingLeads renew_after act.now ports.old ports.new registry (actor_value result.0) result.1 }
+    ensures leads { RestingTransition renew_after act.now ports.old ports.new registry (actor_value result.0) result.1 }
 {
     match act {
         Act::BeginRo(bounds) => begin_ro(alloc, ports, renew_after, registry, *bounds),
@@ -294,7 +294,7 @@ fn act_open<A: App, C: Cacheable>(
     requires own { pass < ports.old.actors }
     requires fits { IsOpenTxn (whole_of ports.old) (length ports.old.nodes) current }
     ensures acted { IsActed A.next act.now ports.old ports.new (Actor.Reading current) result.0 result.1 }
-    ensures leads { ReadingLeads A.next pass act.now ports.old ports.new (reading_value current)
+    ensures leads { ReadingTransition A.next pass act.now ports.old ports.new (reading_value current)
         (actor_value result.0) result.1 }
 {
     match act {
@@ -330,7 +330,7 @@ fn act_leaving<A: App, C: Cacheable>(
 ) -> (Actor<A, C>, Reply)
     requires { AllIdle registry }
     ensures acted { IsActed A.next act.now ports.old ports.new (Actor.Leaving registry stamp) result.0 result.1 }
-    ensures leads { LeavingLeads act.now ports.old ports.new registry stamp (actor_value result.0) result.1 }
+    ensures leads { LeavingTransition act.now ports.old ports.new registry stamp (actor_value result.0) result.1 }
 {
     match act {
         Act::Request => leave(ports, registry, stamp),
@@ -358,7 +358,7 @@ fn act_whole<A: App, C: Cacheable>(
     requires nodes { 1 ≤ length ports.old.nodes }
     requires fits { IsActor A.next (whole_of ports.old) (length ports.old.nodes) actor }
     ensures acted { IsActed A.next act.now ports.old ports.new actor result.0 result.1 }
-    ensures leads { ActLeads A.next renew_after pass act.now ports.old ports.new (actor_value actor)
+    ensures leads { ActTransition A.next renew_after pass act.now ports.old ports.new (actor_value actor)
         (actor_value result.0) result.1 }
 {
     match actor {

@@ -2,7 +2,7 @@ use Rattle.std.proofs.Common.{Option, List, Some, refl, ap, ◌∙◌, slice_set
 use Rattle.txc_world.specs.declared.actor.Actor.{Actor}
 use Rattle.txc_world.specs.Worlds.{WorldValue}
 use Rattle.txc_world.proofs.Balancing.{world_balanced}
-use Rattle.txc_world.proofs.Leading.{world_led}
+use Rattle.txc_world.proofs.Transitions.{world_led}
 use Rattle.txc_world.proofs.Stepping.{due_act, explained_act, told_act, world_acts}
 use Rattle.txc_rw.proofs.Holding.{holds_in_longer}
 use Rattle.txc_db.proofs.Histories.{states_stay}

@@ -20,7 +20,7 @@ use Rattle.txc_world.specs.declared.step.Step.TheVariants as steps
 use Rattle.txc_world.specs.Ports.{PortsValue}
 use Rattle.txc_world.specs.ActorValues.{actor_at, actor_value, reading_value, reads, ReadingValue}
 use Rattle.txc_world.specs.Actors.{IsNoted}
-use Rattle.txc_world.specs.Acts.{ActLeads, AreLed, HasStepped, StepLeads}
+use Rattle.txc_world.specs.Acts.{ActTransition, AreLed, HasStepped, StepTransition}
 use Rattle.txc_world.specs.Worlds.{value_of_world, WorldValue}
 use Rattle.txc_world.proofs.Paired.{paired}
 
@@ -44,16 +44,16 @@ module _ {A C : Type 0} (next : Next) (settings : WorldSettings) (old new : Port
 
   pub world_led : (actors' : List (Option (Actor A C))) (was now : WorldValue) (act : Act) (reply : Reply)
       → actors' ≡ slice_set actors place (Some actor')
-      → ActLeads next settings.renew_after place act old new (actor_value actor) (actor_value actor') reply
-      → value_of_world settings old floors actors ≡ was → value_of_world settings new floors' actors' ≡ now → StepLeads next was (steps.Actor place act) reply now
+      → ActTransition next settings.renew_after place act old new (actor_value actor) (actor_value actor') reply
+      → value_of_world settings old floors actors ≡ was → value_of_world settings new floors' actors' ≡ now → StepTransition next was (steps.Actor place act) reply now
   world_led actors' was now act reply put leads shows shows' =
-      let led : StepLeads next (value_of_world settings old floors actors) (steps.Actor place act) reply (value_of_world settings new floors' actors') = rw actor_there (record {
+      let led : StepTransition next (value_of_world settings old floors actors) (steps.Actor place act) reply (value_of_world settings new floors' actors') = rw actor_there (record {
         actor = actor_value actor';
         others = rw put (map-set actor_at actors place (Some actor'));
         leads = leads;
       })
-      in subst (λ (w : WorldValue). StepLeads next was (steps.Actor place act) reply w) shows'
-      (subst (λ (w : WorldValue). StepLeads next w (steps.Actor place act) reply (value_of_world settings new floors' actors')) shows led)
+      in subst (λ (w : WorldValue). StepTransition next was (steps.Actor place act) reply w) shows'
+      (subst (λ (w : WorldValue). StepTransition next w (steps.Actor place act) reply (value_of_world settings new floors' actors')) shows led)
 
 -- what is seen of an actor with a read-only transaction open
 pub seen_there : {A C : Type 0} → (actors : List (Option (Actor A C))) (place : ℕ) (o : OpenTxn A C) (r : ReadingValue) → slice_get actors place ≡ Some (Some (Reading o))
