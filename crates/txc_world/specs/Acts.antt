@@ -101,19 +101,19 @@ ActTransition next renew_after pass act old new (leaves objects stamp) actor rep
 -- ---- a step
 
 -- the actor of the number, which was this before, is led so, and the others stay as they are
-pub record HasActed (next : Next) (place : ℕ) (act : Act) (old new : WorldValue) (reply : Reply)
+pub record HasActed (next : Next) (number : ℕ) (act : Act) (old new : WorldValue) (reply : Reply)
     (before : ActorValue) : Type 0 where
   pub actor : ActorValue
-  pub others : new.actors ≡ slice_set old.actors place actor
-  pub leads : ActTransition next old.told.settings.renew_after place act old.ports new.ports before actor reply
+  pub others : new.actors ≡ slice_set old.actors number actor
+  pub leads : ActTransition next old.told.settings.renew_after number act old.ports new.ports before actor reply
 
 -- A step of an actor leads that actor, in its session from the session's floor; where there is no such actor,
 -- nothing changes. A step of the keeper leads the ports, and every actor stays as it is.
 abbrev pub StepTransition : Next → WorldValue → Step → Reply → WorldValue → Type 0
-StepTransition next old (Actor place act) reply new = MatchOption (slice_get old.actors place) (new ≡ old)
-    (λ before. HasActed next place act old new reply before)
-StepTransition next old (BeginIn place now staleness) reply new = MatchOption (slice_get old.actors place) (new ≡ old)
-    (λ before. HasActed next place (begin_at (floor_at old.told.floors place) now staleness) old new reply before)
+StepTransition next old (Actor number act) reply new = MatchOption (slice_get old.actors number) (new ≡ old)
+    (λ before. HasActed next number act old new reply before)
+StepTransition next old (BeginIn number now staleness) reply new = MatchOption (slice_get old.actors number) (new ≡ old)
+    (λ before. HasActed next number (begin_at (floor_at old.told.floors number) now staleness) old new reply before)
 StepTransition next old (Keeper keep) reply new = KeepTransition keep old.ports new.ports reply
     × (new.actors ≡ old.actors)
 

@@ -369,26 +369,26 @@ fn act_whole<A: App, C: Cacheable>(
     }
 }
 
-// One step of the actor at a place, which is taken out of it and put back.
+// One step of the actor of a number, which is taken out and put back.
 fn act_moved<A: App, C: Cacheable>(
     alloc: Global,
     ports: &mut Ports<A>,
     renew_after: u64,
-    place: usize,
+    number: usize,
     actors: &mut Vec<Option<Actor<A, C>>>,
     act: &Act,
 ) -> Reply
-    requires own { place < ports.old.actors }
+    requires own { number < ports.old.actors }
     requires nodes { 1 ≤ length ports.old.nodes }
-    requires place { place < vec_len actors.old }
+    requires number { number < vec_len actors.old }
     requires fits { All (IsActorThere A.next (whole_of ports.old) (length ports.old.nodes)) actors.old.items }
-    ensures { ActsAt A.next renew_after place act.now ports.old ports.new actors.old.items actors.new.items result }
+    ensures { ActsAt A.next renew_after number act.now ports.old ports.new actors.old.items actors.new.items result }
 {
-    let Some(actor) = take_out(actors, place) else {
+    let Some(actor) = take_out(actors, number) else {
         unreachable!();
     };
-    let (actor, reply) = act_whole(alloc, ports, renew_after, place, actor, act);
-    put_back(actors, place, actor);
+    let (actor, reply) = act_whole(alloc, ports, renew_after, number, actor, act);
+    put_back(actors, number, actor);
     reply
 }
 
@@ -396,18 +396,18 @@ fn act_moved<A: App, C: Cacheable>(
 fn call_there<A: App, C: Cacheable>(
     alloc: Global,
     ports: &mut Ports<A>,
-    place: usize,
+    number: usize,
     slot: &mut Option<Actor<A, C>>,
     act: &Act,
 ) -> Option<Reply>
-    requires own { place < ports.old.actors }
+    requires own { number < ports.old.actors }
     requires fits { IsActorThere A.next (whole_of ports.old) (length ports.old.nodes) slot.old }
-    ensures acts { (renew_after : ℕ) → IfSome result (ActsThere A.next renew_after place act.now ports.old ports.new slot.old slot.new) }
+    ensures acts { (renew_after : ℕ) → IfSome result (ActsThere A.next renew_after number act.now ports.old ports.new slot.old slot.new) }
     ensures unchanged { IfNone result ((ports.new ≡ ports.old) × (slot.new ≡ slot.old)) }
 {
     match slot {
         Some(Actor::Reading(current)) => match act {
-            Act::Request => Some(request_call(alloc, ports, place, current)),
+            Act::Request => Some(request_call(alloc, ports, number, current)),
             Act::Start(key) => Some(start(alloc, ports, current, key)),
             _ => None,
         },
@@ -415,23 +415,23 @@ fn call_there<A: App, C: Cacheable>(
     }
 }
 
-/// One step of the actor at a place.
+/// One step of the actor of a number.
 pub(crate) fn act_at<A: App, C: Cacheable>(
     alloc: Global,
     ports: &mut Ports<A>,
     renew_after: u64,
-    place: usize,
+    number: usize,
     actors: &mut Vec<Option<Actor<A, C>>>,
     act: &Act,
 ) -> Reply
-    requires own { place < ports.old.actors }
+    requires own { number < ports.old.actors }
     requires nodes { 1 ≤ length ports.old.nodes }
-    requires place { place < vec_len actors.old }
+    requires number { number < vec_len actors.old }
     requires fits { All (IsActorThere A.next (whole_of ports.old) (length ports.old.nodes)) actors.old.items }
-    ensures { ActsAt A.next renew_after place act.now ports.old ports.new actors.old.items actors.new.items result }
+    ensures { ActsAt A.next renew_after number act.now ports.old ports.new actors.old.items actors.new.items result }
 {
-    if let Some(reply) = call_there(alloc, ports, place, &mut actors[place], act) {
+    if let Some(reply) = call_there(alloc, ports, number, &mut actors[number], act) {
         return reply;
     }
-    act_moved(alloc, ports, renew_after, place, actors, act)
+    act_moved(alloc, ports, renew_after, number, actors, act)
 }
