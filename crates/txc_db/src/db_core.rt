@@ -326,6 +326,7 @@ impl DbCore {
         ensures only_if { IsOk result → IsPinnable self.old at_least }
         ensures unchanged { IfErr result (IsLeft self.old self.new) }
         ensures refused { IfErr result (IsPinRefused self.old at_least) }
+        ensures taken { self.old.broken ≡ false → result ≡ Err DbError.Broken → HasRow self.old.events }
     {
         versions_keep_states();
         tags_are_sound();
