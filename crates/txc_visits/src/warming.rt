@@ -1,5 +1,6 @@
 //! What nodes hold goes over to the nodes of a site that goes on from the same state.
-ghost use Rattle.std.specs.Prelude.{◌≡◌, All, MatchOption, length};
+ghost use Rattle.std.specs.Prelude.{◌≡◌, ◌↔◌, All, IsTrue, MatchOption, length};
+ghost use mathlib.Core.List.{IsPrefix};
 ghost use Rattle.txc_app.specs.Claims.{IsTrueIn};
 ghost use Rattle.txc_app.specs.Laws.{begun_at};
 ghost use Rattle.txc_visits.specs.Warming.{IsValidAtEnd, last_state};
@@ -89,6 +90,15 @@ fn begin<A: App, J: Naming>(
     }
 }
 
+/// Whether the one front shows a beginning of what the other shows.
+fn begins(one: &HistoryFront, other: &HistoryFront) -> bool
+    requires { one.now.events ≡ other.now.events }
+    ensures { IsTrue result ↔ IsPrefix one.now.history other.now.history }
+{
+    one.agree(other);
+    one.len() <= other.len()
+}
+
 /// What a node left goes over to that of its number, the least recently used first, so that it stands there in the
 /// same order.
 pub(crate) fn warm<A: App, J: Naming>(
@@ -105,10 +115,9 @@ pub(crate) fn warm<A: App, J: Naming>(
     requires state { last_state whole.now ≡ last_state front.now }
 {
     true_entries_stay();
-    if left.seen().len() > whole.len() {
+    if !begins(left.seen(), whole) {
         return;
     }
-    left.seen().agree(whole);
     let Ok(mut pass) = node.pass(rt) else {
         return;
     };
