@@ -44,7 +44,7 @@ pub(crate) fn leave<A: App, J: Naming>(
     alloc: Global,
     node: SharedNode<A, J>,
 ) -> LeftNode<A>
-    ensures number { result.number ≡ node.entry.number }
+    ensures number { result.number ≡ node.number }
     ensures seen { result.seen.events ≡ J.database_history }
 {
     take_all(rt, alloc, &node);
