@@ -91,6 +91,7 @@ fn begin<A: App, J: Naming>(
 }
 
 /// Whether the one front shows a beginning of what the other shows.
+#[tactic(auto, using(txc_stream::proofs::Offered::shorter_begins, txc_stream::proofs::Offered::prefix_length))]
 fn begins(one: &HistoryFront, other: &HistoryFront) -> bool
     requires { one.now.events ≡ other.now.events }
     ensures { IsTrue result ↔ IsPrefix one.now.history other.now.history }
