@@ -7,7 +7,7 @@ use Rattle.txc_rows.specs.States.{RowValue}
 use Rattle.txc_db.specs.declared.error.DbError.{DbError}
 use Rattle.txc_db.specs.declared.error.DbError.TheVariants as refusals
 use Rattle.txc_db.specs.DatabaseValue.{DatabaseValue, newest, newest_state}
-use Rattle.txc_stream.specs.Names.{Name}
+use Rattle.txc_stream.specs.Names.{Name, HasRow}
 use Rattle.txc_db.specs.Refusals.{IsOwn}
 use Rattle.txc_db.specs.Calls.{matching_of}
 use Rattle.txc_carry.specs.declared.error.CarryError.{CarryError}
@@ -51,6 +51,11 @@ abbrev pub IsCarryStepRefused : DatabaseValue → ℕ → CarryError → Type 0
 IsCarryStepRefused old room (Old e) = IsReadRefusal e
 IsCarryStepRefused old room (TooManyVersions table id) = MAX_MATCHING < matching_of old (ById table id)
 IsCarryStepRefused old room (New e) = IsPutRefusal old room e
+
+-- that the new database refused as broken is so: it is stored in a row, and is broken from now on
+abbrev pub IsBrokenBy : Name → DatabaseValue → CarryError → Type 0
+IsBrokenBy events new (New refusals.Broken) = HasRow events × (new.broken ≡ true)
+IsBrokenBy events new e = ⊤
 
 -- of a carry: the old database is broken; or else what a step of it is refused for
 abbrev pub IsCarryRefused : DatabaseValue → ℕ → CarryError → Type 0

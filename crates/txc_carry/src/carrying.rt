@@ -1,11 +1,12 @@
 //! A carry reads the old state by ranges of ids, table by table, and commits what each range answers.
-ghost use Rattle.std.specs.Prelude.{◌≡◌, ◌⊎◌, ◌+◌, ◌≤◌, [], true, false, length, map, Err, IfOk, OnOk, OnErr, IfErr, IfSome};
+ghost use Rattle.std.specs.Prelude.{◌≡◌, ◌≢◌, ◌⊎◌, ◌+◌, ◌≤◌, [], true, false, length, map, Err, None, IfOk, OnOk, OnErr, IfErr, IfSome};
 ghost use Rattle.txc_rows.specs.declared.query.Change.TheVariants.{Put};
 ghost use Rattle.txc_db.specs.History.{state_at};
 ghost use Rattle.txc_db.specs.DatabaseValue.{newest, newest_state, after_commit, after_vacuum};
 ghost use Rattle.txc_db.specs.Room.{events_room};
 ghost use Rattle.txc_db.specs.Calls.{IsCommitRefused};
-ghost use Rattle.txc_carry.specs.Carried.{HasCarried, IsCarryRefused, IsCarryStepRefused, IsNotTooMany};
+ghost use Rattle.txc_carry.specs.Carried.{HasCarried, IsBrokenBy, IsCarryRefused, IsCarryStepRefused, IsNotTooMany};
+ghost use Rattle.txc_carry.specs.declared.error.CarryError.TheVariants.{New};
 ghost use Rattle.txc_carry.specs.Rooms.{IsHistoryFor, room_for};
 
 use crate::beginning::new_database;
@@ -34,6 +35,7 @@ fn put_rows(alloc: Global, new: &mut DbCore, rows: Vec<Row>) -> Result<Stamp, Db
     requires tags { new.old.horizon ≡ 0 }
     ensures after { OnOk result (new.new ≡ after_commit new.old (map Put rows.items)) }
     ensures refused { IfErr result (IsCommitRefused new.old 0 [] (map Put rows.items)) }
+    ensures broken { IfErr result (λ refusal. IsBrokenBy new.old.events new.new (New refusal)) }
 {
     match puts_of(alloc, rows) {
         Ok(puts) => new.commit(alloc, Stamp::ZERO, &TagSet::new(alloc), &puts),
@@ -60,6 +62,7 @@ fn carry_range(
     ensures carried { OnOk result
         (HasCarried old.old new.old.events table (last + 1) new.new) }
     ensures refused { IfErr result (IsCarryStepRefused old.old (events_room new.old.events)) }
+    ensures broken { IfErr result (IsBrokenBy new.old.events new.new) }
 {
     states_are_maps();
     net_changes_are_differences();
@@ -96,6 +99,7 @@ fn carry_table(
     ensures carried { OnOk result
         (HasCarried old.old new.old.events (table + 1) 0 new.new) }
     ensures refused { IfErr result (IsCarryStepRefused old.old (events_room new.old.events)) }
+    ensures broken { IfErr result (IsBrokenBy new.old.events new.new) }
 {
     old.is_sound();
     carry_range(alloc, old, new, stamp, table, 0, u32::MAX)
@@ -115,6 +119,7 @@ fn carry_tables(
     ensures carried { OnOk result
         (HasCarried old.old new.old.events (LAST_TABLE + 1) 0 new.new) }
     ensures refused { IfErr result (IsCarryStepRefused old.old (events_room new.old.events)) }
+    ensures broken { IfErr result (IsBrokenBy new.old.events new.new) }
 {
     for number in 0..LAST_TABLE + 1 {
         match carry_table(alloc, old, new, stamp, Table::new(number).unwrap()) {
@@ -143,12 +148,14 @@ pub fn carry(alloc: Global, old: &mut DbCore, room: Option<usize>) -> Result<DbC
         ≡ state_at old.old.history (length old.old.history)) }
     ensures whole { IfOk result (λ new. new.broken ≡ false) }
     ensures holds { IfOk result (λ new. new.holds ≡ []) }
+    ensures kept { IfOk result (λ new. new.horizon ≡ 0) }
     ensures room { IfOk result (λ new. IsHistoryFor room new.events) }
     ensures few { IfOk result (λ new. length new.history ≤ length (newest_state new)) }
     ensures vacuumed { OnOk result (old.new ≡ after_vacuum old.old) }
     ensures left { OnErr result ((old.new ≡ old.old) ⊎ (old.new ≡ after_vacuum old.old)) }
     ensures refused { IfErr result (IsCarryRefused old.new (room_for room)) }
     ensures broken { old.old.broken ≡ true → result ≡ Err (CarryError.Old DbError.Broken) }
+    ensures taken { room ≡ None → result ≢ Err (CarryError.New DbError.Broken) }
     ensures one { old.old.holds ≡ [] → IfErr result IsNotTooMany }
 {
     if let Err(refusal) = old.vacuum() {

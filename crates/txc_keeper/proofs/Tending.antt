@@ -1,25 +1,35 @@
 -- What the keeper of a site that keeps itself did, one keep more.
-use Rattle.std.proofs.Common.{◌≡◌, ℕ, List, [], ◌∷◌, refl, subst}
+use Rattle.std.proofs.Common.{◌≡◌, ℕ, ◌+◌, ◌-◌, ◌^◌, ◌≤◌, min, List, [], ◌∷◌, refl, subst}
 use Rattle.std.specs.Prelude.{Result, Ok, Err, IfOk, IfErr}
 use Rattle.txc_shared.specs.declared.settings.NodeSettings.{NodeSettings}
 use Rattle.txc_stream.specs.Names.{Name}
-use Rattle.txc_keeper.specs.Tending.{OwnKeeperValue, HasTended, HasTendedSince, IsNewOwnKeeper, IsTendedBy}
+use Rattle.txc_keeper.specs.declared.keeping.Keeping.{Keeping}
+use Rattle.txc_keeper.specs.Tending.{OwnKeeperValue, due_at, HasTended, HasTendedSince, IsNewOwnKeeper, IsTendedBy}
 
-module _ (row : Name) (histories : ℕ → Name) (nodes : List NodeSettings) (tells : ℕ → Type 0) (age : ℕ) where
-  pub since_begun : (own : OwnKeeperValue) → IsNewOwnKeeper nodes own → HasTendedSince row histories nodes tells age own
-  since_begun own new = record { first = own; moments = []; new = new; kept = refl }
+-- it has tended so, and the next keep is due at this moment
+abbrev pub HasTendedUntil : Name → (ℕ → Name) → List NodeSettings → (ℕ → Type 0) → Keeping → OwnKeeperValue → ℕ → Type 0
+HasTendedUntil row histories nodes tells keeping own due =
+    (since : HasTendedSince row histories nodes tells keeping own) × (due ≡ due_at keeping.every since.moments)
 
-  pub once_more : (before after : OwnKeeperValue) (now : ℕ) → HasTendedSince row histories nodes tells age before → tells now
-      → HasTended row histories now age before after → HasTendedSince row histories nodes tells age after
-  once_more before after now since told kept = record {
-    first = since.first;
-    moments = now ∷ since.moments;
-    new = since.new;
-    kept = (before, since.kept, told, kept);
-  }
+module _ (row : Name) (histories : ℕ → Name) (nodes : List NodeSettings) (tells : ℕ → Type 0) (keeping : Keeping) where
+  pub since_begun : (own : OwnKeeperValue) → IsNewOwnKeeper nodes own → HasTendedUntil row histories nodes tells keeping own 0
+  since_begun own new = (record { first = own; moments = []; new = new; kept = refl }, refl)
 
-  pub told_so : (own : OwnKeeperValue) → HasTendedSince row histories nodes tells age own → IsTendedBy row nodes tells age own.tended
-  told_so own since = record { histories = histories; own = own; since = since; told = refl }
+  pub once_more : (before after : OwnKeeperValue) (due now : ℕ) → HasTendedUntil row histories nodes tells keeping before due → tells now → due ≤ now
+      → HasTended row histories now keeping.age before after
+      → HasTendedUntil row histories nodes tells keeping after (min (now + keeping.every) (2 ^ 64 - 1))
+  once_more before after due now (since, at) told late kept = (
+    record {
+      first = since.first;
+      moments = now ∷ since.moments;
+      new = since.new;
+      kept = (before, since.kept, told, subst (λ (n : ℕ). n ≤ now) at late, kept);
+    },
+    refl,
+  )
+
+  pub told_so : (own : OwnKeeperValue) (due : ℕ) → HasTendedUntil row histories nodes tells keeping own due → IsTendedBy row nodes tells keeping own.tended
+  told_so own due until = record { histories = histories; own = own; since = until.0; told = refl }
 
 -- what a call that did not refuse, or that refused, says of what it gave
 pub ok_at : {T E : Type 0} (P : T → Type 0) (r : Result T E) (x : T) → r ≡ Ok x → IfOk r P → P x

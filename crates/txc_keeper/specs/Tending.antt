@@ -1,5 +1,5 @@
 -- What the keeper of a site that keeps itself did.
-use Rattle.std.specs.Prelude.{◌≡◌, ◌⊎◌, ℕ, List, [], ◌∷◌, All, IfErr, IfOk, None, Option, Result, Some, map}
+use Rattle.std.specs.Prelude.{◌≡◌, ◌⊎◌, ℕ, ◌+◌, ◌-◌, ◌^◌, ◌≤◌, min, List, [], ◌∷◌, All, IfErr, IfOk, None, Option, Result, Some, map}
 use Rattle.txc_db.specs.declared.error.DbError.{DbError}
 use Rattle.txc_shared.specs.declared.settings.NodeSettings.{NodeSettings}
 use Rattle.txc_stream.specs.Names.{Name}
@@ -33,24 +33,31 @@ HasTended row histories now age old new =
     ((told : KeepTold) × IsKeep row histories now age old.stations told new.stations × (new.tended ≡ tended_after old.tended None))
     ⊎ ((error : DbError) × IsNoKeep row old.stations error new.stations × (new.tended ≡ tended_after old.tended (Some error)))
 
--- it kept at each of these moments, the latest first, which the clock told
-abbrev pub HaveTended : Name → (ℕ → Name) → (ℕ → Type 0) → ℕ → OwnKeeperValue → List ℕ → OwnKeeperValue → Type 0
-HaveTended row histories tells age first [] last = last ≡ first
-HaveTended row histories tells age first (now ∷ earlier) last = (before : OwnKeeperValue)
-    × HaveTended row histories tells age first earlier before × tells now × HasTended row histories now age before last
+-- from which moment on a keep is due, after keeps at these moments, the latest first: so long after the last, as far as
+-- moments go
+abbrev pub due_at : ℕ → List ℕ → ℕ
+due_at every [] = 0
+due_at every (last ∷ earlier) = min (last + every) (2 ^ 64 - 1)
+
+-- it kept at each of these moments, the latest first, which the clock told, and not before it was due
+abbrev pub HaveTended : Name → (ℕ → Name) → (ℕ → Type 0) → Keeping → OwnKeeperValue → List ℕ → OwnKeeperValue → Type 0
+HaveTended row histories tells keeping first [] last = last ≡ first
+HaveTended row histories tells keeping first (now ∷ earlier) last = (before : OwnKeeperValue)
+    × HaveTended row histories tells keeping first earlier before × tells now × (due_at keeping.every earlier ≤ now)
+    × HasTended row histories now keeping.age before last
 
 -- it began as a new keeper of these nodes, and did nothing but keep
-pub record HasTendedSince (row : Name) (histories : ℕ → Name) (nodes : List NodeSettings) (tells : ℕ → Type 0) (age : ℕ) (own : OwnKeeperValue) : Type 0 where
+pub record HasTendedSince (row : Name) (histories : ℕ → Name) (nodes : List NodeSettings) (tells : ℕ → Type 0) (keeping : Keeping) (own : OwnKeeperValue) : Type 0 where
   pub first : OwnKeeperValue
   pub moments : List ℕ
   pub new : IsNewOwnKeeper nodes first
-  pub kept : HaveTended row histories tells age first moments own
+  pub kept : HaveTended row histories tells keeping first moments own
 
 -- such a keeper of these nodes, whatever their histories, came to this
-pub record IsTendedBy (row : Name) (nodes : List NodeSettings) (tells : ℕ → Type 0) (age : ℕ) (tended : Tended) : Type 0 where
+pub record IsTendedBy (row : Name) (nodes : List NodeSettings) (tells : ℕ → Type 0) (keeping : Keeping) (tended : Tended) : Type 0 where
   pub histories : ℕ → Name
   pub own : OwnKeeperValue
-  pub since : HasTendedSince row histories nodes tells age own
+  pub since : HasTendedSince row histories nodes tells keeping own
   pub told : tended ≡ own.tended
 
 -- The site's own keeper: none where the plan has none. Else it came to this, or there was none, since a node gave it no
@@ -58,4 +65,4 @@ pub record IsTendedBy (row : Name) (nodes : List NodeSettings) (tells : ℕ → 
 abbrev pub IsTendedAs : Option Keeping → List NodeSettings → (ℕ → Type 0) → Name → Option (Result Tended SiteError) → Type 0
 IsTendedAs None nodes tells row came = came ≡ None
 IsTendedAs (Some keeping) nodes tells row came = (result : Result Tended SiteError) × (came ≡ Some result)
-    × IfOk result (IsTendedBy row nodes tells keeping.age) × IfErr result IsKeeperRefused
+    × IfOk result (IsTendedBy row nodes tells keeping) × IfErr result IsKeeperRefused

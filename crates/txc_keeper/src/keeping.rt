@@ -103,7 +103,7 @@ pub fn keep_until_ended<A: App, J: Naming, C: Clock, R: Wait>(
     ended: &Signal,
 ) -> Result<Tended, SiteError>
     ensures tended { IfOk result
-        (IsTendedBy J.database_history nodes.now (C.tells clock.now) keeping.age) }
+        (IsTendedBy J.database_history nodes.now (C.tells clock.now) keeping) }
     ensures refused { IfErr result IsKeeperRefused }
 {
     let mut own = OwnKeeper::new(rt, alloc, ledger, nodes)?;

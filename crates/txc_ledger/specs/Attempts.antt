@@ -9,7 +9,7 @@ use Rattle.txc_ledger.specs.declared.error.WriteError.{WriteError}
 use Rattle.txc_ledger.specs.declared.error.WriteError.TheVariants as writes
 use Rattle.txc_ledger.specs.declared.writing.Attempt.{Attempt}
 use Rattle.txc_ledger.specs.declared.writing.Attempt.TheVariants as attempts
-use Rattle.txc_ledger.specs.Counted.{counted_again}
+use Rattle.txc_ledger.specs.Counted.{CommitterValue, counted_again}
 use Rattle.txc_ledger.specs.Writes.{IsRefusedCommit, IsSiteWriteRefused, IsWritten}
 
 -- it is no list of conflicts, and no lack of memory for one
@@ -25,7 +25,8 @@ IsAttempted next row makes refuses (attempts.Conflict conflict) = IsRefusedCommi
 IsAttempted next row makes refuses (attempts.Refused error) =
     IsOfRun error × ((tries : ℕ) → IsSiteWriteRefused row makes refuses tries error)
 
--- where it was done, the committer committed once more, and else not at all
-abbrev pub CountsAttempt : {T : Type 0} → Attempt T → ℕ → ℕ → Type 0
-CountsAttempt (attempts.Done output committed) old new = new ≡ counted_again old
-CountsAttempt attempt old new = new ≡ old
+-- the committer began one update more; and where it was done, it committed once more, and else not at all
+abbrev pub CountsAttempt : {T : Type 0} → Attempt T → CommitterValue → CommitterValue → Type 0
+CountsAttempt (attempts.Done output committed) old new =
+    new ≡ record { updates = counted_again old.updates; commits = counted_again old.commits }
+CountsAttempt attempt old new = new ≡ record old { updates = counted_again old.updates }

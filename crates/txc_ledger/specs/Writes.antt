@@ -1,5 +1,5 @@
 -- What a change that was tried came to.
-use Rattle.std.specs.Prelude.{◌≡◌, ◌⊎◌, ℕ, List, All, vec_len}
+use Rattle.std.specs.Prelude.{◌≡◌, ◌⊎◌, ℕ, ◌+◌, ◌<◌, List, All, vec_len}
 use Rattle.txc_stream.specs.Names.{Name}
 use Rattle.txc_app.specs.Eval.{Next}
 use Rattle.txc_db.specs.declared.answered.Answered.{Answered}
@@ -8,6 +8,7 @@ use Rattle.txc_db.specs.declared.answered.CommitError.TheVariants as commits
 use Rattle.txc_db.specs.Calls.{IsHoldRefused}
 use Rattle.txc_db.specs.History.{state_at}
 use Rattle.txc_db.specs.Shared.{IsEventIn, IsQuietIn, IsSharedCommitRefused, MayRefuse}
+use Rattle.txc_ledger.specs.Counted.{counted_on}
 use Rattle.txc_ledger.specs.declared.run_error.RunError.{RunError}
 use Rattle.txc_rw.specs.declared.rw_txn.Committed.{Committed}
 use Rattle.txc_rw.specs.Answers.{AreRightIn}
@@ -49,3 +50,10 @@ IsSiteWriteRefused row makes refuses tries (writes.Begin cause) = MayRefuse row 
 IsSiteWriteRefused row makes refuses tries (writes.Change cause) = refuses cause
 IsSiteWriteRefused row makes refuses tries (writes.Commit cause) = IsRefusedCommit row makes (commits.Database cause)
 IsSiteWriteRefused row makes refuses tries writes.Memory = Unit {0}
+
+-- A change that was refused so was run this often: not at all where there was no memory for its conflicts, as often as
+-- there were tries where each was a conflict, and else once or more, but no more often than that.
+abbrev pub IsRunSoOften : ℕ → WriteError → ℕ → ℕ → Type 0
+IsRunSoOften tries writes.Memory old new = new ≡ old
+IsRunSoOften tries (writes.Conflicts conflicts) old new = new ≡ counted_on tries old
+IsRunSoOften tries error old new = (before : ℕ) × (before < tries) × (new ≡ counted_on (before + 1) old)

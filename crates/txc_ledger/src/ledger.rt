@@ -11,7 +11,7 @@ mod pins;
 mod update;
 
 use crate::node_history::NodeHistory;
-pub use pins::{Horizon, PresentPin, RetiredPin, RetiredPins, UsedPin};
+pub use pins::{Horizon, PresentPin, RefusedPin, RetiredPin, RetiredPins, UsedPin};
 use std::alloc::{AllocError, Global};
 use std::marker::{Model, PhantomData};
 use std::sync::Wait;
@@ -37,36 +37,38 @@ pub struct Committers<J: Naming> {
 }
 
 impl<J: Naming> Committers<J> {
-    /// A committer who has not committed yet.
+    /// A committer who has begun no update and committed none yet.
     pub fn committer(&self) -> Committer<J>
-        ensures { result ≡ 0 }
+        ensures { result ≡ record { updates = 0; commits = 0 } }
     {
         Committer {
+            updates: 0,
             commits: 0,
             of: PhantomData,
         }
     }
 }
 
-/// Who commits to a ledger. Contracts see how often that was done.
+/// Who commits to a ledger. Contracts see how many updates it has begun, or was refused, and how many it has committed.
 #[derive(Drop)]
 pub struct Committer<J: Naming> {
+    updates: u64,
     commits: u64,
     of: PhantomData<J>,
 }
 
 impl<J: Naming> Model for Committer<J> {
-    ghost use Rattle.std.specs.Prelude.{ℕ};
+    ghost use Rattle.txc_ledger.specs.Counted.{CommitterValue};
 
-    ghost Value = { ℕ };
+    ghost Value = { CommitterValue };
 
-    ghost view = { λ c. c.commits };
+    ghost view = { λ c. record { updates = c.updates; commits = c.commits } };
 }
 
 impl<J: Naming> Committer<J> {
     /// How often it has committed.
     pub fn commits(&self) -> u64
-        ensures { result ≡ self.now }
+        ensures { result ≡ self.now.commits }
     {
         self.commits
     }

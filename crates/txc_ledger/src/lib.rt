@@ -15,7 +15,8 @@ mod writing;
 pub use change::{Change, ChangeTxn};
 pub use error::WriteError;
 pub use ledger::{
-    Committer, Committers, Horizon, Ledger, PresentPin, RetiredPin, RetiredPins, UsedPin,
+    Committer, Committers, Horizon, Ledger, PresentPin, RefusedPin, RetiredPin, RetiredPins,
+    UsedPin,
 };
 pub use node_history::NodeHistory;
 pub use run_error::RunError;

@@ -2,8 +2,8 @@
 ghost use Rattle.std.specs.Prelude.{◌≡◌, ◌+◌, ◌≤◌, ◌<◌, IfErr, IfOk, OnErr, OnOk, vec_len};
 ghost use Rattle.txc_registry.specs.Objects.{AllIdle};
 ghost use Rattle.txc_ledger.specs.Attempts.{CountsAttempt, IsAttempted};
-ghost use Rattle.txc_ledger.specs.Counted.{counted_again};
-ghost use Rattle.txc_ledger.specs.Writes.{AreConflicts, IsWritten, IsSiteWriteRefused};
+ghost use Rattle.txc_ledger.specs.Counted.{counted_again, counted_on};
+ghost use Rattle.txc_ledger.specs.Writes.{AreConflicts, IsRunSoOften, IsWritten, IsSiteWriteRefused};
 
 use crate::change::Change;
 use crate::error::WriteError;
@@ -46,7 +46,7 @@ fn run_once<A: App, D: Definition, J: Naming, C: Change<A, D>, R: Wait>(
     ensures registry { result.1 ≡ registry }
     ensures counted { CountsAttempt result.0 committer.old committer.new }
 {
-    let mut update = match ledger.update(rt, alloc, registry) {
+    let mut update = match ledger.update(rt, alloc, registry, committer) {
         Ok(update) => update,
         Err((cause, registry)) => return (Attempt::Refused(WriteError::Begin(cause)), registry),
     };
@@ -69,7 +69,7 @@ fn run_once<A: App, D: Definition, J: Naming, C: Change<A, D>, R: Wait>(
     }
 }
 
-/// Runs the change, and again after a conflict, as often as there are tries.
+/// Runs the change, and again after a conflict, as often as there are tries. Each run is an update of the committer.
 pub fn write_change<A: App, D: Definition, J: Naming, C: Change<A, D>, R: Wait>(
     rt: &R,
     alloc: Global,
@@ -91,8 +91,12 @@ pub fn write_change<A: App, D: Definition, J: Naming, C: Change<A, D>, R: Wait>(
     ensures refused { IfErr result.0
         (IsSiteWriteRefused J.database_history (C.makes change.now) (C.refuses change.now) tries) }
     ensures registry { result.1 ≡ registry }
-    ensures counted { OnOk result.0 (committer.new ≡ counted_again committer.old) }
-    ensures uncounted { OnErr result.0 (committer.new ≡ committer.old) }
+    ensures counted { OnOk result.0 (committer.new.commits ≡ counted_again committer.old.commits) }
+    ensures uncounted { OnErr result.0 (committer.new.commits ≡ committer.old.commits) }
+    ensures runs { IfOk result.0 (λ written.
+        committer.new.updates ≡ counted_on (vec_len written.conflicts + 1) committer.old.updates) }
+    ensures refused_runs { IfErr result.0 (λ error.
+        IsRunSoOften tries error committer.old.updates committer.new.updates) }
 {
     let Ok(mut conflicts) = Vec::with_capacity(alloc, tries as usize) else {
         return (Err(WriteError::Memory), registry);

@@ -14,13 +14,31 @@ use std::sync::Wait;
 use txc_db::{DbError, Naming, Pinned};
 use txc_stamp::Stamp;
 
-/// A pin of the present, which is held. It cannot be let go: [`Ledger::add`] and [`Ledger::unpin`] take it.
+/// A pin of the present, which is held. It cannot be let go: [`Ledger::add`] takes it.
 pub struct PresentPin<J: Naming> {
     pinned: Pinned,
     of: PhantomData<J>,
 }
 
 impl<J: Naming> Model for PresentPin<J> {
+    ghost use Rattle.std.specs.Prelude.{◌≡◌};
+    ghost use Rattle.txc_db.specs.declared.pinned.Pinned.{Pinned};
+
+    ghost Value = { Pinned };
+
+    ghost view = { λ p. p.pinned };
+
+    ghost invariant = { λ p. p.pinned.front.events ≡ J.database_history };
+}
+
+/// A pin of the present that the pincushion did not take, and that is held. It cannot be let go: [`Ledger::unpin`]
+/// takes it.
+pub struct RefusedPin<J: Naming> {
+    pinned: Pinned,
+    of: PhantomData<J>,
+}
+
+impl<J: Naming> Model for RefusedPin<J> {
     ghost use Rattle.std.specs.Prelude.{◌≡◌};
     ghost use Rattle.txc_db.specs.declared.pinned.Pinned.{Pinned};
 
@@ -143,10 +161,10 @@ impl<J: Naming> Ledger<J> {
         })
     }
 
-    /// Gives the pin to the pincushion, with one user; or hands it back.
-    pub fn add(&self, rt: &impl Wait, pin: PresentPin<J>) -> Result<UsedPin<J>, PresentPin<J>>
+    /// Gives the pin to the pincushion, with one user.
+    pub fn add(&self, rt: &impl Wait, pin: PresentPin<J>) -> Result<UsedPin<J>, RefusedPin<J>>
         ensures added { IfOk result (λ used. used ≡ pin) }
-        ensures handed_back { IfErr result (λ back. back ≡ pin) }
+        ensures not_added { IfErr result (λ refused. refused ≡ pin) }
     {
         let PresentPin { pinned, of: _ } = pin;
         match self.cushion.add(rt, &pinned) {
@@ -154,7 +172,7 @@ impl<J: Naming> Ledger<J> {
                 pinned,
                 of: PhantomData,
             }),
-            Err(_) => Err(PresentPin {
+            Err(_) => Err(RefusedPin {
                 pinned,
                 of: PhantomData,
             }),
@@ -172,11 +190,11 @@ impl<J: Naming> Ledger<J> {
     }
 
     /// Takes the hold of the pin away.
-    pub fn unpin(&self, rt: &impl Wait, pin: PresentPin<J>) -> Pinned
+    pub fn unpin(&self, rt: &impl Wait, pin: RefusedPin<J>) -> Pinned
         ensures pin { result ≡ pin }
         ensures row { result.front.events ≡ J.database_history }
     {
-        let PresentPin { pinned, of: _ } = pin;
+        let RefusedPin { pinned, of: _ } = pin;
         let _ = self.database.unpin(rt, pinned.stamp);
         pinned
     }

@@ -35,19 +35,22 @@ impl<'a, J: Naming, A: App, D: Definition> Model for Update<'a, J, A, D> {
 }
 
 impl<J: Naming> Ledger<J> {
-    /// Begins an update at the newest stamp. A refusal returns the registry.
+    /// Begins an update at the newest stamp, which the committer counts. A refusal returns the registry.
     pub(crate) fn update<'a, A: App, D: Definition>(
         &'a self,
         rt: &impl Wait,
         alloc: Global,
         registry: Registry<A, Function<D>>,
+        committer: &mut Committer<J>,
     ) -> Result<Update<'a, J, A, D>, (DbError, Registry<A, Function<D>>)>
         requires { AllIdle registry }
         ensures begun { IfOk result (λ update. IsBegun (length update.history) update.core) }
         ensures objects { IfOk result (λ update. update.objects ≡ registry) }
         ensures refused { IfErr result (λ e. MayRefuse J.database_history IsHoldRefused e.0) }
         ensures handed_back { IfErr result (λ e. e.1 ≡ registry) }
+        ensures counted { committer.new ≡ record committer.old { updates = counted_again committer.old.updates } }
     {
+        committer.updates = committer.updates.wrapping_add(1);
         let txn = RwTxn::begin(rt, alloc, &self.database, registry)?;
         Ok(Update { txn })
     }
@@ -90,7 +93,8 @@ impl<'a, J: Naming, A: App, D: Definition> Update<'a, J, A, D> {
         ensures refused { IfErr result (λ e. MayRefuse J.database_history (λ d. let c = self.entry.core in
             IsSharedCommitRefused d c.base (tags_read c) c.changes) e.1) }
         ensures handed_back { IfErr result (λ e. e.0 ≡ self.entry) }
-        ensures counted { OnOk result (committer.new ≡ counted_again committer.old) }
+        ensures counted { OnOk result
+            (committer.new ≡ record committer.old { commits = counted_again committer.old.commits }) }
         ensures uncounted { OnErr result (committer.new ≡ committer.old) }
     {
         let Update { txn } = self;

@@ -1,9 +1,10 @@
-use Rattle.std.proofs.Common.{sym, subst, ◌∙◌, arith}
+use Rattle.std.proofs.Common.{ap, sym, subst, ◌∙◌, arith}
 use Rattle.std.proofs.lemmas.List.Elements.{All-push, All-same}
 use Rattle.txc_db.specs.declared.answered.CommitError.TheVariants as commits
 use Rattle.txc_registry.specs.Objects.{AllIdle}
+use Rattle.txc_ledger.specs.Counted.{CommitterValue}
 use Rattle.txc_ledger.specs.Writes.{IsRefusedCommit}
-use Rattle.txc_ledger.proofs.Tried.{conflict_so, refused_so, uncounted_so}
+use Rattle.txc_ledger.proofs.Tried.{conflict_so, refused_so, conflict_run, run_on}
 use Rattle.txc_ledger.proofs.writing.write_change.Goals as goal
 
 pub returns-in-Refused-clause-refused : goal.returns-in-Refused-clause-refused
@@ -18,10 +19,12 @@ loop-preserved g c =
     let row = g.J.Naming.database_history in
     let conflict = conflict_so g.A.App.next row makes (g.C.Change.refuses c.args.change.now) c.run_once-outcome.result.0 c.in-Conflict.conflict c.run_once-outcome.ensures.attempted c.in-Conflict.is in
     let pushed = c.push_reserved.ensures in
+    let run = conflict_run c.run_once-outcome.result.0 _ _ c.run_once-outcome.ensures.counted c.in-Conflict.conflict c.in-Conflict.is in
     record {
       registry = c.run_once-outcome.ensures.registry ∙ before.registry;
       idle = subst AllIdle (sym c.run_once-outcome.ensures.registry) before.idle;
-      uncounted = uncounted_so c.run_once-outcome.result.0 c.in-Conflict.conflict _ _ c.run_once-outcome.ensures.counted c.in-Conflict.is ∙ before.uncounted;
+      uncounted = ap (λ (v : CommitterValue). v.commits) run ∙ before.uncounted;
+      updates = run_on c.loop.counter _ _ _ before.updates (ap (λ (v : CommitterValue). v.updates) run);
       conflicts =
           All-same (λ x. IsRefusedCommit row makes (commits.Conflict x)) _ _ pushed.items
           (All-push (λ x. IsRefusedCommit row makes (commits.Conflict x)) _ _ before.conflicts conflict);
