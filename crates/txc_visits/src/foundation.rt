@@ -140,7 +140,7 @@ pub(crate) fn keep_until_ended<A: App, J: Naming, C: Clock, R: Wait>(
     ended: &Signal,
 ) -> Result<Tended, SiteError>
     ensures tended { IfOk result
-        (IsTendedBy J.database_history (nodes_of foundation.now.plan) (C.tells clock.now) keeping.age) }
+        (IsTendedBy J.database_history (nodes_of foundation.now.plan) (C.tells clock.now) keeping) }
     ensures refused { IfErr result IsKeeperRefused }
 {
     txc_keeper::keep_until_ended(
