@@ -1,19 +1,18 @@
 -- A commit that read nothing, and results of calls.
-use Rattle.std.proofs.Common.{◌≡◌, ◌≢◌, inl, inr, ℕ, List, [], ◌∷◌, Bool, true, false, true≢false, refl, sym, subst, ◌∙◌, arith}
-use Rattle.std.specs.Prelude.{Result, Ok, Err, IfErr, OnOk, Option, None}
+use Rattle.std.proofs.Common.{◌≡◌, ℕ, List, [], ◌∷◌, Bool, true, false, refl, arith}
+use Rattle.std.specs.Prelude.{Result, Ok, Err, OnOk}
 use Rattle.txc_tags.specs.declared.tag.Tag.{Tag}
 use Rattle.txc_tags.specs.Tags.{sets_match}
 use Rattle.txc_db.specs.declared.error.DbError.{DbError}
 use Rattle.txc_db.specs.declared.error.DbError.TheVariants.{Broken}
 use Rattle.txc_db.specs.History.{tags_at}
-use Rattle.txc_stream.specs.Names.{Name, stored, unstored, HasRow}
+use Rattle.txc_stream.specs.Names.{Name, stored, unstored}
 use Rattle.txc_db.specs.DatabaseValue.{DatabaseValue}
 use Rattle.txc_db.specs.Room.{AreTagsKept}
-use Rattle.txc_db.specs.Calls.{IsLeft, IsUnread}
+use Rattle.txc_db.specs.Calls.{IsUnread}
 use Rattle.txc_carry.specs.declared.error.CarryError.{CarryError}
-use Rattle.txc_carry.specs.declared.error.CarryError.TheVariants.{Old, New}
-use Rattle.txc_carry.specs.Carried.{IsBrokenBy, IsCarryRefused, IsCarryStepRefused}
-use Rattle.txc_carry.specs.Rooms.{IsHistoryFor}
+use Rattle.txc_carry.specs.declared.error.CarryError.TheVariants.{Old}
+use Rattle.txc_carry.specs.Carried.{IsCarryRefused, IsCarryStepRefused}
 
 pub none_matches : (xs : List Tag) → sets_match xs [] ≡ false
 none_matches [] = refl
@@ -40,29 +39,6 @@ not_broken d r x refused is = go d.broken refl
     go : (b : Bool) → d.broken ≡ b → d.broken ≡ false
     go true e = let f = refused e in absurd (cc (f, is))
     go false e = e
-
--- a put that is refused as broken leaves the database broken, whose history is stored
-pub put_broken : {T : Type 0} (r : Result T DbError) (old new : DatabaseValue) → old.broken ≡ false → IfErr r (IsLeft old new)
-    → (old.broken ≡ false → r ≡ Err Broken → HasRow old.events) → IfErr r (λ e. IsBrokenBy old.events new (New e))
-put_broken (Ok x) old new whole left taken = tt
-put_broken (Err Broken) old new whole left taken =
-    elim left [
-      | inl was ↦ absurd (true≢false (sym was.1 ∙ whole))
-      | inr is ↦ (taken whole refl, is.is)
-    ]
-put_broken (Err e) old new whole left taken = tt
-
--- the same of a history that is called so
-pub broken_of : {T : Type 0} (r : Result T CarryError) (events name : Name) (new : DatabaseValue) → name ≡ events → IfErr r (IsBrokenBy name new)
-    → IfErr r (IsBrokenBy events new)
-broken_of r events name new same = subst (λ (n : Name). IfErr r (IsBrokenBy n new)) same
-
--- a history that is not stored is not broken
-pub not_taken : (room : Option ℕ) (events : Name) (new : DatabaseValue) (e : CarryError) → IsHistoryFor room events → IsBrokenBy events new e
-    → room ≡ None → e ≢ New Broken
-not_taken room events new e is broken none same =
-    let b = subst (IsBrokenBy events new) same broken in
-    subst (λ (r : Option ℕ). IsHistoryFor r events) none is b.0
 
 -- what a step is refused for, the carry is, where the old database is whole
 pub refused_by : (d : DatabaseValue) (room : ℕ) (e : CarryError) → d.broken ≡ false → IsCarryStepRefused d room e → IsCarryRefused d room e
