@@ -4,13 +4,23 @@ use Rattle.txc_db.specs.declared.answered.CommitError.TheVariants as commits
 use Rattle.txc_registry.specs.Objects.{AllIdle}
 use Rattle.txc_ledger.specs.Counted.{CommitterValue}
 use Rattle.txc_ledger.specs.Writes.{IsRefusedCommit}
-use Rattle.txc_ledger.proofs.Tried.{conflict_so, refused_so, conflict_run, run_on}
+use Rattle.txc_ledger.proofs.Tried.{conflict_so, refused_so, of_run, conflict_run, refused_run, run_on, run_so_often}
 use Rattle.txc_ledger.proofs.writing.write_change.Goals as goal
 
 pub returns-in-Refused-clause-refused : goal.returns-in-Refused-clause-refused
 returns-in-Refused-clause-refused g c =
     refused_so g.A.App.next g.J.Naming.database_history (g.C.Change.makes c.args.change.now) (g.C.Change.refuses c.args.change.now) c.run_once-outcome.result.0 c.in-Refused.error
     c.run_once-outcome.ensures.attempted c.in-Refused.is c.args.tries
+
+pub returns-in-Refused-clause-refused_runs : goal.returns-in-Refused-clause-refused_runs
+returns-in-Refused-clause-refused_runs g c =
+    let attempt = c.run_once-outcome.result.0 in
+    let run = refused_run attempt _ _ c.run_once-outcome.ensures.counted c.in-Refused.error c.in-Refused.is in
+    let of =
+        of_run g.A.App.next g.J.Naming.database_history (g.C.Change.makes c.args.change.now) (g.C.Change.refuses c.args.change.now) attempt c.in-Refused.error
+        c.run_once-outcome.ensures.attempted c.in-Refused.is in
+    run_so_often c.args.tries c.loop.counter c.in-Refused.error _ _ of (omega (arith, c.loop-test.true))
+    (run_on c.loop.counter _ _ _ c.loop.invariant.updates (ap (λ (v : CommitterValue). v.updates) run))
 
 pub loop-preserved : goal.loop-preserved
 loop-preserved g c =
