@@ -17,8 +17,8 @@ returns-in-Refused-clause-refused_runs g c =
     let attempt = c.run_once-outcome.result.0 in
     let run = refused_run attempt _ _ c.run_once-outcome.ensures.counted c.in-Refused.error c.in-Refused.is in
     let of =
-        of_run g.A.App.next g.J.Naming.database_history (g.C.Change.makes c.args.change.now) (g.C.Change.refuses c.args.change.now) attempt c.in-Refused.error
-        c.run_once-outcome.ensures.attempted c.in-Refused.is in
+    of_run g.A.App.next g.J.Naming.database_history (g.C.Change.makes c.args.change.now) (g.C.Change.refuses c.args.change.now) attempt c.in-Refused.error
+    c.run_once-outcome.ensures.attempted c.in-Refused.is in
     run_so_often c.args.tries c.loop.counter c.in-Refused.error _ _ of (omega (arith, c.loop-test.true))
     (run_on c.loop.counter _ _ _ c.loop.invariant.updates (ap (λ (v : CommitterValue). v.updates) run))
 
