@@ -3,10 +3,10 @@ ghost use Rattle.std.specs.Prelude.{◌≡◌, ◌⊎◌, [], All, Err, IfErr, I
 ghost use mathlib.Core.List.{IsPrefix};
 ghost use Rattle.txc_carry.specs.Rooms.{IsHistoryFor};
 ghost use Rattle.txc_db.specs.DatabaseValue.{front_of};
-ghost use Rattle.txc_site.specs.Generations.{HaveServed, IsGeneration, IsGenerationRefused, IsNextRefused, IsServed};
+ghost use Rattle.txc_site.specs.Generations.{HaveServed, IsGeneration, IsGenerationRefused, IsNextRefused, IsServed, last_state};
 ghost use Rattle.txc_site.specs.Opened.{IsOpenRefused};
 ghost use Rattle.txc_visits.specs.Plans.{IsPlan};
-ghost use Rattle.txc_visits.specs.Warming.{last_state};
+ghost use Rattle.txc_visits.specs.Warming.{EndInOneState};
 
 use crate::error::GenerationError;
 use crate::opening::opened;
@@ -133,7 +133,7 @@ fn warmth<A: App>(
     front: &HistoryFront,
 ) -> Option<Warmth<A>>
     requires seen { IfOk whole (λ whole. All (λ left. left.seen.events ≡ whole.events) left.items) }
-    requires state { IfOk whole (λ whole. last_state whole ≡ last_state front.now) }
+    requires state { IfOk whole (λ whole. EndInOneState whole front.now) }
     ensures { IfSome result (λ w. w.front ≡ front.now) }
 {
     let Ok(whole) = whole else {

@@ -3,7 +3,7 @@ ghost use Rattle.std.specs.Prelude.{◌≡◌, ◌↔◌, All, IsTrue, MatchOpti
 ghost use mathlib.Core.List.{IsPrefix};
 ghost use Rattle.txc_app.specs.Claims.{IsTrueIn};
 ghost use Rattle.txc_app.specs.Laws.{begun_at};
-ghost use Rattle.txc_visits.specs.Warming.{IsValidAtEnd, last_state};
+ghost use Rattle.txc_visits.specs.Warming.{EndInOneState, IsValidAtEnd};
 
 use std::alloc::Global;
 use std::sync::Wait;
@@ -23,7 +23,7 @@ pub struct Warmth<A: App> {
     /// The whole history of the new site's database.
     pub front: HistoryFront,
     ghost seen: { All (λ node. node.seen.events ≡ whole.events) nodes.items },
-    ghost state: { last_state whole ≡ last_state front },
+    ghost state: { EndInOneState whole front },
 }
 
 /// Lets the node take all events. What it refuses is left.
@@ -81,7 +81,7 @@ fn begin<A: App, J: Naming>(
     front: &HistoryFront,
 )
     requires row { front.now.events ≡ J.database_history }
-    requires state { last_state whole.now ≡ last_state front.now }
+    requires state { EndInOneState whole.now front.now }
     requires is_true { IsTrueIn A.next whole.now.history entry }
 {
     carried_entries_are_true();
@@ -113,7 +113,7 @@ pub(crate) fn warm<A: App, J: Naming>(
     requires number { node.now.number ≡ left.number }
     requires row { front.now.events ≡ J.database_history }
     requires seen { left.seen.events ≡ whole.now.events }
-    requires state { last_state whole.now ≡ last_state front.now }
+    requires state { EndInOneState whole.now front.now }
 {
     true_entries_stay();
     if !begins(left.seen(), whole) {

@@ -1,7 +1,6 @@
 use Rattle.std.proofs.Common.{◌≡◌, ◌∙◌, List, [], ◌∷◌, ◌++◌, Ok, ap, length, refl, sym, subst, arith}
 use Rattle.txc_db.specs.Seen.{FrontValue}
-use Rattle.txc_visits.specs.Warming.{last_state}
-use Rattle.txc_site.specs.Generations.{IsNextRefused}
+use Rattle.txc_site.specs.Generations.{IsNextRefused, last_state}
 use Rattle.txc_site.proofs.Turns.{enough_so, is_error, no_next_so, none_came, one_more}
 use Rattle.txc_site.proofs.generations.go_on.Goals as goal
 
