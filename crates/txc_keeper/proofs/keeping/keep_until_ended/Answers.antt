@@ -1,7 +1,15 @@
-use Rattle.txc_keeper.proofs.Tending.{once_more}
+use Rattle.std.proofs.Common.{◌≡◌, ◌≤◌, ◌+◌, ◌-◌, ◌^◌, ℕ, min, rules, subst}
+use Rattle.txc_keeper.proofs.Tending.{HasTendedUntil, once_more}
 use Rattle.txc_keeper.proofs.keeping.keep_until_ended.Goals as goal
 
 pub loop-preserved : goal.loop-preserved
 loop-preserved g c =
-    once_more g.J.Naming.database_history g.J.Naming.node_histories c.args.nodes.now (g.C.Clock.tells c.args.clock.now) c.args.keeping.age
-    c.loop.own c.keep-own.result c.now-now.result c.loop.invariant c.now-now.ensures c.keep-own.ensures
+    let row = g.J.Naming.database_history in
+    let histories = g.J.Naming.node_histories in
+    let tells = g.C.Clock.tells c.args.clock.now in
+    let now = c.now-now.result in
+    let told = c.now-now.ensures in
+    let late : c.loop.next ≤ now = search rules in
+    let due : min (now + c.args.keeping.every) (2 ^ 64 - 1) ≡ c.saturating_add-next.result = search rules in
+    subst (λ (n : ℕ). HasTendedUntil row histories c.args.nodes.now tells c.args.keeping c.keep-own.result n) due
+    (once_more row histories c.args.nodes.now tells c.args.keeping c.loop.own c.keep-own.result c.loop.next now c.loop.invariant told late c.keep-own.ensures)
