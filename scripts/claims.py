@@ -320,6 +320,16 @@ def names():
                 yield document, f"names `{said}`, which is not there"
 
 
+def measured():
+    """Above each table of FIGURES one line says when it was measured, by what, and on which machine."""
+    document = ROOT / "docs/FIGURES.md"
+    above = ""
+    for block in re.split(r"\n\s*\n", prose(document)):
+        if block.startswith("|") and not re.search(r"^(?:.*\. )?Measured (?:on|until) \d{4}-\d\d-\d\d by .*, on \d+ cores\b.*$", above, re.M):
+            yield document, f"has a table with no line of its day, command and machine: {block.partition(chr(10))[0]}"
+        above = block
+
+
 def first():
     """The service with which EMBEDDING begins is short."""
     file = ROOT / "tests/txc_first/src/main.rt.in"
@@ -349,7 +359,7 @@ def faults():
     """What the documents claim that is not so, each as a line of text."""
     found = []
     checks = (links, paths, counted, words, long_sentences, plain_words, crate_tables, promised, help_shown, settings, sessions, quoted, commands, toolchain, version, names,
-              first, meanings)
+              measured, first, meanings)
     for check in checks:
         found += [f"{document.relative_to(ROOT)} {said}" for document, said in check()]
     return found
