@@ -6,10 +6,7 @@ import sources
 from sources import ROOT
 
 FOLDER = ROOT / "docs/crates"
-HEAD = """
-Made by `make docs` from the crate's `src/` and `specs/`. At the end of a section stand its words, each a link to its definition. What is no
-link is of Rattle's own library: [how a clause is read](../promise/signs.md).
-"""
+HEAD = "\n[How to read it](README.md#a-page).\n"
 
 
 def anchor_of(call):
@@ -109,7 +106,7 @@ def page(crate):
     if others:
         text += "### Functions and laws\n\n" + call_entries(others, crate)
     if words:
-        text += "## Words\n\nBy file, in the order in which they stand there.\n\n"
+        text += "## Words\n\n"
         for file in sorted({it.file for it in words}):
             inside = [it for it in words if it.file == file]
             text += f"### `{'specs/' + file + '.antt' if not inside[0].is_rust else file}`\n\n"
@@ -129,7 +126,10 @@ READERS = {
 
 def index(names):
     text = ("# The crates\n\nA page for each crate that hands something out: its public types and calls with their contracts, and the words of"
-            "\ncontracts that it defines. They are made by `make docs`.\n")
+            "\ncontracts that it defines.\n"
+            "\n## A page\n\nIt is made by `make docs` from the crate's `src/` and `specs/`. At the end of a section stand its words, each a link to its"
+            "\ndefinition. What is no link is of Rattle's own library: [how a clause is read](../promise/signs.md). The words that the crate defines stand"
+            "\nlast, by file, as they stand there.\n")
     left = [it for it in names if it not in " ".join(READERS.values()).split()]
     for reader, wanted in [*((reader, crates.split()) for reader, crates in READERS.items()), ("change the library", left)]:
         rows = "".join(f"| [`{it}`]({it}.md) | {sources.purpose(it)} |\n" for it in wanted if it in names)
