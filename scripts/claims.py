@@ -120,10 +120,12 @@ def words():
 
 
 def sentences(path):
-    """The sentences of a document, each word of code as one word."""
-    text = re.sub(r"^(?:    .*| *\|.*|#.*|<!--.*|@.*)$", "", prose(path).replace("**", ""), flags=re.M)
-    for block in re.split(r"\n\s*\n|\n\s*(?=- |\d+\. )", re.sub(r"`[^`\n]*`", "x", text)):
-        yield from re.split(r"(?<=[.?!:])\s+(?=[A-Z`x(\[])", " ".join(block.split()))
+    """The sentences of a document, those in cells of tables too, each word of code as one word."""
+    text = re.sub(r"^(?:    .*|#.*|<!--.*|@.*)$", "", prose(path).replace("**", ""), flags=re.M)
+    text = re.sub(r"^ *\|(.*)$", lambda it: it[1].replace("|", "\n\n"), re.sub(r"`[^`\n]*`", "x", text), flags=re.M)
+    for block in re.split(r"\n\s*\n|\n\s*(?=- |\d+\. )", text):
+        # names in a list that a script makes are no sentence
+        yield from re.split(r"(?<=[.?!:])\s+(?=[A-Z`x(\[~])", re.sub(r"(?:x, )+x", "x", " ".join(block.split())))
 
 
 def long_sentences():
