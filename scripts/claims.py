@@ -125,7 +125,7 @@ def sentences(path):
     text = re.sub(r"^ *\|(.*)$", lambda it: it[1].replace("|", "\n\n"), re.sub(r"`[^`\n]*`", "x", text), flags=re.M)
     for block in re.split(r"\n\s*\n|\n\s*(?=- |\d+\. )", text):
         # names in a list that a script makes are no sentence
-        yield from re.split(r"(?<=[.?!:])\s+(?=[A-Z`x(\[~])", re.sub(r"(?:x, )+x", "x", " ".join(block.split())))
+        yield from re.split(r"(?<=[.?!])\s+(?=[A-Z`x(\[~])", re.sub(r"(?:x, )+x", "x", " ".join(block.split())))
 
 
 def long_sentences():
