@@ -322,6 +322,15 @@ def names():
                 yield document, f"names `{said}`, which is not there"
 
 
+def calls():
+    """Each call that a table of CALLING has is one of the libraries."""
+    document = ROOT / "docs/CALLING.md"
+    there = {call.name for crate in sources.documented() for call in sources.public_api(crate)[1]}
+    for name in re.findall(r"^\| `(\w+)` \|", prose(document), re.M):
+        if name not in there:
+            yield document, f"has the call `{name}`, which is not there"
+
+
 def measured():
     """Above each table of FIGURES one line says when it was measured, by what, and on which machine."""
     document = ROOT / "docs/FIGURES.md"
@@ -361,7 +370,7 @@ def faults():
     """What the documents claim that is not so, each as a line of text."""
     found = []
     checks = (links, paths, counted, words, long_sentences, plain_words, crate_tables, promised, help_shown, settings, sessions, quoted, commands, toolchain, version, names,
-              measured, first, meanings)
+              calls, measured, first, meanings)
     for check in checks:
         found += [f"{document.relative_to(ROOT)} {said}" for document, said in check()]
     return found
