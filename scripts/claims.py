@@ -146,7 +146,7 @@ def long_sentences():
 
 def plain_words():
     """No document that is written by hand has a word of those that have a plainer one."""
-    for name in [*BY_HAND, "docs/WRONG_BODIES.md", "docs/promise.in.md"]:
+    for name in [*BY_HAND, "CHANGELOG.md", "docs/WRONG_BODIES.md", "docs/promise.in.md"]:
         for said in NOT_PLAIN.findall(re.sub(r"`[^`\n]*`|^@.*", "", prose(ROOT / name), flags=re.M)):
             yield ROOT / name, f"says `{said}`, which has a plainer word"
 
