@@ -331,6 +331,15 @@ def calls():
             yield document, f"has the call `{name}`, which is not there"
 
 
+def decided():
+    """Each entry of DECISIONS begins with its claim in bold, and says what was rejected."""
+    document = ROOT / "docs/DECISIONS.md"
+    for section in re.split(r"(?m)^## ", prose(document))[1:]:
+        for entry in re.split(r"(?m)^- ", section)[1:]:
+            if not entry.startswith("**") or "Rejected" not in entry:
+                yield document, f"has an entry without its claim in bold, or without what was rejected: {entry.partition(chr(10))[0][:60]}"
+
+
 def measured():
     """Above each table of FIGURES one line says when it was measured, by what, and on which machine."""
     document = ROOT / "docs/FIGURES.md"
@@ -370,7 +379,7 @@ def faults():
     """What the documents claim that is not so, each as a line of text."""
     found = []
     checks = (links, paths, counted, words, long_sentences, plain_words, crate_tables, promised, help_shown, settings, sessions, quoted, commands, toolchain, version, names,
-              calls, measured, first, meanings)
+              calls, decided, measured, first, meanings)
     for check in checks:
         found += [f"{document.relative_to(ROOT)} {said}" for document, said in check()]
     return found
