@@ -14,6 +14,8 @@ MOST_WORDS = {"README.md": 1_400, "docs/PROMISE.md": 3_000, "docs/GATE.md": 900,
 # Those that are written by hand, and how many words they may have together.
 BY_HAND = ["README.md", *(f"docs/{it}.md" for it in ("ARCHITECTURE", "SCRIPTS", "DECISIONS", "GATE", "CALLING", "EMBEDDING", "BINDINGS", "FIGURES"))]
 MOST_BY_HAND = 26_000
+# How many words all pages of crates may have together.
+MOST_OF_CRATES = 108_172
 # How many words a sentence may have: of a document that is written by hand, and of a source's comment.
 MOST_WORDS_OF_A_SENTENCE = 30
 MOST_WORDS_OF_A_COMMENT = 40
@@ -117,6 +119,9 @@ def words():
     count = sum(count_words((ROOT / name).read_text()) for name in BY_HAND)
     if count > MOST_BY_HAND:
         yield ROOT / "docs", f"has {count:,} words that are written by hand, and may have {MOST_BY_HAND:,}"
+    count = sum(count_words(it.read_text()) for it in (ROOT / "docs/crates").glob("*.md"))
+    if count > MOST_OF_CRATES:
+        yield ROOT / "docs/crates", f"has {count:,} words, and may have {MOST_OF_CRATES:,}"
 
 
 def sentences(path):
