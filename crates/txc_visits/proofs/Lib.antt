@@ -3,4 +3,3 @@ mod Guests
 mod Listing
 mod NodeHistories
 pub mod Tended
-mod GoesOver

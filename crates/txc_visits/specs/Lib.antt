@@ -3,4 +3,3 @@ pub mod Histories
 pub mod Plans
 pub mod Sites
 pub mod Tended
-pub mod Warming
