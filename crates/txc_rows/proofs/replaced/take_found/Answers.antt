@@ -9,10 +9,11 @@ use Rattle.txc_rows.specs.declared.store_error.TheConstants.{MAX_MATCHING}
 use Rattle.txc_rows.specs.Placed.{version_of, is_left, placed_left}
 use Rattle.txc_rows.specs.Indexed.{picked}
 use Rattle.txc_rows.proofs.IndexLemmas.{got, taken, taken_left}
+use Rattle.txc_rows.proofs.replaced.take_found.Goals.{After-died_before}
 use Rattle.txc_rows.proofs.replaced.take_found.Goals as goal
 
 -- the version at the spot, which did not die before the stamp, is the next
-next_taken : (c : goal.After-died_before) → c.died_before.result ≡ false
+next_taken : (c : After-died_before) → c.died_before.result ≡ false
     → taken c.args.from c.args.first c.args.versions.now.items c.in-Some.spot.now c.next.new.self c.loop-spot.spot-iterator ≡ c.in-Some-get.placed.now.version ∷ taken c.args.from c.args.first c.args.versions.now.items c.in-Some.spot.now c.next.new.self c.next.new.self
 next_taken c kept =
     let xs = c.args.versions.now.items in

@@ -7,6 +7,7 @@ use Rattle.txc_rows.specs.Stored.{placed_from}
 use Rattle.txc_rows.specs.Kept.{latest_in, HasLatest, IsCall}
 use Rattle.txc_rows.proofs.HeldLemmas.{refused_call, recast_ok, recast_err}
 use Rattle.txc_rows.proofs.SweepCalls.{undone_since, begun_base, rebuilt_call}
+use Rattle.txc_rows.proofs.statements.rebuild.Goals.{After-commit}
 use Rattle.txc_rows.proofs.statements.rebuild.Goals as goal
 
 pub returns-in_err-left : goal.returns-in_err-left
@@ -26,7 +27,7 @@ returns-in_err-refill c =
     let base = c.in_err-refill.ensures.step.base ∙ begun_base first c.transaction-tx.result.conn.now c.transaction-tx.ensures.begun in
     rw p.1 (subst (λ h. IsCall L old h (Err p.0)) same (undone_since L old first c.refill.new.tx.conn.now end p.0 c.in_ok-left.ensures.same base (c.drop-tx.ensures.undone (memory_is_clean end))))
 
-committed : (c : goal.After-commit) → IsCall (IsPermutation (placed_left c.args.from (latest_in c.args.conn.now))) c.args.conn.now c.commit.new.self.0 c.commit.result
+committed : (c : After-commit) → IsCall (IsPermutation (placed_left c.args.from (latest_in c.args.conn.now))) c.args.conn.now c.commit.new.self.0 c.commit.result
 committed c =
     let first = c.read_left.new.conn in
     let mid = c.refill.new.tx.conn.now in

@@ -4,6 +4,7 @@ use Rattle.txc_rows.specs.Placed.{in_group, closed_placed}
 use Rattle.txc_rows.specs.Kept.{latest_in, HasLatest}
 use Rattle.txc_rows.proofs.PutLemmas.{few_keys}
 use Rattle.txc_rows.proofs.ChangeSteps.{Puts, one_group, puts}
+use Rattle.txc_rows.proofs.writes.write_put.Goals.{In_ok-ended}
 use Rattle.txc_rows.proofs.writes.write_put.Goals as goal
 
 pub of_group-last-requires : goal.of_group-last-requires
@@ -15,7 +16,7 @@ of_group-last-requires c =
     record { few = rw c.group.ensures (rw (one_group row.table row.id row.group c.args.stamp (latest_in old) xs c.requires.apart.keys touched) (few_keys row.table row.id row.group (latest_in old) c.requires.apart.keys)) }
 
 -- by the table, the id and the group of the row
-putting : (c : goal.In_ok-ended) → Puts c.args.row.now c.args.stamp c.args.place c.args.tx.now.conn.now c.end_moved.new.tx.conn.now c.args.replaced.now c.of_group-last.result.0
+putting : (c : In_ok-ended) → Puts c.args.row.now c.args.stamp c.args.place c.args.tx.now.conn.now c.end_moved.new.tx.conn.now c.args.replaced.now c.of_group-last.result.0
 putting c =
     let row = c.args.row.now in
     let xs = c.in_ok-last.last.items in

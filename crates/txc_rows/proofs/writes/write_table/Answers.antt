@@ -16,6 +16,7 @@ use Rattle.txc_rows.proofs.PutLemmas.{all_front}
 use Rattle.txc_rows.proofs.HeldLemmas.{AreStorable, table_by, undone_call, refused_call, ended_call, recast_ok, recast_err}
 use Rattle.txc_rows.proofs.ChangeSteps.{longer_itself, longer_then}
 use Rattle.txc_rows.proofs.SweepCalls.{begun_base, begun_now}
+use Rattle.txc_rows.proofs.writes.write_table.Goals.{After-commit}
 use Rattle.txc_rows.proofs.writes.write_table.Goals as goal
 
 -- a transaction begins with what there is
@@ -62,10 +63,10 @@ pub returns-in_err-one-clause-longer : goal.returns-in_err-one-clause-longer
 returns-in_err-one-clause-longer c = longer_then c.args.replaced.now c.loop-change.replaced c.write_change.new.replaced c.loop-change.invariant.longer c.in_err-one.ensures.longer
 
 -- what a commit of all changes is to leave
-abbrev Written : goal.After-commit → List Placed → Type 0
+abbrev Written : After-commit → List Placed → Type 0
 Written c = AreAll (after_net c.args.stamp c.args.net.now (versions_of c.args.replaced.now c.args.conn.now)) (c.args.place + length c.args.net.now) c.loop-change.replaced
 
-committed : (c : goal.After-commit) → IsCall (Written c) c.args.conn.now c.commit.new.self.0 c.commit.result
+committed : (c : After-commit) → IsCall (Written c) c.args.conn.now c.commit.new.self.0 c.commit.result
 committed c =
     let mid = c.loop-change.tx.conn.now in
     let end = c.commit.new.self.0 in
