@@ -1,6 +1,7 @@
 -- What the queries show of the table.
 use Rattle.std.proofs.Common.{◌≡◌, ℕ, zero, suc, ℤ, Some, take, List, [], ◌∷◌, map, filter, cond, Bool, true, false, refl, sym, ap, subst, ◌∙◌}
 use Rattle.std.proofs.lemmas.List.{take-map}
+use Rattle.std.proofs.Math.Bool.{and_comm}
 use Rattle.std.specs.List.{AllByRecursion, list_all}
 use Rattle.std.specs.List.Sorted.{IsPermutation}
 use Rattle.sqlite.specs.Order.{Row}
@@ -10,7 +11,7 @@ use Rattle.sqlite.specs.Query.{Output, output, limited, as_count}
 use Rattle.sqlite.specs.Program.{overlay}
 use Rattle.sqlite.specs.State.{State, Shown}
 use Rattle.sqlite.proofs.Callers.{reads_as}
-use Rattle.sqlite_trees.proofs.ListLemmas.{map-map, filter-map, pull_back, all_both, all-filter, all-map, all-permutation}
+use Rattle.sqlite_trees.proofs.ListLemmas.{map-map, filter-map, filter_same, all_of, pull_back, all_both, all-filter, all-map, all-permutation}
 use Rattle.txc_rows.specs.declared.version.Versioned.{Versioned}
 use Rattle.txc_rows.specs.declared.query.Query.{Query}
 use Rattle.txc_rows.specs.declared.texts.TheConstants.{MOST_READ}
@@ -22,7 +23,7 @@ use Rattle.txc_rows.specs.Placed.{version_of, is_left, left_from}
 use Rattle.txc_rows.specs.Kept.{IsShown, IsListing}
 use Rattle.txc_rows.specs.Texts.{latest_schema}
 use Rattle.txc_rows.specs.Stored.{stored, placed_in, placed_all, queried_columns, version_shown, IsStored, AreVersionRows}
-use Rattle.txc_rows.proofs.Members.{both_true, passing}
+use Rattle.txc_rows.proofs.Members.{both_true, passing, filtered_both}
 use Rattle.txc_rows.proofs.Commands.{alone, shown_columns, most_shown, listed, shown_names, IsListingOf}
 use Rattle.txc_rows.proofs.StoredRows.{select_stored, is_asked, shown_again, answered, IsPage}
 use Rattle.txc_rows.proofs.SaysLemmas.{of_its_table}
@@ -83,14 +84,7 @@ of_table q from vs all =
 
 -- those of the kept ones that a query asks for
 pub asked_left : (q : Query) (from : ℕ) (vs : List Versioned) → filter (suits q) (left_from from vs) ≡ filter (is_asked q from) vs
-asked_left q from [] = refl
-asked_left q from (v ∷ vs) = go (is_left from v) refl (suits q v) refl (asked_left q from vs)
-  where
-    go : (b : Bool) → is_left from v ≡ b → (c : Bool) → suits q v ≡ c → filter (suits q) (left_from from vs) ≡ filter (is_asked q from) vs → filter (suits q) (left_from from (v ∷ vs)) ≡ filter (is_asked q from) (v ∷ vs)
-    go true e true f more = rw (e, f) (ap (λ rest. v ∷ rest) more)
-    go true e false f more = rw (e, f) more
-    go false e true f more = rw (e, f) more
-    go false e false f more = rw (e, f) more
+asked_left q from vs = filtered_both (suits q) (is_left from) vs ∙ filter_same _ _ vs (all_of _ (λ v. and_comm (is_left from v) (suits q v)) vs)
 
 all_first : {X : Type 0} (P : X → Type 0) (n : ℕ) (xs : List X) → AllByRecursion P xs → AllByRecursion P (take n xs)
 all_first P zero xs all = tt

@@ -1,7 +1,8 @@
 -- What the statements of one change leave together.
-use Rattle.std.proofs.Common.{◌≡◌, inl, inr, not, ℕ, ◌+◌, ◌≤◌, ◌==◌, List, [], ◌∷◌, ◌++◌, map, filter, take, length, Bool, true, false, cond, ◌&&◌, Option, Some, None, is_none, Result, Ok, Err, refl, sym, ap, subst, ◌∙◌, append_assoc, append-nil, length-append, arith}
+use Rattle.std.proofs.Common.{◌≡◌, inl, inr, not, ℕ, ◌+◌, ◌≤◌, ◌==◌, List, [], ◌∷◌, ◌++◌, map, filter, take, length, Bool, true, false, cond, ◌&&◌, ◌||◌, Option, Some, None, is_none, Result, Ok, Err, refl, sym, ap, subst, ◌∙◌, append_assoc, append-nil, length-append, arith}
+use Rattle.std.proofs.Math.Bool.{and-false, or-true}
 use Rattle.std.proofs.Math.Seq.{take-append_seam}
-use Rattle.std.proofs.lemmas.List.{length-map}
+use Rattle.std.proofs.lemmas.List.{length-map, nil_from_length}
 use Rattle.std.specs.List.{AllByRecursion, Contains}
 use Rattle.std.specs.Prelude.{option_to_list, if◌then◌else◌}
 use Rattle.std.specs.List.Sorted.{IsPermutation}
@@ -12,7 +13,7 @@ use Rattle.sqlite.specs.declared.error.Error.{Error}
 use Rattle.sqlite.proofs.Callers.{one_permutation}
 use Rattle.sqlite_trees.specs.declared.memory.MemStore.{MemStore}
 use Rattle.sqlite.specs.Tree.{IsAscending}
-use Rattle.sqlite_trees.proofs.ListLemmas.{filter-map, filter_none, all_both, all-append, ascending-map, IsPermutation-filter}
+use Rattle.sqlite_trees.proofs.ListLemmas.{filter-map, filter_none, filter_same, all_of, all_both, all-append, ascending-map, IsPermutation-filter}
 use Rattle.txc_stamp.specs.declared.stamp.TheConstants.{MOST_STAMP}
 use Rattle.txc_rows.specs.Values.{RowValue, IsRow}
 use Rattle.txc_rows.specs.States.{is_at}
@@ -20,7 +21,7 @@ use Rattle.txc_rows.specs.Versions.{is_current, removed, put}
 use Rattle.txc_rows.specs.declared.placed.Placed.{Placed}
 use Rattle.txc_rows.specs.Placed.{versions_by_place, in_group, is_touched, has_key, closed_placed, new_placed, renewed, put_latest, put_replaced, HaveOwnKeys, IsOneCurrent, AreBelow, AreWellPlaced, AreAll, AreAmong, KeepsOthers, AddsAtEnd}
 use Rattle.txc_rows.specs.Kept.{latest_in, versions_of, HasLatest, HasWritten, IsStep}
-use Rattle.txc_rows.proofs.Members.{bool_cases, both_true, and_true, IsIn, is_in, contains_it, in_left, in_map, all_in, few_left, none_of}
+use Rattle.txc_rows.proofs.Members.{bool_cases, both_true, and_true, IsIn, is_in, contains_it, in_left, in_map, all_in, few_left, none_of, filtered_both}
 use Rattle.txc_rows.proofs.StoredVersions.{hit_is}
 use Rattle.txc_rows.proofs.WriteLemmas.{no_permutation}
 use Rattle.txc_rows.proofs.PutLemmas.{empty_of, key_is, key_turned, one_turned, few_keys, ended_apart, ended_none, ended_below, ended_versions, removed_written, put_written, put_apart}
@@ -124,17 +125,13 @@ known_still t i old new (x ∷ xs) others among = elim (bool_cases (is_at t i x.
 ]
 
 module _ (t i g s : ℕ) where
+  here_touched : (a b c : Bool) → (a && (b || c)) && c ≡ a && c
+  here_touched false b c = refl
+  here_touched true b false = and-false (b || false)
+  here_touched true b true = rw (or-true b) refl
+
   of_group : (xs : List Placed) → filter (in_group g) (filter (is_touched t i g) xs) ≡ filter (has_key t i g) xs
-  of_group [] = refl
-  of_group (x ∷ xs) = go (is_at t i x.version.row) refl (x.version.row.group == g) refl (is_current x.version) refl (of_group xs)
-    where
-      go : (a : Bool) → is_at t i x.version.row ≡ a → (b : Bool) → (x.version.row.group == g) ≡ b → (c : Bool) → is_current x.version ≡ c
-          → filter (in_group g) (filter (is_touched t i g) xs) ≡ filter (has_key t i g) xs → filter (in_group g) (filter (is_touched t i g) (x ∷ xs)) ≡ filter (has_key t i g) (x ∷ xs)
-      go true e true f true h more = rw (e, f, h, f) (ap (λ rest. x ∷ rest) more)
-      go true e true f false h more = rw (e, f, h, f) (ap (λ rest. x ∷ rest) more)
-      go true e false f true h more = rw (e, f, h, f) more
-      go true e false f false h more = rw (e, f, h) more
-      go false e b f c h more = rw e more
+  of_group xs = filtered_both (in_group g) (is_touched t i g) xs ∙ filter_same _ _ xs (all_of _ (λ x. here_touched (is_at t i x.version.row) (is_current x.version) (in_group g x)) xs)
 
   -- of what a put reads, that of the group is the last of its key
   pub one_group : (latest xs : List Placed) → HaveOwnKeys latest → IsPermutation (filter (is_touched t i g) latest) xs → filter (in_group g) xs ≡ filter (has_key t i g) latest
@@ -214,16 +211,20 @@ none_listed : {X : Type 0} (o : Option X) → is_none o ≡ (length (option_to_l
 none_listed None = refl
 none_listed (Some x) = refl
 
-no_length : {X : Type 0} (xs : List X) → length xs ≡ 0 → xs ≡ []
-no_length [] e = refl
-no_length (x ∷ xs) e = absurd (omega (arith, e))
-
 -- what is popped of one at most
 pub popped : {X : Type 0} (xs rest : List X) (o : Option X) → length xs ≤ 1 → xs ≡ rest ++ option_to_list o → (o ≡ None → length xs ≡ 0) → option_to_list o ≡ xs
-popped xs rest None few are none = sym (no_length xs (none refl))
-popped xs rest (Some x) few are none = ap (λ ys. ys ++ x ∷ []) (sym (no_length rest (omega (arith, few, ap length are, length-append rest (x ∷ []))))) ∙ sym are
+popped xs rest None few are none = sym (nil_from_length xs (none refl))
+popped xs rest (Some x) few are none = ap (λ ys. ys ++ x ∷ []) (sym (nil_from_length rest (omega (arith, few, ap length are, length-append rest (x ∷ []))))) ∙ sym are
 
 -- ---- a put from what it reads to what it leaves
+
+-- what is so once the current version of another group has ended
+pub record Puts (row : RowValue) (s place : ℕ) (old mid : Held MemStore) (replaced : List Placed) (o : Option Placed) : Type 0 where
+  pub keys : HaveOwnKeys (latest_in mid)
+  pub is_first : is_none o ≡ (length (filter (has_key row.table row.id row.group) (latest_in mid)) == 0)
+  pub others : (end : Held MemStore) → HasLatest (put_latest place row s (latest_in mid)) end → KeepsOthers row.table row.id (latest_in old) (latest_in end)
+  pub step : s ≤ MOST_STAMP → IsRow row → (end : Held MemStore) → HasLatest (put_latest place row s (latest_in mid)) end
+      → HasWritten (put row s (versions_of replaced old)) (place + 1) (replaced ++ map (λ x. closed_placed x.version.row.table x.version.row.id s x) (option_to_list o)) end
 
 module _ (row : RowValue) (s place : ℕ) (old first mid : Held MemStore) (replaced : List Placed) (apart : AreWellPlaced (latest_in old) replaced) (below : AreBelow place (latest_in old ++ replaced))
     (read : HasLatest (latest_in old) first) (xs : List Placed) (touched : IsPermutation (filter (is_touched row.table row.id row.group) (latest_in old)) xs)
@@ -235,42 +236,35 @@ module _ (row : RowValue) (s place : ℕ) (old first mid : Held MemStore) (repla
   mid_are : latest_in mid ≡ cond moves (map (closed_placed row.table row.id s) (latest_in old)) (latest_in old)
   mid_are = moved.latest_are ∙ ap (λ ys. cond moves (map (closed_placed row.table row.id s) ys) ys) read.latest_are
 
-  pub put_keys : HaveOwnKeys (latest_in mid)
-  put_keys = go moves mid_are
-    where
-      go : (b : Bool) → latest_in mid ≡ cond b (map (closed_placed row.table row.id s) (latest_in old)) (latest_in old) → HaveOwnKeys (latest_in mid)
-      go true are = subst HaveOwnKeys (sym are) (ascending-map _ (closed_placed row.table row.id s) (latest_in old) apart.keys)
-      go false are = subst HaveOwnKeys (sym are) apart.keys
+  abbrev Ended : Bool → Type 0
+  Ended b = latest_in mid ≡ cond b (map (closed_placed row.table row.id s) (latest_in old)) (latest_in old)
 
-  pub put_is_first : is_none o ≡ (length (filter (has_key row.table row.id row.group) (latest_in mid)) == 0)
-  put_is_first = none_listed o ∙ ap (λ n. n == 0) (ap length hits ∙ go moves mid_are)
-    where
-      go : (b : Bool) → latest_in mid ≡ cond b (map (closed_placed row.table row.id s) (latest_in old)) (latest_in old)
-          → length (filter (has_key row.table row.id row.group) (latest_in old)) ≡ length (filter (has_key row.table row.id row.group) (latest_in mid))
-      go true are = sym (hits_length row.table row.id row.group s (latest_in old)) ∙ ap (λ ys. length (filter (has_key row.table row.id row.group) ys)) (sym are)
-      go false are = ap (λ ys. length (filter (has_key row.table row.id row.group) ys)) (sym are)
+  keys_then : (b : Bool) → Ended b → HaveOwnKeys (latest_in mid)
+  keys_then true are = subst HaveOwnKeys (sym are) (ascending-map _ (closed_placed row.table row.id s) (latest_in old) apart.keys)
+  keys_then false are = subst HaveOwnKeys (sym are) apart.keys
 
-  lands : put_latest place row s (latest_in mid) ≡ put_latest place row s (map (closed_placed row.table row.id s) (latest_in old))
-  lands = go moves mid_are stay
-    where
-      go : (b : Bool) → latest_in mid ≡ cond b (map (closed_placed row.table row.id s) (latest_in old)) (latest_in old) → (b ≡ false → length (filter (in_group row.group) xs) ≡ length xs)
-          → put_latest place row s (latest_in mid) ≡ put_latest place row s (map (closed_placed row.table row.id s) (latest_in old))
-      go true are all = ap (put_latest place row s) are
-      go false are all = ap (put_latest place row s) are ∙ put_unmoved row s place (latest_in old) (stays row.table row.id row.group s (latest_in old) xs touched (all refl))
+  as_many : (b : Bool) → Ended b → length (filter (has_key row.table row.id row.group) (latest_in old)) ≡ length (filter (has_key row.table row.id row.group) (latest_in mid))
+  as_many true are = sym (hits_length row.table row.id row.group s (latest_in old)) ∙ ap (λ ys. length (filter (has_key row.table row.id row.group) ys)) (sym are)
+  as_many false are = ap (λ ys. length (filter (has_key row.table row.id row.group) ys)) (sym are)
 
-  pub put_others : (end : Held MemStore) → HasLatest (put_latest place row s (latest_in mid)) end → KeepsOthers row.table row.id (latest_in old) (latest_in end)
-  put_others end puts x h off = rw puts.latest_are (others_put row s place (latest_in mid) x (rw mid_are (go moves)) off)
-    where
-      go : (b : Bool) → Contains (cond b (map (closed_placed row.table row.id s) (latest_in old)) (latest_in old)) x
-      go true = others_ended row.table row.id s (latest_in old) x h off
-      go false = h
+  lands : (b : Bool) → Ended b → (b ≡ false → length (filter (in_group row.group) xs) ≡ length xs) → put_latest place row s (latest_in mid) ≡ put_latest place row s (map (closed_placed row.table row.id s) (latest_in old))
+  lands true are all = ap (put_latest place row s) are
+  lands false are all = ap (put_latest place row s) are ∙ put_unmoved row s place (latest_in old) (stays row.table row.id row.group s (latest_in old) xs touched (all refl))
 
-  pub put_step : s ≤ MOST_STAMP → IsRow row → (end : Held MemStore) → HasLatest (put_latest place row s (latest_in mid)) end
-      → HasWritten (put row s (versions_of replaced old)) (place + 1) (replaced ++ map (λ x. closed_placed x.version.row.table x.version.row.id s x) (option_to_list o)) end
-  put_step low is end puts =
-      let went : map (λ x. closed_placed x.version.row.table x.version.row.id s x) (option_to_list o) ≡ filter (has_key row.table row.id row.group) (map (closed_placed row.table row.id s) (latest_in old))
-      = ap (map (λ x. closed_placed x.version.row.table x.version.row.id s x)) hits ∙ ended_hits row.table row.id row.group s (latest_in old) in
-      record { table = puts.table; all = rw (puts.latest_are ∙ lands, went) (put_all row s place low is (latest_in old) replaced apart below) }
+  still_there : (x : Placed) → Contains (latest_in old) x → is_at row.table row.id x.version.row ≡ false → (b : Bool) → Contains (cond b (map (closed_placed row.table row.id s) (latest_in old)) (latest_in old)) x
+  still_there x h off true = others_ended row.table row.id s (latest_in old) x h off
+  still_there x h off false = h
+
+  went : map (λ x. closed_placed x.version.row.table x.version.row.id s x) (option_to_list o) ≡ filter (has_key row.table row.id row.group) (map (closed_placed row.table row.id s) (latest_in old))
+  went = ap (map (λ x. closed_placed x.version.row.table x.version.row.id s x)) hits ∙ ended_hits row.table row.id row.group s (latest_in old)
+
+  pub puts : Puts row s place old mid replaced o
+  puts = record {
+    keys = keys_then moves mid_are;
+    is_first = none_listed o ∙ ap (λ n. n == 0) (ap length hits ∙ as_many moves mid_are);
+    others = λ end puts x h off. rw puts.latest_are (others_put row s place (latest_in mid) x (rw mid_are (still_there x h off moves)) off);
+    step = λ low is end puts. record { table = puts.table; all = rw (puts.latest_are ∙ lands moves mid_are stay, went) (put_all row s place low is (latest_in old) replaced apart below) };
+  }
 
 -- ---- one step after another
 

@@ -6,6 +6,8 @@ use Rattle.sqlite.specs.Term.{Term, lit, col, op2}
 use Rattle.sqlite.specs.Query.{Query, inner, end}
 use Rattle.sqlite.specs.Source.TheVariants.{Values}
 use Rattle.sqlite_schema.specs.declared.program.Program.{Program}
+use Rattle.sqlite.specs.Command.{Command}
+use Rattle.sqlite.specs.Schema.{Schema}
 use Rattle.sqlite.specs.Command.TheVariants.{Insert, Select, Update, CreateTable, DropTable}
 use Rattle.sqlite_sql.specs.declared.ops.BinaryOp.TheVariants.{Compare, Is, Or}
 use Rattle.sqlite_sql.specs.declared.ops.CompareOp.TheVariants.{Eq, Ge, Le}
@@ -16,18 +18,19 @@ use Rattle.sqlite.proofs.Callers.{command_of, statement_of, IsPlain}
 use Rattle.txc_rows.specs.declared.texts.TheConstants.{MAKE_LATEST, DROP_LATEST, ADD_LATEST, END_VERSION, RENEW_LATEST, READ_LAST, READ_PLACED, READ_LEFT, READ_TABLE, READ_ROW, READ_GROUP, READ_RANGE}
 use Rattle.txc_rows.specs.Texts.{no_schema, latest_table, latest_schema}
 
+-- a text is this command
+pub record Means (schema : Schema) (text : List ℕ) (it : Command) : Type 0 where
+  pub command : command_of (understood schema text) ≡ it
+  pub plain : IsPlain (understood schema text)
+
 -- ---- rows that are given
 
 abbrev pub terms : List Term
 terms = lit Null ∷ col 0 0 ∷ col 0 1 ∷ col 0 2 ∷ col 0 3 ∷ col 0 4 ∷ col 0 5 ∷ col 0 6 ∷ []
 
-pub add_latest_is : command_of (understood latest_schema ADD_LATEST.now) ≡ Insert 0 (Values terms 8)
+pub add_latest_is : Means latest_schema ADD_LATEST.now (Insert 0 (Values terms 8))
 unfolding understood everything
-add_latest_is = refl
-
-pub add_latest_plain : IsPlain (understood latest_schema ADD_LATEST.now)
-unfolding understood everything
-add_latest_plain = (refl, refl)
+add_latest_is = record { command = refl; plain = (refl, refl) }
 
 -- ---- rows that are changed or read
 
@@ -58,13 +61,9 @@ close_filter = op2 (Compare Eq Binary) (col 1 2) (col 0 0) ∷ op2 (Compare Eq B
 abbrev pub close_project : List Term
 close_project = col 1 0 ∷ col 1 0 ∷ col 1 1 ∷ col 1 2 ∷ col 1 3 ∷ col 1 4 ∷ col 1 5 ∷ col 1 6 ∷ col 0 2 ∷ []
 
-pub close_is : command_of (understood latest_schema END_VERSION.now) ≡ Update 0 (alone (whole close_filter close_project))
+pub close_is : Means latest_schema END_VERSION.now (Update 0 (alone (whole close_filter close_project)))
 unfolding understood everything
-close_is = refl
-
-pub close_plain : IsPlain (understood latest_schema END_VERSION.now)
-unfolding understood everything
-close_plain = (refl, refl)
+close_is = record { command = refl; plain = (refl, refl) }
 
 abbrev pub key_filter : List Term
 key_filter = op2 (Compare Eq Binary) (col 1 2) (col 0 0) ∷ op2 (Compare Eq Binary) (col 1 3) (col 0 1) ∷ op2 (Compare Eq Binary) (col 1 5) (col 0 2) ∷ []
@@ -75,13 +74,9 @@ cells_project = col 1 1 ∷ col 1 2 ∷ col 1 3 ∷ col 1 4 ∷ col 1 5 ∷ col 
 abbrev pub renew_project : List Term
 renew_project = col 1 0 ∷ col 1 0 ∷ col 0 3 ∷ col 1 2 ∷ col 1 3 ∷ col 0 4 ∷ col 1 5 ∷ col 0 5 ∷ lit Null ∷ []
 
-pub renew_is : command_of (understood latest_schema RENEW_LATEST.now) ≡ Update 0 (alone (whole key_filter renew_project))
+pub renew_is : Means latest_schema RENEW_LATEST.now (Update 0 (alone (whole key_filter renew_project)))
 unfolding understood everything
-renew_is = refl
-
-pub renew_plain : IsPlain (understood latest_schema RENEW_LATEST.now)
-unfolding understood everything
-renew_plain = (refl, refl)
+renew_is = record { command = refl; plain = (refl, refl) }
 
 abbrev pub cells_names : List (List ℕ)
 cells_names = codes "place" ∷ codes "table_number" ∷ codes "id" ∷ codes "born" ∷ codes "group_number" ∷ codes "body" ∷ codes "died" ∷ []
@@ -172,18 +167,10 @@ placed_is = record { command = refl; rows = refl; plain = (refl, refl) }
 
 -- ---- the table
 
-pub make_latest_is : (command_of (understood no_schema MAKE_LATEST.now) ≡ CreateTable) × (statement_of MAKE_LATEST.now (understood no_schema MAKE_LATEST.now) ≡ MAKE_LATEST.now) × (table_defined_by MAKE_LATEST.now ≡ Ok latest_table)
+pub make_latest_is : Means no_schema MAKE_LATEST.now CreateTable × (statement_of MAKE_LATEST.now (understood no_schema MAKE_LATEST.now) ≡ MAKE_LATEST.now) × (table_defined_by MAKE_LATEST.now ≡ Ok latest_table)
 unfolding understood everything
-make_latest_is = (refl, refl, refl)
+make_latest_is = (record { command = refl; plain = (refl, refl) }, refl, refl)
 
-pub make_latest_plain : IsPlain (understood no_schema MAKE_LATEST.now)
+pub drop_latest_is : Means latest_schema DROP_LATEST.now (DropTable 0)
 unfolding understood everything
-make_latest_plain = (refl, refl)
-
-pub drop_latest_is : command_of (understood latest_schema DROP_LATEST.now) ≡ DropTable 0
-unfolding understood everything
-drop_latest_is = refl
-
-pub drop_latest_plain : IsPlain (understood latest_schema DROP_LATEST.now)
-unfolding understood everything
-drop_latest_plain = (refl, refl)
+drop_latest_is = record { command = refl; plain = (refl, refl) }

@@ -6,7 +6,7 @@ use Rattle.std.specs.List.Sorted.{IsPermutation}
 use Rattle.std.proofs.lemmas.List.{length-map}
 use Rattle.std.proofs.lemmas.List.Elements.{filter-append}
 use Rattle.std.proofs.lemmas.List.Sorted.{length_permutation}
-use Rattle.sqlite_trees.proofs.ListLemmas.{IsPermutation-filter}
+use Rattle.sqlite_trees.proofs.ListLemmas.{IsPermutation-filter, filter_none, all_weaker, all-filter, all-map}
 use Rattle.sqlite.specs.Held.{Held}
 use Rattle.sqlite_trees.specs.declared.memory.MemStore.{MemStore}
 use Rattle.txc_rows.specs.declared.store_error.TheConstants.{MAX_MATCHING}
@@ -33,18 +33,12 @@ both_current q vs found same = subst (λ xs. IsPermutation xs (current found)) (
 
 module _ (q : Query) (from : ℕ) where
   none_current : (xs : List Placed) → AllByRecursion (λ x. x.version.died ≢ None) xs → current (asked q from xs) ≡ []
-  none_current [] all = refl
-  none_current (x ∷ xs) all = go (is_left from x.version) (suits q x.version) x.version.died refl refl (none_current xs all.1)
+  none_current xs all =
+      filter_none is_current _ (all-filter _ (suits q) _ (all-filter _ (is_left from) _ (all-map (λ v. is_current v ≡ false) version_of xs (all_weaker _ _ (λ x. dead x.version.died) xs all))))
     where
-      rest : List Versioned
-      rest = left_from from (map version_of xs)
-
-      go : (b c : Bool) (d : Option ℕ) → suits q x.version ≡ c → x.version.died ≡ d → current (filter (suits q) rest) ≡ []
-          → current (filter (suits q) (cond b (x.version ∷ rest) rest)) ≡ []
-      go b c None f e none = absurd (all.0 e)
-      go false c (Some d) f e none = none
-      go true false (Some d) f e none = rw f none
-      go true true (Some d) f e none = rw (f, e) none
+      dead : (d : Option ℕ) → d ≢ None → is_none d ≡ false
+      dead None alive = absurd (alive refl)
+      dead (Some d) alive = refl
 
   asked_few : (xs : List Placed) → length (asked q from xs) ≤ length xs
   asked_few xs = omega (arith, few_left (suits q) (left_from from (map version_of xs)), few_left (is_left from) (map version_of xs), length-map xs version_of)

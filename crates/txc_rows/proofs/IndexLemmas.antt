@@ -12,7 +12,7 @@ use Rattle.std.specs.BTreeMap.Range.{range_contains}
 use Rattle.std.specs.declared.ops.Bound.TheVariants.{Included, Excluded}
 use Rattle.std.proofs.lemmas.List.Sorted.{IsPermutation-refl, IsPermutation-sym, IsPermutation-trans, IsPermutation-cons, IsPermutation-middle, IsPermutation-map, length_permutation}
 use Rattle.std.proofs.lemmas.List.{length-map}
-use Rattle.sqlite_trees.proofs.ListLemmas.{all_of, all_weaker, all-filter, all-permutation, filter_none, filter_same, IsPermutation-flat_map, IsPermutation-filter}
+use Rattle.sqlite_trees.proofs.ListLemmas.{filter-map, all_of, all_weaker, all-filter, all-permutation, filter_none, filter_same, IsPermutation-flat_map, IsPermutation-filter}
 use Rattle.txc_rows.specs.declared.placed.Placed.{Placed}
 use Rattle.txc_rows.specs.declared.replaced.Spot.{Spot}
 use Rattle.txc_rows.specs.declared.query.Query.{Query}
@@ -25,6 +25,7 @@ use Rattle.txc_rows.specs.Placed.{version_of, is_left, placed_left}
 use Rattle.txc_rows.specs.Indexed.{version_id, version_group, spot_of, spots_from, FitsSpot, AreIndexed, is_between, spot_suits, spots_asked, picked}
 use Rattle.txc_rows.specs.Kept.{IsFinding}
 use Rattle.txc_rows.proofs.FindLemmas.{asked}
+use Rattle.txc_rows.proofs.Members.{filters_turned}
 
 -- ---- one key more or less
 
@@ -233,15 +234,9 @@ asked_spots q first xs ids groups h = go q
     go (Range t a b) = by version_id _ _ ids h.by_id (λ n x. refl)
 
 left_asked : (q : Query) (from : ℕ) (xs : List Placed) → map version_of (placed_left from (filter (λ x. suits q x.version) xs)) ≡ asked q from xs
-left_asked q from [] = refl
-left_asked q from (x ∷ xs) = go (suits q x.version) refl (is_left from x.version) refl (left_asked q from xs)
-  where
-    go : (b : Bool) → suits q x.version ≡ b → (c : Bool) → is_left from x.version ≡ c → map version_of (placed_left from (filter (λ y. suits q y.version) xs)) ≡ asked q from xs
-        → map version_of (placed_left from (filter (λ y. suits q y.version) (x ∷ xs))) ≡ asked q from (x ∷ xs)
-    go true e true f more = rw (e, f, e) (ap (λ vs. x.version ∷ vs) more)
-    go true e false f more = rw (e, f) more
-    go false e true f more = rw (e, f, e) more
-    go false e false f more = rw (e, f) more
+left_asked q from xs =
+    ap (map version_of) (filters_turned (λ x. is_left from x.version) (λ x. suits q x.version) xs)
+    ∙ sym (ap (filter (suits q)) (filter-map (is_left from) version_of xs) ∙ filter-map (suits q) version_of (placed_left from xs))
 
 module _ (q : Query) (from first : ℕ) (xs : List Placed) (ids groups : List Spot) (h : AreIndexed first xs ids groups) where
   abbrev pub found_there : List Placed

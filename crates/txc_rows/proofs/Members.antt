@@ -1,8 +1,10 @@
 -- Tests, and what stands in a list: promises say so by std's `Contains`, inductions by `IsIn`, which is the same.
-use Rattle.std.proofs.Common.{◌≡◌, inl, inr, ℕ, zero, suc, ◌<◌, ◌⊎◌, List, [], ◌∷◌, ◌++◌, map, filter, ◌≤◌, length, get_or, Bool, true, false, true≢false, cond, not, refl, sym, ap, subst, arith}
+use Rattle.std.proofs.Common.{◌≡◌, inl, inr, ℕ, zero, suc, ◌<◌, ◌⊎◌, List, [], ◌∷◌, ◌++◌, map, filter, ◌≤◌, length, get_or, Bool, true, false, true≢false, cond, not, ◌&&◌, refl, sym, ap, subst, ◌∙◌, arith}
+use Rattle.std.proofs.Math.Bool.{and_comm}
 use Rattle.std.proofs.lemmas.List.Elements.{recursion_from_All, filter_passes}
 use Rattle.std.proofs.lemmas.List.Sums.{length-filter, count_by-le-length}
 use Rattle.std.specs.List.{AllByRecursion, Contains}
+use Rattle.sqlite_trees.proofs.ListLemmas.{all_of, filter_same}
 pub use Rattle.txc_tags.proofs.Offered.{bool_cases, both_true, and_true, IsIn, any_there, any_found, in_filter, from_filter, in_left, in_right}
 
 pub not_true_is : (b : Bool) → not b ≡ true → b ≡ false
@@ -52,13 +54,10 @@ none_of p (x ∷ xs) e = elim (bool_cases (p x)) [ inl hit ↦ absurd (let f = r
 pub passing : {X : Type 0} (p : X → Bool) (xs : List X) → AllByRecursion (λ x. p x ≡ true) (filter p xs)
 passing p xs = recursion_from_All _ (filter p xs) (filter_passes p xs)
 
+-- what a filter leaves of what another left
+pub filtered_both : {X : Type 0} (p q : X → Bool) (xs : List X) → filter p (filter q xs) ≡ filter (λ x. q x && p x) xs
+filtered_both p q [] = refl
+filtered_both p q (x ∷ xs) = elim (bool_cases (q x)) [ inl e ↦ rw e (ap (λ ys. cond (p x) (x ∷ ys) ys) (filtered_both p q xs)) | inr e ↦ rw e (filtered_both p q xs) ]
+
 pub filters_turned : {X : Type 0} (p q : X → Bool) (xs : List X) → filter p (filter q xs) ≡ filter q (filter p xs)
-filters_turned p q [] = refl
-filters_turned {X} p q (x ∷ xs) = go (p x) (q x) refl refl (filters_turned p q xs)
-  where
-    go : (a b : Bool) → p x ≡ a → q x ≡ b → filter p (filter q xs) ≡ filter q (filter p xs)
-        → filter p (cond b (x ∷ filter q xs) (filter q xs)) ≡ filter q (cond a (x ∷ filter p xs) (filter p xs))
-    go true true e f same = rw (e, f) (ap (λ ys. x ∷ ys) same)
-    go true false e f same = rw f same
-    go false true e f same = rw e same
-    go false false e f same = same
+filters_turned p q xs = filtered_both p q xs ∙ filter_same _ _ xs (all_of _ (λ x. and_comm (q x) (p x)) xs) ∙ sym (filtered_both q p xs)

@@ -11,7 +11,7 @@ use Rattle.txc_rows.specs.Net.{change_table, change_id, same_key, key_before, ch
 use Rattle.txc_rows.specs.Laws.{NetLeads, NetIsDifference, is_change_of}
 use Rattle.txc_rows.proofs.Members.{IsIn, bool_cases, both_true, and_true, not_true_is, any_there, any_found}
 use Rattle.txc_rows.proofs.ChangeLemmas.{is_of, Makes, made_there, other_there, from_change, made_of}
-use Rattle.txc_rows.proofs.Rising.{changes_state as changed_state, same_rows}
+use Rattle.txc_rows.proofs.Rising.{lt_trans, changes_state as changed_state, same_rows}
 use Rattle.txc_rows.proofs.RowTests.{has_row_in, has_there}
 use Rattle.txc_rows.proofs.Lookups.{is_change_at, apart_from, one_key, found_is, found_from, same_found}
 
@@ -66,10 +66,8 @@ both_of t i u j v k e f =
 
 hidden : (o : Option Change) (a b : Bool) (c d : Change) → a ≡ b → or_else o b d ≡ or_else (or_else o b d) a c
 hidden (Some x) a b c d e = refl
-hidden None true true c d e = refl
-hidden None false false c d e = refl
-hidden None true false c d e = absurd (true≢false e)
-hidden None false true c d e = absurd (true≢false (sym e))
+hidden None a true c d e = refl
+hidden None a false c d e = rw e refl
 
 swapped : (o : Option Change) (a b : Bool) (c d : Change) → (a ≡ true → b ≡ true → ⊥) → or_else (or_else o a c) b d ≡ or_else (or_else o b d) a c
 swapped (Some x) a b c d apart = refl
@@ -96,9 +94,6 @@ last_settled (c ∷ cs) r = last_placed c (settled cs) r ∙ ap (λ (o : Option 
 
 -- ---- settled changes stand by key
 
-key_trans : (a b c d e f : ℕ) → nat_lt a c || ((a == c) && nat_lt b d) ≡ true → nat_lt c e || ((c == e) && nat_lt d f) ≡ true → nat_lt a e || ((a == e) && nat_lt b f) ≡ true
-key_trans a b c d e f h k = grind (arith, nat_tests)
-
 key_cases : (t i u j : ℕ) → (t == u) && (i == j) ≡ false → (nat_lt t u || ((t == u) && nat_lt i j)) ≡ false → (nat_lt u t || ((u == t) && nat_lt j i)) ≡ true
 key_cases t i u j off late = grind (arith, nat_tests)
 
@@ -106,7 +101,7 @@ abbrev pub Over : Change → List Change → Type 0
 Over c = AllByRecursion (λ d. key_before c d ≡ true)
 
 over_trans : (c d : Change) (ds : List Change) → key_before c d ≡ true → Over d ds → Over c ds
-over_trans c d ds e h = all_weaker (λ x. key_before d x ≡ true) (λ x. key_before c x ≡ true) (λ x after. key_trans (change_table c) (change_id c) (change_table d) (change_id d) (change_table x) (change_id x) e after) ds h
+over_trans c d ds e h = all_weaker (λ x. key_before d x ≡ true) (λ x. key_before c x ≡ true) (λ x after. lt_trans (change_table c) (change_id c) (change_table d) (change_id d) (change_table x) (change_id x) e after) ds h
 
 over_placed : (d c : Change) (ds : List Change) → key_before d c ≡ true → Over d ds → Over d (placed c ds)
 over_placed d c [] e h = (e, tt)

@@ -29,9 +29,10 @@ pub all_back : {A : Type 0} (P : A → Type 0) (xs ys : List A) → AllByRecursi
 all_back P [] ys all = all
 all_back P (x ∷ xs) ys all = all_back P xs ys all.1
 
-pub pairs_front : {A : Type 0} (R : A → A → Type 0) (xs ys : List A) → IsAscending R (xs ++ ys) → IsAscending R xs
-pairs_front R [] ys pairs = tt
-pairs_front R (x ∷ xs) ys pairs = (all_front (R x) xs ys pairs.0, pairs_front R xs ys pairs.1)
+-- each of two lists, and each of the first with each of the second
+pub parts : {A : Type 0} (R : A → A → Type 0) (xs ys : List A) → IsAscending R (xs ++ ys) → IsAscending R xs × IsAscending R ys × AllByRecursion (λ x. AllByRecursion (R x) ys) xs
+parts R [] ys pairs = (tt, pairs, tt)
+parts R (x ∷ xs) ys pairs = let rest = parts R xs ys pairs.1 in ((all_front (R x) xs ys pairs.0, rest.0), rest.1, (all_back (R x) xs ys pairs.0, rest.2))
 
 pub empty_of : {A : Type 0} (xs : List A) → length xs == 0 ≡ true → xs ≡ []
 empty_of [] e = refl
@@ -233,7 +234,7 @@ module _ (place s : ℕ) (row : RowValue) where
       one_then : IsAscending IsOneCurrent (put_latest place row s latest)
       one_then =
           let pushed = ascending-append IsOneCurrent latest (new ∷ []) h.current (tt, tt) (all_weaker _ _ new_one latest none) in
-          pairs_front IsOneCurrent _ (filter here latest) ((pairs_permuted IsOneCurrent one_turned _ _ (IsPermutation-sym _ _ (swapped latest h.keys))).1 pushed)
+          (parts IsOneCurrent _ (filter here latest) ((pairs_permuted IsOneCurrent one_turned _ _ (IsPermutation-sym _ _ (swapped latest h.keys))).1 pushed)).0
 
       dead_there : (xs : List Placed) → HasNoCurrent row.table row.id xs → AllByRecursion (λ x. x.version.died ≢ None) (filter here xs)
       dead_there xs off = all_both (λ x. here x ≡ true) (λ x. is_at row.table row.id x.version.row ≡ true → x.version.died ≢ None) (λ x. x.version.died ≢ None) (λ x e alive. alive (both_true (is_at row.table row.id x.version.row) _ e).0) (filter here xs) (passing here xs) (all-filter _ here xs off)

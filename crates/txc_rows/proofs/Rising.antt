@@ -8,7 +8,7 @@ use Rattle.txc_rows.specs.States.{RowValue, State, row_before, IsState, is_at, a
 use Rattle.txc_rows.specs.Laws.{StatesAreRows}
 use Rattle.txc_rows.proofs.Members.{IsIn, is_in, contains_it, from_filter, from_append, all_in}
 
-lt_trans : (a b c d e f : ℕ) → nat_lt a c || ((a == c) && nat_lt b d) ≡ true → nat_lt c e || ((c == e) && nat_lt d f) ≡ true → nat_lt a e || ((a == e) && nat_lt b f) ≡ true
+pub lt_trans : (a b c d e f : ℕ) → nat_lt a c || ((a == c) && nat_lt b d) ≡ true → nat_lt c e || ((c == e) && nat_lt d f) ≡ true → nat_lt a e || ((a == e) && nat_lt b f) ≡ true
 lt_trans a b c d e f h k = grind (arith, nat_tests)
 
 before_trans : (r s t : RowValue) → row_before r s ≡ true → row_before s t ≡ true → row_before r t ≡ true

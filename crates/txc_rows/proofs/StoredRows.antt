@@ -1,5 +1,6 @@
 -- What the tests of the statements say of a stored row.
-use Rattle.std.proofs.Common.{◌≡◌, ℕ, ℤ, pos, List, [], ◌∷◌, ◌++◌, map, filter, Bool, true, false, cond, ◌&&◌, ◌||◌, ◌==◌, nat_lt, nat_le, Some, None, Option, is_none, refl, ap, subst, ◌∙◌, arith}
+use Rattle.std.proofs.Common.{◌≡◌, ℕ, ℤ, pos, List, [], ◌∷◌, ◌++◌, map, filter, Bool, true, false, cond, ◌&&◌, ◌||◌, ◌==◌, nat_lt, nat_le, Some, None, Option, is_none, refl, sym, ap, subst, ◌∙◌, arith}
+use Rattle.std.proofs.Math.Bool.{and_assoc, and-true}
 use Rattle.std.proofs.lemmas.Bool.Decides.{nat_tests}
 use Rattle.std.specs.Ordering.{int_cmp, nat_cmp, is_eq, is_ge, is_le, is_lt}
 use Rattle.std.specs.List.{flat_map, list_all, AllByRecursion}
@@ -72,14 +73,10 @@ null_test None = true_of _ ∙ ap is_eq (value_cmp-Null Null)
 null_test (Some a) = true_of _ ∙ ap is_eq (value_cmp-apart (number a) Null (λ e. omega (arith, e)))
 
 all_three : (A B C a b c : Bool) → A ≡ a → B ≡ b → C ≡ c → (A && (B && (C && true))) ≡ ((a && b) && c)
-all_three A B C true true true p q r = rw (p, q, r) refl
-all_three A B C true true false p q r = rw (p, q, r) refl
-all_three A B C true false c p q r = rw (p, q) refl
-all_three A B C false b c p q r = rw p refl
+all_three A B C a b c p q r = rw (p, q, r, and-true c) (sym (and_assoc a b c))
 
 one : (A a : Bool) → A ≡ a → (A && true) ≡ a
-one A true p = rw p refl
-one A false p = rw p refl
+one A a p = rw p (and-true a)
 
 -- the tests of WHERE, at a stored row
 pub close_test : (t i s : ℕ) (id : ℤ) (x : Placed) → list_all (holds ((number t ∷ number i ∷ number s ∷ []) ∷ stored id x ∷ [])) close_filter ≡ (is_at t i x.version.row && is_current x.version)
@@ -108,16 +105,10 @@ abbrev pub is_asked : Query → ℕ → Versioned → Bool
 is_asked q from v = suits q v && is_left from v
 
 both : (A B a b : Bool) → A ≡ a → B ≡ b → (A && (B && true)) ≡ (a && b)
-both A B true true p q = rw (p, q) refl
-both A B true false p q = rw (p, q) refl
-both A B false b p q = rw p refl
+both A B a b p q = rw (p, q, and-true b) refl
 
 within : (A B C D a b c d : Bool) → A ≡ a → B ≡ b → C ≡ c → D ≡ d → (A && (B && (C && (D && true)))) ≡ ((a && (b && c)) && d)
-within A B C D true true true true p q r e = rw (p, q, r, e) refl
-within A B C D true true true false p q r e = rw (p, q, r, e) refl
-within A B C D true true false d p q r e = rw (p, q, r) refl
-within A B C D true false c d p q r e = rw (p, q) refl
-within A B C D false b c d p q r e = rw p refl
+within A B C D a b c d p q r e = rw (p, q, r, e, and-true d) (ap (λ x. a && x) (sym (and_assoc b c d)) ∙ sym (and_assoc a (b && c) d))
 
 from_test : (a b : ℕ) → is_true (binary (Compare Ge Binary) (number a) (number b)) ≡ nat_le b a
 unfolding binary

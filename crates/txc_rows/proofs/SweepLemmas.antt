@@ -17,10 +17,10 @@ use Rattle.txc_rows.specs.Versions.{is_current, has_died_by, died_by, closed, re
 use Rattle.txc_rows.specs.Holdable.{IsStorable}
 use Rattle.txc_rows.specs.declared.placed.Placed.{Placed}
 use Rattle.txc_rows.specs.Placed.{version_of, by_place, versions_by_place, lasts_to, is_left, left_from, placed_left, without_front_dead, has_key, HaveOwnPlaces, AreBelow, IsOneCurrent, AreWellPlaced, AreSwept}
-use Rattle.txc_rows.proofs.Members.{bool_cases}
+use Rattle.txc_rows.proofs.Members.{bool_cases, filtered_both}
 use Rattle.txc_rows.proofs.StoredVersions.{hit_is}
 use Rattle.txc_rows.proofs.PlaceLemmas.{pairs_permuted, by_place_same, by_place_left, own_places_permuted}
-use Rattle.txc_rows.proofs.PutLemmas.{all_front, all_back, key_turned, one_turned}
+use Rattle.txc_rows.proofs.PutLemmas.{all_front, all_back, parts, key_turned, one_turned}
 
 -- ---- a sweep
 
@@ -96,11 +96,6 @@ front_left from (x ∷ xs) = go (is_left from x.version) refl (front_left from x
     go true e more = refl
     go false e more = rw e more
 
--- each of two lists, and each of the first with each of the second
-parts : {A : Type 0} (R : A → A → Type 0) (xs ys : List A) → IsAscending R (xs ++ ys) → IsAscending R xs × IsAscending R ys × AllByRecursion (λ x. AllByRecursion (R x) ys) xs
-parts R [] ys pairs = (tt, pairs, tt)
-parts R (x ∷ xs) ys pairs = let rest = parts R xs ys pairs.1 in ((all_front (R x) xs ys pairs.0, rest.0), rest.1, (all_back (R x) xs ys pairs.0, rest.2))
-
 module _ (from : ℕ) (latest earlier last : List Placed) (swept : AreSwept from latest last) where
   abbrev dropped : List Placed
   dropped = without_front_dead from earlier
@@ -140,23 +135,16 @@ none_hidden vs = filter_all (is_left 0) vs (all_of _ (λ v. all_last v.died) vs)
 
 -- ---- a purge
 
-both_left : (from h : ℕ) (died : Option ℕ) → lasts_to (max from (h + 1)) died ≡ not (died_by h died) && lasts_to from died
+both_left : (from h : ℕ) (died : Option ℕ) → lasts_to (max from (h + 1)) died ≡ lasts_to from died && not (died_by h died)
 both_left from h None = refl
 both_left from h (Some d) = tests from h d
   where
-    tests : (a b c : ℕ) → nat_le (max a (b + 1)) c ≡ not (nat_le c b) && nat_le a c
+    tests : (a b c : ℕ) → nat_le (max a (b + 1)) c ≡ nat_le a c && not (nat_le c b)
     tests a b c = grind (arith, nat_tests)
 
 -- a purge hides what died by it
 pub purged_left : (from h : ℕ) (vs : List Versioned) → left_from (max from (h + 1)) vs ≡ purged h (left_from from vs)
-purged_left from h [] = refl
-purged_left from h (v ∷ vs) = go (is_left from v) refl (not (has_died_by h v)) refl (purged_left from h vs)
-  where
-    go : (b : Bool) → is_left from v ≡ b → (c : Bool) → not (has_died_by h v) ≡ c → left_from (max from (h + 1)) vs ≡ purged h (left_from from vs) → left_from (max from (h + 1)) (v ∷ vs) ≡ purged h (left_from from (v ∷ vs))
-    go true e true f more = rw (both_left from h v.died, e, f) (ap (λ rest. v ∷ rest) more)
-    go true e false f more = rw (both_left from h v.died, e, f) more
-    go false e true f more = rw (both_left from h v.died, e, f) more
-    go false e false f more = rw (both_left from h v.died, e, f) more
+purged_left from h vs = filter_same _ _ vs (all_of _ (λ v. both_left from h v.died) vs) ∙ sym (filtered_both (λ v. not (has_died_by h v)) (is_left from) vs)
 
 -- ---- a write
 

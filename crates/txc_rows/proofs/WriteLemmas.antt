@@ -18,7 +18,7 @@ use Rattle.sqlite.specs.Tree.{Trees, put_row, without_rowid, rowid, IsTable}
 use Rattle.sqlite_rules.specs.Calls.{ids_of}
 use Rattle.sqlite.specs.Listing.{understood}
 use Rattle.sqlite.specs.State.{State, mode_of, Executes}
-use Rattle.sqlite.proofs.Callers.{command_of, statement_of, runs_as, one_permutation, IsPlain}
+use Rattle.sqlite.proofs.Callers.{statement_of, runs_as, one_permutation}
 use Rattle.sqlite_rules.proofs.ListLemmas.{all_has, has_filtered}
 use Rattle.sqlite_trees.proofs.ListLemmas.{filter-map, all_of, all_weaker, all-map}
 use Rattle.sqlite_trees.proofs.TreeLemmas.{IsTable-put_row, all-put_row}
@@ -30,7 +30,7 @@ use Rattle.txc_rows.specs.declared.placed.Placed.{Placed}
 use Rattle.txc_rows.specs.Placed.{has_key, closed_placed, renewed}
 use Rattle.txc_rows.specs.Stored.{stored, cells_of, number, placed_in, placed_all, IsStored, AreVersionRows}
 use Rattle.txc_rows.specs.declared.texts.TheConstants.{ADD_LATEST, END_VERSION, RENEW_LATEST}
-use Rattle.txc_rows.proofs.Commands.{whole, endless, alone, terms, add_latest_is, add_latest_plain, close_filter, close_project, close_is, close_plain, key_filter, renew_project, renew_is, renew_plain}
+use Rattle.txc_rows.proofs.Commands.{Means, whole, endless, alone, terms, add_latest_is, close_filter, close_project, close_is, key_filter, renew_project, renew_is}
 use Rattle.txc_rows.specs.Texts.{latest_table, latest_schema}
 use Rattle.txc_rows.proofs.StoredRows.{close_test, renew_test, select_stored, placed_again, asked, answered, IsPage}
 use Rattle.txc_rows.proofs.Tables.{IsKeyed, next_above, put_row_last, spared, replaced}
@@ -64,7 +64,7 @@ pub adds_latest : (old new : State) (x : Placed) (count : ℕ) → old.now.schem
 adds_latest old new x count has latest h =
     let params = cells_of x in
     let db = old.now.trees in
-    let w = runs_as ADD_LATEST.now params old new latest_schema has (Insert 0 (Values terms 8)) add_latest_is add_latest_plain count h in
+    let w = runs_as ADD_LATEST.now params old new latest_schema has (Insert 0 (Values terms 8)) add_latest_is.command add_latest_is.plain count h in
     let text = statement_of ADD_LATEST.now (understood latest_schema ADD_LATEST.now) in
     let done = subst (λ s. Does old.step_limit (mode_of old) params (record old.now { schema = s }) text None (Insert 0 (Values terms 8)) (Ok (w.tally, new.now))) has w.changed in
     let it = inserts_rows old.step_limit (mode_of old) params db 0 (Values terms 8) w.tally new.now done in
@@ -136,12 +136,11 @@ module _ (fs project : List Term) (params : Row) (P : Placed → Bool) (test : (
     placed_changed [] = refl
     placed_changed (r ∷ rows) = rw (placed_again (id_in (rowid r)) (F (placed_in r)), placed_changed rows) refl
 
-    pub updates : (sql : List ℕ) → command_of (understood latest_schema sql) ≡ Update 0 (alone (whole fs project)) → IsPlain (understood latest_schema sql)
-        → (old new : State) (count : ℕ) → old.now.schema ≡ latest_schema → AreVersionRows (old.now.trees 0) → length (filter P (placed_all (old.now.trees 0))) ≤ 1 → Executes sql params old new (Ok count)
+    pub updates : (sql : List ℕ) → Means latest_schema sql (Update 0 (alone (whole fs project))) → (old new : State) (count : ℕ) → old.now.schema ≡ latest_schema → AreVersionRows (old.now.trees 0) → length (filter P (placed_all (old.now.trees 0))) ≤ 1 → Executes sql params old new (Ok count)
         → Leaves (map F (placed_all (old.now.trees 0))) new
-    updates sql is plain old new count has latest few h =
+    updates sql is old new count has latest few h =
         let db = old.now.trees in
-        let w = runs_as sql params old new latest_schema has (Update 0 (alone (whole fs project))) is plain count h in
+        let w = runs_as sql params old new latest_schema has (Update 0 (alone (whole fs project))) is.command is.plain count h in
         let text = statement_of sql (understood latest_schema sql) in
         let done = subst (λ s. Does old.step_limit (mode_of old) params (record old.now { schema = s }) text None (Update 0 (alone (whole fs project))) (Ok (w.tally, new.now))) has w.changed in
         let it = updates_rows old.step_limit (mode_of old) params db 0 (alone (whole fs project)) w.tally new.now done in
@@ -163,7 +162,7 @@ pub closes : (old new : State) (t i s : ℕ) (count : ℕ) → old.now.schema �
     → Executes END_VERSION.now (number t ∷ number i ∷ number s ∷ []) old new (Ok count)
     → Leaves (map (closed_placed t i s) (placed_all (old.now.trees 0))) new
 closes old new t i s count = updates close_filter close_project (number t ∷ number i ∷ number s ∷ []) (λ x. is_at t i x.version.row && is_current x.version) (close_test t i s)
-    (ended_given s) (λ id x. refl) (closed_placed t i s) (λ x off. rw off refl) (ends_one t i s) END_VERSION.now close_is close_plain old new count
+    (ended_given s) (λ id x. refl) (closed_placed t i s) (λ x off. rw off refl) (ends_one t i s) END_VERSION.now close_is old new count
 
 -- ---- a new version in place of the last
 
@@ -184,4 +183,4 @@ pub renews : (old new : State) (place s : ℕ) (row : RowValue) (count : ℕ) �
     → Executes RENEW_LATEST.now (renew_params place s row) old new (Ok count)
     → Leaves (map (renewed place row s) (placed_all (old.now.trees 0))) new
 renews old new place s row count = updates key_filter renew_project (renew_params place s row) (has_key row.table row.id row.group) (renew_test row.table row.id row.group place s row.body)
-    (renewed_given place s row.body) (λ id x. refl) (renewed place row s) (λ x off. rw off refl) (renews_one place s row) RENEW_LATEST.now renew_is renew_plain old new count
+    (renewed_given place s row.body) (λ id x. refl) (renewed place row s) (λ x off. rw off refl) (renews_one place s row) RENEW_LATEST.now renew_is old new count

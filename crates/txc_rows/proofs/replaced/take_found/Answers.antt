@@ -1,4 +1,4 @@
-use Rattle.std.proofs.Common.{◌≡◌, ◌≤◌, ◌<◌, ◌-◌, ◌++◌, ◌∷◌, [], true, Some, length, ap, sym, subst, ◌∙◌, append_assoc, length-append, arith, rules}
+use Rattle.std.proofs.Common.{◌≡◌, ◌≤◌, ◌<◌, ◌-◌, ◌++◌, ◌∷◌, [], true, false, Some, length, ap, sym, subst, ◌∙◌, append_assoc, length-append, arith, rules}
 use Rattle.std.proofs.lemmas.List.{length-map}
 use Rattle.std.proofs.lemmas.Map.Iter.{rest_more}
 use Rattle.std.specs.Map.Iter.{deref}
@@ -9,24 +9,30 @@ use Rattle.txc_rows.specs.declared.store_error.TheConstants.{MAX_MATCHING}
 use Rattle.txc_rows.specs.Placed.{version_of, is_left, placed_left}
 use Rattle.txc_rows.specs.Indexed.{picked}
 use Rattle.txc_rows.proofs.IndexLemmas.{got, taken, taken_left}
+use Rattle.txc_rows.proofs.replaced.take_found.Goals.{After-died_before}
 use Rattle.txc_rows.proofs.replaced.take_found.Goals as goal
+
+-- the version at the spot, which did not die before the stamp, is the next
+next_taken : (c : After-died_before) → c.died_before.result ≡ false
+    → taken c.args.from c.args.first c.args.versions.now.items c.in-Some.spot.now c.next.new.self c.loop-spot.spot-iterator ≡ c.in-Some-get.placed.now.version ∷ taken c.args.from c.args.first c.args.versions.now.items c.in-Some.spot.now c.next.new.self c.next.new.self
+next_taken c kept =
+    let xs = c.args.versions.now.items in
+    let s = c.in-Some.spot.now in
+    let x = c.in-Some-get.placed.now in
+    let there : slice_get xs (s.number - c.args.first) ≡ Some x = got xs (s.number - c.args.first) x (search (arith, rules)) (search rules) in
+    ap (taken c.args.from c.args.first xs s c.next.new.self) (rest_more deref c.loop-spot.spot-iterator c.next.new.self c.next.result c.in-Some.spot c.in-Some.is c.next.ensures.steps)
+    ∙ taken_left c.args.from c.args.first xs s c.next.new.self x there (not-false _ (sym c.died_before.ensures ∙ kept))
 
 pub returns-then-len-ge-MAX_MATCHING-clause-refused : goal.returns-then-len-ge-MAX_MATCHING-clause-refused
 returns-then-len-ge-MAX_MATCHING-clause-refused c = λ many.
     let xs = c.args.versions.now.items in
     let s = c.in-Some.spot.now in
-    let next = rest_more deref c.loop-spot.spot-iterator c.next.new.self c.next.result c.in-Some.spot c.in-Some.is c.next.ensures.steps in
-    let x = c.in-Some-get.placed.now in
-    let there : slice_get xs (s.number - c.args.first) ≡ Some x = got xs (s.number - c.args.first) x (search (arith, rules)) (search rules) in
-    let left : is_left c.args.from x.version ≡ true = not-false _ (sym c.died_before.ensures ∙ c.if-died_before.false) in
-    let more = ap (taken c.args.from c.args.first xs s c.next.new.self) next ∙ taken_left c.args.from c.args.first xs s c.next.new.self x there left in
-    let i = c.loop-spot.invariant in
     let full : MAX_MATCHING ≤ length c.loop-spot.found.items = search (arith, rules) in
     omega (
       arith,
       full,
-      ap length more,
-      ap length i.done,
+      ap length (next_taken (goal.at.returns-then-len-ge-MAX_MATCHING-clause-refused c).After-died_before c.if-died_before.false),
+      ap length c.loop-spot.invariant.done,
       length-append c.loop-spot.found.items (taken c.args.from c.args.first xs s c.next.new.self c.loop-spot.spot-iterator),
       length-append c.args.found.now.items (taken c.args.from c.args.first xs s c.next.new.self c.args.spots),
       length-map (placed_left c.args.from (picked c.args.first xs c.args.spots)) version_of,
@@ -38,9 +44,7 @@ loop-spot-preserved c =
     let s = c.in-Some.spot.now in
     let next = rest_more deref c.loop-spot.spot-iterator c.next.new.self c.next.result c.in-Some.spot c.in-Some.is c.next.ensures.steps in
     let x = c.in-Some-get.placed.now in
-    let there : slice_get xs (s.number - c.args.first) ≡ Some x = got xs (s.number - c.args.first) x (search (arith, rules)) (search rules) in
-    let left : is_left c.args.from x.version ≡ true = not-false _ (sym c.died_before.ensures ∙ c.if-died_before.false) in
-    let more = ap (taken c.args.from c.args.first xs s c.next.new.self) next ∙ taken_left c.args.from c.args.first xs s c.next.new.self x there left in
+    let more = next_taken (goal.at.loop-spot-preserved c).After-died_before c.if-died_before.false in
     let i = c.loop-spot.invariant in
     let rest = taken c.args.from c.args.first xs s c.next.new.self c.next.new.self in
     let pushed : c.push.new.self.items ≡ c.loop-spot.found.items ++ x.version ∷ [] = search rules in
