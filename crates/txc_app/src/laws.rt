@@ -41,7 +41,7 @@ pub fn true_entries_stay()
 }
 
 /// A true entry that is still valid goes over to another history: it is true there from a stamp with the same
-/// state on, since what a call gives depends on the state alone.
+/// state on. For what a call gives depends on the state alone.
 pub fn carried_entries_are_true()
     ensures { CarriedIsTrue }
 {}

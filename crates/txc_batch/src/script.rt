@@ -88,7 +88,7 @@ where
 /// of the settings. After all lines, none of which was malformed, its jobs run over these and over new nodes. Each
 /// runs once, by workers on threads of their own, one for each registry. Then a line is written for each job, in the
 /// order of the jobs. The status says what is wrong with a malformed line. A reader is read at most
-/// [`txc_script::MAX_READS`] times, where a read that was interrupted counts and is made again: one that has not
+/// [`txc_script::MAX_READS`] times, where a read that was interrupted counts and is made again. One that has not
 /// reached its end by then is a read fault. The writer is flushed before the jobs run and at the end.
 pub fn run_batch_script<A, C, R, W, H>(
     rt: &H,

@@ -40,8 +40,8 @@ pub record IsLedFrom (next : Next) (L : History) (k : Call) (objects : Objects) 
   pub there : IsSome (activity_of objects k.function)
   pub led : IsLed next L (at_start k objects) replies s
 
--- the value of the call at its end holds: it is what the call gives without a cache at each stamp of its
--- reach, or everywhere, where it has none; and all objects are idle again
+-- The value of the call at its end holds: it is what the call gives without a cache at each stamp of its
+-- reach, or everywhere, where it has none. And all objects are idle again.
 pub record IsRightEnd (next : Next) (L : History) (k : Call) (s : Standing) (o : Outcome) : Type 0 where
   pub of_call : o.key ≡ k
   pub holds : ValueHolds next L k o.value o.reach o.tags

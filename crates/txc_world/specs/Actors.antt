@@ -99,8 +99,8 @@ abbrev pub told_answers : Option (OpenCall Query) → List Given → List Given
 told_answers None answers = answers
 told_answers (Some call) answers = told_by_turn call.turn answers
 
--- the call's next turn is one of the core's, which has it open under its key while it asks; its value comes
--- after all answers that were shown; and it has lost no snapshot
+-- The call's next turn is one of the core's, which has it open under its key while it asks. Its value comes
+-- after all answers that were shown; and it has lost no snapshot.
 pub record IsRwCall (c : RwValue) (call : OpenCall Query) : Type 0 where
   pub turn : IsRwTurn c call.turn
   pub key : IsAsk call.turn → c.call.top ≡ call.key

@@ -34,8 +34,8 @@ abbrev pub HaveToldAtMost : ℕ → ℕ → List (Step × Reply) → Type 0
 HaveToldAtMost number most happened = AllByRecursion (λ x. ToldAtMost number most x.0 x.1) happened
 
 -- Nobody goes back, where an actor began a transaction in its session, and committed it, with no other begun in
--- between. The stamp of its receipt is not below any that the actor was shown before, of a receipt or of
--- the commit of a read-write transaction, begun in the session or not.
+-- between. The stamp of its receipt is not below any that the actor was shown before. Such a stamp is of a
+-- receipt or of the commit of a read-write transaction, begun in the session or not.
 abbrev pub NoActorGoesBack : List Step → List Reply → Type 0
 NoActorGoesBack steps replies =
     (number now staleness : ℕ) (pin : Pin) (before between after : List (Step × Reply))

@@ -88,7 +88,7 @@ due_of_pins (Some (reading r)) = None
 due_of_pins (Some (writing w)) = Some NotOpen
 due_of_pins (Some (leaving stamp)) = Some NotOpen
 
--- Where a transaction may still be serialised: at the present or at a member; and each member is a pin that
+-- Where a transaction may still be serialised: at the present or at a member. Each member is a pin that
 -- the bounds allow, at which each answer is what its call gives without a cache.
 pub record AreMembersOf (next : Next) (L : History) (r : Reading) (has_present : Bool)
     (members : List Pin) : Type 0 where

@@ -49,8 +49,9 @@ pub struct Members<'a> {
 /// database, one pincushion and the nodes.
 ///
 /// Contracts see what is shown of it: its settings; its history; the stamps of the pins that the keeper has
-/// and did not add yet; the floor of each actor's session; and what each actor has open. They see its holdings too: the holds of the database, the
-/// pins of the pincushion with their users, and what each actor has of both.
+/// and did not add yet. They see the floor of each actor's session, and what each actor has open. They see its
+/// holdings too: the holds of the database, the pins of the pincushion with their users, and what each actor has of
+/// both.
 #[derive(Drop)]
 pub struct World<A: App, C: Cacheable> {
     settings: WorldSettings,
@@ -259,7 +260,7 @@ impl<A: App, C: Cacheable> World<A, C> {
     /// the history as it was shown by then, and in that of the whole run.
     ///
     /// A receipt of a transaction that an actor began in its session, in the list, is not below any stamp that
-    /// the list showed that actor before, of a receipt or of the commit of a read-write transaction.
+    /// the list showed that actor before. Such a stamp is of a receipt or of the commit of a read-write transaction.
     ///
     /// Where each has what is its own, as in a new world, and the list is tidy, each has so after it. Then neither
     /// a query nor the commit of an open transaction is refused for a snapshot that is gone.
