@@ -18,7 +18,7 @@ MOST_BY_HAND = 26_000
 MOST_OF_CRATES = 108_172
 # How many words a sentence may have: of a document that is written by hand, and of a source's comment.
 MOST_WORDS_OF_A_SENTENCE = 30
-MOST_WORDS_OF_A_COMMENT = 43
+MOST_WORDS_OF_A_COMMENT = 40
 # What has a plainer word. What is made by script, or a name, may have it.
 NOT_PLAIN = re.compile(r"\b(?:told|purse|foreign record|by a name|comes? to|came to)\b", re.I)
 # How many lines of code the service may have with which EMBEDDING begins, without blank ones and comments.

@@ -1,4 +1,4 @@
--- What visitors came to who came again.
+-- What visitors did and saw who came again.
 use Rattle.std.proofs.Common.{◌≡◌, ◌∙◌, ℕ, ◌+◌, ◌*◌, ◌^◌, ◌<◌, ◌≤◌, List, [], ◌∷◌, ◌++◌, map, length, true, false, Option, Result, Ok, refl, ap, subst, length-append, arith}
 use Rattle.std.specs.Prelude.{◌↔◌, All, IsTrue, Vec}
 use Rattle.std.specs.declared.alloc.Global.{Global}
@@ -53,7 +53,7 @@ came_so_often {T} most room numbers opened gs u turns (before, last, is, went_on
     let enough : most ≤ last.number = grind (arith, stopped.1) in
     omega (arith, few, number, enough, ap length is, length-append before (last ∷ []))
 
--- so many visitors came to each generation, and each asked for so many pages
+-- so many visitors were in each generation, and each asked for so many pages
 module _ {U : Type 0} (plan : Plan) (tells : ℕ → Type 0) (a : Arguments) (numbers : List ℕ) (opened : FrontValue) (came tallies : List (Vec Tally Global))
     (end : Result U GenerationError) (u : U) (is : end ≡ Ok u) (same : tallies ≡ came)
     (served : HaveServed plan tells a.threads numbers (λ p row number tally. HasTallied a.pages a tally) (λ g more. IsTrue more ↔ (g.number < a.returns)) opened came end) where

@@ -1,4 +1,4 @@
--- What a page shows of an item, where both of its calls come to their values in one state.
+-- What a page shows of an item, where both of its calls have their values in one state.
 use denote.Ref.{Bor}
 use Rattle.std.proofs.Common.{◌≡◌, ◌≢◌, ◌∙◌, ℕ, ◌-◌, List, [], ◌∷◌, ◌++◌, length, take, eqb, Bool, true, false, Option, Some, None, MatchOption, sym, ap, subst}
 use Rattle.std.specs.Prelude.{if◌then◌else◌, nat_le, Result, Ok, IfOk}

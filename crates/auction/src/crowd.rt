@@ -24,7 +24,7 @@ const TRIES: u32 = 8;
 /// How many rounds a pin stays.
 const AGE: u64 = 16;
 
-/// A round of a visitor, who comes to an item. Time is his own: the number of the round, so that one visitor
+/// A round of a visitor, who visits an item. Time is his own: the number of the round, so that one visitor
 /// alone does the same in each run.
 #[derive(Clone, Copy)]
 struct Round {
@@ -163,7 +163,7 @@ impl Crowd {
         client
     }
 
-    /// What all highest bids come to in a state that is not before this stamp. None where the page is refused.
+    /// The sum of all highest bids in a state that is not before this stamp. None where the page is refused.
     fn last_page<'a, J: Naming, R: Wait>(
         &self,
         rt: &R,

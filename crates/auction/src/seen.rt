@@ -1,4 +1,4 @@
-//! What a visitor sees last: what all highest bids come to, after each bid of its own.
+//! What a visitor sees last: the sum of all highest bids, after each bid of its own.
 ghost use Rattle.std.specs.Prelude.{◌≡◌, ◌⊎◌, ◌≤◌, MatchOption};
 
 use crate::changes::{ITEM_COUNT, amount_of};
@@ -8,7 +8,7 @@ use std::alloc::Global;
 use std::sync::Wait;
 use txc_site::{Begun, Naming, Page, PageTxn, RunError, Shown, Stamp};
 
-/// What all highest bids come to, and the stamp of that state.
+/// The sum of all highest bids, and the stamp of that state.
 #[derive(Clone, Copy)]
 pub struct Seen {
     pub stamp: Stamp,

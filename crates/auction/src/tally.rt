@@ -1,4 +1,4 @@
-//! What visitors came to.
+//! What visitors did and saw.
 ghost use Rattle.std.specs.Prelude.{◌≡◌, ◌+◌, ◌*◌, ◌<◌, ◌^◌, ◌-ℤ◌, pos, IfSome, MatchOption, vec_len};
 ghost use Rattle.std.specs.List.{sum_by};
 ghost use Rattle.auction.specs.Pages.{IsWhole};
@@ -9,7 +9,7 @@ use crate::pages::BothBids;
 use crate::seen::Seen;
 use txc_site::{Stamp, Written};
 
-/// What visitors came to.
+/// What visitors did and saw.
 #[derive(Clone, Copy)]
 pub struct Tally {
     pub whole: u64,
@@ -80,7 +80,7 @@ impl Tally {
         self.last
     }
 
-    /// Adds what others came to, but for what each of them did or saw last.
+    /// Adds what others did and saw, but for what each of them did or saw last.
     pub fn add(&mut self, others: &Tally)
         requires { pages_of self.old + pages_of others.now < 2 ^ 64 }
         ensures pages { pages_of self.new ≡ pages_of self.old + pages_of others.now }
@@ -98,7 +98,7 @@ impl Tally {
         self.raised = self.raised.saturating_add(others.raised);
     }
 
-    /// By how much the first bids, and all that raised them, come to more than what was seen: a bid that
+    /// By how much the first bids, and all that raised them, are more than what was seen: a bid that
     /// was made and is not in that state was lost. None where nothing was seen.
     pub fn lost(&self) -> Option<i128>
         ensures { MatchOption self.now.seen (result ≡ None)
@@ -120,7 +120,7 @@ fn last_seen(tallies: &[Tally]) -> Option<Seen> {
     Some(last)
 }
 
-/// What visitors came to in all, but for what each of them did or saw last.
+/// What visitors did and saw in all, but for what each of them did or saw last.
 pub fn total(tallies: &[Tally]) -> Tally
     requires { sum_by pages_of tallies.now < 2 ^ 64 }
     ensures pages { pages_of result ≡ sum_by pages_of tallies.now }
@@ -133,7 +133,7 @@ pub fn total(tallies: &[Tally]) -> Tally
     all
 }
 
-/// What the visitors of all generations came to. What was seen last is what those of the last one saw, whose bids
+/// What the visitors of all generations did and saw. What was seen last is what those of the last one saw, whose bids
 /// stand on those of the others.
 pub fn grand_total(generations: &[Vec<Tally>]) -> Tally
     requires { sum_by (λ tallies. sum_by pages_of tallies.items) generations.now < 2 ^ 64 }

@@ -1,4 +1,4 @@
--- What is written, and what a visitor comes to.
+-- What is written, and what a visitor gives.
 use Rattle.std.specs.Prelude.{◌≡◌, ℕ, zero, suc, ◌*◌, ◌%◌, ◌≤◌, Bool, true, false, List, [], ◌∷◌, ◌++◌, length}
 use Rattle.txc_site.specs.Values.{RowValue}
 use Rattle.txc_site.specs.Change.{Change}

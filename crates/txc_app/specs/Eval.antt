@@ -1,4 +1,4 @@
--- What a call comes to in a state, without a cache.
+-- What a call gives in a state, without a cache.
 use Rattle.std.specs.Prelude.{ℕ, zero, suc, ◌==◌, nat_le, if◌then◌else◌, List, [], ◌∷◌, ◌++◌, length, Option, Some, None}
 use Rattle.txc_tags.specs.Keys.{Call}
 use Rattle.txc_rows.specs.declared.query.Query.{Query}
@@ -15,7 +15,7 @@ use Rattle.txc_app.specs.declared.ask.Answer.TheVariants as answers
 abbrev pub Next : Type 0
 Next = ℕ → List ℕ → List Answer → Option Ask
 
--- what a call comes to: its value, where it has one, and the queries met on the way
+-- what a call gives: its value, where it has one, and the queries met on the way
 pub record Evaluation : Type 0 where
   pub value : Option (List ℕ)
   pub met : List Query
@@ -24,7 +24,7 @@ pub record Evaluation : Type 0 where
 abbrev pub Rows : Type 0
 Rows = Query → List RowValue
 
--- what calls come to
+-- what calls give
 abbrev pub Calls : Type 0
 Calls = Call → Evaluation
 
@@ -60,7 +60,7 @@ activation says rows calls zero given = no_value
 activation says rows calls (suc left) given =
     after_ask rows calls (says given) (λ a. activation says rows calls left (given ++ a ∷ []))
 
--- a call, where calls inside it come to these
+-- a call, where calls inside it give these
 abbrev pub called_with : Next → Rows → Calls → Calls
 called_with next rows calls k = activation (next k.function k.args) rows calls MAX_ASKS []
 
@@ -70,7 +70,7 @@ call_below next rows zero k = no_value
 call_below next rows (suc f) k =
     if k.function == f then called_with next rows (call_below next rows f) k else call_below next rows f k
 
--- what a call comes to in a state: queries are answered there, and it may call the functions below its own
+-- what a call gives in a state: queries are answered there, and it may call the functions below its own
 abbrev pub evaluation : Next → Call → State → Evaluation
 evaluation next k s = called_with next (λ q. answer q s) (call_below next (λ q. answer q s) k.function) k
 

@@ -24,21 +24,21 @@ use Rattle.txc_app.specs.Claims.{covers_all, RowsHold, IsTrueIn}
 
 -- ---- calls
 
--- a call comes to what its own activation does, in which a call of a function below its own comes to what
--- it comes to by itself, and any other has no value
+-- a call gives what its own activation gives, in which a call of a function below its own gives what
+-- it gives by itself, and any other has no value
 abbrev pub CallsAreOfFunctionsBelow : Type 0
 CallsAreOfFunctionsBelow = (next : Next) (k : Call) (s : State)
     → evaluation next k s
     ≡ (let within : Calls = λ g. if nat_lt g.function k.function then evaluation next g s else no_value
     in called_with next (λ q. rows_of q s) within k)
 
--- where the queries that a call meets have equal answers in two states, it comes to the same in both
+-- where the queries that a call meets have equal answers in two states, it gives the same in both
 abbrev pub EqualAnswersDecide : Type 0
 EqualAnswersDecide = (next : Next) (k : Call) (s t : State)
     → AllByRecursion (λ q. rows_of q s ≡ rows_of q t) (met next k s)
     → evaluation next k s ≡ evaluation next k t
 
--- an event whose tags do not match tags that cover the queries met leaves what the call comes to
+-- an event whose tags do not match tags that cover the queries met leaves what the call gives
 abbrev pub EventLeaves : Type 0
 EventLeaves = (next : Next) (k : Call) (L : History) (t : ℕ) (tags : List Tag)
     → covers_all tags (met next k (state_at L t)) ≡ true → sets_match (tags_at L (suc t)) tags ≡ false

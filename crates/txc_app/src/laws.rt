@@ -3,7 +3,7 @@ ghost use Rattle.txc_app.specs.Laws.{CallsAreOfFunctionsBelow, CarriedIsTrue, Eq
 
 use txc_db::{states_stay, tags_are_sound};
 
-/// A call answers the calls inside it by what these come to, where they are of functions below its own, and
+/// A call answers the calls inside it by what these give, where they are of functions below its own, and
 /// by no value else.
 pub fn calls_are_of_functions_below()
     ensures { CallsAreOfFunctionsBelow }
@@ -41,7 +41,7 @@ pub fn true_entries_stay()
 }
 
 /// A true entry that is still valid goes over to another history: it is true there from a stamp with the same
-/// state on, since what a call comes to depends on the state alone.
+/// state on. For what a call gives depends on the state alone.
 pub fn carried_entries_are_true()
     ensures { CarriedIsTrue }
 {}

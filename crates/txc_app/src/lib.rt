@@ -1,4 +1,4 @@
-//! What calls of functions mean: what a function asks and is answered, and what a call comes to without a cache.
+//! What calls of functions mean: what a function asks and is answered, and what a call gives without a cache.
 #![tactic(auto)]
 
 mod app;

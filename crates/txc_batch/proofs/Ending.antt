@@ -1,4 +1,4 @@
--- The jobs of a script run after its lines, and what they came to is written.
+-- The jobs of a script run after its lines, and what they gave is written.
 use Rattle.std.proofs.Common.{◌≡◌, ◌||◌, ℕ, Bool, List, Option, Result, Ok, Err, length, sym, ap, subst, ◌∙◌, arith}
 use Rattle.std.specs.Prelude.{IsErr, IsErrAnd}
 use Rattle.std.proofs.lemmas.Bool.{false≢true}

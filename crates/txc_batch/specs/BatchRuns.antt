@@ -22,8 +22,8 @@ abbrev pub status_of : Bool → Status
 status_of true = Refused
 status_of false = Done
 
--- The jobs that the lines asked for, and no others, ran over the database that the lines left, and what they came
--- to was written. The status tells whether a refusal was written, of a line or of a job, or of the batch. After a
+-- The jobs that the lines asked for, and no others, ran over the database that the lines left, and what they gave
+-- was written. The status tells whether a refusal was written, of a line or of a job, or of the batch. After a
 -- fault of the writer a prefix of that text was written, and nothing out of memory.
 abbrev pub EndsInJobs : Next → BatchState → Bool → Option (List ℕ) → Option (List ℕ) → Result Status RunFault
     → Type 0

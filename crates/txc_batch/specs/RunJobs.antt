@@ -1,4 +1,4 @@
--- What jobs come to that are run over a database and its pincushion.
+-- What jobs give that are run over a database and its pincushion.
 use Rattle.std.specs.Prelude.{◌≡◌, ◌⊎◌, ℕ, List, All, Contains, IsPermutation, Result, Ok, Err}
 use Rattle.std.specs.List.Sorted.{IsStrictlyIncreasing}
 use mathlib.Core.List.{IsPrefix}

@@ -68,7 +68,7 @@ fn push_results(alloc: Global, text: &mut Vec<u8>, ran: &Ran) -> Result<bool, Al
     Ok(ran.results().iter().any(|told| is_refused(&told.outcome)))
 }
 
-/// Puts what a batch came to after the text. Returns whether that holds a refusal. Of a batch that was refused
+/// Puts after the text what a batch gave. Returns whether that holds a refusal. Of a batch that was refused
 /// memory nothing is written.
 pub fn push_batch(
     alloc: Global,

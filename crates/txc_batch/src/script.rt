@@ -29,7 +29,7 @@ fn status_of(is_refused: bool) -> Status
     }
 }
 
-/// Runs the jobs that the lines asked for, of which one was refused or none, and writes what they came to.
+/// Runs the jobs that the lines asked for, of which one was refused or none, and writes what they gave.
 fn end_in_jobs<A, C, W, H>(
     rt: &H,
     alloc: Global,
@@ -88,8 +88,8 @@ where
 /// of the settings. After all lines, none of which was malformed, its jobs run over these and over new nodes. Each
 /// runs once, by workers on threads of their own, one for each registry. Then a line is written for each job, in the
 /// order of the jobs. The status says what is wrong with a malformed line. A reader is read at most
-/// [`txc_script::MAX_READS`] times, where a read that was interrupted counts and is made again: one that has not
-/// come to its end by then is a read fault. The writer is flushed before the jobs run and at the end.
+/// [`txc_script::MAX_READS`] times, where a read that was interrupted counts and is made again. One that has not
+/// reached its end by then is a read fault. The writer is flushed before the jobs run and at the end.
 pub fn run_batch_script<A, C, R, W, H>(
     rt: &H,
     alloc: Global,

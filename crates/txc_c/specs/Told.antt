@@ -11,7 +11,7 @@ use Rattle.txc_c.specs.Crossing.{crossing_reach, TellsStored}
 use Rattle.txc_c.specs.declared.crossing.TxcReach.{TxcReach}
 use Rattle.txc_c.specs.declared.crossing.TxcStored.{TxcStored}
 
--- the reply to a call of a handle, where it comes to a step
+-- the reply to a call of a handle, where the call makes a step
 abbrev pub call_reply : Option Counted → Option Op → Option (Reply Shown)
 call_reply None asked = None
 call_reply (Some n) None = None

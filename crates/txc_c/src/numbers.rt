@@ -10,7 +10,7 @@ pub const DONE: u32 = 0;
 pub const MISS: u32 = 1;
 /// The entry that is there ends no earlier, and stays.
 pub const KEPT: u32 = 2;
-/// A hit whose value is longer than the buffer: its length is told.
+/// A hit whose value is longer than the buffer: its length is given.
 pub const NO_ROOM: u32 = 3;
 /// The handle has no node.
 pub const CLOSED: u32 = 4;

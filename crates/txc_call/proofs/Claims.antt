@@ -30,7 +30,7 @@ same_tag_is a b e =
     let rows : a.rows ≡ b.rows = same_rows_is a.rows b.rows two.1 in
     λ k. record { table = table k; rows = rows k }
 
--- a set covers what it has of the tags that came to it
+-- a set covers what it has of the tags that were added to it
 has_covered : (more set : List Tag) (tag : Tag) → has_tag more tag ≡ true → covers (with_tags more set) tag ≡ true
 has_covered more set tag e =
     let found = any_found (same_tag tag) more e in
@@ -60,7 +60,7 @@ all_one tags more (q ∷ qs) h =
     let two = both_true (covers_query tags q) (covers_all tags qs) h in
     and_true (covers_query (with_tags more tags) q) (covers_all (with_tags more tags) qs) (all_keep more (query_tag q) tags two.0) (all_one tags more qs two.1)
 
--- and what the tags that came to it covered
+-- and what the tags that were added to it covered
 all_other : (tags more : List Tag) (qs : List Query) → covers_all more qs ≡ true → covers_all (with_tags more tags) qs ≡ true
 all_other tags more [] h = refl
 all_other tags more (q ∷ qs) h =

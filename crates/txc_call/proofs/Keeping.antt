@@ -144,7 +144,7 @@ module _ (next : Next) (top : Call) (law : RightAnswersGiveTheValue) (s : Standi
       let fine = allowed (ask_refusal os frame.key.function ask) s (AllowedTransition outer (asked + 1) frame ask os goes_on (Ok s)) counted.1 in
       allowed_keeps outer (asked + 1) frame os goes_on few (few_by frame.answers asked (sym counted.0)) ask fine.0 h on fine.1
 
-  -- an answer comes to the innermost frame
+  -- an answer reaches the innermost frame
   given_keeps : (outer : List Frame) (asked : ℕ) (frame : Frame) (wanted ask : Ask) (x : Answer) (reach : Option Interval) (tags : List Tag) (os : Objects) (goes_on : Onward)
       (H : History → Type 0) → ((L : History) → H L → AnswerHolds next L frame.key.function wanted x reach tags)
       → IsWaiting next os top wanted (frame ∷ outer) → (t : ℕ) → InReach t reach → InAll t (frame ∷ outer)
@@ -165,7 +165,7 @@ module _ (next : Next) (top : Call) (law : RightAnswersGiveTheValue) (s : Standi
       (λ two. subst (λ (r : Option Interval). AreUnreached (given frame r tags ∷ outer)) (sym two.0) (unreached_given frame tags outer two.1))
       (ask_keeps outer asked (given frame reach tags) ask os' goes_on waits.few.1 h' on leads)
 
-  -- the value of a call comes to the frames
+  -- the value of a call reaches the frames
   pub value_keeps : (frames : List Frame) (asked : ℕ) (o : Outcome) (os : Objects)
       → IsWaiting next os top (asks.Call o.key) frames → IsRising o.key.function frames → (t : ℕ) → InReach t o.reach → InAll t frames
       → AfterValue next frames asked o os (Ok s) → KeepsValue frames o os

@@ -93,7 +93,7 @@ module _ (next : Next) (asked : ℕ) where
       asked_for outer asked frame (asks.Done bytes) objects goes_on turn counted short
       (subst (λ (reach : Option Interval). DoneTransition outer (asked + 1) frame reach bytes (with_activity objects frame.key.function idle) goes_on turn) (sym none) value)
 
-  -- a value that comes to a frame
+  -- a value that reaches a frame
   pub value_onward : (frames frames' : List Frame) (o : Outcome) (ask : Ask) (objects objects' : Objects) (turn : Turn) → frames ≢ []
       → ((frame : Frame) (outer : List Frame) → frames ≡ frame ∷ outer → frames' ≡ given frame o.reach o.tags ∷ outer)
       → ((frame : Frame) (outer : List Frame) → frames ≡ frame ∷ outer → objects' ≡ with_answer objects frame.key.function (answers.Value o.value))
@@ -107,7 +107,7 @@ module _ (next : Next) (asked : ℕ) where
     subst (λ (os : Objects). AfterAsk next outer asked (given frame o.reach o.tags) ask os turn) (becomes frame outer refl) (leads (given frame o.reach o.tags) outer (stack frame outer refl)),
   )
 
-  -- what was found comes to the innermost frame, which asks this next
+  -- what was found reaches the innermost frame, which asks this next
   pub rows_onward : (frames frames' : List Frame) (found : Found) (rows : List RowValue) (ask : Ask) (objects objects' : Objects) (turn : Turn) → rows ≡ found.rows.items → frames ≢ []
       → ((frame : Frame) (outer : List Frame) → frames ≡ frame ∷ outer → frames' ≡ given frame (Some found.reach) found.tags ∷ outer)
       → ((frame : Frame) (outer : List Frame) → frames ≡ frame ∷ outer → objects' ≡ with_answer objects frame.key.function (answers.Rows rows))

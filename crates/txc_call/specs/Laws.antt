@@ -1,4 +1,4 @@
--- What a call comes to, over all the replies that lead it there.
+-- What a call gives at its end, over all the replies that lead it there.
 use Rattle.std.specs.Prelude.{◌≡◌, ℕ, List, [], ◌∷◌, Some, IsSome, Ok}
 use Rattle.txc_tags.specs.Keys.{Call}
 use Rattle.txc_db.specs.History.{History}
@@ -40,8 +40,8 @@ pub record IsLedFrom (next : Next) (L : History) (k : Call) (objects : Objects) 
   pub there : IsSome (activity_of objects k.function)
   pub led : IsLed next L (at_start k objects) replies s
 
--- the value of the call at its end holds: it is what the call comes to without a cache at each stamp of its
--- reach, or everywhere, where it has none; and all objects are idle again
+-- The value of the call at its end holds: it is what the call gives without a cache at each stamp of its
+-- reach, or everywhere, where it has none. And all objects are idle again.
 pub record IsRightEnd (next : Next) (L : History) (k : Call) (s : Standing) (o : Outcome) : Type 0 where
   pub of_call : o.key ≡ k
   pub holds : ValueHolds next L k o.value o.reach o.tags

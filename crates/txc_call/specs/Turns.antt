@@ -161,7 +161,7 @@ AnswerTransition next outer asked frame x objects goes_on turn =
     )
 
 -- what comes of the value of a call: it is the next answer of the innermost frame, or, where there is none,
--- what the whole call comes to
+-- what the whole call gives
 abbrev pub AfterValue : Next → List Frame → ℕ → Outcome → Objects → Turn → Type 0
 AfterValue next [] asked o objects turn = turn ≡ needing [] asked (needs.Value o) objects
 AfterValue next (frame ∷ outer) asked o objects turn =

@@ -51,7 +51,7 @@ impl Model for CallMachine {
     } };
 }
 
-// The value of a call is the next answer of the innermost frame, or what the whole call comes to.
+// The value of a call is the next answer of the innermost frame, or what the whole call gives.
 fn deliver<A: App, C: Cacheable>(
     frames: &mut Frames,
     registry: &mut Registry<A, C>,
@@ -192,7 +192,7 @@ impl CallMachine {
     }
 
     /// Starts a call, which needs a lookup first. It is refused where there is no such function. What the
-    /// last call came to is dropped, if it was not taken.
+    /// last call gave is dropped, if it was not taken.
     pub fn start<A: App, C: Cacheable>(
         &mut self,
         registry: &Registry<A, C>,
@@ -268,7 +268,7 @@ impl CallMachine {
         }
     }
 
-    /// Takes what a call that is done came to. The machine is then without a call; where the call is not
+    /// Takes what a call that is done gave. The machine is then without a call; where the call is not
     /// done, nothing changes.
     pub fn finish(&mut self) -> Option<Outcome>
         ensures { MatchOption result

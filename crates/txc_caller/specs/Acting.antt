@@ -65,7 +65,7 @@ pub record IsAwaitingCaller (next : Next) (ports : CallerPorts) (t : TxnValue) (
   pub row : t.core.seen.events ≡ ports.database.events
   pub nodes : t.core.nodes ≡ 1
 
--- The act of this call came to that. The settings, the functions and the row are as before, and no less is seen of the
+-- The act of this call gave that. The settings, the functions and the row are as before, and no less is seen of the
 -- one history.
 pub record HasCallerActed (next : Next) (ports ports' : CallerPorts) (t t' : TxnValue) (k : Call) (it : Acted) : Type 0 where
   pub acted : IsActOf next t.core.recorded k t' it

@@ -169,8 +169,8 @@ is_of_pin (requests.AddPin pinned) = true
 is_of_pin (requests.Unpin stamp) = true
 is_of_pin request = false
 
--- What a request comes to, once it was replied so: a pin is made; a pin is added, or a hold taken away; the node
--- makes a step; a query changes nothing. What is refused changes nothing that is told here.
+-- What a request does, once it was replied so: a pin is made; a pin is added, or a hold taken away; the node
+-- makes a step. A query changes nothing. What is refused changes nothing that is said here.
 abbrev pub CallerExchangeTransition : FrontValue → CallerPorts → CallerPorts → Exchange → Type 0
 CallerExchangeTransition seen old new (exchanges.Pin now at_least pinned) = CallerPinTransition now at_least old new pinned
 CallerExchangeTransition seen old new (exchanges.AddPin pinned given added) = CallerAddTransition pinned old new added

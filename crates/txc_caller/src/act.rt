@@ -24,7 +24,7 @@ pub(crate) enum Awaited {
     Kept,
 }
 
-/// What the innermost function does, once its object was told.
+/// What the innermost function does, once its object was given it.
 #[derive(Drop)]
 pub(crate) enum Told {
     /// It waits for this.

@@ -61,7 +61,7 @@ fn stays(frames: Frames, answer: Answer, kept: PortReply) -> Acted
     }
 }
 
-// The call is open, and the caller is told why it does not go on.
+// The call is open, and the caller learns why it does not go on.
 fn refused(frames: Frames, given: Option<Answer>, kept: PortReply, error: CallerError) -> Acted
     ensures acted { (next : Next) (t : TxnValue) → IsKeptBack next t kept → open_call t.core ≡ Some frames.top
         → IsActOf next t.core.recorded frames.top t result }
@@ -373,7 +373,7 @@ fn give<A: App, C: Suppliable>(
     }
 }
 
-// The object of the innermost function was told what that does.
+// The object of the innermost function was given what that does.
 fn go_on<A: App, C: Suppliable>(
     alloc: Global,
     ports: &mut Ports<A>,

@@ -1,4 +1,4 @@
-//! Transactions whose functions the caller computes: the caller asks for calls, is told which functions to compute,
+//! Transactions whose functions the caller computes: the caller asks for calls, learns which functions to compute,
 //! and says what each asks and what it gives.
 //!
 //! A [`Caller`] has a database, a pincushion and a node in one thread. Its transaction, a [`CallerTxn`], keeps the

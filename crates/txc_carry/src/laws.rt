@@ -1,4 +1,4 @@
-//! What the definitions come to. Each is a lemma: it has no code.
+//! What follows from the definitions. Each is a lemma: it has no code.
 ghost use Rattle.txc_carry.specs.Worked.{WorkedOrder};
 
 /// Which rows stand before a place, of four rows in two tables.

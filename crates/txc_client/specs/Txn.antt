@@ -46,7 +46,7 @@ abbrev pub client_of : RoTxnValue → ClientValue
 client_of t =
     record { passes = t.passes; renew_after = t.txn.core.renew_after; objects = t.txn.objects }
 
--- at every member, this is what the call comes to without a cache
+-- at every member, this is what the call gives without a cache
 abbrev pub IsValueAtMembers : Next → CoreValue → Call → List ℕ → Type 0
 IsValueAtMembers next c k bytes =
     All (λ p. eval next k (state_at c.seen.history p.stamp) ≡ Some bytes) c.pins.members

@@ -48,7 +48,7 @@ impl<'a, A: App, C: Cacheable, J: Naming> Model for RoTxn<'a, A, C, J> {
 }
 
 impl<'a, A: App, C: Cacheable, J: Naming> RoTxn<'a, A, C, J> {
-    /// The call's value: what it comes to without a cache at every stamp that remains.
+    /// The call's value: what it gives without a cache at every stamp that remains.
     ///
     /// Where it is refused, the transaction is open and its answers are as before. A node that refuses is one
     /// that has nothing, and keeps nothing.

@@ -135,7 +135,7 @@ first_left ss n s rest is =
       ap (λ (k : ℕ). get_or ss k 0) (omega arith) ∙ (sym (get_or-drop n ss 0 0) ∙ ap (λ (l : List ℕ). get_or l 0 0) is),
     )
 
--- what a pass over the first entries, which has found so many stamps, has come to
+-- what a pass over the first entries, which has found so many stamps, has left
 abbrev pub Passed : List PinEntry → List ℕ → List PinEntry → ℕ → ℕ → Type 0
 Passed es ss now i n = (now ≡ map (without_users ss) (take i es) ++ drop i es)
     × (stand_in_order (drop i es) (drop n ss) ≡ true)

@@ -1,4 +1,4 @@
--- What the calls of a pincushion come to, stamp by stamp.
+-- What the calls of a pincushion do, stamp by stamp.
 use Rattle.std.specs.Prelude.{◌≡◌, ℕ, ◌+◌, ◌<◌, ◌≤◌, ◌==◌, true, false, List, length, map, All, Contains, if◌then◌else◌}
 use Rattle.txc_db.specs.declared.pinned.Pinned.{Pinned}
 use Rattle.txc_cushion.specs.declared.entry.PinEntry.{PinEntry}

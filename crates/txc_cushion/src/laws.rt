@@ -1,4 +1,4 @@
-//! What the calls of a pincushion come to, stamp by stamp. Each is a lemma: it has no code.
+//! What the calls of a pincushion do, stamp by stamp. Each is a lemma: it has no code.
 ghost use Rattle.txc_cushion.specs.Laws.{PinsEachStampOnce, FreshCountsUsers, HandsOutTheNewest, AddCountsOnePin, GiveBackCountsUsers, RetireCountsTheUnused};
 
 /// No stamp is pinned twice, and one that is not pinned has no users.

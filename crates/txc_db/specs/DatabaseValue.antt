@@ -95,7 +95,7 @@ abbrev pub after_pin : DatabaseValue → ℕ → DatabaseValue
 after_pin d moment =
     record d { history = d.history ++ pin_event moment ∷ []; holds = d.holds ++ (newest d + 1) ∷ [] }
 
--- what the changes come to over the newest state
+-- what the changes give over the newest state
 abbrev pub newest_net : DatabaseValue → List Change → List Change
 newest_net d changes = net_changes (newest_state d) changes
 

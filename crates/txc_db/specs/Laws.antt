@@ -1,4 +1,4 @@
--- What the definitions of histories come to.
+-- What follows from the definitions of histories.
 use Rattle.std.specs.Prelude.{ℕ, suc, ◌≡◌, ◌≤◌, ◌+◌, true, false, List, [], ◌++◌, length, Some, if◌then◌else◌, ◌==◌}
 use Rattle.txc_tags.specs.declared.tag.Tag.{Tag}
 use Rattle.txc_tags.specs.Tags.{sets_match}

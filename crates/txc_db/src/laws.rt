@@ -1,4 +1,4 @@
-//! What the definitions come to. Each is a lemma: it has no code.
+//! What follows from the definitions. Each is a lemma: it has no code.
 ghost use Rattle.txc_db.specs.Laws.{EventTagsAreSound, StatesStay, TagsStay, PinsChangeNothing, OneHoldLess};
 ghost use Rattle.txc_db.specs.Worked.{WorkedHistory};
 

@@ -1,4 +1,4 @@
-//! What a list of changes comes to: the last one of each table and id, by table and id.
+//! What a list of changes gives: the last one of each table and id, by table and id.
 ghost use Rattle.std.specs.Prelude.{◌≡◌, ◌≤◌, ◌∷◌, [], ℕ, OnOk, IfOk, MatchOption, length, flat_map};
 ghost use Rattle.std.specs.List.{insert, list_any};
 ghost use Rattle.txc_tags.specs.Tags.{with_tags};

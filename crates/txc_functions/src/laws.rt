@@ -2,7 +2,7 @@
 ghost use Rattle.txc_functions.specs.Worked.{WorkedCalls, WorkedRefusals};
 ghost use Rattle.txc_functions.specs.WorkedEntries.{WorkedEntries};
 
-/// What calls of the program's functions come to in the states of a history that was worked by hand, and
+/// What calls of the program's functions give in the states of a history that was worked by hand, and
 /// what the longest value is.
 pub fn worked_calls()
     ensures calls { WorkedCalls }

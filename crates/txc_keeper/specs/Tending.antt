@@ -11,7 +11,7 @@ use Rattle.txc_keeper.specs.Keeps.{IsKeep, IsNoKeep, KeepTold}
 use Rattle.txc_keeper.specs.Refusals.{IsKeeperRefused}
 use Rattle.txc_keeper.specs.Stations.{StationValue}
 
--- a keeper's stations, and what it came to
+-- a keeper's stations, and what it did
 pub record OwnKeeperValue : Type 0 where
   pub stations : List StationValue
   pub tended : Tended
@@ -22,7 +22,7 @@ pub record IsNewOwnKeeper (all : List NodeSettings) (own : OwnKeeperValue) : Typ
   pub records : All (λ s. s.pass.records ≡ []) own.stations
   pub tended : own.tended ≡ record { keeps = 0; refused = None }
 
--- what a keeper came to, with one keep more
+-- what a keeper did, with one keep more
 abbrev pub tended_after : Tended → Option DbError → Tended
 tended_after t None = record t { keeps = counted_again t.keeps }
 tended_after t (Some error) = record { keeps = counted_again t.keeps; refused = Some error }
@@ -39,7 +39,7 @@ abbrev pub due_at : ℕ → List ℕ → ℕ
 due_at every [] = 0
 due_at every (last ∷ earlier) = min (last + every) (2 ^ 64 - 1)
 
--- it kept at each of these moments, the latest first, which the clock told, and not before it was due
+-- it kept at each of these moments, the latest first, which the clock showed, and not before it was due
 abbrev pub HaveTended : Name → (ℕ → Name) → (ℕ → Type 0) → Keeping → OwnKeeperValue → List ℕ → OwnKeeperValue → Type 0
 HaveTended row histories tells keeping first [] last = last ≡ first
 HaveTended row histories tells keeping first (now ∷ earlier) last = (before : OwnKeeperValue)
@@ -53,14 +53,14 @@ pub record HasTendedSince (row : Name) (histories : ℕ → Name) (nodes : List 
   pub new : IsNewOwnKeeper nodes first
   pub kept : HaveTended row histories tells keeping first moments own
 
--- such a keeper of these nodes, whatever their histories, came to this
+-- such a keeper of these nodes, whatever their histories, did this
 pub record IsTendedBy (row : Name) (nodes : List NodeSettings) (tells : ℕ → Type 0) (keeping : Keeping) (tended : Tended) : Type 0 where
   pub histories : ℕ → Name
   pub own : OwnKeeperValue
   pub since : HasTendedSince row histories nodes tells keeping own
   pub told : tended ≡ own.tended
 
--- The site's own keeper: none where the plan has none. Else it came to this, or there was none, since a node gave it no
+-- The site's own keeper: none where the plan has none. Else it did this, or there was none, since a node gave it no
 -- pass, or for want of memory.
 abbrev pub IsTendedAs : Option Keeping → List NodeSettings → (ℕ → Type 0) → Name → Option (Result Tended SiteError) → Type 0
 IsTendedAs None nodes tells row came = came ≡ None

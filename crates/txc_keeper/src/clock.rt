@@ -64,7 +64,7 @@ impl Clock for CountedClock {
     }
 }
 
-/// What the clock of a site told last, for all of its threads.
+/// What the clock of a site showed last, for all of its threads.
 #[derive(Drop)]
 pub struct Moment {
     now: AtomicU64,
@@ -78,12 +78,12 @@ impl Moment {
         }
     }
 
-    /// Notes what the clock told.
+    /// Notes what the clock showed.
     pub fn set(&self, now: u64) {
         self.now.store(now, Ordering::SeqCst);
     }
 
-    /// What the clock told last, in milliseconds; 0 where none was looked at.
+    /// What the clock showed last, in milliseconds; 0 where none was looked at.
     pub fn get(&self) -> u64 {
         self.now.load(Ordering::SeqCst)
     }

@@ -23,7 +23,7 @@ pub struct Keeping {
     pub age: u64,
 }
 
-/// What the keeper of a site that keeps itself came to.
+/// What the keeper of a site that keeps itself did.
 #[derive(Clone, Copy, Debug, PartialEq, Eq)]
 pub struct Tended {
     /// How often it kept. The number begins anew after 2^64.
@@ -32,7 +32,7 @@ pub struct Tended {
     pub refused: Option<DbError>,
 }
 
-/// A keeper with what it came to, which only [`OwnKeeper::keep`] changes.
+/// A keeper with what it did, which only [`OwnKeeper::keep`] changes.
 #[derive(Drop)]
 struct OwnKeeper<'a, A: App, J: Naming> {
     keeper: Keeper<'a, A, J>,
@@ -89,7 +89,7 @@ impl<'a, A: App, J: Naming> OwnKeeper<'a, A, J> {
     }
 }
 
-/// Keeps the ledger and these nodes at this clock until the visitors have ended. The moment is what the clock told
+/// Keeps the ledger and these nodes at this clock until the visitors have ended. The moment is what the clock showed
 /// last.
 #[tactic(auto, using(crate::proofs::Tending::since_begun, crate::proofs::Tending::once_more, crate::proofs::Tending::told_so))]
 pub fn keep_until_ended<A: App, J: Naming, C: Clock, R: Wait>(

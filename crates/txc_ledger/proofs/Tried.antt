@@ -1,4 +1,4 @@
--- What one run of a change came to, by its kind.
+-- What one run of a change gave, by its kind.
 use Rattle.std.proofs.Common.{◌≡◌, ℕ, ◌+◌, ◌<◌, ap, sym, subst, ◌∙◌, add-one}
 use Rattle.txc_stream.specs.Names.{Name}
 use Rattle.txc_app.specs.Eval.{Next}

@@ -1,4 +1,4 @@
--- Only private functions need this file: what one run of a change came to.
+-- Only private functions need this file: what one run of a change gave.
 use Rattle.std.specs.Prelude.{◌≡◌, ℕ}
 use Rattle.txc_stream.specs.Names.{Name}
 use Rattle.txc_app.specs.Eval.{Next}

@@ -1,4 +1,4 @@
--- What a change that was tried came to.
+-- What a change that was tried gave.
 use Rattle.std.specs.Prelude.{◌≡◌, ◌⊎◌, ℕ, ◌+◌, ◌<◌, List, All, vec_len}
 use Rattle.txc_stream.specs.Names.{Name}
 use Rattle.txc_app.specs.Eval.{Next}
@@ -51,8 +51,8 @@ IsSiteWriteRefused row makes refuses tries (writes.Change cause) = refuses cause
 IsSiteWriteRefused row makes refuses tries (writes.Commit cause) = IsRefusedCommit row makes (commits.Database cause)
 IsSiteWriteRefused row makes refuses tries writes.Memory = Unit {0}
 
--- A change that was refused so was run this often: not at all where there was no memory for its conflicts, as often as
--- there were tries where each was a conflict, and else once or more, but no more often than that.
+-- How often a change that was refused so was run: not at all where there was no memory for its conflicts. Where each
+-- try was a conflict, it was run as often as there were tries; else once or more, but no more often than that.
 abbrev pub IsRunSoOften : ℕ → WriteError → ℕ → ℕ → Type 0
 IsRunSoOften tries writes.Memory old new = new ≡ old
 IsRunSoOften tries (writes.Conflicts conflicts) old new = new ≡ counted_on tries old

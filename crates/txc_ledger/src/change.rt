@@ -17,7 +17,7 @@ pub trait Change<A: App, D: Definition> {
     ghost use Rattle.txc_rw.specs.Core.{RwValue};
     ghost use Rattle.txc_ledger.specs.declared.run_error.RunError.{RunError};
 
-    /// What the change comes to.
+    /// What the change gives.
     type Output: Drop;
 
     // What it says of the transaction that is to be committed: of its base, its answers and its changes.

@@ -17,7 +17,7 @@ use txc_registry::Registry;
 use txc_rw::Committed;
 use txc_stamp::Stamp;
 
-/// What a change came to, with the commit of its transaction, and the conflicts of the runs before.
+/// What a change gave, with the commit of its transaction, and the conflicts of the runs before.
 #[derive(Drop)]
 pub struct Written<T> {
     pub output: T,
@@ -25,7 +25,7 @@ pub struct Written<T> {
     pub conflicts: Vec<Answered<Stamp>>,
 }
 
-/// What one run of a change came to.
+/// What one run of a change gave.
 pub(crate) enum Attempt<T> {
     Done(T, Committed),
     Conflict(Answered<Stamp>),

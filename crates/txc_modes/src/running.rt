@@ -78,8 +78,8 @@ fn run_by_workers<R: Read, W: Write, H: Threads + Wait + Sync>(
 
 /// Reads a script of this kind, and writes what its lines are answered, by the settings and with the program's
 /// functions. The status says what is wrong with a malformed line. A reader is read at most
-/// [`txc_script::MAX_READS`] times, where a read that was interrupted counts and is made again: one that has not
-/// come to its end by then is a read fault. The writer is flushed at the end, unless what the run begins with
+/// [`txc_script::MAX_READS`] times, where a read that was interrupted counts and is made again. One that has not
+/// reached its end by then is a read fault. The writer is flushed at the end, unless what the run begins with
 /// could not be made: then nothing was read.
 pub fn run<R: Read, W: Write, H: Threads + Wait + Sync>(
     rt: &H,

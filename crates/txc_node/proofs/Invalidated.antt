@@ -1,4 +1,4 @@
--- What an event leaves, when it has come to all places that its tags list.
+-- What an event leaves, when it has reached all places that its tags list.
 use Rattle.std.proofs.Common.{◌≡◌, ℕ, ◌-◌, Bool, true, false, ◌&&◌, ◌||◌, cond, List, [], ◌∷◌, map, Some, None, refl, sym, ap, subst, ◌∙◌, arith}
 use Rattle.std.specs.Prelude.{unwrap_or, nat_lt}
 use Rattle.std.specs.List.{count_by, find, AllByRecursion, list_any}
@@ -114,7 +114,7 @@ module _ (stamp : ℕ) (tags : List Tag) where
             live_at old.entries q o t (still_before old new n q o e.0 closes t e.1 is e.2)
       ]) refl same
 
-  -- an event that has come to each place at which a still valid entry stood has come to all
+  -- an event that has reached each place at which a still valid entry stood has reached all
   pub spared_still : (old new : HeldEntries) (n : ℕ) (q : Place) → Closes stamp tags old new n → (is_live old.entries q ≡ true → IsSpared stamp tags new.entries q) → IsSpared stamp tags new.entries q
   spared_still old new n q closes h = (elim (is_live old.entries q) as (λ b. is_live old.entries q ≡ b → IsSpared stamp tags new.entries q) [
     | true ↦ λ t. h t

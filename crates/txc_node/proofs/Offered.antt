@@ -1,4 +1,4 @@
--- What crates above may use of the proofs: what the clauses of the calls come to as replies to steps.
+-- What crates above may use of the proofs: what the clauses of the calls say as replies to steps.
 use Rattle.std.proofs.Common.{◌≡◌, ◌≢◌, ℕ, ◌+◌, ◌<◌, ◌≤◌, false, List, length, Option, Some, None, refl, sym, ap, ◌∙◌, inl, inr, arith}
 use Rattle.std.proofs.lemmas.Bool.Decides.{nat_tests}
 use Rattle.txc_tags.specs.Keys.{Call}

@@ -174,7 +174,7 @@ abbrev pub stays_live : ℕ → List Tag → Option Stored → Bool
 stays_live stamp tags None = false
 stays_live stamp tags (Some s) = (stored_after stamp tags s).reach.still
 
--- the pairs after the event has come to a place
+-- the pairs after the event has reached a place
 abbrev pub after_at : ℕ → List Tag → Place → List (Place × Stored) → List (Place × Stored)
 after_at stamp tags q ps =
     option_map_or (λ s. set_value (equal_places q) ps (stored_after stamp tags s)) (lookup (equal_places q) ps) ps

@@ -1,8 +1,8 @@
-//! What a search came to.
+//! What a search gave.
 use crate::versions::Found;
 use txc_stamp::Stamp;
 
-/// What a search of the entries of a key came to at the stamps from `lo` to `hi`, in the node as it was then.
+/// What a search of the entries of a key gave at the stamps from `lo` to `hi`, in the node as it was then.
 #[derive(Clone, Copy, Debug)]
 pub struct Search {
     pub lo: Stamp,

@@ -16,7 +16,7 @@ use txc_stamp::{Reach, Stamp};
 use txc_tags::Key;
 
 /// A sweep that is being made: it drops the entries whose span ends at the horizon or before it, and moves no
-/// other. It reads the reaches in the index of the keys, and comes to an entry only to drop it.
+/// other. It reads the reaches in the index of the keys, and goes to an entry only to drop it.
 #[derive(Clone, Copy)]
 pub(crate) struct Sweep {
     pub(crate) processed: Stamp,

@@ -82,7 +82,7 @@ impl<'a, A: App, D: Definition, J: Naming, B: Begun> PageTxn<'a, A, D, J, B> {
         }
     }
 
-    /// The call's value: what it comes to without a cache at every pin that remains. Where it is refused, the
+    /// The call's value: what it gives without a cache at every pin that remains. Where it is refused, the
     /// answers are as before.
     #[tactic(auto, using(crate::proofs::Pages::one_called_more))]
     pub fn call(&mut self, rt: &impl Wait, alloc: Global, key: Key) -> Result<Value, TxnError>

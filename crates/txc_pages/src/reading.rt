@@ -18,7 +18,7 @@ use txc_definition::{Definition, Function};
 use txc_ports::Bounds;
 use txc_txn::Receipt;
 
-/// What a page came to, with the receipt of its transaction.
+/// What a page gave, with the receipt of its transaction.
 #[derive(Drop)]
 pub struct Shown<T> {
     pub output: T,

@@ -32,6 +32,6 @@ pub record Pool : Type 0 where
   pub name : TableId
   pub most : ℕ
 
--- a handle's word, what that was told, and what the handle has of them
+-- a handle's word, what that was given, and what the handle has of them
 abbrev pub IsAt : TableId → ℕ → TableId → ℕ → Type 0
 IsAt table told seated most = (table.words ≡ 1) × (told ≡ most) × (seated ≡ table)

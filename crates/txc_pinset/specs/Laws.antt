@@ -1,4 +1,4 @@
--- What the calls of a pin set come to.
+-- What the calls of a pin set do.
 use Rattle.std.specs.Prelude.{◌≡◌, ◌≢◌, ◌⊎◌, ◌↔◌, ℕ, ◌+◌, ◌<◌, true, List, [], ◌∷◌, All, Contains}
 use Rattle.txc_stamp.specs.Interval.{Interval, Holds}
 use Rattle.txc_cushion.specs.declared.pin.Pin.{Pin}

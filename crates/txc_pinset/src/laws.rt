@@ -1,4 +1,4 @@
-//! What the calls of a pin set come to. Each is a lemma: it has no code.
+//! What the calls of a pin set do. Each is a lemma: it has no code.
 ghost use Rattle.txc_pinset.specs.Laws.{KeepsExactlyTheHeld, OnlyThePresentJoins, NeverIsEmpty, TakesThePresentWhenDue};
 
 /// A narrowed set has exactly the members that the reach holds.

@@ -23,8 +23,8 @@ use Rattle.txc_play.specs.declared.task.Task.TheVariants as tasks
 
 -- ---- steps and replies of a world
 
--- A step was taken and replied so. It leads from the one world to the other, as it was replied; a receipt and
--- a commit explain what was told before it; and it is replied what is due. Where each has what is its own and
+-- A step was taken and replied so. It leads from the one world to the other, as it was replied. A receipt and
+-- a commit explain what was shown before it; and it is replied what is due. Where each has what is its own and
 -- the step is tidy, each has so after it, and it loses no snapshot.
 pub record IsTaken (next : Next) (old : WorldValue) (step : Step) (reply : Reply) (new : WorldValue)
     : Type 0 where

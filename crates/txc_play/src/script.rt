@@ -30,7 +30,7 @@ pub fn world_settings(settings: Settings) -> WorldSettings
 /// Reads a script, and writes the replies to its lines: the keeper and the actors of the world, by their
 /// numbers, take steps. The status says what is wrong with a malformed line. However the run ends, each actor
 /// gives up then what it has open. A reader is read at most [`txc_script::MAX_READS`] times, where a read that
-/// was interrupted counts and is made again: one that has not come to its end by then is a read fault. The
+/// was interrupted counts and is made again. One that has not reached its end by then is a read fault. The
 /// writer is flushed at the end.
 pub fn run_world<A: App, C: Cacheable, R: Read, W: Write>(
     alloc: Global,

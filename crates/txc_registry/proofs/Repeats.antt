@@ -64,6 +64,6 @@ module _ {B : Type 0} (number : B → ℕ) where
   distinct_at (x ∷ xs) all = IsDistinct-from_AllPairs Decides-eqb (map number (x ∷ xs)) (apart (x ∷ xs) x all)
 
 module _ {T : Type 0} (same : T → T → Bool) where
-  -- a test that told them apart
+  -- a test that finds them different
   pub told_apart : (o : Option T) (x : T) (b : Bool) → same x x ≡ true → b ≡ not (option_eq same o (Some x)) → b ≡ true → ¬ (o ≡ Some x)
   told_apart o x b self is so e = absurd (true≢false (sym so ∙ is ∙ ap (λ (p : Option T). not (option_eq same p (Some x))) e ∙ ap not self))

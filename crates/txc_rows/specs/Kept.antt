@@ -111,8 +111,8 @@ pub record ArePassing (table : ℕ) (passes : Placed → Bool) (latest : List Pl
   pub each : AllByRecursion (IsPlacedRow table) rows
   pub same : IsPermutation (filter passes latest) (map placed_from rows)
 
--- the versions that a query asks for, of those that did not die before a stamp, came to the found ones, of which there
--- are no more than may match
+-- The versions that a query asks for, of those that did not die before a stamp, were added to the found ones. Of these
+-- there are no more than may match.
 pub record IsFinding (q : Query) (from : ℕ) (placed : List Placed) (old new : List Versioned) : Type 0 where
   pub more : List Versioned
   pub same : IsPermutation (filter (suits q) (left_from from (map version_of placed))) more

@@ -1,4 +1,4 @@
--- What the definitions of states, answers, net changes and versions come to.
+-- What follows from the definitions of states, answers, net changes and versions.
 use Rattle.std.specs.Prelude.{ℕ, suc, ◌≡◌, ◌≢◌, ◌≤◌, ◌↔◌, ◌&&◌, ◌==◌, true, Bool, List, [], ◌++◌, false, Option, Some, None, if◌then◌else◌}
 use Rattle.std.specs.List.{list_any, flat_map, Contains}
 use Rattle.txc_tags.specs.declared.tag.Tag.{Tag}

@@ -53,7 +53,7 @@ fn version_from(table: Table, shown: &sqlite::Row) -> Result<Versioned, sqlite::
     })
 }
 
-/// The versions of a table that the rows show come to the found ones.
+/// The versions of a table that the rows show are added to the found ones.
 pub(crate) fn add_shown(
     table: Table,
     rows: &[sqlite::Row],
@@ -112,7 +112,7 @@ pub(crate) fn all_placed_from(
     Ok(placed)
 }
 
-/// The versions of a table that the rows are come to the found ones, and are known.
+/// The versions of a table that the rows are join the found ones, and are known.
 pub(crate) fn add_known(
     alloc: Global,
     table: Table,

@@ -1,4 +1,4 @@
-//! What the definitions come to. Each is a lemma: it has no code.
+//! What follows from the definitions. Each is a lemma: it has no code.
 ghost use Rattle.txc_rows.specs.Laws.{StatesAreRows, ChangedIsState, ChangeUpdates, NetLeads, NetIsDifference, NetTags, TagsAreSound, NoTagsBetween, SaysNothing, SaysAgree, SaysWritten, SaysQuiet, SaysPurged, SaysAnswer, NetIsWritable};
 
 /// States are finite maps from (table, id) to (group, body), and changes update them.

@@ -142,7 +142,7 @@ fn died_before(died: Option<Stamp>, from: u32) -> bool
     }
 }
 
-/// The versions at the spots that did not die before the stamp come to the found ones.
+/// The versions at the spots that did not die before the stamp are added to the found ones.
 fn take_found(
     versions: &VecDeque<Placed>,
     first: usize,
@@ -276,7 +276,7 @@ impl Replaced {
         Ok(left)
     }
 
-    /// The versions that match and did not die before the stamp come to the found ones.
+    /// The versions that match and did not die before the stamp are added to the found ones.
     pub(crate) fn find(
         &self,
         alloc: Global,

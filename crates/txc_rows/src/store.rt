@@ -126,7 +126,7 @@ fn make_room(
     Ok(0)
 }
 
-/// The last versions that match, of those that did not die before the stamp, come to the found ones.
+/// The last versions that match, of those that did not die before the stamp, are added to the found ones.
 fn find(
     conn: &mut Connection<MemStore>,
     query: &Query,
@@ -157,7 +157,7 @@ fn forget_many(known: &mut Vec<Placed>)
     known.clear();
 }
 
-/// The last versions of a table and id that did not die before the stamp come to the found ones, and are known.
+/// The last versions of a table and id that did not die before the stamp are added to the found ones, and are known.
 fn find_row(
     conn: &mut Connection<MemStore>,
     known: &mut Vec<Placed>,

@@ -1,4 +1,4 @@
-//! What the definitions come to for stores of versions. Each is a lemma: it has no code.
+//! What follows from the definitions for stores of versions. Each is a lemma: it has no code.
 ghost use Rattle.txc_rows.specs.Uses.{UsesAnswer, KeepsNothing, KeepsAgreed, KeepsQuiet};
 
 /// What is found in a store shows the answers at every stamp from the last horizon on, whatever was written

@@ -372,8 +372,8 @@ fn write_change(
     }
 }
 
-/// Writes the changes of one commit to the table, all or none. Those that they replace come to the others, also where
-/// the commit is refused.
+/// Writes the changes of one commit to the table, all or none. Those that they replace are added to the others, also
+/// where the commit is refused.
 fn write_table(
     conn: &mut Connection<MemStore>,
     replaced: &mut Replaced,

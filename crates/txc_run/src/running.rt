@@ -60,7 +60,7 @@ fn run_counting<R: Read, W: Write>(
 
 /// Reads a script, and writes the replies to its lines or a report of them, as the mode says. The status says
 /// what is wrong with a malformed line. A reader is read at most [`crate::MAX_READS`] times, where a read
-/// that was interrupted counts and is made again: one that has not come to its end by then is a read fault.
+/// that was interrupted counts and is made again. One that has not reached its end by then is a read fault.
 /// The writer is flushed at the end, unless no node could be made: then nothing was read.
 pub fn run<R: Read, W: Write>(
     alloc: Global,

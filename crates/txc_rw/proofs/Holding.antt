@@ -181,7 +181,7 @@ pub reply_found : (L : History) (c : RwValue) (reply : Result Found DbError) (fo
     → IsFoundAt L c.base q found
 reply_found L c reply found q is asked right = subst (λ (r : Result Found DbError). IsRightReply L c r) is right q asked
 
--- and, as the call is told it, it holds at the stamp 1
+-- and, as the call gets it, it holds at the stamp 1
 pub found_at_one : (L : History) (base : ℕ) (changes : List Change) (q : Query) (found told : Found) → told.rows ≡ found.rows → told.reach ≡ only_one → IsFoundAt L base q found
     → answer q (state_of changes) ≡ answer q (state_at L base) → RowsHold (committed changes) q told.rows.items (Some told.reach) told.tags
 found_at_one L base changes q found told rows reach right agree =
@@ -208,7 +208,7 @@ kept_more tags old new changes reading after x h is none items =
 
 -- ---- values
 
--- a value that holds at the stamp 1 is what the call comes to
+-- a value that holds at the stamp 1 is what the call gives
 pub value_at_one : (next : Next) (changes : List Change) (k : Call) (bytes : List ℕ) (reach : Option Interval) (tags : List Tag)
     → InReach 1 reach → ValueHolds next (committed changes) k bytes reach tags → eval next k (state_of changes) ≡ Some bytes
 value_at_one next changes k bytes None tags here h = (h (state_of changes)).0

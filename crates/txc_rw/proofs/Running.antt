@@ -179,7 +179,7 @@ run_goes_on next row s from old core new objects objects' turn (Err e) q h readi
 
 -- ---- the transaction's own query
 
--- from the core that was asked it, what comes of the database's answer, told of the core before
+-- from the core that was asked it, what comes of the database's answer, said of the core before
 module _ (old asking new : RwValue) (q : Query) (same : asking ≡ record old { reading = Some q }) (none : old.reading ≡ None) where
   pub query_after : (reply : Result Found DbError) (result : Result (Vec RowValue Global) TxnError) → RowsTransition asking q reply new result
       → IfOk result (λ rows. new ≡ record old { queried = old.queried ++ q ∷ []; answers = old.answers ++ given.Rows q rows.items ∷ [] })

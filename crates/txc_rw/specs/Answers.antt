@@ -9,7 +9,7 @@ use Rattle.txc_app.specs.Eval.{Next, eval}
 use Rattle.txc_rw.specs.declared.given.Given.{Given}
 use Rattle.txc_rw.specs.declared.given.Given.TheVariants.{Value, Rows}
 
--- in the state, the answer is what its call comes to without a cache, or what its query gives
+-- in the state, the answer is what its call gives without a cache, or what its query gives
 abbrev pub IsRightIn : Next → State → Given → Type 0
 IsRightIn next s (Value key value) = eval next key s ≡ Some value
 IsRightIn next s (Rows query rows) = rows ≡ answer query s

@@ -89,7 +89,7 @@ RwStandingTransition (Ok standing) new objects (Ended (Ok value)) = (o : Outcome
 RwStandingTransition (Ok standing) new objects (Ended (Err error)) = error ≡ Memory
 RwStandingTransition (Err error) new objects turn = turn ≡ Ended (Err (refused_call error))
 
--- where these queries are answered on the way, the call comes to stand so that the core does this
+-- where these queries are answered on the way, the call stands so that the core does this
 abbrev pub RwCallTransition : Next → State → CallTurn → List Query → RwValue → Objects → QueryTurn → Type 0
 RwCallTransition next s from queries new objects turn =
     (stands : CallTurn) × IsLedTo next s from queries stands × RwStandingTransition stands new objects turn

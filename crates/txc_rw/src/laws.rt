@@ -1,4 +1,4 @@
-//! What the definitions come to. Each is a lemma: it has no code.
+//! What follows from the definitions. Each is a lemma: it has no code.
 ghost use Rattle.txc_rw.specs.Laws.{AnswersAreRight, CommitsAreRight, EventCommitsAreRight, HoldsAtFirst, HoldsInLonger, QuietCommitsAreRight, TagsCoverQueries};
 
 /// What is true of a transaction that has just begun, and stays true while the history grows.

@@ -29,7 +29,7 @@ use txc_rows::{Change, Query, Row};
 use txc_stamp::Stamp;
 use txc_tags::{Key, Table};
 
-/// What a transaction that was committed came to.
+/// What a transaction that was committed gave.
 #[derive(Drop)]
 pub struct Committed {
     /// The newest stamp that the commit left.

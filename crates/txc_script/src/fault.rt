@@ -5,7 +5,7 @@ ghost use Rattle.std.specs.Prelude.{◌≡◌, Ok, Err};
 use crate::line_fault::MalformedLine;
 use thiserror::Error;
 
-/// How a run ended that came to the end of its script, or to a malformed line.
+/// How a run ended that reached the end of its script, or a malformed line.
 #[derive(Debug, Drop)]
 pub enum Status {
     /// No line was refused.
@@ -20,7 +20,7 @@ pub enum Status {
 /// them.
 #[derive(Clone, Copy, Debug, PartialEq, Eq, Error)]
 pub enum RunFault {
-    /// The reader failed, or did not come to its end within [`crate::MAX_READS`] reads.
+    /// The reader failed, or did not reach its end within [`crate::MAX_READS`] reads.
     #[error("read fault")]
     Read,
     /// The writer failed, or took no byte.

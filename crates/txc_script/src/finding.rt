@@ -136,7 +136,7 @@ pub fn bad_bytes<K: Script>(kind: &K, state: &K::State, line: &[u8]) -> LineFaul
     }
 }
 
-/// What is wrong with a line of whose words this is: that a word is empty is told first.
+/// What is wrong with a line of whose words this is: that a word is empty is said first.
 pub fn bad_words<K: Script>(
     kind: &K,
     state: &K::State,

@@ -112,7 +112,7 @@ fn flush<W: Write>(writer: &mut W, ended: Result<Status, RunFault>) -> Result<St
 
 /// Reads a script of a kind, and writes the replies to its lines. The status says what is wrong with a
 /// malformed line. A reader is read at most [`crate::MAX_READS`] times, where a read that was interrupted counts
-/// and is made again: one that has not come to its end by then is a read fault. The writer is flushed at the
+/// and is made again. One that has not reached its end by then is a read fault. The writer is flushed at the
 /// end.
 pub fn run_script<K: Script, R: Read, W: Write>(
     alloc: Global,

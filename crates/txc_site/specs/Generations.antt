@@ -26,7 +26,7 @@ abbrev pub last_state : FrontValue → State
 last_state front = state_at front.history (length front.history)
 
 -- A generation over a database whose history is kept as the plan says. Its history at the end goes on from that at the beginning.
--- There are so many outputs, each of which is what the thread of its number comes to there. Its own keeper came to what the plan
+-- There are so many outputs, each of which is what the thread of its number gives there. Its own keeper did what the plan
 -- says, at moments of the clock.
 pub record IsGeneration {T : Type 0} (plan : Plan) (tells : ℕ → Type 0) (count : ℕ) (gives : Plan → Name → ℕ → T → Type 0) (g : Generation T) : Type 0 where
   pub room : IsHistoryFor plan.events g.begun.events
@@ -82,7 +82,7 @@ GenerationsHaveEnded {T} goes room numbers all (Ok u) = (before : List (Generati
     × All (λ g. goes g true) before × goes last false
 GenerationsHaveEnded goes room numbers all (Err error) = All (λ g. goes g true) all × IsEndRefused room numbers all error
 
--- The generations came in turn, from what the opening left on, each over a database of its own whose history is kept as the plan says. What they came to stands in
+-- The generations came in turn, from what the opening left on, each over a database of its own whose history is kept as the plan says. What they gave stands in
 -- their order.
 pub record HaveServed {T U : Type 0} (plan : Plan) (tells : ℕ → Type 0) (count : ℕ) (numbers : List ℕ) (gives : Plan → Name → ℕ → T → Type 0)
     (goes : Generation T → Bool → Type 0) (opened : FrontValue) (came : List (Vec T Global)) (end : Result U GenerationError) : Type 0 where

@@ -1,4 +1,4 @@
--- What a site that is opened comes to.
+-- What a site that is opened gives.
 use Rattle.std.specs.Prelude.{◌≡◌, ℕ, List, Option, vec_len}
 use Rattle.txc_stream.specs.Names.{Name}
 use Rattle.txc_carry.specs.Rooms.{IsHistoryFor}
@@ -15,7 +15,7 @@ use Rattle.txc_visits.specs.Sites.{HaveCome, IsRegistryRefused, IsSiteRefused}
 use Rattle.txc_ledger.specs.Writes.{IsWritten, IsSiteWriteRefused}
 
 -- Over a database whose history is kept as the plan says, the opening was written in its first run.
--- There are so many outputs, each of which is what the thread of its number comes to there. What is left is of that history.
+-- There are so many outputs, each of which is what the thread of its number gives there. What is left is of that history.
 pub record IsVisited {O T : Type 0} (next : Next) (plan : Plan) (count : ℕ) (makes : RwValue → O → Type 0)
     (gives : Plan → Name → ℕ → T → Type 0) (visited : Visited O T) : Type 0 where
   pub row : Name

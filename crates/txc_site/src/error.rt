@@ -9,11 +9,11 @@ use txc_visits::OpenError;
 #[derive(Drop, Debug, Error)]
 pub enum GenerationError {
     /// The site of a generation was not made, and no thread of it was started; or there was no memory for the
-    /// threads, and what they came to is lost.
+    /// threads, and what they gave is lost.
     #[error("{0}")]
     Visit(OpenError),
     /// All threads of a generation had ended, and its database gave no front of its whole history: out of
-    /// memory, or it shows less than when the generation began. What the threads came to is lost.
+    /// memory, or it shows less than when the generation began. What the threads gave is lost.
     #[error("{0}")]
     Ended(DbError),
     /// The state was not carried over to a next generation.

@@ -20,12 +20,12 @@ use txc_keeper::{Clock, CountedClock, SiteError};
 use txc_ledger::{Change, Written};
 use txc_visits::{Application, OpenError, Plan, Visits, over_new_histories};
 
-/// What a site came to in all its generations.
+/// What a site gave in all its generations.
 #[derive(Drop)]
 pub struct Served<O, T> {
-    /// What the opening came to, with its commit.
+    /// What the opening gave, with its commit.
     pub opening: Written<O>,
-    /// What each thread of each generation came to, in the order of the generations and of the threads.
+    /// What each thread of each generation gave, in the order of the generations and of the threads.
     pub generations: Vec<Vec<T>>,
     /// Whether the visitors wanted no other generation, or why there was none.
     pub end: Result<(), GenerationError>,
@@ -151,7 +151,7 @@ where
 /// with the plan's room, with new nodes, and `count` threads visit that; and so on.
 ///
 /// Stamps begin anew in each generation, and the nodes have nothing. What was refused after the opening stands
-/// in the result, beside what the generations before came to.
+/// in the result, beside what the generations before gave.
 pub fn with_generations_at<A, D, O, V, C, R>(
     rt: &R,
     alloc: Global,

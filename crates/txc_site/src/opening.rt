@@ -22,14 +22,14 @@ use txc_visits::{
     Application, LastState, Numbers, OpenError, Plan, Visitor, Visits, over_new_histories, registry,
 };
 
-/// What a site came to.
+/// What a site gave.
 #[derive(Drop)]
 pub struct Visited<O, T> {
-    /// What the opening came to, with its commit.
+    /// What the opening gave, with its commit.
     pub opening: Written<O>,
-    /// What each thread came to, in the order of their numbers.
+    /// What each thread gave, in the order of their numbers.
     pub outputs: Vec<T>,
-    /// What the site's own keeper came to, or why there was none; nothing where the plan has none.
+    /// What the site's own keeper did, or why there was none; nothing where the plan has none.
     pub tended: Option<Result<Tended, SiteError>>,
     /// What the threads did in all.
     pub numbers: Numbers,

@@ -13,9 +13,9 @@ pub struct Generation<T> {
     pub begun: HistoryFront,
     /// The whole history of its database, once all threads had ended.
     pub ended: HistoryFront,
-    /// What each thread came to, in the order of their numbers.
+    /// What each thread gave, in the order of their numbers.
     pub outputs: Vec<T>,
-    /// What the site's own keeper came to, or why there was none; nothing where the plan has none.
+    /// What the site's own keeper did, or why there was none; nothing where the plan has none.
     pub tended: Option<Result<Tended, SiteError>>,
     /// What the threads did in all.
     pub numbers: Numbers,

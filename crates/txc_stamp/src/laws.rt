@@ -1,4 +1,4 @@
-//! What the definitions come to. Each is a lemma: it has no code.
+//! What follows from the definitions. Each is a lemma: it has no code.
 ghost use Rattle.std.specs.Prelude.{◌≡◌, ◌↔◌, ◌≤◌, ◌&&◌, ℕ, max, IfSome, IsNone};
 ghost use Rattle.txc_stamp.specs.Interval.{Interval, Spans, Holds, meet_of};
 

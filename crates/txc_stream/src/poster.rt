@@ -83,7 +83,7 @@ impl<T: Drop, N: Drop, P: Posts<T, N>> Poster<T, N, P> {
     }
 
     /// Posts a note of what the front shows, for those who stand before the last record of it. `false` where its cell was not free: then nobody is
-    /// told of this record, nor of a later one.
+    /// shown this record, nor a later one.
     pub fn post(&mut self, slip: Slip<T, N, P>, note: N, front: Front<T>) -> bool
         requires history { front.name ≡ P.history }
         requires noted { P.notes front.list note }

@@ -138,7 +138,7 @@ impl<T: Drop, N: Drop, P: Posts<T, N>> Walker<T, N, P> {
         true
     }
 
-    /// Looks for the record after those that it has taken. It waits for a lock only where it comes to the end of
+    /// Looks for the record after those that it has taken. It waits for a lock only where it reaches the end of
     /// its segment, and takes no memory. That `false` means that none was posted yet is no clause, since one may be
     /// posted at any moment.
     pub fn look(&mut self, rt: &impl Wait) -> bool

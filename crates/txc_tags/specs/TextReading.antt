@@ -1,4 +1,4 @@
--- Only proofs need this file: what the readers of a piece of text come to. A language is a set of texts.
+-- Only proofs need this file: what the readers of a piece of text give. A language is a set of texts.
 use Rattle.std.specs.Prelude.{◌≡◌, ◌+◌, ◌≤◌, ◌⊎◌, ℕ, List, [], ◌∷◌, ◌++◌, length, All}
 use Rattle.std.specs.List.{flat_map}
 use Rattle.std.specs.Fmt.{decimal}

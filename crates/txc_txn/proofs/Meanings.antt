@@ -215,7 +215,7 @@ value_is_recorded next L bounds pins recorded objects call o h is =
           (value_anywhere next L o o.reach s right.0 (sym (ap reach_of is) ∙ (h.unreached present).0));
     }
 
--- ---- what it comes to
+-- ---- what it gives
 
 frame_at : (next : Next) (L : History) (objects : Objects) (f : Frame) (reach : Option Interval) (t : ℕ)
     → HoldsOver L (λ s. AreRight next f.key s (answers_in objects f.key.function)) (λ s. queries_for next f.key s (answers_in objects f.key.function)) reach f.tags

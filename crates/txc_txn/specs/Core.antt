@@ -272,8 +272,8 @@ receipt_pin [] members = None
 receipt_pin (r ∷ rs) [] = None
 receipt_pin (r ∷ rs) (newest ∷ older) = Some newest
 
--- a receipt is explained: it has no pin and no answer; or its pin is one that the bounds allow, and there
--- each answer is what its call comes to without a cache
+-- A receipt is explained. It has no pin and no answer; or its pin is one that the bounds allow, and there
+-- each answer is what its call gives without a cache.
 abbrev pub Explains : Next → History → Bounds → Option Pin → List Recorded → Type 0
 Explains next L bounds None answers = answers ≡ []
 Explains next L bounds (Some pin) answers = (answers ≢ []) × IsFresh L bounds pin

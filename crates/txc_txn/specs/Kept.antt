@@ -63,8 +63,8 @@ pub record HasGoneOn (next : Next) (old : TxnValue) (reply : PortReply) (new : T
   pub shown : ForSome (front_of_reply reply) (λ front. IsPrefix front.history new.core.seen.history)
   pub one : IsOneOf old.core.seen (front_of_reply reply) new.core.seen
 
--- What a step of a core between two requests comes to: it fits its functions, which stay, and the turn is one of its;
--- no pin is to be added, and none is left to be.
+-- What a step of a core between two requests gives: it fits its functions, which stay, and the turn is one of its.
+-- No pin is to be added, and none is left to be.
 pub record HasTurned (next : Next) (was : Objects) (new : CoreValue) (is : Objects) (turn : PortTurn) : Type 0 where
   pub fits : IsCore next is new
   pub turn_fits : IsTurn new turn

@@ -1,4 +1,4 @@
--- What the meaning of a pin set comes to, step by step.
+-- What follows from the meaning of a pin set, step by step.
 use Rattle.std.specs.Prelude.{◌≡◌, ◌≢◌, ℕ, ◌<◌, ◌≤◌, true, List, [], ◌∷◌, ◌++◌, All, Option, Some, None}
 use Rattle.std.specs.List.{AllByRecursion}
 use mathlib.Core.List.{IsPrefix}
@@ -124,7 +124,7 @@ ValueIsRecorded =
     → IsMeant next L bounds pins (recorded ++ record { key = o.key; value = o.value } ∷ []) objects
     (record call { need = None })
 
--- ---- what it comes to
+-- ---- what it gives
 
 -- the answers of each open frame are right in the state
 abbrev pub FramesAreRight : Next → Objects → State → List Frame → Type 0

@@ -17,7 +17,7 @@ LieWithin pins call = All (λ p. InCall p.stamp call) pins.members
 
 -- What a pin set means in a history, beside the bounds of its transaction, the answers that it recorded, and
 -- its open call. It has a member or the present, and the bounds allow every member. At every member, the
--- recorded answers are what their calls come to without a cache. The answers that each open frame was given
+-- recorded answers are what their calls give without a cache. The answers that each open frame was given
 -- are right over the frame's reach, where its tags cover every query met for them, if it is still valid.
 -- Without a reach they are right in every state, and rest on no query. So is a value that waits for its
 -- insertion. Every member lies in all these reaches. While the present is there, there is no such reach, and

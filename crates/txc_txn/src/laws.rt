@@ -1,4 +1,4 @@
-//! What the meaning of a pin set comes to. Each is a lemma: it has no code.
+//! What follows from the meaning of a pin set. Each is a lemma: it has no code.
 ghost use Rattle.txc_txn.specs.Laws.{MeaningStays, MeaningBegins, FindingNarrows, QueryLeavesAMember};
 ghost use Rattle.txc_txn.specs.Laws.{PresentJoins, PresentIsFresh, FewerMembersMeanTheSame, CallBegins};
 ghost use Rattle.txc_txn.specs.Laws.{CallIsGivenUp, ValueIsRecorded, OpenAnswersAreRight};

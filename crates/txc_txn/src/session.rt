@@ -58,7 +58,7 @@ impl Session {
         self.note_pin(receipt.pin);
     }
 
-    /// Notes the pin of a receipt, where that is all that is told of it.
+    /// Notes the pin of a receipt, where that is all that is known of it.
     pub fn note_pin(&mut self, pin: Option<Pin>)
         ensures { self.new ≡ floor_after self.old pin }
     {

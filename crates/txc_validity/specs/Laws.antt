@@ -1,4 +1,4 @@
--- What the definition of a validity comes to.
+-- What follows from the definition of a validity.
 use Rattle.std.specs.Prelude.{◌≡◌, ◌≢◌, ℕ, ◌≤◌, ◌<◌, ◌+◌, ◌-◌, List}
 use Rattle.txc_stamp.specs.Interval.{Interval}
 use Rattle.txc_rows.specs.Values.{RowValue}

@@ -1,4 +1,4 @@
--- Where the answer of a query turns: words that only this crate's private functions promise.
+-- Where the answer of a query changes: words that only this crate's private functions promise.
 use Rattle.std.specs.Prelude.{◌≡◌, ◌⊎◌, ◌≤◌, ℕ, Some}
 use Rattle.txc_rows.specs.declared.version.Versioned.{Versioned}
 use Rattle.txc_rows.specs.Versions.{is_visible}

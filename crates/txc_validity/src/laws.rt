@@ -1,4 +1,4 @@
-//! What the definitions come to. Each is a lemma: it has no code.
+//! What follows from the definitions. Each is a lemma: it has no code.
 ghost use Rattle.txc_validity.specs.Laws.{SameWithin, DiffersBelow, DiffersAbove, OneValidity, KeptAnswersDecide};
 
 /// A validity has the answer of its stamp throughout and another just outside, and there is only one.

@@ -1,4 +1,4 @@
--- What the own keeper of a site came to, by the site's plan.
+-- What the own keeper of a site did, by the site's plan.
 use Rattle.std.proofs.Common.{◌≡◌, ℕ, List, Option, Some, None, refl, sym, subst}
 use Rattle.std.specs.Prelude.{Result, IfOk, IfErr}
 use Rattle.txc_shared.specs.declared.settings.NodeSettings.{NodeSettings}
@@ -17,7 +17,7 @@ pub tended_of : (row : Name) (nodes others : List NodeSettings) (tells : ℕ →
     → IfOk result (IsTendedBy row nodes tells keeping) → IfOk result (IsTendedBy row others tells keeping)
 tended_of row nodes others tells keeping result same h = subst (λ (all : List NodeSettings). IfOk result (IsTendedBy row all tells keeping)) same h
 
--- what a site's own keeper came to, as its plan says
+-- what a site's own keeper did, as its plan says
 module _ (plan : Plan) (tells : ℕ → Type 0) (row : Name) where
   pub planned_none : plan.keep ≡ None → IsTendedAsPlanned plan tells row None
   planned_none is =

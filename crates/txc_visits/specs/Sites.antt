@@ -42,7 +42,7 @@ pub record IsNewClient (named : ℕ → Name) (client : SiteClientValue) : Type 
 abbrev pub numbers_below : ℕ → List ℕ
 numbers_below count = map (λ number. number) (range_with_len 0 count)
 
--- each is what the thread of its place comes to
+-- each is what the thread of its place gives
 abbrev pub HaveCome : {T : Type 0} → (ℕ → T → Type 0) → List T → Type 0
 HaveCome {T} gives outputs =
     (number : ℕ) (d : T) → number < length outputs → gives number (slice_index_or outputs number d)

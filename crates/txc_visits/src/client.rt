@@ -82,7 +82,7 @@ impl<'a, A: App, D: Definition, J: Naming> SiteClient<'a, A, D, J> {
     }
 
     /// Runs the page in one read-only transaction with these bounds, and commits that. The receipt is of the
-    /// calls that this page made: at the receipt's pin each has the value that it comes to without a cache. They
+    /// calls that this page made: at the receipt's pin each has the value that it gives without a cache. They
     /// were made once, from the client as it was. Where the page is refused, its transaction is given up. Either
     /// way the client is returned.
     pub fn read<P: Page<A, D>, R: Wait>(
@@ -199,7 +199,7 @@ impl<'a, A: App, D: Definition, J: Naming> SiteClient<'a, A, D, J> {
         self.committer.commits()
     }
 
-    /// What the clock of a site that keeps itself told last, in milliseconds. 0 where no clock was looked at.
+    /// What the clock of a site that keeps itself showed last, in milliseconds. 0 where no clock was looked at.
     pub fn now(&self) -> u64 {
         self.foundation.moment.get()
     }

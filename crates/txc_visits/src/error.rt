@@ -15,7 +15,7 @@ pub enum OpenError {
     #[error("the opening was refused: {0}")]
     Opening(WriteError),
     /// There was no memory for the threads. The opening was written. Some visits may have been made, and what
-    /// they came to is lost; others may not.
+    /// they gave is lost; others may not.
     #[error("out of memory for the threads")]
     Threads,
 }

@@ -24,7 +24,7 @@ use txc_keeper::{Clock, SiteError, Tended};
 use txc_ledger::NodeHistory;
 use txc_permits::PermitPool;
 
-/// What threads came to that visited a site, and the site's own keeper; what they did in all, and the database as
+/// What threads gave that visited a site, and the site's own keeper; what they did in all, and the database as
 /// they left it.
 #[derive(Drop)]
 pub struct Visits<T> {

@@ -22,7 +22,7 @@ pub struct Numbers {
     pub pages: u64,
     /// Changes that were committed, but for the opening.
     pub changes: u64,
-    /// Runs of changes that were in conflict, and are told of in a `Written` or in `WriteError::Conflicts`.
+    /// Runs of changes that were in conflict, and are reported in a `Written` or in `WriteError::Conflicts`.
     pub conflicts: u64,
     /// Pages and changes that were refused.
     pub refusals: u64,
@@ -150,7 +150,7 @@ impl Tally {
         };
     }
 
-    /// Counts a change that was committed or refused, and the conflicts that are told of it.
+    /// Counts a change that was committed or refused, and the conflicts that are reported of it.
     pub(crate) fn count_write<T>(&self, written: &Result<Written<T>, WriteError>) {
         let conflicts = match written {
             Ok(written) => {

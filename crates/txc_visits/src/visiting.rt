@@ -93,7 +93,7 @@ fn guests<'a, A: Application<D>, D: Definition, J: Naming>(
     Ok(guests)
 }
 
-/// Starts a thread for each guest, and returns what they came to, in the order of their numbers, once all have
+/// Starts a thread for each guest, and returns what they gave, in the order of their numbers, once all have
 /// ended.
 fn visit_each<A, D, V, J, R>(
     rt: &R,
@@ -132,7 +132,7 @@ where
     }
 }
 
-/// What the guests came to, and what the site's own keeper did, where it has one.
+/// What the guests gave, and what the site's own keeper did, where it has one.
 #[derive(Drop)]
 pub(crate) struct Came<T> {
     pub(crate) outputs: Vec<T>,
@@ -188,7 +188,7 @@ where
     )
 }
 
-/// Starts so many threads, each with a client of its own, and returns what they came to, in the order of their
+/// Starts so many threads, each with a client of its own, and returns what they gave, in the order of their
 /// numbers, once all have ended. Where the plan says so, one more keeps the site meanwhile.
 #[tactic(auto, using(crate::proofs::Tended::planned_none, crate::proofs::Tended::planned_some))]
 pub(crate) fn visit<A, D, V, J, C, R>(

@@ -15,10 +15,10 @@ pub trait Visitor<A: App, D: Definition> {
     ghost use Rattle.txc_stream.specs.Names.{Name};
     ghost use Rattle.txc_visits.specs.declared.plan.Plan.{Plan};
 
-    /// What a thread comes to.
+    /// What a thread gives.
     type Output: Send + Drop;
 
-    // What the thread of a number comes to, at a site of that plan, over a database of that row of events.
+    // What the thread of a number gives, at a site of that plan, over a database of that row of events.
     ghost gives: { Self → Plan → Name → ℕ → Self.Output → Type 0 };
 
     /// Does what the thread of that number does, by a client of its own, which is new and which it takes.

@@ -28,7 +28,7 @@ place = Number LAST_NUMBER
 abbrev pub moment : WordKind
 moment = Number LAST_MOMENT
 
--- words after a line's name: what each is called where the line's form is told, and of which kind it is to be
+-- words after a line's name: what each is called where the line's form is said, and of which kind it is to be
 abbrev pub Parts : Type 0
 Parts = List (List ℕ × WordKind)
 

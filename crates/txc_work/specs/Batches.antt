@@ -1,4 +1,4 @@
--- What a batch of jobs comes to.
+-- What a batch of jobs gives.
 use Rattle.txc_stream.specs.Names.{Name}
 use Rattle.std.specs.Prelude.{◌≡◌, ℕ, ◌≤◌, ◌==◌, ◌⊎◌, nat_le, List, ◌∷◌, ◌++◌, map, count_by, Contains, Err}
 use Rattle.std.specs.List.{filter}
@@ -34,7 +34,7 @@ pub record IsReceiptOfJob (next : Next) (row : Name) (job : Job) (receipt : Rece
   pub events : receipt.seen.events ≡ row
 
 -- In a transaction with these bounds, whose pin set means what it says and whose objects are those of these
--- functions, all idle, the keys before this one were answered; and the call of this one came to the refusal.
+-- functions, all idle, the keys before this one were answered. The call of this one ended in the refusal.
 pub record IsRefusedAt (next : Next) (row : Name) (node_histories : ℕ → Name) (functions : List ℕ)
     (bounds : Bounds) (keys : List Call) (error : TxnError) : Type 0 where
   pub before : List Call

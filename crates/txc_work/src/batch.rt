@@ -28,8 +28,8 @@ pub const MAX_CLIENTS: usize = 8;
 
 /// Runs each job once, by one of the clients, and returns the results in the order of the jobs' numbers.
 ///
-/// Each client has a thread, the last one the caller's, and goes on to the next job whatever the one before
-/// came to. Where no thread can be made for a client, the others run its jobs. Jobs are begun in the order in
+/// Each client has a thread, the last one the caller's, and goes on to the next job however the one before
+/// ended. Where no thread can be made for a client, the others run its jobs. Jobs are begun in the order in
 /// which they are given, each between two calls of the gate. Where two have one number, and where memory for
 /// the batch itself is refused, no job is run and the gate is not called.
 pub fn run_batch<A, C, J, G, R>(
@@ -69,7 +69,7 @@ where
     in_order(results, &numbers)
 }
 
-// Runs the jobs, of which there are some, and returns what they came to in the order in which they ended.
+// Runs the jobs, of which there are some, and returns their results in the order in which they ended.
 fn run_all<B, A, C, J, G, R>(
     rt: &R,
     alloc: Global,

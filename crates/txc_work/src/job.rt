@@ -11,7 +11,7 @@ pub struct Job {
     pub keys: Vec<Key>,
 }
 
-/// What a job came to.
+/// How a job ended.
 #[derive(Drop)]
 pub enum Outcome {
     /// Each of its calls was answered.

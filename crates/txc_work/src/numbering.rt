@@ -9,7 +9,7 @@ use crate::error::BatchError;
 use crate::job::{Job, Receipted};
 use std::alloc::{AllocError, Global};
 
-/// The numbers of the jobs, in ascending order. That two jobs have one number is told out of memory too.
+/// The numbers of the jobs, in ascending order. That two jobs have one number is reported out of memory too.
 pub(crate) fn distinct_numbers(alloc: Global, jobs: &[Job]) -> Result<Vec<u32>, BatchError>
     ensures same { IfOk result (λ numbers. IsPermutation (job_numbers jobs.now) numbers.items) }
     ensures rising { IfOk result (λ numbers. IsStrictlyIncreasing numbers.items) }

@@ -158,7 +158,7 @@ module _ (next : Next) (pass : ℕ) (seen : FrontValue) (old new : PortsValue) (
     counts = counts_query old new query stamp (Err e) right same h;
   }
 
--- ---- what is told
+-- ---- what is shown
 
 module _ (next : Next) (pass : ℕ) (seen : FrontValue) (old new : PortsValue) where
   -- a query that was answered may be refused as out of memory
@@ -180,9 +180,9 @@ module _ (next : Next) (pass : ℕ) (seen : FrontValue) (old new : PortsValue) w
   still_asked request reply told (inl same) h = subst (IsAsked next pass seen request old new) (sym same) h
   still_asked request reply told (inr want) h = subst (IsAsked next pass seen request old new) (sym want.1) (wanting request reply want.0 h)
 
--- ---- what is told of the history
+-- ---- what is shown of the history
 
--- what is told of anything but a pin leaves the history
+-- what is shown of anything but a pin leaves the history
 module _ (old new : History) (same : new ≡ old) (now : ℕ) where
   tells_same : (did told : Did) → did ≡ told → did_in told now old ≡ old → new ≡ did_in did now old
   tells_same did told is none = same ∙ (sym none ∙ ap (λ (d : Did). did_in d now old) (sym is))

@@ -68,7 +68,7 @@ module _ (states : StatesStay) (tags : TagsStay) (d : DatabaseValue) (base : ℕ
 
 -- ---- what it explains
 
--- what is told of a transaction without an open call
+-- what is shown of a transaction without an open call
 abbrev pub told_writing : RwValue → Writing
 told_writing c = record { base = c.base; call = None; answers = c.answers; changes = c.changes }
 
@@ -133,7 +133,7 @@ module _ (next : Next) (objects : Objects) (c : RwValue) (d : DatabaseValue) (h 
       ∙ (ap (λ (v : DatabaseValue). (after_commit v changes).history) same ∙ ap (λ (cs : List Change). (after_commit d cs).history) three) in
       explained_commit new.database.history stamp due is leads.1
 
--- and where no call is open, it is all that is told
+-- and where no call is open, it is all that is shown
 pub explained_open : (next : Next) (L : History) (count : ℕ) (c : RwValue) (stamp : ℕ) (call : Option (OpenCall Query)) → call ≡ None → CommitExplains next L count (told_writing c) stamp
     → CommitExplains next L count (record { base = c.base; call = option_map (λ k. k.key) call; answers = told_answers call c.answers; changes = c.changes }) stamp
 explained_open next L count c stamp call none h = rw none h

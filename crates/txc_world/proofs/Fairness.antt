@@ -209,7 +209,7 @@ spends c (requests.Lookup node key lo hi) asking = rw asking.0.0 refl
 spends c (requests.Query query stamp) asking = rw asking.0.0 refl
 spends c (requests.Insert node entry) asking = rw asking.0.0 refl
 
--- what a reply brings comes to what was taken before
+-- what a reply brings is added to what was taken before
 brings : (t : ℕ) (taken : List ℕ) (reply : PortReply) → times t (taken_after taken reply) ≡ times t taken + times t (taken_after [] reply)
 brings t taken (replies.AddPin pinned (Ok added)) = times_append t taken (pinned.stamp ∷ [])
 brings t taken reply = omega arith

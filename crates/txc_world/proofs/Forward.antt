@@ -1,4 +1,4 @@
--- What actors are told of transactions that begin in their sessions.
+-- What actors are shown of transactions that begin in their sessions.
 use Rattle.std.proofs.Common.{◌≡◌, ◌∙◌, ℕ, zero, suc, ◌+◌, ◌<◌, ◌≤◌, List, [], ◌∷◌, ◌++◌, length, Option, Some, None, Ok, Err, refl, sym, ap, subst, take, arith, slice_get, slice_set}
 use Rattle.std.proofs.Math.Seq.{take-length}
 use Rattle.std.specs.Prelude.{MatchOption, Result}
@@ -98,7 +98,7 @@ all_of_both : {X : Type 0} (P : X → Type 0) (xs ys : List X) → AllByRecursio
 all_of_both P [] ys a b = b
 all_of_both P (x ∷ xs) ys a b = (a.0, all_of_both P xs ys a.1 b)
 
--- ---- what is told is at most the floor
+-- ---- what is shown is at most the floor
 
 module _ (next : Next) (L : History) (told : Observation) (has : HasSessions told) (number most : ℕ) where
   stamp_low : (at stamp : ℕ) (reply : Reply) → ((floor : ℕ) → stamp ≤ floor_by reply floor) → (observed : Option ObservedActor) → slice_get told.actors at ≡ observed
@@ -237,7 +237,7 @@ module _ (next : Next) (L : History) (told : Observation) (number : ℕ) where
       go None is x = absurd x
       go (Some observed) is x = of observed is x
 
-  -- once it is told so, it has nothing open to read with
+  -- once it is shown so, it has nothing open to read with
   receipt_ends : (at : ℕ) (pin : Option Pin) → at ≡ number → IsExplainedIn next L told (Actor at Commit) (replies.Receipt pin)
       → Reads (λ n. ⊥) number (after told (Actor at Commit) (replies.Receipt pin))
   receipt_ends at pin same h = go (slice_get told.actors at) refl h

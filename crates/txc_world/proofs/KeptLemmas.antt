@@ -1,4 +1,4 @@
--- What is told of the keeper's steps.
+-- What is shown of the keeper's steps.
 use Rattle.std.proofs.Common.{◌≡◌, ◌∙◌, ℕ, ◌+◌, ◌<◌, ◌≤◌, nat_lt, arith, Bool, true, false, List, [], ◌∷◌, ◌++◌, length, Result, Ok, Err, Option, Some, None, refl, ap, sym, subst, length-append}
 use Rattle.std.specs.Prelude.{if◌then◌else◌}
 use Rattle.std.proofs.lemmas.Bool.Decides.{nat_tests}
@@ -96,7 +96,7 @@ due_no_node node nodes Suits above =
     let is : nat_lt node nodes ≡ false = grind (arith, nat_tests) in
     subst (λ (b : Bool). IsDueOr (if b then None else Some refusals.NoNode) Suits (Refused refusals.NoNode)) (sym is) refl
 
--- ---- what is told of a step, by what it leads to
+-- ---- what is shown of a step, by what it leads to
 
 -- an addition
 pub kept_addition : (old new : PortsValue) (stamp : ℕ) (added : Option (Result (Unit {0}) AddError)) → AddSpareTransition stamp old new added

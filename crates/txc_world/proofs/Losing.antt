@@ -95,7 +95,7 @@ module _ (P Q : Type 0) (leads : P → Q) where
 pub never_lost : {T : Type 0} → (P : Type 0) (result : Result T TxnError) → IfResultLost result ⊥ → IfResultLost result P
 never_lost P result h = result_so ⊥ P (λ no. absurd no) result h
 
--- what is told of a port tells what it lost
+-- what is shown of a port shows what it lost
 pub told_lost : (P : Type 0) (reply : PortReply) (did : Did) → DoesTell reply did → IfPortLoses reply P → IfDidLose did P
 told_lost P (ports.Pin (Ok pinned)) did told lost = rw told tt
 told_lost P (ports.Pin (Err e)) did told lost = rw told lost

@@ -44,7 +44,7 @@ consistent_later : (next : Next) (L M : History) (bounds : Bounds) (answers : Li
 consistent_later next L M bounds answers pin on h right =
     subst (AreConsistent next answers) (sym (state_later L M pin.stamp on (moment_within L pin.stamp pin.moment h.shown))) right
 
--- what an open transaction is told as
+-- what an open transaction is shown as
 abbrev told_reading : {A C : Type 0} → OpenTxn A C → Reading
 told_reading o = record { bounds = o.txn.core.bounds; call = option_map (λ c. c.key) o.call; answers = o.txn.core.recorded }
 
@@ -63,7 +63,7 @@ module _ {A C : Type 0} (next : Next) (o : OpenTxn A C) (kept : IsTxn next o.txn
         (kept.holds.meant.fresh k d below) (kept.holds.meant.consistent k d below);
   }
 
--- the actor of the number is as it is told
+-- the actor of the number is as it is shown
 pub members_there : {A C : Type 0} (next : Next) (settings : WorldSettings) (ports : PortsValue) (floors : List ℕ) (cast : List (Option (Actor A C))) (number : ℕ)
     (o : OpenTxn A C) (now : Observation) (r : Reading) → IsTxn next o.txn → IsWorld next settings ports floors cast
     → slice_get cast number ≡ Some (Some (actors.Reading o)) → told_of settings ports floors cast ≡ now → slice_get now.actors number ≡ Some (reading r)

@@ -93,14 +93,14 @@ module _ {A C : Type 0} (longer : HoldsInLonger) (next : Next) (settings : World
             (still_there h keeps);
       }
 
--- ---- what is told of an actor's step
+-- ---- what is shown of an actor's step
 
 module _ {A C : Type 0} (settings : WorldSettings) (ports : PortsValue) (floors : List ℕ) (actors : List (Option (Actor A C))) (number : ℕ) (actor : Actor A C)
     (is : slice_get actors number ≡ Some (Some actor)) where
   pub observed_there : slice_get (told_of settings ports floors actors).actors number ≡ Some (observed_of actor)
   observed_there = slice_get-map observed_at actors number ∙ ap (λ (o : Option (Option (Actor A C))). option_map observed_at o) is
 
-  -- what the world shows after the step is what is told
+  -- what is seen of the world after the step is what is shown
   pub told_act : (new : PortsValue) (floors' : List ℕ) (actors' : List (Option (Actor A C))) (actor' : Actor A C) (act : Act) (reply : Reply) (now : Observation)
       → floors' ≡ slice_set floors number (floor_by reply (floor_at floors number))
       → actors' ≡ slice_set actors number (Some actor')

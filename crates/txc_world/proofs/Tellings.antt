@@ -1,4 +1,4 @@
--- What is told of steps one after another.
+-- What is shown of steps one after another.
 use Rattle.std.proofs.Common.{◌≡◌, ℕ, ◌+◌, ◌<◌, ◌≤◌, Bool, true, false, List, [], ◌∷◌, ◌++◌, length, Some, None, Option, refl, sym, subst, ap, ◌∙◌, take, get_or, add-one, arith, length-take, length-take-le, length-append, slice_get, ◌⊎◌, inl, inr}
 use Rattle.std.proofs.Math.Seq.{take-suc, take-length}
 use Rattle.std.specs.Prelude.{if◌then◌else◌, nat_lt, MatchOption}
@@ -153,7 +153,7 @@ module _ (next : Next) (L M : History) (on : IsPrefix L M) where
   step_later told (BeginIn number now staleness) reply h = place_later (length told.history) reply (slice_get told.actors number) h
   step_later told (Keeper keep) reply h = h
 
--- what is explained as it is told is explained in the whole history
+-- what is explained as it is shown is explained in the whole history
 pub whole : (next : Next) (told : Observation) (steps : List Step) (replies : List Reply) → AreExplained next told steps replies
     → AreExplainedIn next (told_by told steps replies).history told steps replies
 whole next told [] replies h = tt

@@ -38,7 +38,7 @@ all_but_last told now x is =
     let less : length told ≡ length (told ++ x ∷ []) - 1 = omega (arith, long) in
     ap (λ (l : List Given). take (length l - 1) l) is ∙ take_at told (x ∷ []) (length (told ++ x ∷ []) - 1) less
 
--- once a call has ended at its start, all answers but its value are told
+-- once a call has ended at its start, all answers but its value are shown
 pub told_at_start : (told now : List Given) (key : Call) (turn : QueryTurn) → now ≡ answers_after told key turn → told_by_turn turn now ≡ told
 told_at_start told now key (turns.Ask query) is = is
 told_at_start told now key (turns.Ended (Ok value)) is = all_but_last told now (given.Value key value) is
@@ -93,7 +93,7 @@ queried_so queried reading q found now is h = subst (λ (r : Option Query). now 
 
 -- ---- a query of its own
 
--- what comes of the database's answer, told of the core before it was asked
+-- what comes of the database's answer, said of the core before it was asked
 module _ (query : Query) (p : PortsValue) (old asking new : RwValue) (same : asking ≡ record old { reading = Some query }) (none : old.reading ≡ None) where
   pub own_leads : (found : Result Found DbError) (result : Result (Vec RowValue Global) TxnError) → QueryTransition query old.base p found → RowsTransition asking query found new result
       → FindTransitionRw query old.base p result

@@ -11,8 +11,8 @@ use Rattle.txc_world.specs.ActorValues.{actor_value}
 use Rattle.txc_world.specs.Ports.{PortsValue, whole_of, KeepsRow}
 use Rattle.txc_world.specs.Observation.{act_in, observed_after, IsActDue, ReplyExplains}
 
--- The actor keeps what is true of actors, and has open what is told of the step; the history is what is told of
--- it. The reply is the one that is due, and explains what was told of the actor. The ports keep their row, and the
+-- The actor keeps what is true of actors, and has open what is shown of the step; the history is what is shown of
+-- it. The reply is the one that is due, and explains what was shown of the actor. The ports keep their row, and the
 -- keeper its pins. And nobody else has less after it.
 pub record IsActed {A C : Type 0} (next : Next) (act : Act) (old new : PortsValue) (before after : Actor A C)
     (reply : Reply) : Type 0 where

@@ -1,4 +1,4 @@
--- What actors keep, and how they are told.
+-- What actors keep, and how they are shown.
 use Rattle.std.specs.Prelude.{◌≡◌, ℕ, ◌-◌, Bool, List, [], Option, Some, None, Result, Ok, Err, length, take, option_map, if◌then◌else◌}
 use Rattle.std.specs.Prelude.{Vec}
 use Rattle.std.specs.List.{list_any}
@@ -89,7 +89,7 @@ pub record HasBegunWithin (whole : FrontValue) (count : ℕ) (bounds : Bounds) (
 
 -- ---- read-write transactions
 
--- the answers without the last one, where that is the value of a call that has ended and was not told so
+-- the answers without the last one, where that is the value of a call that has ended and was not shown so
 -- yet
 abbrev pub told_by_turn : QueryTurn → List Given → List Given
 told_by_turn (turns.Ended (Ok value)) answers = take (length answers - 1) answers
@@ -99,8 +99,8 @@ abbrev pub told_answers : Option (OpenCall Query) → List Given → List Given
 told_answers None answers = answers
 told_answers (Some call) answers = told_by_turn call.turn answers
 
--- the call's next turn is one of the core's, which has it open under its key while it asks; its value comes
--- after all answers that were told; and it has lost no snapshot
+-- The call's next turn is one of the core's, which has it open under its key while it asks. Its value comes
+-- after all answers that were shown; and it has lost no snapshot.
 pub record IsRwCall (c : RwValue) (call : OpenCall Query) : Type 0 where
   pub turn : IsRwTurn c call.turn
   pub key : IsAsk call.turn → c.call.top ≡ call.key
@@ -133,7 +133,7 @@ IsActorThere next whole count (Some actor) = IsActor next whole count actor
 
 -- ---- turns of a call
 
--- what is told of a query of a read-write transaction's own
+-- what is shown of a query of a read-write transaction's own
 abbrev pub IsToldQuery : Result (Vec RowValue Global) TxnError → Reply → Type 0
 IsToldQuery (Ok rows) reply = reply ≡ replies.Answered rows
 IsToldQuery (Err error) reply = reply ≡ replies.Refused (Transaction error)
@@ -171,7 +171,7 @@ TxnBeginTransition renew_after bounds old new objects (resting left) reply = (re
     × (new ≡ old) × (left ≡ objects)
 TxnBeginTransition renew_after bounds old new objects actor reply = ⊥
 
--- a call is open, with the turn that its start came to
+-- a call is open, with the turn that its start gave
 pub record HasStarted (key : Call) (before : TxnValue) (actor : ActorValue) : Type 0 where
   pub txn : TxnValue
   pub turn : PortTurn
@@ -204,7 +204,7 @@ pub record HasRequested (next : Next) (pass : ℕ) (key : Call) (request : PortR
   pub asks : HasAsked next pass request old new before txn did turn
   pub noted : IsNoted (call_at_turn key) turn call end
 
--- a request at a turn of the open call: it is made; or the call had ended, which is told, and no port was
+-- a request at a turn of the open call: it is made; or the call had ended, which is shown, and no port was
 -- asked
 abbrev pub RequestTransition : Next → ℕ → Call → PortTurn → PortsValue → PortsValue → TxnValue → ActorValue → Reply
     → Type 0
@@ -224,7 +224,7 @@ IsGivenUp held objects actor = ⊥
 abbrev pub HasGivenBack : List ℕ → PortsValue → PortsValue → Type 0
 HasGivenBack stamps old new = (given : Result (Unit {0}) UnknownPin) × GiveBackTransition stamps old new given
 
--- ---- how it is told
+-- ---- how it is shown
 
 abbrev pub observed_of : {A C : Type 0} → Actor A C → ObservedActor
 observed_of (Idle objects) = idle

@@ -1,4 +1,4 @@
--- What each step leaves of a world, beside what is told of it.
+-- What each step leaves of a world, beside what is shown of it.
 use Rattle.std.specs.Prelude.{◌≡◌, ℕ, List, [], ◌∷◌, Some, None, slice_get, slice_set, MatchOption}
 use Rattle.txc_app.specs.Eval.{Next}
 use Rattle.txc_registry.specs.Objects.{Objects}
@@ -117,14 +117,14 @@ StepTransition next old (BeginIn number now staleness) reply new = MatchOption (
 StepTransition next old (Keeper keep) reply new = KeepTransition keep old.ports new.ports reply
     × (new.actors ≡ old.actors)
 
--- what a step leaves of a world, and what is told of it; and it is a world that is true
+-- what a step leaves of a world, and what is shown of it; and it is a world that is true
 pub record HasStepped (next : Next) (old : WorldValue) (step : Step) (reply : Reply) (new : WorldValue)
     : Type 0 where
   pub told : new.told ≡ after old.told step reply
   pub leads : StepTransition next old step reply new
   pub world : IsTrueWorld next new
 
--- A step was made: it leads so, is replied what is due, and explains what was told before it. Where each had what is
+-- A step was made: it leads so, is replied what is due, and explains what was shown before it. Where each had what is
 -- its own and the step is tidy, each has so after it, and no snapshot is lost.
 pub record IsWholeStep (next : Next) (old : WorldValue) (step : Step) (reply : Reply) (new : WorldValue) : Type 0 where
   pub told : new.told ≡ after old.told step reply

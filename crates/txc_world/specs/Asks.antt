@@ -1,4 +1,4 @@
--- What comes of a transaction's request at the plain ports, and how it is told.
+-- What comes of a transaction's request at the plain ports, and how it is shown.
 use Rattle.std.specs.Prelude.{◌≡◌, ◌⊎◌, ℕ, ◌≤◌, Result, Ok, Err, Option, Some, None, [], ◌∷◌, map, true}
 use Rattle.std.specs.Option.{option_map, ForSome}
 use Rattle.txc_rows.specs.declared.query.Query.{Query}
@@ -102,13 +102,13 @@ abbrev pub FindTransition : Query → ℕ → PortsValue → Result (Answered Fo
 FindTransition query stamp p (Ok found) = IsAnswerWithFront query stamp p found × IsAnswerable p.database stamp
 FindTransition query stamp p (Err e) = IsQueryRefused p.database query stamp e
 
--- what is told of the rows found: their ids, in order, with their reach and tags
+-- what is shown of the rows found: their ids, in order, with their reach and tags
 pub record IsToldOf (found : Found) (rows : RowsFound) : Type 0 where
   pub ids : rows.ids.items ≡ map (λ r. r.id) found.rows.items
   pub reach : rows.reach ≡ found.reach
   pub tags : rows.tags ≡ found.tags
 
--- what was found, or refused, as it is told
+-- what was found, or refused, as it is shown
 abbrev pub DoesTellFound : Result Found DbError → Did → Type 0
 DoesTellFound (Ok found) did = (rows : RowsFound) × (did ≡ dids.Rows rows) × IsToldOf found rows
 DoesTellFound (Err e) did = did ≡ dids.Refused e
@@ -121,7 +121,7 @@ kept_after (Some (insertions.Stored reach)) = Some (kepts.Stored reach)
 kept_after (Some insertions.Kept) = Some kepts.Earlier
 kept_after None = None
 
--- what is told of a port is its reply to the transaction; of rows found, their ids with their reach and tags
+-- what is shown of a port is its reply to the transaction; of rows found, their ids with their reach and tags
 abbrev pub DoesTell : PortReply → Did → Type 0
 DoesTell (replies.Pin (Ok pinned)) did = did ≡ dids.Pinned pinned.stamp
 DoesTell (replies.Pin (Err e)) did = did ≡ dids.Refused e
@@ -143,11 +143,11 @@ abbrev pub AnswersRows : PortReply → Type 0
 AnswersRows (replies.Query (Ok found)) = Unit {0}
 AnswersRows reply = ⊥
 
--- the reply as it is told: itself, or, of a query that is out of memory for that, a refusal
+-- the reply as it is shown: itself, or, of a query that is out of memory for that, a refusal
 abbrev pub IsTold : PortReply → PortReply → Type 0
 IsTold reply told = (told ≡ reply) ⊎ (AnswersRows reply × (told ≡ replies.Query (Err Memory)))
 
--- of a hold, by what is told
+-- of a hold, by what is shown
 abbrev pub UnpinTold : ℕ → PortsValue → PortsValue → Did → Type 0
 UnpinTold stamp old new dids.Unpinned = (new ≡ record old { database = after_unpin old.database stamp })
     × (is_held stamp old.database.holds ≡ true)

@@ -128,7 +128,7 @@ pub record ActCounts (old new : PortsValue) (before after : Account) (reply : Re
 
 -- ---- why
 
--- What the ports keep by themselves, and what their calls come to, stamp by stamp.
+-- What the ports keep by themselves, and what their calls do, stamp by stamp.
 pub record CountRight (p : PortsValue) : Type 0 where
   pub sound : p.database.broken ≡ false → IsSound p.database
   pub cushion : IsCushion p.cushion

@@ -43,7 +43,7 @@ VacuumTransition old new (Ok horizon) = (new ≡ record old { database = after_v
     × (horizon ≡ next_horizon old.database)
 VacuumTransition old new (Err e) = (new ≡ old) × IsVacuumRefused old.database e
 
--- the answer of the query at the stamp, as it is told
+-- the answer of the query at the stamp, as it is shown
 abbrev pub IsToldAnswer : Query → ℕ → PortsValue → RowsFound → Type 0
 IsToldAnswer query stamp p rows = (found : Found)
     × IsAnswer (state_at p.database.history) query stamp p.database.horizon (newest p.database) found

@@ -1,4 +1,4 @@
--- What a step of the keeper leaves of the ports, and how it is told.
+-- What a step of the keeper leaves of the ports, and how it is shown.
 use Rattle.std.specs.Prelude.{◌≡◌, ◌≤◌, Result, Ok, Err, Option, Some, None, [], ◌∷◌, length}
 use Rattle.txc_db.specs.Calls.{IsQueryRefused}
 use Rattle.txc_cushion.specs.declared.error.AddError.{AddError}
@@ -53,7 +53,7 @@ KeepTransition (keeps.Sweep node horizon) old new (Refused refusals.NoNode) =
     (new ≡ old) × (length old.nodes ≤ node)
 KeepTransition keep old new reply = ⊥
 
--- an addition, as it is told
+-- an addition, as it is shown
 abbrev pub told_addition : Option (Result (Unit {0}) AddError) → Reply
 told_addition (Some (Ok added)) = replies.Added
 told_addition (Some (Err e)) = Refused (refusals.Pincushion e)

@@ -31,7 +31,7 @@ IfPortLoses (ports.Unpin (Err error)) P = IfGone error P
 IfPortLoses (ports.Query (Err error)) P = IfGone error P
 IfPortLoses reply P = Unit {0}
 
--- the same of what is told of a port
+-- the same of what is shown of a port
 abbrev pub IfDidLose : Did → Type 0 → Type 0
 IfDidLose (dids.Refused error) P = IfGone error P
 IfDidLose did P = Unit {0}

@@ -33,7 +33,7 @@ use Rattle.txc_world.specs.declared.reply.Refusal.{Refusal}
 use Rattle.txc_world.specs.declared.reply.Refusal.TheVariants as refusals
 use Rattle.txc_world.specs.declared.reply.Refusal.TheVariants.{NoActor, NoNode, AlreadyOpen, NotOpen, MidCall, NoRequest}
 
--- ---- what is told
+-- ---- what is shown
 
 -- an open read-only transaction: its bounds, its open call, and the calls that were answered
 pub record Reading : Type 0 where
@@ -170,7 +170,7 @@ act_at number act reply told (Some observed) = record told {
   actors = slice_set told.actors number (observed_after act reply observed);
 }
 
--- what one step and its reply make of what was told before
+-- what one step and its reply make of what was shown before
 abbrev pub after : Observation → Step → Reply → Observation
 after told (Actor number act) reply = act_at number act reply told (slice_get told.actors number)
 after told (BeginIn number now staleness) reply =
@@ -221,7 +221,7 @@ abbrev pub IsCommitOf : Next → History → ℕ → ObservedActor → ℕ → T
 IsCommitOf next L count (writing w) stamp = CommitExplains next L count w stamp
 IsCommitOf next L count observed stamp = ⊥
 
--- what is replied explains what was told of the actor, when the history had so many events
+-- what is replied explains what was shown of the actor, when the history had so many events
 abbrev pub ReplyExplains : Next → History → ℕ → ObservedActor → Reply → Type 0
 ReplyExplains next L count observed (Receipt pin) = IsReceiptOfActor next L observed pin
 ReplyExplains next L count observed (At stamp) = IsCommitOf next L count observed stamp
@@ -238,14 +238,14 @@ IsExplainedIn next L told (BeginIn number now staleness) reply =
     (λ observed. ReplyExplains next L (length told.history) observed reply)
 IsExplainedIn next L told (Keeper keep) reply = IsNoReceipt reply
 
--- each receipt and each commit explains in the history what was told before it
+-- each receipt and each commit explains in the history what was shown before it
 abbrev pub AreExplainedIn : Next → History → Observation → List Step → List Reply → Type 0
 AreExplainedIn next L told [] replies = Unit {0}
 AreExplainedIn next L told (step ∷ steps) [] = Unit {0}
 AreExplainedIn next L told (step ∷ steps) (reply ∷ replies) =
     IsExplainedIn next L told step reply × AreExplainedIn next L (after told step reply) steps replies
 
--- each explains it in the history as it was told by then
+-- each explains it in the history as it was shown by then
 abbrev pub AreExplained : Next → Observation → List Step → List Reply → Type 0
 AreExplained next told [] replies = Unit {0}
 AreExplained next told (step ∷ steps) [] = Unit {0}

@@ -1,4 +1,4 @@
--- What actors are told of transactions that begin in their sessions.
+-- What actors are shown of transactions that begin in their sessions.
 use Rattle.std.specs.Prelude.{◌≡◌, ℕ, ◌≤◌, List, [], ◌∷◌, ◌++◌, Some}
 use Rattle.std.specs.List.{AllByRecursion}
 use Rattle.txc_cushion.specs.declared.pin.Pin.{Pin}
@@ -23,7 +23,7 @@ BeganNone number step reply = Unit {0}
 abbrev pub HaveBegunNone : ℕ → List (Step × Reply) → Type 0
 HaveBegunNone number happened = AllByRecursion (λ x. BeganNone number x.0 x.1) happened
 
--- if the actor of that number was told a stamp so, of a receipt or of the commit of a read-write transaction,
+-- if the actor of that number was shown a stamp so, of a receipt or of the commit of a read-write transaction,
 -- that is at most this
 abbrev pub ToldAtMost : ℕ → ℕ → Step → Reply → Type 0
 ToldAtMost number most (Actor at Commit) (Receipt (Some pin)) = at ≡ number → pin.stamp ≤ most
@@ -34,8 +34,8 @@ abbrev pub HaveToldAtMost : ℕ → ℕ → List (Step × Reply) → Type 0
 HaveToldAtMost number most happened = AllByRecursion (λ x. ToldAtMost number most x.0 x.1) happened
 
 -- Nobody goes back, where an actor began a transaction in its session, and committed it, with no other begun in
--- between. The stamp of its receipt is not below any that the actor was told before, of a receipt or of
--- the commit of a read-write transaction, begun in the session or not.
+-- between. The stamp of its receipt is not below any that the actor was shown before. Such a stamp is of a
+-- receipt or of the commit of a read-write transaction, begun in the session or not.
 abbrev pub NoActorGoesBack : List Step → List Reply → Type 0
 NoActorGoesBack steps replies =
     (number now staleness : ℕ) (pin : Pin) (before between after : List (Step × Reply))

@@ -1,4 +1,4 @@
--- What a world keeps, and how it is told.
+-- What a world keeps, and how it is shown.
 use Rattle.std.specs.Prelude.{◌≡◌, ℕ, ◌≤◌, Bool, true, false, List, [], All, Option, None, Some, length, map}
 use Rattle.txc_db.specs.History.{History, state_at}
 use Rattle.txc_db.specs.Seen.{FrontValue}
@@ -30,7 +30,7 @@ told_of settings ports floors actors = record {
   actors = map observed_at actors;
 }
 
--- what callers see of a world: what is told of it, its holdings, its ports, and its actors
+-- what callers see of a world: what is shown of it, its holdings, its ports, and its actors
 pub record WorldValue : Type 0 where
   pub told : Observation
   pub holdings : Holdings
@@ -69,7 +69,7 @@ pub record IsTrueNode (next : Next) (whole : FrontValue) (n : NodeValue) : Type 
   pub seen : IsNode next n.seen.history (start_of n.settings 0) n.records n.cache n.broken
   pub right : n.broken ≡ false → IsNode next whole.history (start_of n.settings 0) n.records n.cache false
 
--- What is true of a world between any two steps. The history that is told of it is its database's, and the pins
+-- What is true of a world between any two steps. The history that is shown of it is its database's, and the pins
 -- are those that its keeper has. It has the nodes of its settings, each of which is true.
 pub record IsTrueWorld (next : Next) (w : WorldValue) : Type 0 where
   pub history : w.told.history ≡ w.ports.database.history
@@ -88,8 +88,8 @@ due_of_pins (Some (reading r)) = None
 due_of_pins (Some (writing w)) = Some NotOpen
 due_of_pins (Some (leaving stamp)) = Some NotOpen
 
--- Where a transaction may still be serialised: at the present or at a member; and each member is a pin that
--- the bounds allow, at which each answer is what its call comes to without a cache.
+-- Where a transaction may still be serialised: at the present or at a member. Each member is a pin that
+-- the bounds allow, at which each answer is what its call gives without a cache.
 pub record AreMembersOf (next : Next) (L : History) (r : Reading) (has_present : Bool)
     (members : List Pin) : Type 0 where
   pub some : members ≡ [] → has_present ≡ true

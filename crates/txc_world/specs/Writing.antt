@@ -39,7 +39,7 @@ BeginRwTransition old new objects (resting left) reply = (e : DbError) × HoldTr
     × (left ≡ objects) × (reply ≡ Refused (Database e))
 BeginRwTransition old new objects actor reply = ⊥
 
--- a call is open, with the turn that its start came to, before any query; a function that is not there is
+-- a call is open, with the turn that its start gave, before any query; a function that is not there is
 -- refused
 pub record HasStartedRw (next : Next) (key : Call) (before : WritingValue) (actor : ActorValue) : Type 0 where
   pub core : RwValue
@@ -85,7 +85,7 @@ pub record HasRequestedRw (next : Next) (key : Call) (query : Query) (p : PortsV
   pub asks : HasAskedRw next query p before.core core before.objects objects did turn
   pub noted : IsNoted (call_at_turn key) turn call end
 
--- a request at a turn of the open call: its query is asked; or the call had ended, which is told, and nothing else
+-- a request at a turn of the open call: its query is asked; or the call had ended, which is shown, and nothing else
 -- has changed
 abbrev pub RequestTransitionRw : Next → Call → QueryTurn → PortsValue → WritingValue → ActorValue → Reply → Type 0
 RequestTransitionRw next key (turns.Ask query) p before actor reply = HasRequestedRw next key query p before actor reply
@@ -110,7 +110,7 @@ abbrev pub with_rows : Query → List Given → Result (Vec RowValue Global) Txn
 with_rows query answers (Ok rows) = answers ++ given.Rows query rows.items ∷ []
 with_rows query answers (Err e) = answers
 
--- a query of its own came to this, and no call is open
+-- a query of its own gave this, and no call is open
 pub record HasFoundRw (query : Query) (p : PortsValue) (before : WritingValue) (actor : ActorValue)
     (reply : Reply) : Type 0 where
   pub core : RwValue

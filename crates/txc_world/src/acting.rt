@@ -184,7 +184,7 @@ pub(crate) fn note<R>(
     }
 }
 
-// Makes the next request of the open call. A call that ended before any is told so by its first request.
+// Makes the next request of the open call. A call that ended before any is shown so by its first request.
 fn request_call<A: App, C: Cacheable>(
     alloc: Global,
     ports: &mut Ports<A>,

@@ -1,4 +1,4 @@
-//! What a transaction asks, put to the plain ports, and what is told of it.
+//! What a transaction asks, put to the plain ports, and what is shown of it.
 ghost use Rattle.std.specs.Prelude.{◌≡◌, ◌<◌, length, map, IfOk, OnErr, Some};
 ghost use Rattle.txc_world.specs.Asks.{kept_after, AnswersRows, DoesTell, IsTold, IsToldOf};
 
@@ -24,7 +24,7 @@ fn ids_of(alloc: Global, rows: &[Row]) -> Result<Vec<u32>, AllocError>
     Ok(ids)
 }
 
-/// What is told of the rows found.
+/// What is shown of the rows found.
 pub(crate) fn rows_found(alloc: Global, found: &Found) -> Result<RowsFound, AllocError>
     ensures { IfOk result (IsToldOf found.now) }
 {
@@ -37,7 +37,7 @@ pub(crate) fn rows_found(alloc: Global, found: &Found) -> Result<RowsFound, Allo
     })
 }
 
-// What is told of what was found, or of a refusal.
+// What is shown of what was found, or of a refusal.
 fn found_told(alloc: Global, found: &Result<Answered<Found>, DbError>) -> Result<Did, AllocError>
     ensures tells { IfOk result (DoesTell (PortReply.Query found.now)) }
     ensures rows { OnErr result (AnswersRows (PortReply.Query found.now)) }
@@ -48,7 +48,7 @@ fn found_told(alloc: Global, found: &Result<Answered<Found>, DbError>) -> Result
     }
 }
 
-// What is told of a reply. It takes memory for the rows of a query alone.
+// What is shown of a reply. It takes memory for the rows of a query alone.
 fn did_of(alloc: Global, reply: &PortReply) -> Result<Did, AllocError>
     ensures tells { IfOk result (DoesTell reply.now) }
     ensures rows { OnErr result (AnswersRows reply.now) }
@@ -70,7 +70,7 @@ fn did_of(alloc: Global, reply: &PortReply) -> Result<Did, AllocError>
     Ok(did)
 }
 
-/// A reply, and what is told of it. Out of memory for what is told, a query is refused.
+/// A reply, and what is shown of it. Out of memory for what is shown, a query is refused.
 pub(crate) fn told(alloc: Global, reply: PortReply) -> (Did, PortReply)
     ensures tells { DoesTell result.1 result.0 }
     ensures same { IsTold reply result.1 }

@@ -5,7 +5,7 @@ use txc_app::App;
 impl<A: App> Ports<A> {
     ghost use Rattle.txc_world.specs.Holdings.{CountRight};
 
-    /// What the ports keep by themselves, and what their calls come to, stamp by stamp. It does nothing when
+    /// What the ports keep by themselves, and what their calls do, stamp by stamp. It does nothing when
     /// it runs.
     pub(crate) fn count_right(&self)
         ensures { CountRight self.now }

@@ -36,7 +36,7 @@ fn place_of(spare: &[Pinned], stamp: Stamp) -> Option<usize>
     None
 }
 
-// A refusal, as it is told and as it is handed over.
+// A refusal, as it is shown and as it is handed over.
 fn told_refusal(refusal: &DbError) -> (Did, Result<Found, DbError>)
     ensures { result ≡ (Did.Refused refusal.now, Err refusal.now) }
 {
@@ -147,7 +147,7 @@ impl<A: App> Ports<A> {
         self.database.query(alloc, query, stamp)
     }
 
-    /// The answer of the query at the stamp, and what is told of it.
+    /// The answer of the query at the stamp, and what is shown of it.
     pub(crate) fn answer_told(
         &mut self,
         alloc: Global,
@@ -182,7 +182,7 @@ impl<A: App> Ports<A> {
         Ok((found, rows))
     }
 
-    /// What is told of the answer of the query at the stamp.
+    /// What is shown of the answer of the query at the stamp.
     pub(crate) fn query(
         &mut self,
         alloc: Global,

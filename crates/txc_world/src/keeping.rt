@@ -33,7 +33,7 @@ fn pin<A: App>(alloc: Global, ports: &mut Ports<A>, now: u64) -> Reply
     }
 }
 
-// What is told of an addition. None is one of a pin that the keeper has not.
+// What is shown of an addition. None is one of a pin that the keeper has not.
 fn told_addition(added: Option<Result<(), AddError>>) -> Reply
     ensures { result ≡ told_addition added }
 {

@@ -29,7 +29,7 @@ pub(crate) fn floor_at(sessions: &[Session], number: usize) -> Stamp
     }
 }
 
-/// The session of the actor of that number notes the stamp that the actor was told, if it was told one.
+/// The session of the actor of that number notes the stamp that the actor was shown, if it was shown one.
 pub(crate) fn note(sessions: &mut Vec<Session>, number: usize, reply: &Reply)
     requires { number < vec_len sessions.old }
     ensures { sessions.new.items

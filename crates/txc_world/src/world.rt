@@ -48,9 +48,10 @@ pub struct Members<'a> {
 /// Actors, each with a registry of its own and a transaction that may be open, and the keeper, over one
 /// database, one pincushion and the nodes.
 ///
-/// Contracts see what is told of it: its settings; its history; the stamps of the pins that the keeper has
-/// and did not add yet; the floor of each actor's session; and what each actor has open. They see its holdings too: the holds of the database, the
-/// pins of the pincushion with their users, and what each actor has of both.
+/// Contracts see what is shown of it: its settings; its history; the stamps of the pins that the keeper has
+/// and did not add yet. They see the floor of each actor's session, and what each actor has open. They see its
+/// holdings too: the holds of the database, the pins of the pincushion with their users, and what each actor has of
+/// both.
 #[derive(Drop)]
 pub struct World<A: App, C: Cacheable> {
     settings: WorldSettings,
@@ -253,13 +254,13 @@ impl<A: App, C: Cacheable> World<A, C> {
     /// before the first step; out of memory later on is a reply.
     ///
     /// What it leaves is what the steps and their replies tell. A receipt is given to nobody but an actor
-    /// with a read-only transaction open, and explains the answers told of it. Nobody but an actor with a
-    /// read-write transaction open has that committed. Each answer told of it is right at its base, and at
+    /// with a read-only transaction open, and explains the answers shown of it. Nobody but an actor with a
+    /// read-write transaction open has that committed. Each answer shown of it is right at its base, and at
     /// the stamp before the event of the commit, or, where there is none, at the newest stamp. Both hold in
-    /// the history as it was told by then, and in that of the whole run.
+    /// the history as it was shown by then, and in that of the whole run.
     ///
     /// A receipt of a transaction that an actor began in its session, in the list, is not below any stamp that
-    /// the list told that actor before, of a receipt or of the commit of a read-write transaction.
+    /// the list showed that actor before. Such a stamp is of a receipt or of the commit of a read-write transaction.
     ///
     /// Where each has what is its own, as in a new world, and the list is tidy, each has so after it. Then neither
     /// a query nor the commit of an open transaction is refused for a snapshot that is gone.

@@ -127,7 +127,7 @@ fn end_call<A: App, C: Cacheable>(
     (Actor::Writing(current), Reply::Ended(ended))
 }
 
-// Makes the next request of the open call. A call that ended before any is told so by its first request.
+// Makes the next request of the open call. A call that ended before any is shown so by its first request.
 fn request<A: App, C: Cacheable>(
     alloc: Global,
     ports: &mut Ports<A>,

@@ -1,6 +1,6 @@
 //! The program: `txcache node` reads a script on standard input and prints the replies; `txcache report`
-//! prints counts of them; `txcache world` runs transactions and prints their replies; `txcache batch` runs jobs side
-//! by side and prints what they came to.
+//! prints counts of them. `txcache world` runs transactions and prints their replies; `txcache batch` runs jobs side
+//! by side and prints what they gave.
 #![tactic(auto)]
 
 use clap::error::ErrorKind;

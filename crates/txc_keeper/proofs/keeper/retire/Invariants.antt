@@ -3,7 +3,7 @@ use Rattle.txc_cushion.specs.Cushion.{retired}
 use Rattle.txc_cushion.specs.Shared.{CushionMayAnswer}
 use Rattle.txc_keeper.proofs.keeper.retire.Given as goal
 
--- as many were taken as turns were made
+-- as many were taken as rounds were made
 abbrev pub invariant-loop : goal.invariant-loop
 invariant-loop g l = record {
   taken : l.pins.taken ≡ l.counter;

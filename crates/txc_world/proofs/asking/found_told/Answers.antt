@@ -8,7 +8,7 @@ use Rattle.txc_world.specs.declared.did.Did.TheVariants.{Rows}
 use Rattle.txc_world.specs.Asks.{DoesTell}
 use Rattle.txc_world.proofs.asking.found_told.Goals as goal
 
--- the rows that were found are told
+-- the rows that were found are shown
 pub returns-in_ok-rows_found-in-Ok-clause-tells : goal.returns-in_ok-rows_found-in-Ok-clause-tells
 returns-in_ok-rows_found-in-Ok-clause-tells c =
     let rows = c.in_ok-rows_found-in-Ok.field-0 in
