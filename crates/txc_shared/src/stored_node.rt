@@ -429,6 +429,7 @@ impl<A: App> StoredNode<A> {
         ensures tags { IfOk result (λ tags. IfSome tags (λ tags.
             HasTags self.now.seen.history number tags ⊎ HasTags front.now.history number tags)) }
         ensures none { IfOk result (λ tags. IfNone tags (¬ (HasRow self.now.seen.events))) }
+        ensures posted { IfOk result (λ tags. IfNone tags (posted ≡ None)) }
     {
         if let Some(tags) = posted {
             return Ok(Some(tags.copy(alloc)?));
@@ -476,6 +477,7 @@ impl<A: App> StoredNode<A> {
         ensures only_if { OnOk result (self.old.broken ≡ false) }
         ensures left { IfErr result (IsNodeLeft self.old self.new) }
         ensures refused { IfErr result (IsTakingRefused self.old) }
+        ensures posted { IfErr result (λ error. (posted ≡ None) ⊎ IsStepRefused self.old error) }
         ensures idle { self.old.broken ≡ false → HasTakenAll self.old front.now.history
             → result ≡ Ok Advanced.Idle }
     {
