@@ -1,7 +1,8 @@
 use Rattle.std.proofs.Common.{◌≡◌, ◌∙◌, List, [], ◌∷◌, ◌++◌, Ok, ap, length, refl, sym, subst, arith}
 use Rattle.txc_db.specs.Seen.{FrontValue}
 use Rattle.txc_site.specs.Generations.{IsNextRefused, last_state}
-use Rattle.txc_site.proofs.Turns.{enough_so, is_error, no_next_so, none_came, one_more}
+use Rattle.txc_site.specs.declared.error.GenerationError.TheVariants as errors
+use Rattle.txc_site.proofs.Turns.{HaveGoneOn, enough_so, failed_so, is_error, no_next_so, none_came, one_more}
 use Rattle.txc_site.proofs.generations.go_on.Goals as goal
 
 pub loop-init : goal.loop-init
@@ -13,6 +14,15 @@ loop-init g c = record {
   room = c.requires.room;
   warm = c.requires.warm;
 }
+
+pub returns-in_err-reserve : goal.returns-in_err-reserve
+returns-in_err-reserve g c =
+    let end = c.from_residual.result in
+    let before =
+    subst (λ came. HaveGoneOn c.args.plan (g.C.Clock.tells c.args.clock.now) c.args.count g.A.Application.numbers (g.V.Visitor.gives c.args.visitors.now) (g.V.Returning.goes c.args.visitors.now) c.args.begun.front came c.loop.begun.front)
+    (sym c.in_err-reserve.ensures.items) c.loop.invariant.came in
+    failed_so c.args.plan (g.C.Clock.tells c.args.clock.now) c.args.count g.A.Application.numbers (g.V.Visitor.gives c.args.visitors.now) (g.V.Returning.goes c.args.visitors.now) c.args.begun.front
+    c.reserve.new.self.items c.loop.begun.front end errors.Memory before (is_error end errors.Memory c.from_residual.ensures.1) (λ gs. tt)
 
 pub returns-then-not-goes_on : goal.returns-then-not-goes_on
 returns-then-not-goes_on g c =

@@ -3,8 +3,8 @@ use Rattle.txc_site.proofs.Turns.{no_next_front, same_front}
 use Rattle.txc_site.proofs.generations.next.Goals as goal
 
 pub returns-in-Err-clause-refused : goal.returns-in-Err-clause-refused
-returns-in-Err-clause-refused c = (c.carry.new.old, same_front c.args.core c.carry.new.old c.in-Err.ensures.left, c.in-Err.ensures.refused)
+returns-in-Err-clause-refused g c = (c.carry.new.old, same_front c.args.core c.carry.new.old c.in-Err.ensures.left, c.in-Err.ensures.refused)
 
 pub returns-in_err-front-clause-refused : goal.returns-in_err-front-clause-refused
-returns-in_err-front-clause-refused c =
+returns-in_err-front-clause-refused g c =
     no_next_front c.args.plan.events (front_of c.args.core) c.from_residual.result c.from_residual.ensures.1
