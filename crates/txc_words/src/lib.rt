@@ -2,11 +2,13 @@
 //! their words, and the texts of refusals.
 #![tactic(auto)]
 
+mod fault;
 mod kinds;
 mod name;
 mod refusals;
 mod said;
 
+pub use fault::OwnFault;
 pub use name::{LineName, name_of};
 pub use refusals::{write_add, write_database, write_transaction};
 pub use said::{LAST_MOMENT, change_of, query_of, read_after_name};
