@@ -49,12 +49,12 @@ fn make_insertion<T: Taker, F: Drop>(
 
 /// Takes the reply to a lookup that is a hit. It stands alone, so that a miss makes no room for it.
 #[inline(never)]
-fn take_hit<T: Taker>(
+fn take_hit<T: Taker, F: Drop>(
     alloc: Global,
     function: Option<u8>,
     hit: Hit<'_>,
     taker: &mut T,
-    why: &mut Unanswered,
+    why: &mut Unanswered<F>,
 ) -> Option<bool>
     requires { IfSome function (λ f. f ≤ LAST_FUNCTION) }
     ensures after { IfSome result (λ refused. (op : Op) → IsFor function op (replies.Hit (seen hit))
