@@ -2,7 +2,7 @@
 use std::fmt;
 
 /// What is wrong with the words of a line, beside what may be wrong with those of any script.
-#[derive(Clone, Copy, Debug, PartialEq, Eq)]
+#[derive(Clone, Copy, Debug)]
 pub enum OwnFault {
     /// It ends before a word that says what the others are to be: how such a line is written.
     Usage(&'static str),
