@@ -57,8 +57,8 @@ fn take_hit<T: Taker, F: Drop>(
     why: &mut Unanswered<F>,
 ) -> Option<bool>
     requires { IfSome function (λ f. f ≤ LAST_FUNCTION) }
-    ensures after { IfSome result (λ refused. (op : Op) → IsFor function op (replies.Hit (seen hit))
-        → T.takes taker.old op (replies.Hit (seen hit)) taker.new) }
+    ensures after { IfSome result (λ refused. (op : Op) → IsFor function op (replies.Hit (seen hit.entry))
+        → T.takes taker.old op (replies.Hit (seen hit.entry)) taker.new) }
     ensures refusal { IfSome result (λ refused. refused ≡ false) }
     ensures memory { IfNone result (why.new ≡ Unanswered.Memory) }
     ensures unchanged { IfNone result (T.text taker.new ≡ T.text taker.old) }
