@@ -44,7 +44,7 @@ def main():
             wrong += 1
             keep(run, f"{mode} {made[mode]}: OLD {before}\nNEW {after}", wrong)
     for mode in modes:
-        ends = ", ".join(f"{n} with status {status}" for (of, status), n in sorted(statuses.items()) if of == mode)
+        ends = ", ".join(f"{n} with status {status}" for (of, status), n in sorted(statuses.items(), key=str) if of == mode)
         print(f"{mode}: {made[mode]} scripts ({ends}), {differ[mode]} differed")
     sys.exit(wrong > 0)
 
