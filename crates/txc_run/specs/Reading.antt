@@ -39,4 +39,4 @@ abbrev pub IsLine : List ℕ → Line → Type 0
 IsLine bytes Quiet = IsQuiet bytes
 IsLine bytes (Step op) = NamesStep (IsStepLine bytes) op
 IsLine bytes (Unmade error) = IsUnmade (IsStepLine bytes) error
-IsLine bytes Malformed = (c : Cache) × IsMalformed (node_script Node) c bytes
+IsLine bytes Malformed = (c : Cache) × IsMalformed (node_script {⊥} Node) c bytes

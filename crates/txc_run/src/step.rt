@@ -19,12 +19,12 @@ use txc_tags::{Key, TagSet};
 
 /// Makes the insertion that the words after its name are, and takes its reply; else it leaves why it did not.
 #[inline(never)]
-fn make_insertion<T: Taker>(
+fn make_insertion<T: Taker, F: Drop>(
     alloc: Global,
     node: &mut NodeCore,
     words: WordsLeft<'_>,
     taker: &mut T,
-    why: &mut Unanswered,
+    why: &mut Unanswered<F>,
 ) -> Option<bool>
     ensures made { MakesForm T.takes insert_form (words_left words.entry)
         node.old node.new taker.old taker.new result why.new }
@@ -49,12 +49,12 @@ fn make_insertion<T: Taker>(
 
 /// Takes the reply to a lookup that is a hit. It stands alone, so that a miss makes no room for it.
 #[inline(never)]
-fn take_hit<T: Taker>(
+fn take_hit<T: Taker, F: Drop>(
     alloc: Global,
     function: Option<u8>,
     hit: Hit<'_>,
     taker: &mut T,
-    why: &mut Unanswered,
+    why: &mut Unanswered<F>,
 ) -> Option<bool>
     requires { IfSome function (λ f. f ≤ LAST_FUNCTION) }
     ensures after { IfSome result (λ refused. (op : Op) → IsFor function op (replies.Hit (seen hit.entry))
@@ -68,12 +68,12 @@ fn take_hit<T: Taker>(
 
 /// Makes the lookup that the words after its name are, and takes its reply.
 #[inline(never)]
-fn make_lookup<T: Taker>(
+fn make_lookup<T: Taker, F: Drop>(
     alloc: Global,
     node: &mut NodeCore,
     words: WordsLeft<'_>,
     taker: &mut T,
-    why: &mut Unanswered,
+    why: &mut Unanswered<F>,
 ) -> Option<bool>
     ensures made { MakesForm T.takes lookup_form (words_left words.entry)
         node.old node.new taker.old taker.new result why.new }
@@ -93,12 +93,12 @@ fn make_lookup<T: Taker>(
 
 /// Makes the event that the words after its name are, and takes its reply.
 #[inline(never)]
-fn make_event<T: Taker>(
+fn make_event<T: Taker, F: Drop>(
     alloc: Global,
     node: &mut NodeCore,
     words: WordsLeft<'_>,
     taker: &mut T,
-    why: &mut Unanswered,
+    why: &mut Unanswered<F>,
 ) -> Option<bool>
     ensures made { MakesForm T.takes event_form (words_left words.entry)
         node.old node.new taker.old taker.new result why.new }
@@ -121,12 +121,12 @@ fn make_event<T: Taker>(
 
 /// Makes the sweep that the words after its name are, and takes its reply.
 #[inline(never)]
-fn make_sweep<T: Taker>(
+fn make_sweep<T: Taker, F: Drop>(
     alloc: Global,
     node: &mut NodeCore,
     words: WordsLeft<'_>,
     taker: &mut T,
-    why: &mut Unanswered,
+    why: &mut Unanswered<F>,
 ) -> Option<bool>
     ensures made { MakesForm T.takes sweep_form (words_left words.entry)
         node.old node.new taker.old taker.new result why.new }
@@ -142,7 +142,7 @@ fn make_sweep<T: Taker>(
 /// Leaves that no line has this name.
 #[cold]
 #[inline(never)]
-fn leave_unknown(name: &[u8], why: &mut Unanswered)
+fn leave_unknown<F: Drop>(name: &[u8], why: &mut Unanswered<F>)
     ensures { why.new ≡ Unanswered.Wrong (Unknown (excerpt_of name.now)) }
 {
     *why = Unanswered::Wrong(CommandFault::Unknown(Excerpt::new(name)));
@@ -150,12 +150,12 @@ fn leave_unknown(name: &[u8], why: &mut Unanswered)
 
 /// Makes the step that a line names, and takes its reply; else it leaves why it did not. Each kind of step is a
 /// function of its own, so that a line pays for the room of its own words alone.
-pub fn make_step<T: Taker>(
+pub fn make_step<T: Taker, F: Drop>(
     alloc: Global,
     node: &mut NodeCore,
     line: &[u8],
     taker: &mut T,
-    why: &mut Unanswered,
+    why: &mut Unanswered<F>,
 ) -> Option<bool>
     ensures made { MakesLine T.takes line.now
         node.old node.new taker.old taker.new result why.new }
