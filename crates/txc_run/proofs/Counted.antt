@@ -28,10 +28,10 @@ use Rattle.txc_run.proofs.Reporting.{steps_more}
 same_malformed : {F : Type 0} (s : Counted) (line : List ℕ) → IsMalformed (counted_script {F}) s line → IsMalformed (node_script {F} Report) s.node line
 same_malformed s line h = record { not_quiet = h.not_quiet; asks_nothing = h.asks_nothing }
 
-same_gives : {F : Type 0} (s : Counted) (n : ℕ) (line : List ℕ) (g : Given Op (Reply Shown)) (next : Counted) → Gives (counted_script {F}) s n line g next → Gives (node_script {F} Report) s.node n line g next.node
-same_gives s n line Nothing next h = (h.0, ap (λ (x : Counted). x.node) h.1)
-same_gives s n line (Replied op reply) next h = (h.0, h.1.0)
-same_gives s n line (Malformed k) next h = (same_malformed s line h.0, h.1, ap (λ (x : Counted). x.node) h.2)
+same_gives : (F : Type 0) (s : Counted) (n : ℕ) (line : List ℕ) (g : Given Op (Reply Shown)) (next : Counted) → Gives (counted_script {F}) s n line g next → Gives (node_script {F} Report) s.node n line g next.node
+same_gives F s n line Nothing next h = (h.0, ap (λ (x : Counted). x.node) h.1)
+same_gives F s n line (Replied op reply) next h = (h.0, h.1.0)
+same_gives F s n line (Malformed k) next h = (same_malformed s line h.0, h.1, ap (λ (x : Counted). x.node) h.2)
 
 -- a line that names no step counts nothing
 none_counted : (s : Counted) (g : Given Op (Reply Shown)) (next : Counted) (before : List (Given Op (Reply Shown))) → steps_in g ≡ [] → next ≡ s → HasReport before s.report → HasReport (before ++ g ∷ []) next.report
@@ -40,48 +40,48 @@ none_counted s g next before none same h =
     (subst (λ (steps : List Record). IsReportOf steps s.report.functions.keys s.report.counts)
     (sym (steps_more before g ∙ ap (λ (xs : List Record). steps_of before ++ xs) none ∙ append-nil (steps_of before))) h)
 
-counts_more : {F : Type 0} (s : Counted) (n : ℕ) (line : List ℕ) (g : Given Op (Reply Shown)) (next : Counted) (before : List (Given Op (Reply Shown))) → Gives (counted_script {F}) s n line g next → HasReport before s.report
+counts_more : (F : Type 0) (s : Counted) (n : ℕ) (line : List ℕ) (g : Given Op (Reply Shown)) (next : Counted) (before : List (Given Op (Reply Shown))) → Gives (counted_script {F}) s n line g next → HasReport before s.report
     → HasReport (before ++ g ∷ []) next.report
-counts_more s n line Nothing next before h counted = none_counted s Nothing next before refl h.1 counted
-counts_more s n line (Replied op reply) next before h counted = h.1.1 before counted
-counts_more s n line (Malformed k) next before h counted = none_counted s (Malformed k) next before refl h.2 counted
+counts_more F s n line Nothing next before h counted = none_counted s Nothing next before refl h.1 counted
+counts_more F s n line (Replied op reply) next before h counted = h.1.1 before counted
+counts_more F s n line (Malformed k) next before h counted = none_counted s (Malformed k) next before refl h.2 counted
 
 -- ---- all lines
 
-record GivenCounted {F : Type 0} (start : Cache) (n : ℕ) (lines : List (List ℕ)) (before given : List (Given Op (Reply Shown))) (end : Counted) : Type 0 where
+record GivenCounted (F : Type 0) (start : Cache) (n : ℕ) (lines : List (List ℕ)) (before given : List (Given Op (Reply Shown))) (end : Counted) : Type 0 where
   answers : AreGiven (node_script {F} Report) start n lines given end.node
   counted : HasReport (before ++ given) end.report
 
-given_counted : {F : Type 0} (s : Counted) (n : ℕ) (lines : List (List ℕ)) (before given : List (Given Op (Reply Shown))) (end : Counted) → AreGiven (counted_script {F}) s n lines given end → HasReport before s.report
-    → GivenCounted {F} s.node n lines before given end
-given_counted s n [] before [] end h counted = record {
+given_counted : (F : Type 0) (s : Counted) (n : ℕ) (lines : List (List ℕ)) (before given : List (Given Op (Reply Shown))) (end : Counted) → AreGiven (counted_script {F}) s n lines given end → HasReport before s.report
+    → GivenCounted F s.node n lines before given end
+given_counted F s n [] before [] end h counted = record {
   answers = ap (λ (x : Counted). x.node) h;
   counted = subst (λ (x : Counted). HasReport (before ++ []) x.report) (sym h) (subst (λ (gs : List (Given Op (Reply Shown))). HasReport gs s.report) (sym (append-nil before)) counted);
 }
-given_counted s n [] before (g ∷ given) end h counted = absurd h
-given_counted s n (line ∷ lines) before [] end h counted = absurd h
-given_counted s n (line ∷ lines) before (g ∷ given) end h counted =
-    let rest = given_counted h.0 (n + 1) lines (before ++ g ∷ []) given end h.3 (counts_more s n line g h.0 before h.1 counted) in
+given_counted F s n [] before (g ∷ given) end h counted = absurd h
+given_counted F s n (line ∷ lines) before [] end h counted = absurd h
+given_counted F s n (line ∷ lines) before (g ∷ given) end h counted =
+    let rest = given_counted F h.0 (n + 1) lines (before ++ g ∷ []) given end h.3 (counts_more F s n line g h.0 before h.1 counted) in
     record {
-      answers = (h.0.node, same_gives s n line g h.0 h.1, h.2, rest.answers);
+      answers = (h.0.node, same_gives F s n line g h.0 h.1, h.2, rest.answers);
       counted = subst (λ (gs : List (Given Op (Reply Shown))). HasReport gs end.report) (append_assoc before (g ∷ []) given) rest.counted;
     }
 
-same_line : {F : Type 0} (g : Given Op (Reply Shown)) → line_text (counted_script {F}) g ≡ line_text (node_script {F} Report) g
-same_line Nothing = refl
-same_line (Replied op reply) = refl
-same_line (Malformed k) = refl
+same_line : (F : Type 0) (g : Given Op (Reply Shown)) → line_text (counted_script {F}) g ≡ line_text (node_script {F} Report) g
+same_line F Nothing = refl
+same_line F (Replied op reply) = refl
+same_line F (Malformed k) = refl
 
-same_text : {F : Type 0} (given : List (Given Op (Reply Shown))) → lines_text (counted_script {F}) given ≡ lines_text (node_script {F} Report) given
-same_text {F} given = λ i. flat_map (λ (g : Given Op (Reply Shown)). same_line {F} g i) given
+same_text : (F : Type 0) (given : List (Given Op (Reply Shown))) → lines_text (counted_script {F}) given ≡ lines_text (node_script {F} Report) given
+same_text F given = λ i. flat_map (λ (g : Given Op (Reply Shown)). same_line F g i) given
 
-same_refused : {F : Type 0} (g : Given Op (Reply Shown)) → is_refused (counted_script {F}) g ≡ is_refused (node_script {F} Report) g
-same_refused Nothing = refl
-same_refused (Replied op reply) = refl
-same_refused (Malformed k) = refl
+same_refused : (F : Type 0) (g : Given Op (Reply Shown)) → is_refused (counted_script {F}) g ≡ is_refused (node_script {F} Report) g
+same_refused F Nothing = refl
+same_refused F (Replied op reply) = refl
+same_refused F (Malformed k) = refl
 
-any_refused : {F : Type 0} (given : List (Given Op (Reply Shown))) → list_any (is_refused (counted_script {F})) given ≡ list_any (is_refused (node_script {F} Report)) given
-any_refused {F} given = λ i. list_any (λ (g : Given Op (Reply Shown)). same_refused {F} g i) given
+any_refused : (F : Type 0) (given : List (Given Op (Reply Shown))) → list_any (is_refused (counted_script {F})) given ≡ list_any (is_refused (node_script {F} Report)) given
+any_refused F given = λ i. list_any (λ (g : Given Op (Reply Shown)). same_refused F g i) given
 
 same_fault : {F : Type 0} (s : Counted) (line : List ℕ) (fault : LineFault F) → IsFaultOf (counted_script {F}) s line fault → IsFaultOf (node_script {F} Report) s.node line fault
 same_fault s line TooLong h = h
@@ -91,8 +91,8 @@ same_fault s line (Command fault) h = h
 
 same_status : {F : Type 0} (left : Counted) (lines : List (List ℕ)) (given : List (Given Op (Reply Shown))) (closing : Closing) (status : Status F) → IsStatusOf (counted_script {F}) left lines given closing status
     → IsStatusOf (node_script {F} Report) left.node lines given closing status
-same_status {F} left lines given closing statuses.Done h = ap (λ (b : Bool). b || closing.is_refused) (sym (any_refused {F} given)) ∙ h
-same_status {F} left lines given closing statuses.Refused h = (ap (λ (b : Bool). b || closing.is_refused) (sym (any_refused {F} given)) ∙ h.0, h.1)
+same_status {F} left lines given closing statuses.Done h = ap (λ (b : Bool). b || closing.is_refused) (sym (any_refused F given)) ∙ h
+same_status {F} left lines given closing statuses.Refused h = (ap (λ (b : Bool). b || closing.is_refused) (sym (any_refused F given)) ∙ h.0, h.1)
 same_status {F} left lines given closing (statuses.Malformed bad) h = (h.0, (h.1.0, (h.1.1.0, h.1.1.1, h.1.1.2, same_fault left h.1.1.1 bad.fault h.1.1.3)))
 
 -- ---- the end of a run
@@ -103,8 +103,8 @@ closed_by false P Q R T f g h = g h
 
 same_ends : {F : Type 0} (start : Counted) (read : List ℕ) (at_end : Type 0) (lines : List (List ℕ)) (given : List (Given Op (Reply Shown))) (closing : Closing) (left : Counted) → HasReport [] start.report
     → Ends (counted_script {F}) start read at_end lines given closing left → Ends (node_script {F} Report) start.node read at_end lines given closing left.node
-same_ends start read at_end lines given closing left none h =
-    let all = given_counted start 1 lines [] given h.end h.answers none in
+same_ends {F} start read at_end lines given closing left none h =
+    let all = given_counted F start 1 lines [] given h.end h.answers none in
     record {
       end = h.end.node;
       answers = all.answers;
@@ -119,9 +119,9 @@ same_breaks read at_end lines end left (AtEnd all ended broke) = AtEnd all ended
 
 same_broke : {F : Type 0} (start : Counted) (read : List ℕ) (at_end : Type 0) (lines : List (List ℕ)) (given : List (Given Op (Reply Shown))) (left : Counted) → HasReport [] start.report
     → BreaksOff (counted_script {F}) start read at_end lines given left → BreaksOff (node_script {F} Report) start.node read at_end lines given left.node
-same_broke start read at_end lines given left none h = record {
+same_broke {F} start read at_end lines given left none h = record {
   end = h.end.node;
-  answers = (given_counted start 1 lines [] given h.end h.answers none).answers;
+  answers = (given_counted F start 1 lines [] given h.end h.answers none).answers;
   breaks = same_breaks read at_end lines h.end left h.breaks;
 }
 
@@ -132,16 +132,16 @@ same_written {F} start read at_end written (Ok status) left none h = (
   h.1,
   h.2,
   same_ends start read at_end h.0 h.1 h.2 left none h.3,
-  h.4 ∙ ap (λ (xs : List ℕ). xs ++ h.2.text) (same_text {F} h.1),
+  h.4 ∙ ap (λ (xs : List ℕ). xs ++ h.2.text) (same_text F h.1),
   same_status left h.0 h.1 h.2 status h.5,
 )
 same_written {F} start read at_end written (Err faults.Read) left none h =
-    (h.0, h.1, h.2, (given_counted start 1 h.0 [] h.1 left h.3 none).answers, h.4, h.5, h.6 ∙ same_text {F} h.1, h.7)
+    (h.0, h.1, h.2, (given_counted F start 1 h.0 [] h.1 left h.3 none).answers, h.4, h.5, h.6 ∙ same_text F h.1, h.7)
 same_written {F} start read at_end written (Err faults.Write) left none (lines, given, n, inl h) =
-    (lines, given, n, inl (same_broke start read at_end lines given left none h.0, h.1 ∙ ap (take n) (same_text {F} given)))
+    (lines, given, n, inl (same_broke start read at_end lines given left none h.0, h.1 ∙ ap (take n) (same_text F given)))
 same_written {F} start read at_end written (Err faults.Write) left none (lines, given, n, inr h) =
-    (lines, given, n, inr (h.0, same_ends start read at_end lines given h.0 left none h.1, h.2 ∙ ap (λ (xs : List ℕ). take n (xs ++ h.0.text)) (same_text {F} given)))
-same_written {F} start read at_end written (Err faults.Memory) left none h = (h.0, h.1, same_broke start read at_end h.0 h.1 left none h.2, h.3 ∙ same_text {F} h.1, h.4)
+    (lines, given, n, inr (h.0, same_ends start read at_end lines given h.0 left none h.1, h.2 ∙ ap (λ (xs : List ℕ). take n (xs ++ h.0.text)) (same_text F given)))
+same_written {F} start read at_end written (Err faults.Memory) left none h = (h.0, h.1, same_broke start read at_end h.0 h.1 left none h.2, h.3 ∙ same_text F h.1, h.4)
 
 pub same_run : {F : Type 0} (start : Counted) (a b w x : Option (List ℕ)) (r : Result (Status F) RunFault) (left : Counted) (c : Cache) → start.node ≡ c → HasReport [] start.report → ScriptHasRun (counted_script {F}) start a b w x r left
     → ScriptHasRun (node_script {F} Report) c a b w x r left.node
