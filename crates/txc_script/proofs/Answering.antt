@@ -199,8 +199,8 @@ answered_whole kind start read written before s next r q (Err error) bare none a
 pub extended_line : {S A R F : Type 0} (kind : ScriptKind S A R F) (start : S) (read written more : List ℕ) (s : S) (r q : Running F) (res : Result (Flow F) AllocError) → HasNoEnd more → IfOk res (λ flow. flow ≡ GoesOn)
     → OnOk res (q.line ≡ take MAX_KEPT (r.line ++ more)) → q.lines ≡ r.lines → q.replies ≡ r.replies → HasAnsweredLines kind start read written (progress_of s r)
     → AnswersAs kind start (read ++ more) written (progress_of s q) res
-extended_line kind start read written more s r q (Ok (Stopped bad)) bare goes is count same h = absurd (let apart : Stopped bad ≡ GoesOn = goes in cc)
-extended_line kind start read written more s r q (Ok GoesOn) bare goes is count same h = record {
+extended_line {F = F} kind start read written more s r q (Ok (Stopped bad)) bare goes is count same h = absurd (let apart : Stopped bad ≡ GoesOn = goes in cc)
+extended_line {F = F} kind start read written more s r q (Ok GoesOn) bare goes is count same h = record {
   lines = h.lines;
   given = h.given;
   rest = h.rest ++ more;
@@ -213,7 +213,7 @@ extended_line kind start read written more s r q (Ok GoesOn) bare goes is count 
   refused = ap (λ (x : Replies F). x.is_refused) same ∙ h.refused;
   well_formed = h.well_formed;
 }
-extended_line kind start read written more s r q (Err error) bare goes is count same h = halted_before kind start read written more s r q error h (ap (λ (x : Replies F). x.text.items) same)
+extended_line {F = F} kind start read written more s r q (Err error) bare goes is count same h = halted_before kind start read written more s r q error h (ap (λ (x : Replies F). x.text.items) same)
 
 -- ---- what is read after a malformed line, and once memory ran out, is not looked at
 
@@ -315,10 +315,10 @@ unclosed kind start read written s next r q e h same broke =
 -- ---- the same, in other words
 
 pub last_of : {S A R F : Type 0} (kind : ScriptKind S A R F) (start : S) (read written : List ℕ) (p : Progress S) (a b : Flow F) → a ≡ b → AnswersLast kind start read written p (Ok a) → AnswersLast kind start read written p (Ok b)
-last_of kind start read written p a b e h = subst (λ (f : Flow F). AnswersLast kind start read written p (Ok f)) e h
+last_of {F = F} kind start read written p a b e h = subst (λ (f : Flow F). AnswersLast kind start read written p (Ok f)) e h
 
 pub answers_of : {S A R F : Type 0} (kind : ScriptKind S A R F) (start : S) (read written : List ℕ) (p : Progress S) (a b : Flow F) → a ≡ b → AnswersAs kind start read written p (Ok a) → AnswersAs kind start read written p (Ok b)
-answers_of kind start read written p a b e h = subst (λ (f : Flow F). AnswersAs kind start read written p (Ok f)) e h
+answers_of {F = F} kind start read written p a b e h = subst (λ (f : Flow F). AnswersAs kind start read written p (Ok f)) e h
 
 pub answers_same : {S A R F : Type 0} (kind : ScriptKind S A R F) (start : S) (a b written : List ℕ) (p : Progress S) (r : Result (Flow F) AllocError) → a ≡ b → AnswersAs kind start a written p r → AnswersAs kind start b written p r
 answers_same kind start a b written p r e h = subst (λ (xs : List ℕ). AnswersAs kind start xs written p r) e h

@@ -108,11 +108,11 @@ run_out_of_memory kind start a w =
 
 pub stopped_ends : {S A R F : Type 0} (kind : ScriptKind S A R F) (start : S) (read written : List ℕ) (p : Progress S) (flow : Flow F) (bad : MalformedLine F) (old new : Option (List ℕ)) → flow ≡ Stopped bad
     → TurnsTo kind start read written p old new (Ok flow) → EndsWith kind start read ⊥ written old new (Ok (Malformed bad)) p.state
-stopped_ends kind start read written p flow bad old new e h = subst (λ (f : Flow F). TurnsTo kind start read written p old new (Ok f)) e h
+stopped_ends {F = F} kind start read written p flow bad old new e h = subst (λ (f : Flow F). TurnsTo kind start read written p old new (Ok f)) e h
 
 pub goes_on_at : {S A R F : Type 0} (kind : ScriptKind S A R F) (start : S) (read written : List ℕ) (p : Progress S) (flow : Flow F) (old new : Option (List ℕ)) → flow ≡ GoesOn
     → TurnsTo kind start read written p old new (Ok flow) → TurnsTo kind start read written p old new (Ok GoesOn)
-goes_on_at kind start read written p flow old new e h = subst (λ (f : Flow F). TurnsTo kind start read written p old new (Ok f)) e h
+goes_on_at {F = F} kind start read written p flow old new e h = subst (λ (f : Flow F). TurnsTo kind start read written p old new (Ok f)) e h
 
 -- the end of the reader's bytes
 pub nothing_more : (a b c : Option (List ℕ)) (read buf : List ℕ) (n : ℕ) → n ≡ 0 → Consumes a b read → Consumes b c (take n buf) → Consumes a c read
@@ -129,7 +129,7 @@ read_fault r n fault is reads e = e ∙ ap Err (ap (λ (x : Result ℕ RunFault)
 -- the reader failed
 pub reader_failed : {S A R F : Type 0} (kind : ScriptKind S A R F) (start : S) (a b w x : Option (List ℕ)) (read written : List ℕ) (p : Progress S) (r : Result (Status F) RunFault) → Consumes a b read → Appends w x written
     → HasAnsweredLines kind start read written p → p.text ≡ [] → r ≡ Err Read → ScriptHasRun kind start a b w x r p.state
-reader_failed kind start a b w x read written p r consumes appends h none is =
+reader_failed {F = F} kind start a b w x read written p r consumes appends h none is =
     let text : written ≡ lines_text kind h.given = sym (append-nil written) ∙ ap (λ (xs : List ℕ). written ++ xs) (sym none) ∙ h.text in
     subst (λ (e : Result (Status F) RunFault). ScriptHasRun kind start a b w x e p.state) (sym is) (read, written, consumes, appends, (h.lines, h.given, h.rest, h.answers, h.begins, h.not_ended, text, h.well_formed))
 
@@ -137,14 +137,14 @@ reader_failed kind start a b w x read written p r consumes appends h none is =
 
 pub flushed : {S A R F : Type 0} (kind : ScriptKind S A R F) (start : S) (a b w x y : Option (List ℕ)) (ended result : Result (Status F) RunFault) (left : S) → ScriptHasRun kind start a b w x ended left → EndsFlushed x y ended result
     → ScriptHasRun kind start a b w y result left
-flushed kind start a b w x y (Ok status) result left h (keeps, inl is) =
+flushed {F = F} kind start a b w x y (Ok status) result left h (keeps, inl is) =
     subst (λ (e : Result (Status F) RunFault). ScriptHasRun kind start a b w y e left) (sym is) (h.0, h.1, h.2, Appends-kept w x y h.1 h.3 keeps, h.4)
-flushed kind start a b w x y (Ok status) result left h (keeps, inr is) =
+flushed {F = F} kind start a b w x y (Ok status) result left h (keeps, inr is) =
     let written = h.4 in
     let all = lines_text kind written.1 ++ written.2.text in
     let text : h.1 ≡ all = written.4 in
     let whole : h.1 ≡ take (length h.1) all = text ∙ sym (take_all (length h.1) all (omega (arith, ap length text))) in
     subst (λ (e : Result (Status F) RunFault). ScriptHasRun kind start a b w y e left) (sym is)
     (h.0, h.1, h.2, Appends-kept w x y h.1 h.3 keeps, (written.0, written.1, length h.1, inr (written.2, written.3, whole)))
-flushed kind start a b w x y (Err fault) result left h (keeps, is) =
+flushed {F = F} kind start a b w x y (Err fault) result left h (keeps, is) =
     subst (λ (e : Result (Status F) RunFault). ScriptHasRun kind start a b w y e left) (sym is) (h.0, h.1, h.2, Appends-kept w x y h.1 h.3 keeps, h.4)

@@ -98,15 +98,17 @@ fn leave_first<A: Word, F: Drop>(word: &[u8], unsaid: Unsaid, why: &mut Unanswer
     ensures { (kinds : List WordKind) (words : List (List ℕ)) → length (word.now ∷ words) ≡ length (A.kind ∷ kinds)
         → IsWrong (IsKindsFault (A.kind ∷ kinds) (word.now ∷ words)) why.new }
 {
-    *why = match unsaid {
-        Unsaid::Memory => Unanswered::Memory,
-        Unsaid::Bad(at) => Unanswered::Wrong(CommandFault::Word(WordFault {
-            number: 1,
-            kind: A::kind(),
-            at,
-            text: Excerpt::new(word),
-        })),
-    };
+    match unsaid {
+        Unsaid::Memory => *why = Unanswered::Memory,
+        Unsaid::Bad(at) => {
+            *why = Unanswered::Wrong(CommandFault::Word(WordFault {
+                number: 1,
+                kind: A::kind(),
+                at,
+                text: Excerpt::new(word),
+            }));
+        }
+    }
 }
 
 /// Leaves what is wrong with words, where a good one stands before them.
