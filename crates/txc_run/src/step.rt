@@ -32,6 +32,7 @@ fn make_insertion<T: Taker, F: Drop>(
 {
     let (key, (lo, (known, (still, (tags, (value, ())))))) = match read_row::<
         (Key, (Stamp, (Stamp, (bool, (TagSet, (Vec<u8>, ())))))),
+        F,
     >(alloc, words, why)
     {
         Some(row) => row,
@@ -79,7 +80,9 @@ fn make_lookup<T: Taker, F: Drop>(
         node.old node.new taker.old taker.new result why.new }
     ensures unchanged { IfNone result (T.text taker.new ≡ T.text taker.old) }
 {
-    let (key, (lo, (hi, ()))) = match read_row::<(Key, (Stamp, (Stamp, ())))>(alloc, words, why) {
+    let (key, (lo, (hi, ()))) = match read_row::<(Key, (Stamp, (Stamp, ()))), F>(
+        alloc, words, why,
+    ) {
         Some(row) => row,
         None => return None,
     };
@@ -104,7 +107,7 @@ fn make_event<T: Taker, F: Drop>(
         node.old node.new taker.old taker.new result why.new }
     ensures unchanged { IfNone result (T.text taker.new ≡ T.text taker.old) }
 {
-    let (stamp, (tags, ())) = match read_row::<(Stamp, (TagSet, ()))>(alloc, words, why) {
+    let (stamp, (tags, ())) = match read_row::<(Stamp, (TagSet, ())), F>(alloc, words, why) {
         Some(row) => row,
         None => return None,
     };
@@ -132,7 +135,7 @@ fn make_sweep<T: Taker, F: Drop>(
         node.old node.new taker.old taker.new result why.new }
     ensures unchanged { IfNone result (T.text taker.new ≡ T.text taker.old) }
 {
-    let (horizon, ()) = match read_row::<(Stamp, ())>(alloc, words, why) {
+    let (horizon, ()) = match read_row::<(Stamp, ()), F>(alloc, words, why) {
         Some(row) => row,
         None => return None,
     };
