@@ -2,8 +2,9 @@
 """Times programs store_bench side by side, as some trees build it: the stores of the others beside that of the last. bench/store.sh
 --beside runs it.
 
-usage: beside.py [--alone] PROGRAM.. OTHER ROWS..
+usage: beside.py [--alone] [--last] PROGRAM.. OTHER ROWS..
   --alone   times the store without a database
+  --last    the memory and the long purges alone
   PROGRAM   its processor time is shown as a share of that of OTHER
   ROWS      the sizes of the first table
 
@@ -93,7 +94,6 @@ def puts(benches, state, operations, before=None):
 def measured(benches, rows, is_alone):
     """The times of all but what comes last."""
     change, operations = ("write_1", WRITES) if is_alone else ("commit_1", {**WRITES, **COMMITS})
-    every(benches, f"rows {rows}", rows)
     queries(benches, rows, "none dead", is_alone)
     every(benches, f"{change} 500", 500)
     queries(benches, rows, "500 dead", is_alone)
@@ -137,14 +137,16 @@ def measured_last(benches, rows, is_alone):
 
 def main():
     words = sys.argv[1:]
-    is_alone = "--alone" in words
-    programs = [it for it in words if not it.isdecimal() and it != "--alone"]
+    is_alone, is_last = "--alone" in words, "--last" in words
+    programs = [it for it in words if not it.isdecimal() and not it.startswith("--")]
     for rows in [int(it) for it in words if it.isdecimal()]:
         benches = [Bench(it) for it in programs]
         print(f"{rows} rows", flush=True)
         if is_alone:
             every(benches, "alone 1", 0)
-        measured(benches, rows, is_alone)
+        every(benches, f"rows {rows}", rows)
+        if not is_last:
+            measured(benches, rows, is_alone)
         measured_last(benches, rows, is_alone)
         for bench in benches:
             bench.close()

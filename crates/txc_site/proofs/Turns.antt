@@ -57,11 +57,17 @@ pub is_error : {U E : Type 0} (end : Result U E) (error : E) → IsErrAnd end (�
 is_error (Ok u) error h = absurd h
 is_error {U} {E} (Err e) error h = ap (λ (x : E). Err x) h
 
+-- there was no memory for it, or the database is broken, whatever else is then known
+front_refused : {Less : Type 0} (error : DbError) → (error ≡ databases.Memory) ⊎ ((error ≡ databases.Broken) × Less)
+    → (error ≡ databases.Memory) ⊎ (error ≡ databases.Broken)
+front_refused error (inl is) = inl is
+front_refused error (inr (is, less)) = inr is
+
 -- a database gave no front of its whole history
-pub no_front : {U : Type 0} (numbers : List ℕ) (end : Result U GenerationError) (error : DbError) → IsErrAnd end (λ e. e ≡ generations.Ended error)
-    → (error ≡ databases.Memory) ⊎ (error ≡ databases.Broken) → IfErr end (IsGenerationRefused numbers)
+pub no_front : {U Less : Type 0} (numbers : List ℕ) (end : Result U GenerationError) (error : DbError) → IsErrAnd end (λ e. e ≡ generations.Ended error)
+    → (error ≡ databases.Memory) ⊎ ((error ≡ databases.Broken) × Less) → IfErr end (IsGenerationRefused numbers)
 no_front numbers (Ok u) error is h = tt
-no_front numbers (Err e) error is h = subst (IsGenerationRefused numbers) (sym is) h
+no_front numbers (Err e) error is h = subst (IsGenerationRefused numbers) (sym is) (front_refused error h)
 
 -- nor was there memory for that of the next one
 pub no_next_front : {U : Type 0} (room : Option ℕ) (ended : FrontValue) (end : Result U GenerationError) → IsErrAnd end (λ e. e ≡ generations.Memory)

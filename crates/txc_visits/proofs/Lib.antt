@@ -1,6 +1,6 @@
 pub mod Crosses
+mod GoesOver
 mod Guests
 mod Listing
 mod NodeHistories
 pub mod Tended
-mod GoesOver

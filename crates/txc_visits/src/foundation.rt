@@ -122,7 +122,7 @@ impl<A: App, J: Naming> Foundation<A, J> {
 }
 
 /// What the nodes held, where their records are not stored: each entry that goes over takes a record. Out of memory,
-/// fewer nodes are told of.
+/// it is that of the first nodes alone.
 fn leave_each<A: App, J: Naming>(
     rt: &impl Wait,
     alloc: Global,

@@ -39,7 +39,8 @@ pub struct Visits<A: App, T> {
     pub left: Vec<LeftNode<A>>,
 }
 
-/// Lets the threads visit a site of the database and of new nodes.
+/// Lets the threads visit a site of the database and of new nodes. These begin with what other nodes left, where that
+/// is given.
 pub fn over_new_histories<A, D, V, C, R>(
     rt: &R,
     alloc: Global,

@@ -2,7 +2,8 @@
 //!
 //! [`over_new_histories`] makes a site of a database by a [`Plan`], and starts the threads. A [`Visitor`] does what
 //! each of these does, by a [`SiteClient`], which reads pages and writes changes. What they leave can be read once
-//! all have ended ([`LastState`]).
+//! all have ended ([`LastState`]). What the nodes held goes over to those of a site that goes on from there
+//! ([`Warmth`]).
 #![tactic(auto)]
 
 mod application;

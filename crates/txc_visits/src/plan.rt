@@ -43,7 +43,8 @@ pub struct Plan {
     /// Without a number none is, and there is room for one for each stamp, [`txc_stamp::MOST_STAMP`] of them.
     pub events: Option<usize>,
     /// How many records of each node are stored, where anybody can read them: from 1 to
-    /// [`txc_stream::MAX_CAPACITY`]. Without a number none is, and a node's history has no end.
+    /// [`txc_stream::MAX_CAPACITY`]. Without a number none is, and a node's history has no end; what it holds goes
+    /// over to the next generation then, where it is still valid.
     pub records: Option<usize>,
     /// How the site keeps itself, in a thread of its own, until the visitors have ended. None where it does not.
     pub keep: Option<Keeping>,

@@ -26,7 +26,7 @@ pub struct Warmth<A: App> {
     ghost state: { EndInOneState whole front },
 }
 
-/// Lets the node take all events. What it refuses is left.
+/// Lets the node take all events, by a pass of its own. Where it refuses a pass or a step, the rest is left.
 fn take_all<A: App, J: Naming>(rt: &impl Wait, alloc: Global, node: &SharedNode<A, J>) {
     let Ok(mut pass) = node.pass(rt) else {
         return;
