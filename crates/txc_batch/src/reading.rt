@@ -134,9 +134,7 @@ pub fn read_order(alloc: Global, jobs: &[Job], line: &[u8]) -> Result<Order, Una
         return Err(Unanswered::Wrong(CommandFault::Unknown(Excerpt::new(word))));
     };
     if !jobs.is_empty() {
-        return Err(Unanswered::Wrong(CommandFault::Own(OwnFault::Misplaced(
-            EARLY,
-        ))));
+        return Err(Unanswered::Wrong(CommandFault::Own(OwnFault::Misplaced(EARLY))));
     }
     let said = read_after_name(alloc, name, words, count)?;
     match order_of(alloc, name, said.as_slice())? {

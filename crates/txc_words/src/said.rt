@@ -40,9 +40,7 @@ fn find_without_kinds(
     ensures { IsWrong (IsUnkindFault name (words_left words.entry)) result }
 {
     if count < 2 {
-        return Unanswered::Wrong(CommandFault::Own(OwnFault::Usage(
-            usage_of(name),
-        )));
+        return Unanswered::Wrong(CommandFault::Own(OwnFault::Usage(usage_of(name))));
     }
     match read_words(alloc, first_kinds(name), words.first(2), 2) {
         Ok(_) => unreachable!(),
