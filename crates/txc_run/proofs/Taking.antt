@@ -62,7 +62,7 @@ pub on_made : {T F : Type 0} (takes : Taking T) (line : List ℕ) (r : Option Bo
 on_made takes line (Some refused) why c next old new Q h f = f refused h
 on_made takes line None why c next old new Q h f = tt
 
-pub node_unanswered : {T F : Type 0} (takes : Taking T) (line : List ℕ) (r : Option Bool) (why : Unanswered F) (c next : Cache) (old new : T) → MakesLine takes line c next old new r why → IfNone r (IsUnanswered (node_script {F} Node) c line next why)
+pub node_unanswered : {T F : Type 0} (takes : Taking T) (line : List ℕ) (r : Option Bool) (why : Unanswered F) (c next : Cache) (old new : T) → MakesLine takes line c next old new r why → IfNone r (IsUnanswered (node_script {F = F} Node) c line next why)
 node_unanswered takes line (Some x) why c next old new h = tt
 node_unanswered takes line None (Wrong fault) c next old new h = ((λ op. fault_asks_none node_forms line fault op h.0), h.1, h.0)
 node_unanswered takes line None Memory c next old new h = inr tt
@@ -74,7 +74,7 @@ same_counted s node report n r =
     a ∙ b
 
 pub counted_unanswered : {F : Type 0} (line : List ℕ) (r : Option Bool) (why : Unanswered F) (s : Counted) (node : Cache) (report : Report) → MakesLine Counts line s.node node s.report report r why
-    → IfNone r (IsUnanswered (counted_script {F}) s line (record { node = node; report = report }) why)
+    → IfNone r (IsUnanswered (counted_script {F = F}) s line (record { node = node; report = report }) why)
 counted_unanswered line (Some x) why s node report h = tt
 counted_unanswered line None (Wrong fault) s node report h = ((λ op. fault_asks_none node_forms line fault op h.0), same_counted s node report h.1 h.2, h.0)
 counted_unanswered line None Memory s node report h = inr tt

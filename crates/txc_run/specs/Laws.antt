@@ -35,6 +35,6 @@ HadMemory given = All (λ g. (op : Op) → g ≢ Replied op (Refused Memory)) gi
 abbrev pub AreAnsweredOneWay : Type 0 → Type 0
 AreAnsweredOneWay F = (mode : Mode) (c : Cache) (number : ℕ) (lines : List (List ℕ))
     (a b : List (Given Op (Reply Shown))) (end other : Cache)
-    → AreGiven (node_script {F} mode) c number lines a end → AreGiven (node_script {F} mode) c number lines b other
+    → AreGiven (node_script {F = F} mode) c number lines a end → AreGiven (node_script {F = F} mode) c number lines b other
     → HadMemory a → HadMemory b
     → (a ≡ b) × (end ≡ other)

@@ -39,4 +39,4 @@ abbrev pub IsLine : Type 0 → List ℕ → Line → Type 0
 IsLine F bytes Quiet = IsQuiet bytes
 IsLine F bytes (Step op) = NamesStep (IsStepLine bytes) op
 IsLine F bytes (Unmade error) = IsUnmade (IsStepLine bytes) error
-IsLine F bytes Malformed = (c : Cache) × IsMalformed (node_script {F} Node) c bytes
+IsLine F bytes Malformed = (c : Cache) × IsMalformed (node_script {F = F} Node) c bytes
