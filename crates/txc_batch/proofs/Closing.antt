@@ -4,7 +4,7 @@ use Rattle.txc_app.specs.Eval.{Next}
 use Rattle.txc_script.specs.Answers.{IsUnanswered}
 use Rattle.txc_script.specs.LineFaults.{IsWrong}
 use Rattle.txc_script.specs.Words.{words_of}
-use Rattle.txc_script.specs.declared.unread.Unanswered.{Unanswered}
+use Rattle.txc_words.specs.Faults.{WordsUnanswered}
 use Rattle.txc_script.specs.declared.unread.Unanswered.TheVariants as reasons
 use Rattle.txc_work.specs.Batches.{job_numbers, NamesOneOf}
 use Rattle.txc_work.specs.declared.error.BatchError.{BatchError}
@@ -20,7 +20,7 @@ use Rattle.txc_batch.specs.declared.order.Order.{Order}
 use Rattle.txc_batch.proofs.NothingWrong.{nothing_wrong}
 
 -- a line that was not read left the state as it was
-pub unread : (s : BatchState) (line : List ℕ) (reason : Unanswered) → IsWrong (IsBatchFault s.jobs (words_of line)) reason → IsUnanswered batch_script s line s reason
+pub unread : (s : BatchState) (line : List ℕ) (reason : WordsUnanswered) → IsWrong (IsBatchFault s.jobs (words_of line)) reason → IsUnanswered batch_script s line s reason
 unread s line (reasons.Wrong fault) h = ((λ order asks. nothing_wrong s.jobs line order fault asks h), refl, h)
 unread s line reasons.Memory h = inl refl
 

@@ -2,12 +2,11 @@
 use Rattle.std.proofs.Common.{◌≡◌, ℕ, ◌≤◌, List, [], ◌∷◌, None, length, refl, sym, ap, ◌∙◌, arith}
 use Rattle.txc_script.specs.LineFaults.{kinds_for}
 use Rattle.txc_script.specs.SaidWords.{SayAll}
-use Rattle.txc_script.specs.declared.line_fault.CommandFault.{CommandFault}
 use Rattle.txc_script.specs.declared.line_fault.WordKind.TheVariants.{Key}
 use Rattle.txc_script.specs.declared.said.Said.{Said}
 use Rattle.txc_script.proofs.Offered.{said_of}
 use Rattle.txc_words.specs.declared.name.LineName.{LineName}
-use Rattle.txc_words.specs.Faults.{moment}
+use Rattle.txc_words.specs.Faults.{WordsFault, moment}
 use Rattle.txc_words.proofs.Offered.{none_some}
 use Rattle.txc_work.specs.declared.job.Job.{Job}
 use Rattle.txc_batch.specs.BatchFaults.{IsMisplaced, IsPreparingFault}
@@ -22,6 +21,6 @@ job_there (a ∷ b ∷ words) values some h none =
     none_some _ (ap job_said (sym by.2) ∙ none)
 
 -- a change or a pin after a job stands in the wrong place
-pub after_some : (jobs : List Job) (name : LineName) (words : List (List ℕ)) (fault : CommandFault) → (jobs ≡ [] → ⊥) → IsMisplaced fault → IsPreparingFault jobs name words fault
+pub after_some : (jobs : List Job) (name : LineName) (words : List (List ℕ)) (fault : WordsFault) → (jobs ≡ [] → ⊥) → IsMisplaced fault → IsPreparingFault jobs name words fault
 after_some [] name words fault some h = absurd (some refl)
 after_some (job ∷ jobs) name words fault some h = h

@@ -2,38 +2,38 @@
 use Rattle.std.specs.Prelude.{◌≡◌, ◌≢◌, ◌⊎◌, ◌<◌, ◌≤◌, ℕ, List, [], ◌∷◌, codes, length}
 use Rattle.txc_script.specs.Excerpts.{excerpt_of}
 use Rattle.txc_script.specs.LineFaults.{IsKindsFault}
-use Rattle.txc_script.specs.declared.line_fault.CommandFault.{CommandFault}
-use Rattle.txc_script.specs.declared.line_fault.CommandFault.TheVariants as faults
+use Rattle.txc_script.specs.declared.line_fault.CommandFault.TheVariants.{Own, Unknown}
+use Rattle.txc_words.specs.declared.fault.OwnFault.TheVariants.{Few, Misplaced}
 use Rattle.txc_words.specs.declared.name.LineName.{LineName}
 use Rattle.txc_words.specs.Names.{name_text}
-use Rattle.txc_words.specs.Faults.{IsFaultAfter}
+use Rattle.txc_words.specs.Faults.{IsFaultAfter, WordsFault}
 use Rattle.txc_work.specs.declared.job.Job.{Job}
 use Rattle.txc_batch.specs.Orders.{IsPreparing, job_kinds}
 use Rattle.txc_batch.specs.declared.reading.TheConstants.{LEAST_WORDS}
 
 -- what is wrong with the words after `job`: there are too few; else one is not of its kind
-abbrev pub IsJobFault : List (List ℕ) → CommandFault → Type 0
+abbrev pub IsJobFault : List (List ℕ) → WordsFault → Type 0
 IsJobFault words fault =
-    ((length words < LEAST_WORDS) × (fault ≡ faults.Few LEAST_WORDS (length words)))
+    ((length words < LEAST_WORDS) × (fault ≡ Own (Few LEAST_WORDS (length words))))
     ⊎ ((LEAST_WORDS ≤ length words) × IsKindsFault (job_kinds words) words fault)
 
 -- it says where changes and pins stand
-abbrev pub IsMisplaced : CommandFault → Type 0
-IsMisplaced (faults.Misplaced text) = text.now ≡ codes "changes and pins stand before the first job"
+abbrev pub IsMisplaced : WordsFault → Type 0
+IsMisplaced (Own (Misplaced text)) = text.now ≡ codes "changes and pins stand before the first job"
 IsMisplaced fault = ⊥
 
 -- what is wrong with a change or a pin: before the first job, what is wrong with its words; after one, that it
 -- stands there
-abbrev pub IsPreparingFault : List Job → LineName → List (List ℕ) → CommandFault → Type 0
+abbrev pub IsPreparingFault : List Job → LineName → List (List ℕ) → WordsFault → Type 0
 IsPreparingFault [] name words fault = IsFaultAfter name words fault
 IsPreparingFault (job ∷ jobs) name words fault = IsMisplaced fault
 
 -- What is wrong with a line's words after lines that asked for these jobs: the first is no line's name; else it
 -- is in the words after that name, or in the place of the line.
-abbrev pub IsBatchFault : List Job → List (List ℕ) → CommandFault → Type 0
+abbrev pub IsBatchFault : List Job → List (List ℕ) → WordsFault → Type 0
 IsBatchFault jobs all fault =
     ((word : List ℕ) × (words : List (List ℕ)) × (all ≡ word ∷ words) × (word ≢ codes "job")
-    × ((name : LineName) → IsPreparing name → word ≡ name_text name → ⊥) × (fault ≡ faults.Unknown (excerpt_of word)))
+    × ((name : LineName) → IsPreparing name → word ≡ name_text name → ⊥) × (fault ≡ Unknown (excerpt_of word)))
     ⊎ (((words : List (List ℕ)) × (all ≡ codes "job" ∷ words) × IsJobFault words fault)
     ⊎ ((name : LineName) × (words : List (List ℕ)) × IsPreparing name × (all ≡ name_text name ∷ words)
     × IsPreparingFault jobs name words fault))

@@ -1,7 +1,7 @@
 -- What the lines of a batch's script are, in the words of their rules.
 use Rattle.std.specs.Prelude.{ℕ, List}
 use Rattle.txc_script.specs.Words.{words_of}
-use Rattle.txc_script.specs.declared.line_fault.CommandFault.{CommandFault}
+use Rattle.txc_words.specs.Faults.{WordsFault}
 use Rattle.txc_work.specs.declared.job.Job.{Job}
 use Rattle.txc_batch.specs.BatchFaults.{IsBatchFault}
 use Rattle.txc_batch.specs.Orders.{AsksFor}
@@ -10,5 +10,5 @@ use Rattle.txc_batch.specs.declared.order.Order.{Order}
 -- nothing is wrong with the words of a line that asks for something
 abbrev pub NothingIsWrongWithOrders : Type 0
 NothingIsWrongWithOrders =
-    (jobs : List Job) (line : List ℕ) (order : Order) (fault : CommandFault) → AsksFor jobs line order
+    (jobs : List Job) (line : List ℕ) (order : Order) (fault : WordsFault) → AsksFor jobs line order
     → IsBatchFault jobs (words_of line) fault → ⊥

@@ -7,7 +7,7 @@ use Rattle.txc_script.specs.Runs.{ScriptHasRun}
 use Rattle.txc_script.specs.Written.{AppendsPrefix}
 use Rattle.txc_script.specs.declared.fault.RunFault.{RunFault}
 use Rattle.txc_script.specs.declared.fault.RunFault.TheVariants.{Read, Write, Memory}
-use Rattle.txc_script.specs.declared.fault.Status.{Status}
+use Rattle.txc_words.specs.Faults.{WordsStatus}
 use Rattle.txc_script.specs.declared.fault.Status.TheVariants.{Done, Refused, Malformed}
 use Rattle.txc_work.specs.declared.error.BatchError.{BatchError}
 use Rattle.txc_batch.specs.BatchScripts.{batch_script}
@@ -18,14 +18,14 @@ use Rattle.txc_batch.specs.Sources.{IsNewSource, SourceValue}
 use Rattle.txc_batch.specs.Staffing.{RanValue}
 
 -- the status of a run without a malformed line, in which a refusal was written or none was
-abbrev pub status_of : Bool → Status
+abbrev pub status_of : Bool → WordsStatus
 status_of true = Refused
 status_of false = Done
 
 -- The jobs that the lines asked for, and no others, ran over the database that the lines left, and what they gave
 -- was written. The status tells whether a refusal was written, of a line or of a job, or of the batch. After a
 -- fault of the writer a prefix of that text was written, and nothing out of memory.
-abbrev pub EndsInJobs : Next → BatchState → Bool → Option (List ℕ) → Option (List ℕ) → Result Status RunFault
+abbrev pub EndsInJobs : Next → BatchState → Bool → Option (List ℕ) → Option (List ℕ) → Result WordsStatus RunFault
     → Type 0
 EndsInJobs next s is_refused contents_old contents_new (Ok status) =
     (batch : Result RanValue BatchError) × EndsSo next s batch
@@ -39,8 +39,8 @@ EndsInJobs next s is_refused contents_old contents_new (Err Memory) = Keeps cont
 
 -- how a run ends whose lines ended so, and left this state: in the jobs, where all lines were answered and none
 -- was malformed; else in the same way, and nothing more is written
-abbrev pub EndsAfterLines : Next → BatchState → Result Status RunFault → Option (List ℕ) → Option (List ℕ)
-    → Result Status RunFault → Type 0
+abbrev pub EndsAfterLines : Next → BatchState → Result WordsStatus RunFault → Option (List ℕ) → Option (List ℕ)
+    → Result WordsStatus RunFault → Type 0
 EndsAfterLines next s (Ok Done) contents_old contents_new result =
     EndsInJobs next s false contents_old contents_new result
 EndsAfterLines next s (Ok Refused) contents_old contents_new result =
@@ -52,22 +52,22 @@ EndsAfterLines next s (Err fault) contents_old contents_new result =
 
 -- memory for what a run begins with was refused, and nothing was read or written
 abbrev pub HasNotBegun : Option (List ℕ) → Option (List ℕ) → Option (List ℕ) → Option (List ℕ)
-    → Result Status RunFault → Type 0
+    → Result WordsStatus RunFault → Type 0
 HasNotBegun remaining_old remaining_new contents_old contents_new result =
     (remaining_new ≡ remaining_old) × Keeps contents_old contents_new × (result ≡ Err Memory)
 
 -- a run that begins with this batch: its lines were run as those of any script, and then came what comes after them
 abbrev pub HasRunFrom : Next → BatchState → Option (List ℕ) → Option (List ℕ) → Option (List ℕ) → Option (List ℕ)
-    → Result Status RunFault → Type 0
+    → Result WordsStatus RunFault → Type 0
 HasRunFrom next s remaining_old remaining_new contents_old contents_new result =
-    (left : BatchState) × (contents : Option (List ℕ)) × (lines_ended : Result Status RunFault)
+    (left : BatchState) × (contents : Option (List ℕ)) × (lines_ended : Result WordsStatus RunFault)
     × ScriptHasRun batch_script s remaining_old remaining_new contents_old contents lines_ended left
     × EndsAfterLines next left lines_ended contents contents_new result
 
 -- A run of a batch's script by these settings: it begins with a new database of them, and functions of these
 -- numbers; or it did not begin.
 abbrev pub HasRunBatch : Next → Settings → List ℕ → Option (List ℕ) → Option (List ℕ) → Option (List ℕ)
-    → Option (List ℕ) → Result Status RunFault → Type 0
+    → Option (List ℕ) → Result WordsStatus RunFault → Type 0
 HasRunBatch next settings functions remaining_old remaining_new contents_old contents_new result =
     HasNotBegun remaining_old remaining_new contents_old contents_new result
     ⊎ ((source : SourceValue) × IsNewSource settings.row_cap source

@@ -1,6 +1,7 @@
 -- Scripts of a batch: what their lines ask for and what they give.
 use Rattle.std.specs.Prelude.{◌≡◌, ◌⊎◌, ℕ, Bool, false, List, [], ◌∷◌, ◌++◌, Option, Some, None, Result, length}
 use Rattle.txc_script.specs.Kinds.{ScriptKind, no_closing}
+use Rattle.txc_words.specs.declared.fault.OwnFault.{OwnFault}
 use Rattle.txc_work.specs.declared.job.Job.{Job}
 use Rattle.txc_batch.specs.BatchFaults.{IsBatchFault}
 use Rattle.txc_batch.specs.BatchStates.{BatchState}
@@ -46,7 +47,7 @@ is_refused_order None = false
 is_refused_order (Some told) = is_refused_preparing told
 
 -- The lines of a batch's script: changes and pins, and then jobs. No line runs a job.
-abbrev pub batch_script : ScriptKind BatchState Order (Option (Result ℕ PrepareError))
+abbrev pub batch_script : ScriptKind BatchState Order (Option (Result ℕ PrepareError)) OwnFault
 batch_script = record {
   asks = λ s. AsksFor s.jobs;
   does = DoesOrder;

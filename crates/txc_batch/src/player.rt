@@ -11,6 +11,7 @@ use txc_app::App;
 use txc_registry::Cacheable;
 use txc_script::{Script, Unanswered};
 use txc_stamp::Stamp;
+use txc_words::OwnFault;
 
 /// A batch's script, of which the jobs are run when all lines were answered.
 pub struct BatchScript<A, C>(pub PhantomData<(A, C)>);
@@ -22,6 +23,8 @@ impl<A: App, C: Cacheable> Script for BatchScript<A, C> {
 
     type Reply = Option<Result<Stamp, PrepareError>>;
 
+    type Fault = OwnFault;
+
     ghost kind = { λ _. batch_script };
 
     fn answer(
@@ -30,7 +33,7 @@ impl<A: App, C: Cacheable> Script for BatchScript<A, C> {
         state: &mut Batch<A, C>,
         line: &[u8],
         text: &mut Vec<u8>,
-        why: &mut Unanswered,
+        why: &mut Unanswered<OwnFault>,
     ) -> Option<bool> {
         match read_order(alloc, state.jobs(), line) {
             Ok(order) => match state.obey(alloc, order, text) {

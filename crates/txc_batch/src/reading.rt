@@ -16,7 +16,7 @@ use txc_script::{
     count_words, read_each,
 };
 use txc_tags::Key;
-use txc_words::{LAST_MOMENT, LineName, change_of, read_after_name};
+use txc_words::{LAST_MOMENT, LineName, OwnFault, change_of, read_after_name};
 use txc_work::Job;
 
 /// How many words after its name a job has at least.
@@ -58,16 +58,20 @@ fn job_of(alloc: Global, said: &[Said<'_>]) -> Result<Option<Queued>, AllocError
 }
 
 /// A job, by the words after its name, of which there are so many; or what is wrong with them.
-fn read_queued(alloc: Global, words: WordsLeft<'_>, count: usize) -> Result<Queued, Unanswered>
+fn read_queued(
+    alloc: Global,
+    words: WordsLeft<'_>,
+    count: usize,
+) -> Result<Queued, Unanswered<OwnFault>>
     requires { length (words_left words) ≡ count }
     ensures answer { IfOk result (AreJobWords (words_left words.entry)) }
     ensures refused { IfErr result (IsWrong (IsJobFault (words_left words.entry))) }
 {
     if count < LEAST_WORDS {
-        return Err(Unanswered::Wrong(CommandFault::Few {
+        return Err(Unanswered::Wrong(CommandFault::Own(OwnFault::Few {
             least: LEAST_WORDS,
             given: count,
-        }));
+        })));
     }
     let said = read_each(alloc, MOMENTS.as_slice(), WordKind::Key, words, count)?;
     match job_of(alloc, said.as_slice())? {
@@ -116,7 +120,7 @@ fn order_of(alloc: Global, name: LineName, said: &[Said<'_>]) -> Result<Option<O
 }
 
 /// What a line asks for after lines that asked for these jobs, or what is wrong with its words.
-pub fn read_order(alloc: Global, jobs: &[Job], line: &[u8]) -> Result<Order, Unanswered>
+pub fn read_order(alloc: Global, jobs: &[Job], line: &[u8]) -> Result<Order, Unanswered<OwnFault>>
     ensures answer { IfOk result (AsksFor jobs.now line.now) }
     ensures refused { IfErr result (IsWrong (IsBatchFault jobs.now (words_of line.now))) }
 {
@@ -130,7 +134,7 @@ pub fn read_order(alloc: Global, jobs: &[Job], line: &[u8]) -> Result<Order, Una
         return Err(Unanswered::Wrong(CommandFault::Unknown(Excerpt::new(word))));
     };
     if !jobs.is_empty() {
-        return Err(Unanswered::Wrong(CommandFault::Misplaced(EARLY)));
+        return Err(Unanswered::Wrong(CommandFault::Own(OwnFault::Misplaced(EARLY))));
     }
     let said = read_after_name(alloc, name, words, count)?;
     match order_of(alloc, name, said.as_slice())? {

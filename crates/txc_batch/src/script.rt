@@ -17,9 +17,10 @@ use txc_app::App;
 use txc_registry::{Cacheable, Registry};
 use txc_script::{RunFault, Status, run_script, write_text};
 use txc_settings::Settings;
+use txc_words::OwnFault;
 
 /// The status of a run without a malformed line.
-fn status_of(is_refused: bool) -> Status
+fn status_of(is_refused: bool) -> Status<OwnFault>
     ensures { result ≡ status_of is_refused }
 {
     if is_refused {
@@ -36,7 +37,7 @@ fn end_in_jobs<A, C, W, H>(
     batch: Batch<A, C>,
     is_refused: bool,
     writer: &mut W,
-) -> Result<Status, RunFault>
+) -> Result<Status<OwnFault>, RunFault>
 where
     A: App + Send + Sync,
     C: Cacheable + Send,
@@ -63,7 +64,7 @@ fn run_lines<A, C, R, W, H>(
     mut batch: Batch<A, C>,
     reader: &mut R,
     writer: &mut W,
-) -> Result<Status, RunFault>
+) -> Result<Status<OwnFault>, RunFault>
 where
     A: App + Send + Sync,
     C: Cacheable + Send,
@@ -97,7 +98,7 @@ pub fn run_batch_script<A, C, R, W, H>(
     registries: Vec<Registry<A, C>>,
     reader: &mut R,
     writer: &mut W,
-) -> Result<Status, RunFault>
+) -> Result<Status<OwnFault>, RunFault>
 where
     A: App + Send + Sync,
     C: Cacheable + Send,

@@ -6,7 +6,7 @@ use Rattle.txc_settings.specs.declared.settings.Settings.{Settings}
 use Rattle.txc_node.specs.Cache.{empty_cache, Cache}
 use Rattle.txc_script.specs.Runs.{ScriptHasRun}
 use Rattle.txc_script.specs.declared.fault.RunFault.{RunFault}
-use Rattle.txc_script.specs.declared.fault.Status.{Status}
+use Rattle.txc_words.specs.Faults.{WordsStatus}
 use Rattle.txc_run.specs.NodeScripts.{node_script}
 use Rattle.txc_functions.specs.Program.{program}
 use Rattle.txc_world.specs.ActorValues.{resting}
@@ -36,7 +36,7 @@ pub record IsNewWorldOf (settings : Settings) (staff : StaffValue) (w : WorldVal
 -- new world of them, with eight actors, whose functions share the permits; afterwards nothing is open. Of a batch
 -- the workers are as many as they say, and their functions share the permits. Or it did not begin.
 abbrev pub HasRunBy : Script → Settings → Option (List ℕ) → Option (List ℕ) → Option (List ℕ) → Option (List ℕ)
-    → Result Status RunFault → Type 0
+    → Result WordsStatus RunFault → Type 0
 HasRunBy (scripts.Node mode) settings remaining_old remaining_new contents_old contents_new result =
     (left : Cache) × ScriptHasRun (node_script mode) (empty_cache settings.capacity settings.recent)
     remaining_old remaining_new contents_old contents_new result left

@@ -6,3 +6,4 @@ mod staff;
 
 pub use running::run;
 pub use txc_script::{RunFault, Status, exit_of};
+pub use txc_words::OwnFault;

@@ -17,6 +17,7 @@ use txc_play::{run_world, world_settings};
 use txc_registry::Registry;
 use txc_script::{RunFault, Status};
 use txc_settings::{Script, Settings};
+use txc_words::OwnFault;
 use txc_world::World;
 
 /// How many actors a world has.
@@ -28,7 +29,7 @@ fn run_in_world<R: Read, W: Write>(
     settings: Settings,
     reader: &mut R,
     writer: &mut W,
-) -> Result<Status, RunFault>
+) -> Result<Status<OwnFault>, RunFault>
     ensures { HasRunBy Script.World settings
         (R.remaining reader.old) (R.remaining reader.new) (W.contents writer.old) (W.contents writer.new) result }
 {
@@ -50,7 +51,7 @@ fn run_by<R: Read, W: Write, H: Threads + Wait + Sync>(
     workers: Vec<Registry<Program, Object>>,
     reader: &mut R,
     writer: &mut W,
-) -> Result<Status, RunFault>
+) -> Result<Status<OwnFault>, RunFault>
     requires { IsCrew settings.workers workers.items }
     ensures { HasRunBatch program settings (numbers_in workers.items)
         (R.remaining reader.old) (R.remaining reader.new) (W.contents writer.old) (W.contents writer.new) result }
@@ -65,7 +66,7 @@ fn run_by_workers<R: Read, W: Write, H: Threads + Wait + Sync>(
     settings: Settings,
     reader: &mut R,
     writer: &mut W,
-) -> Result<Status, RunFault>
+) -> Result<Status<OwnFault>, RunFault>
     ensures { HasRunBy Script.Batch settings
         (R.remaining reader.old) (R.remaining reader.new) (W.contents writer.old) (W.contents writer.new) result }
 {
@@ -88,7 +89,7 @@ pub fn run<R: Read, W: Write, H: Threads + Wait + Sync>(
     settings: Settings,
     reader: &mut R,
     writer: &mut W,
-) -> Result<Status, RunFault>
+) -> Result<Status<OwnFault>, RunFault>
     ensures { HasRunBy script settings
         (R.remaining reader.old) (R.remaining reader.new) (W.contents writer.old) (W.contents writer.new) result }
 {

@@ -5,7 +5,7 @@ use Rattle.txc_world.specs.Worlds.{WorldValue}
 use Rattle.txc_script.specs.Answers.{IsUnanswered}
 use Rattle.txc_script.specs.LineFaults.{IsWrong}
 use Rattle.txc_script.specs.Words.{words_of}
-use Rattle.txc_script.specs.declared.unread.Unanswered.{Unanswered}
+use Rattle.txc_words.specs.Faults.{WordsUnanswered}
 use Rattle.txc_script.specs.declared.unread.Unanswered.TheVariants.{Wrong, Memory}
 use Rattle.txc_play.specs.Playing.{IsCutShort}
 use Rattle.txc_play.specs.Tasks.{SpellsTask}
@@ -15,7 +15,7 @@ use Rattle.txc_play.specs.declared.task.Task.{Task}
 use Rattle.txc_play.proofs.NothingWrong.{nothing_wrong}
 
 -- a line that was not read left the world as it was
-pub unread : (next : Next) (s : WorldValue) (line : List ℕ) (reason : Unanswered) → IsWrong (IsWorldFault (words_of line)) reason → IsUnanswered (world_script next) s line s reason
+pub unread : (next : Next) (s : WorldValue) (line : List ℕ) (reason : WordsUnanswered) → IsWrong (IsWorldFault (words_of line)) reason → IsUnanswered (world_script next) s line s reason
 unread next s line (Wrong fault) h = ((λ task spells. nothing_wrong line task fault spells h), refl, h)
 unread next s line Memory h = inl refl
 

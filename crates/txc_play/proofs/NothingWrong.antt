@@ -1,16 +1,15 @@
 -- Nothing is wrong with the words of a line that asks for something.
 use Rattle.std.proofs.Common.{◌≡◌, ℕ, List, ◌∷◌, sym, subst, ◌∙◌, inl, inr}
 use Rattle.txc_script.specs.Words.{words_of}
-use Rattle.txc_script.specs.declared.line_fault.CommandFault.{CommandFault}
 use Rattle.txc_words.specs.declared.name.LineName.{LineName}
 use Rattle.txc_words.specs.Names.{name_text}
-use Rattle.txc_words.specs.Faults.{IsFaultAfter}
+use Rattle.txc_words.specs.Faults.{IsFaultAfter, WordsFault}
 use Rattle.txc_play.specs.Tasks.{SpellsTask}
 use Rattle.txc_play.specs.WorldFaults.{IsWorldFault}
 use Rattle.txc_play.specs.declared.task.Task.{Task}
 use Rattle.txc_words.proofs.Offered.{first_is, none_after, others_are, same_name}
 
-pub nothing_wrong : (line : List ℕ) (task : Task) (fault : CommandFault) → SpellsTask line task → IsWorldFault (words_of line) fault → ⊥
+pub nothing_wrong : (line : List ℕ) (task : Task) (fault : WordsFault) → SpellsTask line task → IsWorldFault (words_of line) fault → ⊥
 nothing_wrong line task fault (name, words, is, asks) (inl (word, others, e, none, unknown)) = none name (first_is word (name_text name) others words (sym e ∙ is))
 nothing_wrong line task fault (name, words, is, asks) (inr (other, others, e, wrong)) =
     let both : name_text other ∷ others ≡ name_text name ∷ words = sym e ∙ is in

@@ -1,7 +1,7 @@
 -- What the lines of a world's script are, in the words of their rules.
 use Rattle.std.specs.Prelude.{ℕ, List}
 use Rattle.txc_script.specs.Words.{words_of}
-use Rattle.txc_script.specs.declared.line_fault.CommandFault.{CommandFault}
+use Rattle.txc_words.specs.Faults.{WordsFault}
 use Rattle.txc_play.specs.Tasks.{SpellsTask}
 use Rattle.txc_play.specs.WorldFaults.{IsWorldFault}
 use Rattle.txc_play.specs.declared.task.Task.{Task}
@@ -9,5 +9,5 @@ use Rattle.txc_play.specs.declared.task.Task.{Task}
 -- nothing is wrong with the words of a line that asks for something
 abbrev pub NothingIsWrongWithTasks : Type 0
 NothingIsWrongWithTasks =
-    (line : List ℕ) (task : Task) (fault : CommandFault) → SpellsTask line task → IsWorldFault (words_of line) fault
+    (line : List ℕ) (task : Task) (fault : WordsFault) → SpellsTask line task → IsWorldFault (words_of line) fault
     → ⊥

@@ -1,14 +1,13 @@
 -- What is wrong with the words of a malformed line of a world's script.
 use Rattle.std.specs.Prelude.{◌≡◌, ◌⊎◌, ℕ, List, ◌∷◌}
 use Rattle.txc_script.specs.Excerpts.{excerpt_of}
-use Rattle.txc_script.specs.declared.line_fault.CommandFault.{CommandFault}
 use Rattle.txc_script.specs.declared.line_fault.CommandFault.TheVariants.{Unknown}
 use Rattle.txc_words.specs.declared.name.LineName.{LineName}
 use Rattle.txc_words.specs.Names.{name_text}
-use Rattle.txc_words.specs.Faults.{IsFaultAfter}
+use Rattle.txc_words.specs.Faults.{IsFaultAfter, WordsFault}
 
 -- What is wrong with a line's words: the first is no line's name; else it is in the words after that name.
-abbrev pub IsWorldFault : List (List ℕ) → CommandFault → Type 0
+abbrev pub IsWorldFault : List (List ℕ) → WordsFault → Type 0
 IsWorldFault all fault =
     ((word : List ℕ) × (words : List (List ℕ)) × (all ≡ word ∷ words)
     × ((name : LineName) → word ≡ name_text name → ⊥) × (fault ≡ Unknown (excerpt_of word)))

@@ -6,7 +6,7 @@ use Rattle.txc_world.specs.declared.settings.WorldSettings.{WorldSettings}
 use Rattle.txc_world.specs.Worlds.{WorldValue}
 use Rattle.txc_script.specs.Runs.{ScriptHasRun}
 use Rattle.txc_script.specs.declared.fault.RunFault.{RunFault}
-use Rattle.txc_script.specs.declared.fault.Status.{Status}
+use Rattle.txc_words.specs.Faults.{WordsStatus}
 use Rattle.txc_play.specs.TaskSteps.{HasGivenUp}
 use Rattle.txc_play.specs.WorldScripts.{world_script}
 
@@ -23,7 +23,7 @@ world_settings s = record {
 -- a run of a world's script that begins in this world, after which the actors gave up what they had open, and
 -- the world that is left
 abbrev pub HasPlayed : Next → WorldValue → Option (List ℕ) → Option (List ℕ) → Option (List ℕ)
-    → Option (List ℕ) → Result Status RunFault → WorldValue → Type 0
+    → Option (List ℕ) → Result WordsStatus RunFault → WorldValue → Type 0
 HasPlayed next start remaining_old remaining_new contents_old contents_new result left =
     (s : WorldValue)
     × ScriptHasRun (world_script next) start remaining_old remaining_new contents_old contents_new result s

@@ -2,6 +2,7 @@
 use Rattle.std.specs.Prelude.{◌≡◌, ◌⊎◌, ℕ, List, [], ◌∷◌, ◌++◌}
 use Rattle.txc_app.specs.Eval.{Next}
 use Rattle.txc_script.specs.Kinds.{ScriptKind, no_closing}
+use Rattle.txc_words.specs.declared.fault.OwnFault.{OwnFault}
 use Rattle.txc_world.specs.Worlds.{WorldValue}
 use Rattle.txc_play.specs.Tasks.{SpellsTask}
 use Rattle.txc_play.specs.TaskSteps.{TaskHasBegun, TaskIsDone}
@@ -17,7 +18,7 @@ BreaksOffTask next s line end =
 
 -- A script of a world's lines, whose functions compute this: what a line asks for is done by steps, and
 -- nothing comes after all lines.
-abbrev pub world_script : Next → ScriptKind WorldValue Task Printed
+abbrev pub world_script : Next → ScriptKind WorldValue Task Printed OwnFault
 world_script next = record {
   asks = λ s. SpellsTask;
   does = TaskIsDone next;

@@ -14,6 +14,7 @@ use std::marker::PhantomData;
 use txc_app::App;
 use txc_registry::Cacheable;
 use txc_script::{Script, Unanswered};
+use txc_words::OwnFault;
 use txc_world::World;
 
 /// Most lines take no more bytes, so that their text is not moved while it is written.
@@ -57,6 +58,8 @@ impl<A: App, C: Cacheable> Script for WorldScript<A, C> {
 
     type Reply = Printed;
 
+    type Fault = OwnFault;
+
     ghost kind = { λ _. world_script A.next };
 
     fn answer(
@@ -65,7 +68,7 @@ impl<A: App, C: Cacheable> Script for WorldScript<A, C> {
         state: &mut World<A, C>,
         line: &[u8],
         text: &mut Vec<u8>,
-        why: &mut Unanswered,
+        why: &mut Unanswered<OwnFault>,
     ) -> Option<bool> {
         match read_task(alloc, line) {
             Ok(task) => match do_task(alloc, state, task, text) {

@@ -10,7 +10,7 @@ use crate::task::Task;
 use std::alloc::{AllocError, Global};
 use txc_ports::Bounds;
 use txc_script::{ChangeName, CommandFault, Excerpt, Said, Unanswered, all_words, count_words};
-use txc_words::{LineName, change_of, name_of, query_of, read_after_name};
+use txc_words::{LineName, OwnFault, change_of, name_of, query_of, read_after_name};
 use txc_world::{Act, Keep, Step};
 
 // ---- what the words after a line's name ask for, by what they say
@@ -269,7 +269,7 @@ fn task_of(alloc: Global, name: LineName, said: &[Said<'_>]) -> Result<Option<Ta
 // ---- lines
 
 /// What the line asks for, or what is wrong with its words.
-pub fn read_task(alloc: Global, line: &[u8]) -> Result<Task, Unanswered>
+pub fn read_task(alloc: Global, line: &[u8]) -> Result<Task, Unanswered<OwnFault>>
     ensures answer { IfOk result (SpellsTask line.now) }
     ensures refused { IfErr result (IsWrong (IsWorldFault (words_of line.now))) }
 {

@@ -12,6 +12,7 @@ use txc_app::App;
 use txc_registry::Cacheable;
 use txc_script::{RunFault, Status, run_script};
 use txc_settings::Settings;
+use txc_words::OwnFault;
 use txc_world::{World, WorldSettings};
 
 /// The settings of a run's world.
@@ -37,7 +38,7 @@ pub fn run_world<A: App, C: Cacheable, R: Read, W: Write>(
     world: &mut World<A, C>,
     reader: &mut R,
     writer: &mut W,
-) -> Result<Status, RunFault>
+) -> Result<Status<OwnFault>, RunFault>
     ensures after { HasPlayed A.next world.old (R.remaining reader.old) (R.remaining reader.new)
         (W.contents writer.old) (W.contents writer.new) result world.new }
     ensures closed { All (λ observed. observed ≡ idle) world.new.told.actors }

@@ -25,7 +25,7 @@ entry_refused e errors.ValueTooLong reach long = let l = long refl in entry_is_t
 -- ---- the step of a line
 
 -- what was made, or not, as the words after the name of a form say was made, or not, as the line says
-pub makes_as : {T : Type 0} (takes : Taking T) (form : LineForm Op) (line name : List ℕ) (words : List (List ℕ)) (r : Option Bool) (why : Unanswered) (c next : Cache) (old new : T) → form_named node_forms form.name ≡ Some form
+pub makes_as : {T F : Type 0} (takes : Taking T) (form : LineForm Op) (line name : List ℕ) (words : List (List ℕ)) (r : Option Bool) (why : Unanswered F) (c next : Cache) (old new : T) → form_named node_forms form.name ≡ Some form
     → words_of line ≡ name ∷ words → name ≡ form.name → MakesForm takes form words c next old new r why → MakesLine takes line c next old new r why
 makes_as takes form line name words (Some refused) why c next old new known cut named h =
     (h.0, record { form = form; words = words; named = known; are = subst (λ (n : List ℕ). words_of line ≡ n ∷ words) named cut; is = h.1 }, h.2, h.3, h.4, h.5)

@@ -43,7 +43,7 @@ one_counted old new op reply kept counts given h =
     (counts (steps_of given) h)
 
 -- such a step was made, and its reply taken
-pub taken : {T : Type 0} (takes : Taking T) (form : LineForm Op) (words : List (List ℕ)) (r : Option Bool) (why : Unanswered) (c next : Cache) (op : Op) (reply : Reply Shown) (function : Option ℕ) (old new : T) → IsOfForm form words op
+pub taken : {T F : Type 0} (takes : Taking T) (form : LineForm Op) (words : List (List ℕ)) (r : Option Bool) (why : Unanswered F) (c next : Cache) (op : Op) (reply : Reply Shown) (function : Option ℕ) (old new : T) → IsOfForm form words op
     → MayReply c op reply next → IsFor function op reply → IfSome r (λ refused. (o : Op) → IsFor function o reply → takes old o reply new) → IfSome r (λ refused. refused ≡ is_refusal reply) → IfNone r (why ≡ Memory)
     → MakesForm takes form words c next old new r why
 taken takes form words (Some refused) why c next op reply function old new is may of after same memory = (op, is, reply, may, after op of, same)
@@ -51,18 +51,18 @@ taken takes form words None why c next op reply function old new is may of after
     subst (MakesForm takes form words c next old new None) (sym memory) tt
 
 -- the words are no such step
-pub unread : {T : Type 0} (takes : Taking T) (form : LineForm Op) (words : List (List ℕ)) (why : Unanswered) (c : Cache) (old : T) → IsWrong (IsKindsFault form.kinds words) why → MakesForm takes form words c c old old None why
+pub unread : {T F : Type 0} (takes : Taking T) (form : LineForm Op) (words : List (List ℕ)) (why : Unanswered F) (c : Cache) (old : T) → IsWrong (IsKindsFault form.kinds words) why → MakesForm takes form words c c old old None why
 unread takes form words (Wrong fault) c old wrong = (wrong, refl, refl)
 unread takes form words Memory c old wrong = tt
 
 -- ---- lines that name a step
 
-pub on_made : {T : Type 0} (takes : Taking T) (line : List ℕ) (r : Option Bool) (why : Unanswered) (c next : Cache) (old new : T) (Q : Bool → Type 0) → MakesLine takes line c next old new r why
+pub on_made : {T F : Type 0} (takes : Taking T) (line : List ℕ) (r : Option Bool) (why : Unanswered F) (c next : Cache) (old new : T) (Q : Bool → Type 0) → MakesLine takes line c next old new r why
     → ((refused : Bool) → MakesLine takes line c next old new (Some refused) why → Q refused) → IfSome r Q
 on_made takes line (Some refused) why c next old new Q h f = f refused h
 on_made takes line None why c next old new Q h f = tt
 
-pub node_unanswered : {T : Type 0} (takes : Taking T) (line : List ℕ) (r : Option Bool) (why : Unanswered) (c next : Cache) (old new : T) → MakesLine takes line c next old new r why → IfNone r (IsUnanswered (node_script Node) c line next why)
+pub node_unanswered : {T F : Type 0} (takes : Taking T) (line : List ℕ) (r : Option Bool) (why : Unanswered F) (c next : Cache) (old new : T) → MakesLine takes line c next old new r why → IfNone r (IsUnanswered (node_script {F = F} Node) c line next why)
 node_unanswered takes line (Some x) why c next old new h = tt
 node_unanswered takes line None (Wrong fault) c next old new h = ((λ op. fault_asks_none node_forms line fault op h.0), h.1, h.0)
 node_unanswered takes line None Memory c next old new h = inr tt
@@ -73,8 +73,8 @@ same_counted s node report n r =
     let b : ◌≡◌ {A = Counted} (record { node = s.node; report = report }) s = ap (λ (x : Report). record s { report = x }) r in
     a ∙ b
 
-pub counted_unanswered : (line : List ℕ) (r : Option Bool) (why : Unanswered) (s : Counted) (node : Cache) (report : Report) → MakesLine Counts line s.node node s.report report r why
-    → IfNone r (IsUnanswered counted_script s line (record { node = node; report = report }) why)
+pub counted_unanswered : {F : Type 0} (line : List ℕ) (r : Option Bool) (why : Unanswered F) (s : Counted) (node : Cache) (report : Report) → MakesLine Counts line s.node node s.report report r why
+    → IfNone r (IsUnanswered (counted_script {F = F}) s line (record { node = node; report = report }) why)
 counted_unanswered line (Some x) why s node report h = tt
 counted_unanswered line None (Wrong fault) s node report h = ((λ op. fault_asks_none node_forms line fault op h.0), same_counted s node report h.1 h.2, h.0)
 counted_unanswered line None Memory s node report h = inr tt

@@ -24,7 +24,7 @@ Counts old op reply new =
     → HasReport (given ++ Replied op reply ∷ []) new
 
 -- a script of a node's lines whose replies are counted
-abbrev pub counted_script : ScriptKind Counted Op (Reply Shown)
+abbrev pub counted_script : {F : Type 0} → ScriptKind Counted Op (Reply Shown) F
 counted_script = record {
   asks = λ s. Spells;
   does = λ s op reply next. MayReply s.node op reply next.node × Counts s.report op reply next.report;

@@ -23,18 +23,18 @@ abbrev pub NamesOneStep : Type 0
 NamesOneStep = (line : List ℕ) (a b : Op) → IsStepLine line a → IsStepLine line b → a ≡ b
 
 -- of no reply, a step, an insertion that cannot be made and malformed, a line is one at most
-abbrev pub IsOneThing : Type 0
-IsOneThing = (line : List ℕ) (a b : Line) → IsLine line a → IsLine line b → a ≡ b
+abbrev pub IsOneThing : Type 0 → Type 0
+IsOneThing F = (line : List ℕ) (a b : Line) → IsLine F line a → IsLine F line b → a ≡ b
 
 -- no step was refused for memory
 abbrev pub HadMemory : List (Given Op (Reply Shown)) → Type 0
 HadMemory given = All (λ g. (op : Op) → g ≢ Replied op (Refused Memory)) given
 
 -- Lines that are answered from one state, where no step is refused for memory, are answered in one way: they
--- give the same, and leave the same state.
-abbrev pub AreAnsweredOneWay : Type 0
-AreAnsweredOneWay = (mode : Mode) (c : Cache) (number : ℕ) (lines : List (List ℕ))
+-- give the same, and leave the same state, whatever the faults are that lines of a kind alone have.
+abbrev pub AreAnsweredOneWay : Type 0 → Type 0
+AreAnsweredOneWay F = (mode : Mode) (c : Cache) (number : ℕ) (lines : List (List ℕ))
     (a b : List (Given Op (Reply Shown))) (end other : Cache)
-    → AreGiven (node_script mode) c number lines a end → AreGiven (node_script mode) c number lines b other
+    → AreGiven (node_script {F = F} mode) c number lines a end → AreGiven (node_script {F = F} mode) c number lines b other
     → HadMemory a → HadMemory b
     → (a ≡ b) × (end ≡ other)

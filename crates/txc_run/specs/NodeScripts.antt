@@ -35,7 +35,7 @@ MayBreakAtEnd Report = Unit {0}
 
 -- A script of a node's lines, each of which names a step. Of the cache that is left where memory is refused
 -- nothing is said: no line finds it.
-abbrev pub node_script : Mode → ScriptKind Cache Op (Reply Shown)
+abbrev pub node_script : {F : Type 0} → Mode → ScriptKind Cache Op (Reply Shown) F
 node_script mode = record {
   asks = λ c. Spells;
   does = MayReply;

@@ -34,9 +34,9 @@ pub data Line : Type 0 where
   Unmade : EntryError → Line
   Malformed : Line
 
--- the bytes are such a line
-abbrev pub IsLine : List ℕ → Line → Type 0
-IsLine bytes Quiet = IsQuiet bytes
-IsLine bytes (Step op) = NamesStep (IsStepLine bytes) op
-IsLine bytes (Unmade error) = IsUnmade (IsStepLine bytes) error
-IsLine bytes Malformed = (c : Cache) × IsMalformed (node_script Node) c bytes
+-- the bytes are such a line, where these are the faults that lines of a kind alone have
+abbrev pub IsLine : Type 0 → List ℕ → Line → Type 0
+IsLine F bytes Quiet = IsQuiet bytes
+IsLine F bytes (Step op) = NamesStep (IsStepLine bytes) op
+IsLine F bytes (Unmade error) = IsUnmade (IsStepLine bytes) error
+IsLine F bytes Malformed = (c : Cache) × IsMalformed (node_script {F = F} Node) c bytes

@@ -23,18 +23,18 @@ Taking T = T → Op → Reply Shown → T → Type 0
 
 -- Such a step was made: it has a reply, which was taken and is a refusal or none, and leaves that cache. Or there is no
 -- reply, and it is left why: this is wrong, and nothing changed; or a growth was refused.
-abbrev pub MakesStep : {T : Type 0} → Taking T → (Op → Type 0) → (CommandFault → Type 0) → Cache → Cache → T → T
-    → Option Bool → Unanswered → Type 0
+abbrev pub MakesStep : {T F : Type 0} → Taking T → (Op → Type 0) → (CommandFault F → Type 0) → Cache → Cache → T → T
+    → Option Bool → Unanswered F → Type 0
 MakesStep takes Is IsFault c next old new (Some refused) why = (op : Op) × Is op × (reply : Reply Shown)
     × MayReply c op reply next × takes old op reply new × (refused ≡ is_refusal reply)
 MakesStep takes Is IsFault c next old new None (Wrong fault) = IsFault fault × (next ≡ c) × (new ≡ old)
 MakesStep takes Is IsFault c next old new None Memory = ⊤
 
 -- that, of a step of this form, by the words after its name
-abbrev pub MakesForm : {T : Type 0} → Taking T → LineForm Op → List (List ℕ) → Cache → Cache → T → T
-    → Option Bool → Unanswered → Type 0
+abbrev pub MakesForm : {T F : Type 0} → Taking T → LineForm Op → List (List ℕ) → Cache → Cache → T → T
+    → Option Bool → Unanswered F → Type 0
 MakesForm takes form words = MakesStep takes (IsOfForm form words) (IsKindsFault form.kinds words)
 
 -- that, of the step that a line names
-abbrev pub MakesLine : {T : Type 0} → Taking T → List ℕ → Cache → Cache → T → T → Option Bool → Unanswered → Type 0
+abbrev pub MakesLine : {T F : Type 0} → Taking T → List ℕ → Cache → Cache → T → T → Option Bool → Unanswered F → Type 0
 MakesLine takes line = MakesStep takes (Spells line) (IsCommandFault node_forms (words_of line))

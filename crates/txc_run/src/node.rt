@@ -5,14 +5,15 @@ ghost use Rattle.txc_run.specs.NodeScripts.{node_script};
 use crate::report::Report;
 use crate::step::make_step;
 use std::alloc::{AllocError, Global};
+use std::marker::PhantomData;
 use txc_node::{NodeCore, Op, Reply, Shown};
 use txc_script::{Script, Unanswered};
 
-/// A script of a node whose replies are written.
-pub struct Replying;
+/// A script of a node whose replies are written. Its lines have no faults of their own, so a run says of which type none is.
+pub struct Replying<F>(pub PhantomData<F>);
 
 /// A script of a node whose replies are counted, and a report is written after all lines.
-pub struct Counting;
+pub struct Counting<F>(pub PhantomData<F>);
 
 /// A node, and what a report says of its replies.
 #[derive(Drop)]
@@ -21,12 +22,14 @@ pub struct Counted {
     pub report: Report,
 }
 
-impl Script for Replying {
+impl<F: Drop> Script for Replying<F> {
     type State = NodeCore;
 
     type Asked = Op;
 
     type Reply = Reply<Shown>;
+
+    type Fault = F;
 
     ghost kind = { λ _. node_script modes.Node };
 
@@ -36,7 +39,7 @@ impl Script for Replying {
         state: &mut NodeCore,
         line: &[u8],
         text: &mut Vec<u8>,
-        why: &mut Unanswered,
+        why: &mut Unanswered<F>,
     ) -> Option<bool> {
         make_step(alloc, state, line, text, why)
     }
@@ -51,12 +54,14 @@ impl Script for Replying {
     }
 }
 
-impl Script for Counting {
+impl<F: Drop> Script for Counting<F> {
     type State = Counted;
 
     type Asked = Op;
 
     type Reply = Reply<Shown>;
+
+    type Fault = F;
 
     ghost use Rattle.txc_run.specs.Counting.{counted_script};
 
@@ -68,7 +73,7 @@ impl Script for Counting {
         state: &mut Counted,
         line: &[u8],
         text: &mut Vec<u8>,
-        why: &mut Unanswered,
+        why: &mut Unanswered<F>,
     ) -> Option<bool> {
         make_step(alloc, &mut state.node, line, &mut state.report, why)
     }

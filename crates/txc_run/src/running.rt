@@ -9,23 +9,24 @@ use crate::node::{Counted, Counting, Replying};
 use crate::report::Report;
 use std::alloc::{AllocError, Global};
 use std::io::{Read, Write};
+use std::marker::PhantomData;
 use txc_node::NodeCore;
 use txc_script::{RunFault, Status, run_script};
 use txc_settings::{Mode, Settings};
 
 /// Runs a script whose replies are written.
-fn run_replying<R: Read, W: Write>(
+fn run_replying<F: Drop, R: Read, W: Write>(
     alloc: Global,
     settings: Settings,
     reader: &mut R,
     writer: &mut W,
-) -> Result<Status, RunFault>
+) -> Result<Status<F>, RunFault>
     ensures { (left : Cache) × ScriptHasRun (node_script Mode.Node) (empty_cache settings.capacity settings.recent)
         (R.remaining reader.old) (R.remaining reader.new)
         (W.contents writer.old) (W.contents writer.new) result left }
 {
     match NodeCore::new(alloc, settings.capacity, settings.recent) {
-        Ok(mut node) => run_script(alloc, &Replying, &mut node, reader, writer),
+        Ok(mut node) => run_script(alloc, &Replying(PhantomData), &mut node, reader, writer),
         Err(_) => Err(RunFault::Memory),
     }
 }
@@ -41,19 +42,19 @@ fn new_counted(alloc: Global, settings: Settings) -> Result<Counted, AllocError>
 }
 
 /// Runs a script whose replies are counted.
-fn run_counting<R: Read, W: Write>(
+fn run_counting<F: Drop, R: Read, W: Write>(
     alloc: Global,
     settings: Settings,
     reader: &mut R,
     writer: &mut W,
-) -> Result<Status, RunFault>
+) -> Result<Status<F>, RunFault>
     ensures { (left : Cache)
         × ScriptHasRun (node_script Mode.Report) (empty_cache settings.capacity settings.recent)
         (R.remaining reader.old) (R.remaining reader.new)
         (W.contents writer.old) (W.contents writer.new) result left }
 {
     match new_counted(alloc, settings) {
-        Ok(mut counted) => run_script(alloc, &Counting, &mut counted, reader, writer),
+        Ok(mut counted) => run_script(alloc, &Counting(PhantomData), &mut counted, reader, writer),
         Err(_) => Err(RunFault::Memory),
     }
 }
@@ -62,13 +63,13 @@ fn run_counting<R: Read, W: Write>(
 /// what is wrong with a malformed line. A reader is read at most [`crate::MAX_READS`] times, where a read
 /// that was interrupted counts and is made again. One that has not reached its end by then is a read fault.
 /// The writer is flushed at the end, unless no node could be made: then nothing was read.
-pub fn run<R: Read, W: Write>(
+pub fn run<F: Drop, R: Read, W: Write>(
     alloc: Global,
     mode: Mode,
     settings: Settings,
     reader: &mut R,
     writer: &mut W,
-) -> Result<Status, RunFault>
+) -> Result<Status<F>, RunFault>
     ensures { (left : Cache) × ScriptHasRun (node_script mode) (empty_cache settings.capacity settings.recent)
         (R.remaining reader.old) (R.remaining reader.new)
         (W.contents writer.old) (W.contents writer.new) result left }

@@ -19,12 +19,12 @@ use txc_tags::{Key, TagSet};
 
 /// Makes the insertion that the words after its name are, and takes its reply; else it leaves why it did not.
 #[inline(never)]
-fn make_insertion<T: Taker>(
+fn make_insertion<T: Taker, F: Drop>(
     alloc: Global,
     node: &mut NodeCore,
     words: WordsLeft<'_>,
     taker: &mut T,
-    why: &mut Unanswered,
+    why: &mut Unanswered<F>,
 ) -> Option<bool>
     ensures made { MakesForm T.takes insert_form (words_left words.entry)
         node.old node.new taker.old taker.new result why.new }
@@ -32,6 +32,7 @@ fn make_insertion<T: Taker>(
 {
     let (key, (lo, (known, (still, (tags, (value, ())))))) = match read_row::<
         (Key, (Stamp, (Stamp, (bool, (TagSet, (Vec<u8>, ())))))),
+        F,
     >(alloc, words, why)
     {
         Some(row) => row,
@@ -49,12 +50,12 @@ fn make_insertion<T: Taker>(
 
 /// Takes the reply to a lookup that is a hit. It stands alone, so that a miss makes no room for it.
 #[inline(never)]
-fn take_hit<T: Taker>(
+fn take_hit<T: Taker, F: Drop>(
     alloc: Global,
     function: Option<u8>,
     hit: Hit<'_>,
     taker: &mut T,
-    why: &mut Unanswered,
+    why: &mut Unanswered<F>,
 ) -> Option<bool>
     requires { IfSome function (λ f. f ≤ LAST_FUNCTION) }
     ensures after { IfSome result (λ refused. (op : Op) → IsFor function op (replies.Hit (seen hit.entry))
@@ -68,18 +69,20 @@ fn take_hit<T: Taker>(
 
 /// Makes the lookup that the words after its name are, and takes its reply.
 #[inline(never)]
-fn make_lookup<T: Taker>(
+fn make_lookup<T: Taker, F: Drop>(
     alloc: Global,
     node: &mut NodeCore,
     words: WordsLeft<'_>,
     taker: &mut T,
-    why: &mut Unanswered,
+    why: &mut Unanswered<F>,
 ) -> Option<bool>
     ensures made { MakesForm T.takes lookup_form (words_left words.entry)
         node.old node.new taker.old taker.new result why.new }
     ensures unchanged { IfNone result (T.text taker.new ≡ T.text taker.old) }
 {
-    let (key, (lo, (hi, ()))) = match read_row::<(Key, (Stamp, (Stamp, ())))>(alloc, words, why) {
+    let (key, (lo, (hi, ()))) = match read_row::<(Key, (Stamp, (Stamp, ()))), F>(
+        alloc, words, why,
+    ) {
         Some(row) => row,
         None => return None,
     };
@@ -93,18 +96,18 @@ fn make_lookup<T: Taker>(
 
 /// Makes the event that the words after its name are, and takes its reply.
 #[inline(never)]
-fn make_event<T: Taker>(
+fn make_event<T: Taker, F: Drop>(
     alloc: Global,
     node: &mut NodeCore,
     words: WordsLeft<'_>,
     taker: &mut T,
-    why: &mut Unanswered,
+    why: &mut Unanswered<F>,
 ) -> Option<bool>
     ensures made { MakesForm T.takes event_form (words_left words.entry)
         node.old node.new taker.old taker.new result why.new }
     ensures unchanged { IfNone result (T.text taker.new ≡ T.text taker.old) }
 {
-    let (stamp, (tags, ())) = match read_row::<(Stamp, (TagSet, ()))>(alloc, words, why) {
+    let (stamp, (tags, ())) = match read_row::<(Stamp, (TagSet, ())), F>(alloc, words, why) {
         Some(row) => row,
         None => return None,
     };
@@ -121,18 +124,18 @@ fn make_event<T: Taker>(
 
 /// Makes the sweep that the words after its name are, and takes its reply.
 #[inline(never)]
-fn make_sweep<T: Taker>(
+fn make_sweep<T: Taker, F: Drop>(
     alloc: Global,
     node: &mut NodeCore,
     words: WordsLeft<'_>,
     taker: &mut T,
-    why: &mut Unanswered,
+    why: &mut Unanswered<F>,
 ) -> Option<bool>
     ensures made { MakesForm T.takes sweep_form (words_left words.entry)
         node.old node.new taker.old taker.new result why.new }
     ensures unchanged { IfNone result (T.text taker.new ≡ T.text taker.old) }
 {
-    let (horizon, ()) = match read_row::<(Stamp, ())>(alloc, words, why) {
+    let (horizon, ()) = match read_row::<(Stamp, ()), F>(alloc, words, why) {
         Some(row) => row,
         None => return None,
     };
@@ -142,7 +145,7 @@ fn make_sweep<T: Taker>(
 /// Leaves that no line has this name.
 #[cold]
 #[inline(never)]
-fn leave_unknown(name: &[u8], why: &mut Unanswered)
+fn leave_unknown<F: Drop>(name: &[u8], why: &mut Unanswered<F>)
     ensures { why.new ≡ Unanswered.Wrong (Unknown (excerpt_of name.now)) }
 {
     *why = Unanswered::Wrong(CommandFault::Unknown(Excerpt::new(name)));
@@ -150,12 +153,12 @@ fn leave_unknown(name: &[u8], why: &mut Unanswered)
 
 /// Makes the step that a line names, and takes its reply; else it leaves why it did not. Each kind of step is a
 /// function of its own, so that a line pays for the room of its own words alone.
-pub fn make_step<T: Taker>(
+pub fn make_step<T: Taker, F: Drop>(
     alloc: Global,
     node: &mut NodeCore,
     line: &[u8],
     taker: &mut T,
-    why: &mut Unanswered,
+    why: &mut Unanswered<F>,
 ) -> Option<bool>
     ensures made { MakesLine T.takes line.now
         node.old node.new taker.old taker.new result why.new }

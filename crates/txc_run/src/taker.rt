@@ -23,12 +23,12 @@ pub trait Taker {
 
     /// Takes the reply to a step of that function, if it is of one. Returns whether it is a refusal; else it leaves that a
     /// growth was refused.
-    fn take(
+    fn take<F: Drop>(
         &mut self,
         alloc: Global,
         function: Option<u8>,
         reply: &Reply<Hit<'_>>,
-        why: &mut Unanswered,
+        why: &mut Unanswered<F>,
     ) -> Option<bool>
         requires { IfSome function (λ f. f ≤ LAST_FUNCTION) }
         ensures after { IfSome result (λ refused. (op : Op) → IsFor function op (seen_reply reply.now)
@@ -41,7 +41,7 @@ pub trait Taker {
 /// Leaves that a growth was refused.
 #[cold]
 #[inline(never)]
-fn out_of_memory(why: &mut Unanswered) -> Option<bool>
+fn out_of_memory<F: Drop>(why: &mut Unanswered<F>) -> Option<bool>
     ensures none { result ≡ None }
     ensures memory { why.new ≡ Unanswered.Memory }
 {
@@ -58,12 +58,12 @@ impl Taker for Vec<u8> {
 
     ghost text = { λ text. text.items };
 
-    fn take(
+    fn take<F: Drop>(
         &mut self,
         alloc: Global,
         function: Option<u8>,
         reply: &Reply<Hit<'_>>,
-        why: &mut Unanswered,
+        why: &mut Unanswered<F>,
     ) -> Option<bool> {
         match push_reply(alloc, self, reply) {
             Ok(()) => Some(reply.is_refusal()),
@@ -80,12 +80,12 @@ impl Taker for Report {
 
     ghost text = { λ _. [] };
 
-    fn take(
+    fn take<F: Drop>(
         &mut self,
         alloc: Global,
         function: Option<u8>,
         reply: &Reply<Hit<'_>>,
-        why: &mut Unanswered,
+        why: &mut Unanswered<F>,
     ) -> Option<bool> {
         if reply.is_refusal() {
             return Some(true);

@@ -26,10 +26,10 @@ use Rattle.txc_script.proofs.EachLine.{all_read, any_more, begins_longer, begins
 
 -- ---- one line
 
-pub not_plain : {S A R : Type 0} (kind : ScriptKind S A R) (s : S) (line : List ℕ) → (IsPlain line → ⊥) → IsMalformed kind s line
+pub not_plain : {S A R F : Type 0} (kind : ScriptKind S A R F) (s : S) (line : List ℕ) → (IsPlain line → ⊥) → IsMalformed kind s line
 not_plain kind s line none = record { not_quiet = λ quiet. none quiet.0; asks_nothing = λ asked is. none is.0 }
 
-pub asks_nothing : {S A R : Type 0} (kind : ScriptKind S A R) (s : S) (line : List ℕ) → (IsBlankOrComment line → ⊥) → ((asked : A) → kind.asks s line asked → ⊥) → IsMalformed kind s line
+pub asks_nothing : {S A R F : Type 0} (kind : ScriptKind S A R F) (s : S) (line : List ℕ) → (IsBlankOrComment line → ⊥) → ((asked : A) → kind.asks s line asked → ⊥) → IsMalformed kind s line
 asks_nothing kind s line bare none = record { not_quiet = λ quiet. bare quiet.1; asks_nothing = λ asked is. none asked is.1 }
 
 either_true : (b : Bool) → true ≡ (b || true)
@@ -37,7 +37,7 @@ either_true true = refl
 either_true false = refl
 
 -- a malformed line was answered after a look that changed nothing
-pub malformed_answered : {S A R : Type 0} (kind : ScriptKind S A R) (s next : S) (old new : Replies) (seen : List ℕ) (number : ℕ) (line : List ℕ) (r : Result Flow AllocError) → IsMalformed kind s line → next ≡ s
+pub malformed_answered : {S A R F : Type 0} (kind : ScriptKind S A R F) (s next : S) (old new : Replies F) (seen : List ℕ) (number : ℕ) (line : List ℕ) (r : Result (Flow F) AllocError) → IsMalformed kind s line → next ≡ s
     → seen ≡ old.text.items → IfOk r (IsStoppedAt kind next number line) → OnOk r (new.text.items ≡ seen ++ malformed_text number) → OnOk r (new.is_refused ≡ true)
     → IfOk r (AnswersLine kind s next old new number line)
 malformed_answered kind s next old new seen number line (Ok GoesOn) bad same kept stops text refused = absurd stops
@@ -51,7 +51,7 @@ malformed_answered kind s next old new seen number line (Ok (Stopped fault)) bad
 malformed_answered kind s next old new seen number line (Err e) bad same kept stops text refused = tt
 
 -- what a line asks for was done
-pub line_answered : {S A R : Type 0} (kind : ScriptKind S A R) (s next : S) (old new : Replies) (refused : Bool) (number : ℕ) (line : List ℕ) → IsPlain line
+pub line_answered : {S A R F : Type 0} (kind : ScriptKind S A R F) (s next : S) (old new : Replies F) (refused : Bool) (number : ℕ) (line : List ℕ) → IsPlain line
     → LineIsAnswered kind s line next old.text.items new.text.items refused → new.is_refused ≡ (old.is_refused || refused) → AnswersLine kind s next old new number line GoesOn
 line_answered kind s next old new refused number line plain h same = record {
   given = Replied h.asked h.reply;
@@ -62,8 +62,8 @@ line_answered kind s next old new refused number line plain h same = record {
 }
 
 -- a line was not answered; what is wrong with it was, which changed nothing
-pub unanswered_answered : {S A R : Type 0} (kind : ScriptKind S A R) (s next : S) (old new : Replies) (seen : List ℕ) (number : ℕ) (line : List ℕ) (why : Unanswered) (r : Result Flow AllocError) → (IsBlankOrComment line → ⊥)
-    → IsUnanswered kind s line next why → OnOk r ((fault : CommandFault) × (why ≡ Wrong fault)) → seen ≡ old.text.items → IfOk r (IsStoppedAt kind next number line) → OnOk r (new.text.items ≡ seen ++ malformed_text number)
+pub unanswered_answered : {S A R F : Type 0} (kind : ScriptKind S A R F) (s next : S) (old new : Replies F) (seen : List ℕ) (number : ℕ) (line : List ℕ) (why : Unanswered F) (r : Result (Flow F) AllocError) → (IsBlankOrComment line → ⊥)
+    → IsUnanswered kind s line next why → OnOk r ((fault : CommandFault F) × (why ≡ Wrong fault)) → seen ≡ old.text.items → IfOk r (IsStoppedAt kind next number line) → OnOk r (new.text.items ≡ seen ++ malformed_text number)
     → OnOk r (new.is_refused ≡ true) → IfOk r (AnswersLine kind s next old new number line)
 unanswered_answered kind s next old new seen number line (Wrong fault) r bare none wrong kept stops text refused =
     malformed_answered kind s next old new seen number line r (asks_nothing kind s line bare none.0) none.1 kept stops text refused
@@ -73,21 +73,21 @@ unanswered_answered kind s next old new seen number line Memory (Err e) bare non
 -- ---- a line that was answered
 
 -- the line that was read as these bytes was answered
-record Answered {S A R : Type 0} (kind : ScriptKind S A R) (s next : S) (r q : Running) (read : List ℕ) (flow : Flow) : Type 0 where
+record Answered {S A R F : Type 0} (kind : ScriptKind S A R F) (s next : S) (r q : Running F) (read : List ℕ) (flow : Flow F) : Type 0 where
   answers : AnswersLine kind s next r.replies q.replies (r.lines + 1) read flow
   count : q.lines ≡ r.lines + 1
   emptied : q.line ≡ []
 
 -- what holds where it was answered
-record LineAdded {S A R : Type 0} (kind : ScriptKind S A R) (start : S) (written : List ℕ) (next : S) (q : Running) (lines : List (List ℕ)) (given : List (Given A R)) : Type 0 where
+record LineAdded {S A R F : Type 0} (kind : ScriptKind S A R F) (start : S) (written : List ℕ) (next : S) (q : Running F) (lines : List (List ℕ)) (given : List (Given A R)) : Type 0 where
   answers : Answers kind start lines given next
   text : written ++ q.replies.text.items ≡ lines_text kind given
   refused : q.replies.is_refused ≡ list_any (is_refused kind) given
   count : q.lines ≡ length lines
 
-added_line : {S A R : Type 0} (kind : ScriptKind S A R) (start : S) (read written line x : List ℕ) (s next : S) (r q : Running) (flow : Flow) (h : HasAnsweredLines kind start read written (progress_of s r))
+added_line : {S A R F : Type 0} (kind : ScriptKind S A R F) (start : S) (read written line x : List ℕ) (s next : S) (r q : Running F) (flow : Flow F) (h : HasAnsweredLines kind start read written (progress_of s r))
     → ReadsAs kind x line → (a : Answered kind s next r q x flow) → LineAdded kind start written next q (h.lines ++ line ∷ []) (h.given ++ a.answers.given ∷ [])
-added_line {S} {A} {R} kind start read written line x s next r q flow h reads a =
+added_line {S} {A} {R} {F} kind start read written line x s next r q flow h reads a =
     let given = a.answers.given in
     let number : r.lines + 1 ≡ 1 + length h.lines = omega (arith, h.count) in
     let gives : Gives kind s (1 + length h.lines) line given next = reads.gives s (1 + length h.lines) given next (subst (λ (m : ℕ). Gives kind s m x given next) number a.answers.gives) in
@@ -102,11 +102,11 @@ malformed_more : {A R : Type 0} (given : List (Given A R)) (g : Given A R) (b : 
 malformed_more given g b none is = any_more is_malformed given g ∙ ap (λ (c : Bool). c || is_malformed g) none ∙ is
 
 -- and was malformed, so that no other is read
-stopped_line : {S A R : Type 0} (kind : ScriptKind S A R) (start : S) (read all : List ℕ) (at_end : Type 0) (written line x : List ℕ) (s next : S) (r q : Running) (bad : MalformedLine)
+stopped_line : {S A R F : Type 0} (kind : ScriptKind S A R F) (start : S) (read all : List ℕ) (at_end : Type 0) (written line x : List ℕ) (s next : S) (r q : Running F) (bad : MalformedLine F)
     (h : HasAnsweredLines kind start read written (progress_of s r)) → ReadsAs kind x line → (a : Answered kind s next r q x (Stopped bad))
     → (list_any is_malformed (h.given ++ a.answers.given ∷ []) ≡ true → IsWholeScript all at_end (h.lines ++ line ∷ []) (h.given ++ a.answers.given ∷ []))
     → IsAtLast kind start all at_end written (progress_of next q) (Ok (Stopped bad))
-stopped_line {S} {A} {R} kind start read all at_end written line x s next r q bad h reads a whole =
+stopped_line {S} {A} {R} {F} kind start read all at_end written line x s next r q bad h reads a whole =
     let added = added_line kind start read written line x s next r q (Stopped bad) h reads a in
     let given = h.given ++ a.answers.given ∷ [] in
     let malformed = malformed_more h.given a.answers.given true h.well_formed a.answers.flow_is.0 in
@@ -121,7 +121,7 @@ stopped_line {S} {A} {R} kind start read all at_end written line x s next r q ba
     )
 
 -- the line that ends after `before` was answered
-answered_line : {S A R : Type 0} (kind : ScriptKind S A R) (start : S) (read written before x : List ℕ) (s next : S) (r q : Running) (flow : Flow) (h : HasAnsweredLines kind start read written (progress_of s r))
+answered_line : {S A R F : Type 0} (kind : ScriptKind S A R F) (start : S) (read written before x : List ℕ) (s next : S) (r q : Running F) (flow : Flow F) (h : HasAnsweredLines kind start read written (progress_of s r))
     → HasNoEnd before → ReadsAs kind x (h.rest ++ before) → Answered kind s next r q x flow → AnswersAs kind start (read ++ (before ++ 10 ∷ [])) written (progress_of next q) (Ok flow)
 answered_line kind start read written before x s next r q GoesOn h bare reads a =
     let line = h.rest ++ before in
@@ -145,23 +145,23 @@ answered_line kind start read written before x s next r q (Stopped bad) h bare r
 -- ---- memory ran out
 
 -- nothing was done of the line after those that were answered, or it broke off
-broke_line : {S A R : Type 0} (kind : ScriptKind S A R) (read : List ℕ) (at_end : Type 0) (lines : List (List ℕ)) (others line : List ℕ) (s next : S) → BeginsWithLines read lines others
+broke_line : {S A R F : Type 0} (kind : ScriptKind S A R F) (read : List ℕ) (at_end : Type 0) (lines : List (List ℕ)) (others line : List ℕ) (s next : S) → BeginsWithLines read lines others
     → AreFirstLines read at_end (lines ++ line ∷ []) → MayBreakOff kind s line next → Breaks kind read at_end lines s next
 broke_line kind read at_end lines others line s next begins more (inl same) = After others begins same
 broke_line kind read at_end lines others line s next begins more (inr (plain, broke)) = Within others line begins more plain broke
 
-halted_at : {S A R : Type 0} (kind : ScriptKind S A R) (start : S) (read before : List ℕ) (at_end : Type 0) (written : List ℕ) (s next : S) (r q : Running) (e : AllocError) (h : HasAnsweredLines kind start before written (progress_of s r))
+halted_at : {S A R F : Type 0} (kind : ScriptKind S A R F) (start : S) (read before : List ℕ) (at_end : Type 0) (written : List ℕ) (s next : S) (r q : Running F) (e : AllocError) (h : HasAnsweredLines kind start before written (progress_of s r))
     → q.replies.text.items ≡ r.replies.text.items → Breaks kind read at_end h.lines s next → IsAtLast kind start read at_end written (progress_of next q) (Err e)
 halted_at kind start read before at_end written s next r q e h same breaks =
     (h.lines, h.given, record { end = s; answers = h.answers; breaks = breaks }, ap (λ (xs : List ℕ). written ++ xs) same ∙ h.text, h.well_formed)
 
 -- nothing was done of the line that goes on or ends with these bytes
-pub halted_before : {S A R : Type 0} (kind : ScriptKind S A R) (start : S) (read written more : List ℕ) (s : S) (r q : Running) (e : AllocError) → HasAnsweredLines kind start read written (progress_of s r)
+pub halted_before : {S A R F : Type 0} (kind : ScriptKind S A R F) (start : S) (read written more : List ℕ) (s : S) (r q : Running F) (e : AllocError) → HasAnsweredLines kind start read written (progress_of s r)
     → q.replies.text.items ≡ r.replies.text.items → IsAtLast kind start (read ++ more) ⊥ written (progress_of s q) (Err e)
 halted_before kind start read written more s r q e h same =
     halted_at kind start (read ++ more) read ⊥ written s s r q e h same (After (h.rest ++ more) (begins_longer read h.lines h.rest more h.begins) refl)
 
-halted_line : {S A R : Type 0} (kind : ScriptKind S A R) (start : S) (read written before x : List ℕ) (s next : S) (r q : Running) (e : AllocError) (h : HasAnsweredLines kind start read written (progress_of s r)) → HasNoEnd before
+halted_line : {S A R F : Type 0} (kind : ScriptKind S A R F) (start : S) (read written before x : List ℕ) (s next : S) (r q : Running F) (e : AllocError) (h : HasAnsweredLines kind start read written (progress_of s r)) → HasNoEnd before
     → ReadsAs kind x (h.rest ++ before) → MayBreakOff kind s x next → q.replies.text.items ≡ r.replies.text.items → IsAtLast kind start (read ++ (before ++ 10 ∷ [])) ⊥ written (progress_of next q) (Err e)
 halted_line kind start read written before x s next r q e h bare reads broke same =
     let line = h.rest ++ before in
@@ -173,7 +173,7 @@ halted_line kind start read written before x s next r q e h bare reads broke sam
 -- ---- lines that end
 
 -- of which the beginning was kept
-pub answered_end : {S A R : Type 0} (kind : ScriptKind S A R) (start : S) (read written before x : List ℕ) (s next : S) (r q : Running) (res : Result Flow AllocError) → HasNoEnd before
+pub answered_end : {S A R F : Type 0} (kind : ScriptKind S A R F) (start : S) (read written before x : List ℕ) (s next : S) (r q : Running F) (res : Result (Flow F) AllocError) → HasNoEnd before
     → x ≡ take MAX_KEPT (r.line ++ before) → IfOk res (AnswersLine kind s next r.replies q.replies (r.lines + 1) x) → OnErr res (MayBreakOff kind s x next) → q.lines ≡ r.lines + 1 → q.line ≡ []
     → OnErr res (q.replies.text.items ≡ r.replies.text.items) → HasAnsweredLines kind start read written (progress_of s r) → AnswersAs kind start (read ++ (before ++ 10 ∷ [])) written (progress_of next q) res
 answered_end kind start read written before x s next r q (Ok flow) bare is a broke count emptied e h =
@@ -184,7 +184,7 @@ answered_end kind start read written before x s next r q (Err error) bare is a b
     halted_line kind start read written before x s next r q error h bare (kept_reads kind x (h.rest ++ before) kept) broke e
 
 -- that lies whole in the bytes
-pub answered_whole : {S A R : Type 0} (kind : ScriptKind S A R) (start : S) (read written before : List ℕ) (s next : S) (r q : Running) (res : Result Flow AllocError) → HasNoEnd before → r.line ≡ []
+pub answered_whole : {S A R F : Type 0} (kind : ScriptKind S A R F) (start : S) (read written before : List ℕ) (s next : S) (r q : Running F) (res : Result (Flow F) AllocError) → HasNoEnd before → r.line ≡ []
     → IfOk res (AnswersLine kind s next r.replies q.replies (r.lines + 1) before) → OnErr res (MayBreakOff kind s before next) → q.lines ≡ r.lines + 1 → q.line ≡ r.line
     → OnErr res (q.replies.text.items ≡ r.replies.text.items) → HasAnsweredLines kind start read written (progress_of s r) → AnswersAs kind start (read ++ (before ++ 10 ∷ [])) written (progress_of next q) res
 answered_whole kind start read written before s next r q (Ok flow) bare none a broke count same e h =
@@ -196,11 +196,11 @@ answered_whole kind start read written before s next r q (Err error) bare none a
     halted_line kind start read written before before s next r q error h bare (whole_reads kind before (h.rest ++ before) (ap (λ (l : List ℕ). l ++ before) (sym begun))) broke e
 
 -- a line goes on
-pub extended_line : {S A R : Type 0} (kind : ScriptKind S A R) (start : S) (read written more : List ℕ) (s : S) (r q : Running) (res : Result Flow AllocError) → HasNoEnd more → IfOk res (λ flow. flow ≡ GoesOn)
+pub extended_line : {S A R F : Type 0} (kind : ScriptKind S A R F) (start : S) (read written more : List ℕ) (s : S) (r q : Running F) (res : Result (Flow F) AllocError) → HasNoEnd more → IfOk res (λ flow. flow ≡ GoesOn)
     → OnOk res (q.line ≡ take MAX_KEPT (r.line ++ more)) → q.lines ≡ r.lines → q.replies ≡ r.replies → HasAnsweredLines kind start read written (progress_of s r)
     → AnswersAs kind start (read ++ more) written (progress_of s q) res
-extended_line kind start read written more s r q (Ok (Stopped bad)) bare goes is count same h = absurd (let apart : Stopped bad ≡ GoesOn = goes in cc)
-extended_line kind start read written more s r q (Ok GoesOn) bare goes is count same h = record {
+extended_line {F = F} kind start read written more s r q (Ok (Stopped bad)) bare goes is count same h = absurd (let apart : Stopped bad ≡ GoesOn = goes in cc)
+extended_line {F = F} kind start read written more s r q (Ok GoesOn) bare goes is count same h = record {
   lines = h.lines;
   given = h.given;
   rest = h.rest ++ more;
@@ -208,12 +208,12 @@ extended_line kind start read written more s r q (Ok GoesOn) bare goes is count 
   begins = begins_longer read h.lines h.rest more h.begins;
   not_ended = All-append (λ b. b ≢ 10) h.rest more h.not_ended bare;
   kept = is ∙ ap (λ (l : List ℕ). take MAX_KEPT (l ++ more)) h.kept ∙ kept_append MAX_KEPT h.rest more;
-  text = ap (λ (x : Replies). written ++ x.text.items) same ∙ h.text;
+  text = ap (λ (x : Replies F). written ++ x.text.items) same ∙ h.text;
   count = count ∙ h.count;
-  refused = ap (λ (x : Replies). x.is_refused) same ∙ h.refused;
+  refused = ap (λ (x : Replies F). x.is_refused) same ∙ h.refused;
   well_formed = h.well_formed;
 }
-extended_line kind start read written more s r q (Err error) bare goes is count same h = halted_before kind start read written more s r q error h (ap (λ (x : Replies). x.text.items) same)
+extended_line {F = F} kind start read written more s r q (Err error) bare goes is count same h = halted_before kind start read written more s r q error h (ap (λ (x : Replies F). x.text.items) same)
 
 -- ---- what is read after a malformed line, and once memory ran out, is not looked at
 
@@ -228,13 +228,13 @@ first_longer : (read more all : List ℕ) (lines : List (List ℕ)) → read ++ 
 first_longer read more all lines e (inl h) = inl (h.0 ++ more, begins_all read lines h.0 more all e h.1)
 first_longer read more all lines e (inr h) = absurd h.1
 
-breaks_longer : {S A R : Type 0} (kind : ScriptKind S A R) (read more all : List ℕ) (lines : List (List ℕ)) (end left : S) → read ++ more ≡ all → Breaks kind read ⊥ lines end left → Breaks kind all ⊥ lines end left
+breaks_longer : {S A R F : Type 0} (kind : ScriptKind S A R F) (read more all : List ℕ) (lines : List (List ℕ)) (end left : S) → read ++ more ≡ all → Breaks kind read ⊥ lines end left → Breaks kind all ⊥ lines end left
 breaks_longer kind read more all lines end left e (After others begins same) = After (others ++ more) (begins_all read lines others more all e begins) same
 breaks_longer kind read more all lines end left e (Within others line begins first plain broke) =
     Within (others ++ more) line (begins_all read lines others more all e begins) (first_longer read more all (lines ++ line ∷ []) e first) plain broke
 breaks_longer kind read more all lines end left e (AtEnd lines_of ended broke) = absurd ended
 
-pub at_last_longer : {S A R : Type 0} (kind : ScriptKind S A R) (start : S) (read written more all : List ℕ) (p : Progress S) (r : Result Flow AllocError) → read ++ more ≡ all
+pub at_last_longer : {S A R F : Type 0} (kind : ScriptKind S A R F) (start : S) (read written more all : List ℕ) (p : Progress S) (r : Result (Flow F) AllocError) → read ++ more ≡ all
     → IsAtLast kind start read ⊥ written p r → IsAtLast kind start all ⊥ written p r
 at_last_longer kind start read written more all p (Ok flow) e (lines, given, closing, ends, text, status) =
     (lines, given, closing, record { end = ends.end; answers = ends.answers; whole = whole_longer read more all lines given e ends.whole; closes = ends.closes }, text, status)
@@ -243,15 +243,15 @@ at_last_longer kind start read written more all p (Err error) e (lines, given, b
 
 -- ---- the last line, and what comes after it
 
-whole_last : {S A R : Type 0} (kind : ScriptKind S A R) (start : S) (read written : List ℕ) (s : S) (r : Running) (h : HasAnsweredLines kind start read written (progress_of s r)) → (r.line ≡ [] → ⊥)
+whole_last : {S A R F : Type 0} (kind : ScriptKind S A R F) (start : S) (read written : List ℕ) (s : S) (r : Running F) (h : HasAnsweredLines kind start read written (progress_of s r)) → (r.line ≡ [] → ⊥)
     → AreLinesOf read (h.lines ++ (h.rest ++ []) ∷ [])
 whole_last kind start read written s r h some = all_read read h.lines h.rest h.begins h.not_ended (λ e. some (h.kept ∙ ap kept_of e))
 
-reads_last : {S A R : Type 0} (kind : ScriptKind S A R) (start : S) (read written : List ℕ) (s : S) (r : Running) (h : HasAnsweredLines kind start read written (progress_of s r)) → ReadsAs kind r.line (h.rest ++ [])
+reads_last : {S A R F : Type 0} (kind : ScriptKind S A R F) (start : S) (read written : List ℕ) (s : S) (r : Running F) (h : HasAnsweredLines kind start read written (progress_of s r)) → ReadsAs kind r.line (h.rest ++ [])
 reads_last kind start read written s r h = kept_reads kind r.line (h.rest ++ []) (h.kept ∙ ap kept_of (sym (append-nil h.rest)))
 
 -- the last line was answered
-ended_line : {S A R : Type 0} (kind : ScriptKind S A R) (start : S) (read written : List ℕ) (s next : S) (r q : Running) (flow : Flow) → HasAnsweredLines kind start read written (progress_of s r) → (r.line ≡ [] → ⊥)
+ended_line : {S A R F : Type 0} (kind : ScriptKind S A R F) (start : S) (read written : List ℕ) (s next : S) (r q : Running F) (flow : Flow F) → HasAnsweredLines kind start read written (progress_of s r) → (r.line ≡ [] → ⊥)
     → Answered kind s next r q r.line flow → AnswersLast kind start read written (progress_of next q) (Ok flow)
 ended_line kind start read written s next r q GoesOn h some a =
     let line = h.rest ++ [] in
@@ -268,7 +268,7 @@ ended_line kind start read written s next r q GoesOn h some a =
 ended_line kind start read written s next r q (Stopped bad) h some a =
     stopped_line kind start read read (Unit {0}) written (h.rest ++ []) r.line s next r q bad h (reads_last kind start read written s r h) a (λ malformed. inl (whole_last kind start read written s r h some, tt))
 
-pub answered_last : {S A R : Type 0} (kind : ScriptKind S A R) (start : S) (read written : List ℕ) (s next : S) (r q : Running) (res : Result Flow AllocError) → HasAnsweredLines kind start read written (progress_of s r)
+pub answered_last : {S A R F : Type 0} (kind : ScriptKind S A R F) (start : S) (read written : List ℕ) (s next : S) (r q : Running F) (res : Result (Flow F) AllocError) → HasAnsweredLines kind start read written (progress_of s r)
     → (r.line ≡ [] → ⊥) → IfOk res (AnswersLine kind s next r.replies q.replies (r.lines + 1) r.line) → OnErr res (MayBreakOff kind s r.line next) → q.lines ≡ r.lines + 1 → q.line ≡ []
     → OnErr res (q.replies.text.items ≡ r.replies.text.items) → AnswersLast kind start read written (progress_of next q) res
 answered_last kind start read written s next r q (Ok flow) h some a broke count emptied e = ended_line kind start read written s next r q flow h some (record { answers = a; count = count; emptied = emptied })
@@ -278,7 +278,7 @@ answered_last kind start read written s next r q (Err error) h some a broke coun
     (broke_line kind read (Unit {0}) h.lines h.rest line s next h.begins (inr (whole_last kind start read written s r h some, tt)) ((reads_last kind start read written s r h).breaks s next broke))
 
 -- no line was left
-pub none_left : {S A R : Type 0} (kind : ScriptKind S A R) (start : S) (read written : List ℕ) (s : S) (r : Running) → HasAnsweredLines kind start read written (progress_of s r) → r.line ≡ []
+pub none_left : {S A R F : Type 0} (kind : ScriptKind S A R F) (start : S) (read written : List ℕ) (s : S) (r : Running F) → HasAnsweredLines kind start read written (progress_of s r) → r.line ≡ []
     → HasLast kind start read written (progress_of s r)
 none_left kind start read written s r h none = record {
   lines = h.lines;
@@ -290,14 +290,14 @@ none_left kind start read written s r h none = record {
   well_formed = h.well_formed;
 }
 
-closes_well : {S A R : Type 0} (kind : ScriptKind S A R) (s : S) (given : List (Given A R)) (closing : Closing) (next : S) → list_any is_malformed given ≡ false → kind.closes s given closing next
+closes_well : {S A R F : Type 0} (kind : ScriptKind S A R F) (s : S) (given : List (Given A R)) (closing : Closing) (next : S) → list_any is_malformed given ≡ false → kind.closes s given closing next
     → ClosesScript kind s given closing next
 closes_well {S} kind s given closing next none h = subst (λ (b : Bool). MatchBool b ((closing ≡ no_closing) × (next ≡ s)) (kind.closes s given closing next)) (sym none) h
 
-pub closed : {S A R : Type 0} (kind : ScriptKind S A R) (start : S) (read written : List ℕ) (s next : S) (r q : Running) (refused : Bool) → HasLast kind start read written (progress_of s r)
+pub closed : {S A R F : Type 0} (kind : ScriptKind S A R F) (start : S) (read written : List ℕ) (s next : S) (r q : Running F) (refused : Bool) → HasLast kind start read written (progress_of s r)
     → IsClosed kind s next r.replies.text.items q.replies.text.items refused → q.replies.is_refused ≡ (r.replies.is_refused || refused)
     → IsAtLast kind start read (Unit {0}) written (progress_of next q) (Ok GoesOn)
-closed {S} {A} {R} kind start read written s next r q refused h a same =
+closed {S} {A} {R} {F} kind start read written s next r q refused h a same =
     let closing : Closing = record { text = a.more; is_refused = refused } in (
       h.lines,
       h.given,
@@ -307,25 +307,25 @@ closed {S} {A} {R} kind start read written s next r q refused h a same =
       status_is kind next h.lines h.given closing q.replies.is_refused (same ∙ ap (λ (b : Bool). b || refused) h.refused) h.well_formed,
     )
 
-pub unclosed : {S A R : Type 0} (kind : ScriptKind S A R) (start : S) (read written : List ℕ) (s next : S) (r q : Running) (e : AllocError) → HasLast kind start read written (progress_of s r)
+pub unclosed : {S A R F : Type 0} (kind : ScriptKind S A R F) (start : S) (read written : List ℕ) (s next : S) (r q : Running F) (e : AllocError) → HasLast kind start read written (progress_of s r)
     → q.replies.text.items ≡ r.replies.text.items → kind.breaks_at_end s next → IsAtLast kind start read (Unit {0}) written (progress_of next q) (Err e)
 unclosed kind start read written s next r q e h same broke =
     (h.lines, h.given, record { end = s; answers = h.answers; breaks = AtEnd h.all tt broke }, ap (λ (xs : List ℕ). written ++ xs) same ∙ h.text, h.well_formed)
 
 -- ---- the same, in other words
 
-pub last_of : {S A R : Type 0} (kind : ScriptKind S A R) (start : S) (read written : List ℕ) (p : Progress S) (a b : Flow) → a ≡ b → AnswersLast kind start read written p (Ok a) → AnswersLast kind start read written p (Ok b)
-last_of kind start read written p a b e h = subst (λ (f : Flow). AnswersLast kind start read written p (Ok f)) e h
+pub last_of : {S A R F : Type 0} (kind : ScriptKind S A R F) (start : S) (read written : List ℕ) (p : Progress S) (a b : Flow F) → a ≡ b → AnswersLast kind start read written p (Ok a) → AnswersLast kind start read written p (Ok b)
+last_of {F = F} kind start read written p a b e h = subst (λ (f : Flow F). AnswersLast kind start read written p (Ok f)) e h
 
-pub answers_of : {S A R : Type 0} (kind : ScriptKind S A R) (start : S) (read written : List ℕ) (p : Progress S) (a b : Flow) → a ≡ b → AnswersAs kind start read written p (Ok a) → AnswersAs kind start read written p (Ok b)
-answers_of kind start read written p a b e h = subst (λ (f : Flow). AnswersAs kind start read written p (Ok f)) e h
+pub answers_of : {S A R F : Type 0} (kind : ScriptKind S A R F) (start : S) (read written : List ℕ) (p : Progress S) (a b : Flow F) → a ≡ b → AnswersAs kind start read written p (Ok a) → AnswersAs kind start read written p (Ok b)
+answers_of {F = F} kind start read written p a b e h = subst (λ (f : Flow F). AnswersAs kind start read written p (Ok f)) e h
 
-pub answers_same : {S A R : Type 0} (kind : ScriptKind S A R) (start : S) (a b written : List ℕ) (p : Progress S) (r : Result Flow AllocError) → a ≡ b → AnswersAs kind start a written p r → AnswersAs kind start b written p r
+pub answers_same : {S A R F : Type 0} (kind : ScriptKind S A R F) (start : S) (a b written : List ℕ) (p : Progress S) (r : Result (Flow F) AllocError) → a ≡ b → AnswersAs kind start a written p r → AnswersAs kind start b written p r
 answers_same kind start a b written p r e h = subst (λ (xs : List ℕ). AnswersAs kind start xs written p r) e h
 
 -- ---- a run that begins
 
-pub nothing_answered : {S A R : Type 0} (kind : ScriptKind S A R) (start : S) (r : Running) → r.lines ≡ 0 → r.line ≡ [] → r.replies.text.items ≡ [] → r.replies.is_refused ≡ false
+pub nothing_answered : {S A R F : Type 0} (kind : ScriptKind S A R F) (start : S) (r : Running F) → r.lines ≡ 0 → r.line ≡ [] → r.replies.text.items ≡ [] → r.replies.is_refused ≡ false
     → HasAnsweredLines kind start [] [] (progress_of start r)
 nothing_answered kind start r lines line output refused = record {
   lines = [];

@@ -42,10 +42,10 @@ flat_more : {G : Type 0} (f : G → List ℕ) (given : List G) (g : G) → flat_
 flat_more f given g = flat_map-append f given (g ∷ []) ∙ ap (λ (xs : List ℕ). flat_map f given ++ xs) (append-nil (f g))
 
 -- one line more
-pub given_more : {S A R : Type 0} (kind : ScriptKind S A R) (c : S) (n : ℕ) (lines : List (List ℕ)) (given : List (Given A R)) (end : S) (line : List ℕ) (g : Given A R) (next : S)
+pub given_more : {S A R F : Type 0} (kind : ScriptKind S A R F) (c : S) (n : ℕ) (lines : List (List ℕ)) (given : List (Given A R)) (end : S) (line : List ℕ) (g : Given A R) (next : S)
     → AreGiven kind c n lines given end → list_any is_malformed given ≡ false → Gives kind end (n + length lines) line g next
     → AreGiven kind c n (lines ++ line ∷ []) (given ++ g ∷ []) next
-given_more {S} {A} {R} kind c n [] [] end line g next h none gives =
+given_more {S} {A} {R} {F} kind c n [] [] end line g next h none gives =
     let same : n + 0 ≡ n = omega arith in
     (next, subst (λ (s : S). Gives kind s n line g next) h (subst (λ (k : ℕ). Gives kind end k line g next) same gives), goes_nowhere (is_malformed g), refl)
 given_more kind c n [] (g0 ∷ given) end line g next h none gives = absurd h
@@ -60,7 +60,7 @@ given_more kind c n (l ∷ lines) (g0 ∷ given) end line g next h none gives =
     )
 
 -- what is written of it comes after the text of those before
-pub text_more : {S A R : Type 0} (kind : ScriptKind S A R) (written old new : List ℕ) (given : List (Given A R)) (g : Given A R) → written ++ old ≡ lines_text kind given
+pub text_more : {S A R F : Type 0} (kind : ScriptKind S A R F) (written old new : List ℕ) (given : List (Given A R)) (g : Given A R) → written ++ old ≡ lines_text kind given
     → new ≡ old ++ line_text kind g → written ++ new ≡ lines_text kind (given ++ g ∷ [])
 text_more kind written old new given g h e =
     ap (λ (xs : List ℕ). written ++ xs) e ∙ sym (append_assoc written old (line_text kind g)) ∙ ap (λ (xs : List ℕ). xs ++ line_text kind g) h ∙ sym (flat_more (line_text kind) given g)
@@ -135,7 +135,7 @@ plain_whole line h = take_all MAX_KEPT line (omega (arith, h.few))
 short_kept : (line : List ℕ) → length (kept_of line) ≤ MAX_LINE_LEN → kept_of line ≡ line
 short_kept line h = take_all MAX_KEPT line (omega (arith, length-take MAX_KEPT line, h))
 
-gives_whole : {S A R : Type 0} (kind : ScriptKind S A R) (c : S) (n : ℕ) (line : List ℕ) (g : Given A R) (next : S) → Gives kind c n (kept_of line) g next → Gives kind c n line g next
+gives_whole : {S A R F : Type 0} (kind : ScriptKind S A R F) (c : S) (n : ℕ) (line : List ℕ) (g : Given A R) (next : S) → Gives kind c n (kept_of line) g next → Gives kind c n line g next
 gives_whole kind c n line Nothing next h = (subst IsQuiet (plain_kept line h.0.0) h.0, h.1)
 gives_whole kind c n line (Replied asked reply) next h = (subst (λ (l : List ℕ). Asks kind c l asked) (plain_kept line h.0.0) h.0, h.1)
 gives_whole kind c n line (Malformed k) next h = (
@@ -147,32 +147,32 @@ gives_whole kind c n line (Malformed k) next h = (
   h.2,
 )
 
-fault_whole : {S A R : Type 0} (kind : ScriptKind S A R) (c : S) (line : List ℕ) (fault : LineFault) → IsFaultOf kind c (kept_of line) fault → IsFaultOf kind c line fault
+fault_whole : {S A R F : Type 0} (kind : ScriptKind S A R F) (c : S) (line : List ℕ) (fault : LineFault F) → IsFaultOf kind c (kept_of line) fault → IsFaultOf kind c line fault
 fault_whole kind c line TooLong h = omega (arith, length-take MAX_KEPT line, h)
 fault_whole kind c line (Byte at byte) h = subst (λ (l : List ℕ). IsFaultOf kind c l (Byte at byte)) (short_kept line h.0) h
 fault_whole kind c line Blanks h = subst (λ (l : List ℕ). IsFaultOf kind c l Blanks) (plain_kept line h.0) h
 fault_whole kind c line (Command fault) h = subst (λ (l : List ℕ). IsFaultOf kind c l (Command fault)) (plain_kept line h.0.plain) h
 
-breaks_whole : {S A R : Type 0} (kind : ScriptKind S A R) (c : S) (line : List ℕ) (next : S) → MayBreakOff kind c (kept_of line) next → MayBreakOff kind c line next
+breaks_whole : {S A R F : Type 0} (kind : ScriptKind S A R F) (c : S) (line : List ℕ) (next : S) → MayBreakOff kind c (kept_of line) next → MayBreakOff kind c line next
 breaks_whole kind c line next (inl same) = inl same
 breaks_whole kind c line next (inr (plain, broke)) =
     let whole = plain_kept line plain in
     inr (subst IsPlain whole plain, subst (λ (l : List ℕ). kind.breaks_off c l next) whole broke)
 
 -- what is read of a line as these bytes is read of the whole line too
-pub record ReadsAs {S A R : Type 0} (kind : ScriptKind S A R) (read line : List ℕ) : Type 0 where
+pub record ReadsAs {S A R F : Type 0} (kind : ScriptKind S A R F) (read line : List ℕ) : Type 0 where
   pub gives : (c : S) (n : ℕ) (g : Given A R) (next : S) → Gives kind c n read g next → Gives kind c n line g next
-  pub fault : (c : S) (fault : LineFault) → IsFaultOf kind c read fault → IsFaultOf kind c line fault
+  pub fault : (c : S) (fault : LineFault F) → IsFaultOf kind c read fault → IsFaultOf kind c line fault
   pub breaks : (c next : S) → MayBreakOff kind c read next → MayBreakOff kind c line next
 
-pub whole_reads : {S A R : Type 0} (kind : ScriptKind S A R) (read line : List ℕ) → read ≡ line → ReadsAs kind read line
+pub whole_reads : {S A R F : Type 0} (kind : ScriptKind S A R F) (read line : List ℕ) → read ≡ line → ReadsAs kind read line
 whole_reads kind read line is = record {
   gives = λ c n g next h. subst (λ (l : List ℕ). Gives kind c n l g next) is h;
   fault = λ c fault h. subst (λ (l : List ℕ). IsFaultOf kind c l fault) is h;
   breaks = λ c next h. subst (λ (l : List ℕ). MayBreakOff kind c l next) is h;
 }
 
-pub kept_reads : {S A R : Type 0} (kind : ScriptKind S A R) (read line : List ℕ) → read ≡ kept_of line → ReadsAs kind read line
+pub kept_reads : {S A R F : Type 0} (kind : ScriptKind S A R F) (read line : List ℕ) → read ≡ kept_of line → ReadsAs kind read line
 kept_reads kind read line is = record {
   gives = λ c n g next h. gives_whole kind c n line g next (subst (λ (l : List ℕ). Gives kind c n l g next) is h);
   fault = λ c fault h. fault_whole kind c line fault (subst (λ (l : List ℕ). IsFaultOf kind c l fault) is h);
@@ -185,7 +185,7 @@ kept_reads kind read line is = record {
 pub prefix_of : (written out all : List ℕ) (n : ℕ) → written ++ out ≡ all → written ++ take n out ≡ take (length written + n) all
 prefix_of written out all n e = sym (take-append-add written out n) ∙ ap (take (length written + n)) e
 
-pub status_is : {S A R : Type 0} (kind : ScriptKind S A R) (left : S) (lines : List (List ℕ)) (given : List (Given A R)) (closing : Closing) (refused : Bool)
+pub status_is : {S A R F : Type 0} (kind : ScriptKind S A R F) (left : S) (lines : List (List ℕ)) (given : List (Given A R)) (closing : Closing) (refused : Bool)
     → refused ≡ (list_any (is_refused kind) given || closing.is_refused) → list_any is_malformed given ≡ false → IsStatusOf kind left lines given closing (status_after refused flows.GoesOn)
 status_is kind left lines given closing true same none = (sym same, none)
 status_is kind left lines given closing false same none = sym same

@@ -53,7 +53,7 @@ asks_none forms line name words asked none e h =
     none_some h.form (sym none ∙ ap (form_named forms) names ∙ h.named)
 
 -- nothing is wrong with one that asks for something
-pub fault_asks_none : {A : Type 0} (forms : List (LineForm A)) (line : List ℕ) (fault : CommandFault) (asked : A) → IsCommandFault forms (words_of line) fault → AsksBy forms line asked → ⊥
+pub fault_asks_none : {A F : Type 0} (forms : List (LineForm A)) (line : List ℕ) (fault : CommandFault F) (asked : A) → IsCommandFault forms (words_of line) fault → AsksBy forms line asked → ⊥
 fault_asks_none forms line fault asked (inl (name, words, e, none, unknown)) h = asks_none forms line name words asked none e h
 fault_asks_none forms line fault asked (inr (form, words, e, known, wrong)) h =
     let is = says_in forms form line words asked known e h in

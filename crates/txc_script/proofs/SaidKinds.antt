@@ -91,12 +91,12 @@ none_bad kinds words fault b all =
     let there = subst (λ (ws : List (List ℕ)). AreOfKinds (b.good_kinds ++ fault.kind ∷ b.other_kinds) ws) b.words_are here in
     b.is_bad (word_at b.good_kinds b.good fault.kind b.word b.other_kinds b.others b.are_good there)
 
-pub not_wrong : (kinds : List WordKind) (words : List (List ℕ)) (fault : CommandFault) → IsKindsFault kinds words fault → AreOfKinds kinds words → ⊥
+pub not_wrong : {F : Type 0} (kinds : List WordKind) (words : List (List ℕ)) (fault : CommandFault F) → IsKindsFault kinds words fault → AreOfKinds kinds words → ⊥
 not_wrong kinds words (faults.Count wanted given) h all = h.2 (h.1 ∙ are_as_many kinds words all ∙ sym h.0)
 not_wrong kinds words (faults.Word fault) h all = none_bad kinds words fault h.1 all
 not_wrong kinds words fault h all = absurd h
 
-pub none_wrong : (kinds : List WordKind) (words : List (List ℕ)) (fault : CommandFault) (values : List Said) → IsKindsFault kinds words fault → SayAll kinds words values → ⊥
+pub none_wrong : {F : Type 0} (kinds : List WordKind) (words : List (List ℕ)) (fault : CommandFault F) (values : List Said) → IsKindsFault kinds words fault → SayAll kinds words values → ⊥
 none_wrong kinds words fault values h say = not_wrong kinds words fault h (are_of_kinds kinds words values say)
 
 -- ---- words that are read each as what it says
@@ -196,14 +196,14 @@ all_read kinds words rest left values number h none empty =
 
 -- ---- what is wrong is wrong in other words
 
-pub wrong_in : (e : Unanswered) (Is Js : CommandFault → Type 0) → IsWrong Is e → ((fault : CommandFault) → Is fault → Js fault) → IsWrong Js e
+pub wrong_in : {F : Type 0} (e : Unanswered F) (Is Js : CommandFault F → Type 0) → IsWrong Is e → ((fault : CommandFault F) → Is fault → Js fault) → IsWrong Js e
 wrong_in (Wrong fault) Is Js wrong there = there fault wrong
 wrong_in Memory Is Js wrong there = tt
 
-pub wrong_of : {T : Type 0} (r : Result T Unanswered) (Is Js : CommandFault → Type 0) → IfErr r (IsWrong Is) → ((fault : CommandFault) → Is fault → Js fault) → IfErr r (IsWrong Js)
+pub wrong_of : {T F : Type 0} (r : Result T (Unanswered F)) (Is Js : CommandFault F → Type 0) → IfErr r (IsWrong Is) → ((fault : CommandFault F) → Is fault → Js fault) → IfErr r (IsWrong Js)
 wrong_of (Ok x) Is Js wrong there = tt
 wrong_of (Err e) Is Js wrong there = wrong_in e Is Js wrong there
 
-pub wrong_as : {T : Type 0} (r : Result T Unanswered) (e : Unanswered) (Is Js : CommandFault → Type 0) → IsErr r × IsErrAnd r (λ x. x ≡ e) → IsWrong Is e → ((fault : CommandFault) → Is fault → Js fault) → IfErr r (IsWrong Js)
+pub wrong_as : {T F : Type 0} (r : Result T (Unanswered F)) (e : Unanswered F) (Is Js : CommandFault F → Type 0) → IsErr r × IsErrAnd r (λ x. x ≡ e) → IsWrong Is e → ((fault : CommandFault F) → Is fault → Js fault) → IfErr r (IsWrong Js)
 wrong_as (Ok x) e Is Js h wrong there = tt
 wrong_as (Err x) e Is Js h wrong there = subst (IsWrong Js) (sym h.1) (wrong_in e Is Js wrong there)

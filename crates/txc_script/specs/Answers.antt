@@ -7,7 +7,7 @@ use Rattle.txc_script.specs.declared.unread.Unanswered.{Unanswered}
 use Rattle.txc_script.specs.declared.unread.Unanswered.TheVariants.{Wrong, Memory}
 
 -- the line asks for something, which was done, and what is written of its reply was put after the text
-pub record LineIsAnswered {S A R : Type 0} (kind : ScriptKind S A R) (s : S) (line : List ℕ) (end : S)
+pub record LineIsAnswered {S A R F : Type 0} (kind : ScriptKind S A R F) (s : S) (line : List ℕ) (end : S)
     (old new : List ℕ) (refused : Bool) : Type 0 where
   pub asked : A
   pub reply : R
@@ -18,14 +18,14 @@ pub record LineIsAnswered {S A R : Type 0} (kind : ScriptKind S A R) (s : S) (li
 
 -- the line asks for nothing, this is wrong with its words, and nothing changed; or memory was refused, before anything
 -- was done or while it was
-abbrev pub IsUnanswered : {S A R : Type 0} → ScriptKind S A R → S → List ℕ → S → Unanswered → Type 0
-IsUnanswered {S} {A} {R} kind s line end (Wrong fault) =
+abbrev pub IsUnanswered : {S A R F : Type 0} → ScriptKind S A R F → S → List ℕ → S → Unanswered F → Type 0
+IsUnanswered {S} {A} {R} {F} kind s line end (Wrong fault) =
     ((asked : A) → kind.asks s line asked → ⊥) × (end ≡ s) × kind.is_wrong s (words_of line) fault
 IsUnanswered kind s line end Memory = (end ≡ s) ⊎ kind.breaks_off s line end
 
 -- what comes after lines that left this state was done, whatever they gave, and what is written of it was put
 -- after the text
-pub record IsClosed {S A R : Type 0} (kind : ScriptKind S A R) (s end : S) (old new : List ℕ) (refused : Bool)
+pub record IsClosed {S A R F : Type 0} (kind : ScriptKind S A R F) (s end : S) (old new : List ℕ) (refused : Bool)
     : Type 0 where
   pub more : List ℕ
   pub text : new ≡ old ++ more

@@ -7,19 +7,19 @@ use Rattle.txc_script.specs.declared.running.Flow.{Flow}
 use Rattle.txc_script.specs.declared.running.Flow.TheVariants.{GoesOn, Stopped}
 
 -- the run stops at a malformed line, for its number and its fault in this state
-abbrev pub IsStoppedAt : {S A R : Type 0} → ScriptKind S A R → S → ℕ → List ℕ → Flow → Type 0
+abbrev pub IsStoppedAt : {S A R F : Type 0} → ScriptKind S A R F → S → ℕ → List ℕ → Flow F → Type 0
 IsStoppedAt kind s number line GoesOn = ⊥
 IsStoppedAt kind s number line (Stopped malformed) =
     (malformed.number ≡ number) × IsFaultOf kind s line malformed.fault
 
 -- the run goes on after a line that is not malformed, and stops at a malformed one, which leaves the state
-abbrev pub IsFlowAfter : {S A R : Type 0} → ScriptKind S A R → S → ℕ → List ℕ → Given A R → Flow → Type 0
+abbrev pub IsFlowAfter : {S A R F : Type 0} → ScriptKind S A R F → S → ℕ → List ℕ → Given A R → Flow F → Type 0
 IsFlowAfter kind s number line given GoesOn = is_malformed given ≡ false
 IsFlowAfter kind s number line given (Stopped malformed) =
     (is_malformed given ≡ true) × IsStoppedAt kind s number line (Stopped malformed)
 
 -- the status of a run that ends so, in which a refusal was written or none was
-abbrev pub status_after : Bool → Flow → Status
+abbrev pub status_after : {F : Type 0} → Bool → Flow F → Status F
 status_after refused (Stopped malformed) = Malformed malformed
 status_after true GoesOn = Refused
 status_after false GoesOn = Done

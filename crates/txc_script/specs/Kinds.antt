@@ -37,30 +37,30 @@ no_closing = record { text = []; is_refused = false }
 -- which it breaks off where memory is refused. It says what is written of a reply, and whether it holds a refusal;
 -- and what is wrong with the words of a line that asks for nothing. And it says what comes after all lines, by what
 -- they gave, in the state that they left; and the states in which that breaks off.
-pub record ScriptKind (S A R : Type 0) : Type 1 where
+pub record ScriptKind (S A R F : Type 0) : Type 1 where
   pub asks : S → List ℕ → A → Type 0
   pub does : S → A → R → S → Type 0
   pub breaks_off : S → List ℕ → S → Type 0
   pub text : R → List ℕ
   pub is_refused : R → Bool
-  pub is_wrong : S → List (List ℕ) → CommandFault → Type 0
+  pub is_wrong : S → List (List ℕ) → CommandFault F → Type 0
   pub closes : S → List (Given A R) → Closing → S → Type 0
   pub breaks_at_end : S → S → Type 0
 
 -- ---- lines
 
 -- a line that asks for this in a state
-abbrev pub Asks : {S A R : Type 0} → ScriptKind S A R → S → List ℕ → A → Type 0
+abbrev pub Asks : {S A R F : Type 0} → ScriptKind S A R F → S → List ℕ → A → Type 0
 Asks kind s line asked = IsPlain line × kind.asks s line asked
 
 -- a line that is not to be passed over, and asks for nothing in the state that it finds
-pub record IsMalformed {S A R : Type 0} (kind : ScriptKind S A R) (s : S) (line : List ℕ) : Type 0 where
+pub record IsMalformed {S A R F : Type 0} (kind : ScriptKind S A R F) (s : S) (line : List ℕ) : Type 0 where
   pub not_quiet : IsQuiet line → ⊥
   pub asks_nothing : (asked : A) → Asks kind s line asked → ⊥
 
 -- What is wrong with a malformed line: there are too many bytes; else a foreign one; else an empty word; else
 -- it is in its words, in the state that it finds.
-abbrev pub IsFaultOf : {S A R : Type 0} → ScriptKind S A R → S → List ℕ → LineFault → Type 0
+abbrev pub IsFaultOf : {S A R F : Type 0} → ScriptKind S A R F → S → List ℕ → LineFault F → Type 0
 IsFaultOf kind s line faults.TooLong = MAX_LINE_LEN < length line
 IsFaultOf kind s line (faults.Byte at byte) =
     (length line ≤ MAX_LINE_LEN) × (position is_foreign line ≡ Some at) × (slice_index line at ≡ byte)
@@ -75,7 +75,7 @@ is_malformed (Replied asked reply) = false
 is_malformed (Malformed number) = true
 
 -- a refusal is written of it, or the line was malformed
-abbrev pub is_refused : {S A R : Type 0} → ScriptKind S A R → Given A R → Bool
+abbrev pub is_refused : {S A R F : Type 0} → ScriptKind S A R F → Given A R → Bool
 is_refused kind Nothing = false
 is_refused kind (Replied asked reply) = kind.is_refused reply
 is_refused kind (Malformed number) = true
@@ -85,17 +85,17 @@ abbrev pub malformed_text : ℕ → List ℕ
 malformed_text number = codes "line " ++ (decimal number ++ (codes ": malformed" ++ 10 ∷ []))
 
 -- what is written of a line
-abbrev pub line_text : {S A R : Type 0} → ScriptKind S A R → Given A R → List ℕ
+abbrev pub line_text : {S A R F : Type 0} → ScriptKind S A R F → Given A R → List ℕ
 line_text kind Nothing = []
 line_text kind (Replied asked reply) = kind.text reply
 line_text kind (Malformed number) = malformed_text number
 
 -- what is written of the lines, one after the other
-abbrev pub lines_text : {S A R : Type 0} → ScriptKind S A R → List (Given A R) → List ℕ
+abbrev pub lines_text : {S A R F : Type 0} → ScriptKind S A R F → List (Given A R) → List ℕ
 lines_text kind given = flat_map (line_text kind) given
 
 -- what a line, which has this number, gives in a state, and the state that it leaves
-abbrev pub Gives : {S A R : Type 0} → ScriptKind S A R → S → ℕ → List ℕ → Given A R → S → Type 0
+abbrev pub Gives : {S A R F : Type 0} → ScriptKind S A R F → S → ℕ → List ℕ → Given A R → S → Type 0
 Gives kind s number line Nothing next = IsQuiet line × (next ≡ s)
 Gives kind s number line (Replied asked reply) next = Asks kind s line asked × kind.does s asked reply next
 Gives kind s number line (Malformed k) next = IsMalformed kind s line × (k ≡ number) × (next ≡ s)
@@ -107,17 +107,17 @@ EndsAtMalformed false lines = Unit {0}
 
 -- What each of the lines gives, in order: the first has this number, the next the one after it, and each
 -- finds the state that the lines before it left.
-abbrev pub AreGiven : {S A R : Type 0} → ScriptKind S A R → S → ℕ → List (List ℕ) → List (Given A R) → S
+abbrev pub AreGiven : {S A R F : Type 0} → ScriptKind S A R F → S → ℕ → List (List ℕ) → List (Given A R) → S
     → Type 0
 AreGiven kind s number [] [] end = end ≡ s
 AreGiven kind s number [] (g ∷ given) end = ⊥
 AreGiven kind s number (line ∷ lines) [] end = ⊥
-AreGiven {S} {A} {R} kind s number (line ∷ lines) (g ∷ given) end =
+AreGiven {S} {A} {R} {F} kind s number (line ∷ lines) (g ∷ given) end =
     (next : S) × Gives kind s number line g next × EndsAtMalformed (is_malformed g) lines
     × AreGiven kind next (number + 1) lines given end
 
 -- what comes after lines that gave this, and the state that is left: nothing, where one was malformed
-abbrev pub ClosesScript : {S A R : Type 0} → ScriptKind S A R → S → List (Given A R) → Closing → S → Type 0
+abbrev pub ClosesScript : {S A R F : Type 0} → ScriptKind S A R F → S → List (Given A R) → Closing → S → Type 0
 ClosesScript kind s given closing end =
     MatchBool (list_any is_malformed given) ((closing ≡ no_closing) × (end ≡ s))
     (kind.closes s given closing end)
@@ -136,7 +136,7 @@ AreFirstLines read at_end lines =
     ((others : List ℕ) × BeginsWithLines read lines others) ⊎ (AreLinesOf read lines × at_end)
 
 -- the last of the lines, which are counted from 1, has this number, and this is wrong with it in this state
-abbrev pub EndInFault : {S A R : Type 0} → ScriptKind S A R → S → List (List ℕ) → MalformedLine → Type 0
+abbrev pub EndInFault : {S A R F : Type 0} → ScriptKind S A R F → S → List (List ℕ) → MalformedLine F → Type 0
 EndInFault kind s lines malformed =
     (malformed.number ≡ length lines)
     × ((before : List (List ℕ)) × (line : List ℕ) × (lines ≡ before ++ line ∷ [])
@@ -144,8 +144,8 @@ EndInFault kind s lines malformed =
 
 -- no refusal was written; or one was, and no line was malformed; or the last one was malformed, for this
 -- fault in the state that it found, which is the one that is left
-abbrev pub IsStatusOf : {S A R : Type 0} → ScriptKind S A R → S → List (List ℕ) → List (Given A R) → Closing
-    → Status → Type 0
+abbrev pub IsStatusOf : {S A R F : Type 0} → ScriptKind S A R F → S → List (List ℕ) → List (Given A R) → Closing
+    → Status F → Type 0
 IsStatusOf kind left lines given closing Done =
     (list_any (is_refused kind) given || closing.is_refused) ≡ false
 IsStatusOf kind left lines given closing Refused =

@@ -74,7 +74,7 @@ pub record HasWholeWords (line : List ℕ) : Type 0 where
 -- ---- commands
 
 -- what is wrong with words that are to be of these kinds: their number is another; else one is not of its kind
-abbrev pub IsKindsFault : List WordKind → List (List ℕ) → CommandFault → Type 0
+abbrev pub IsKindsFault : {F : Type 0} → List WordKind → List (List ℕ) → CommandFault F → Type 0
 IsKindsFault kinds words (Count wanted given) =
     (wanted ≡ length kinds) × (given ≡ length words) × (given ≢ wanted)
 IsKindsFault kinds words (Word fault) = (length words ≡ length kinds) × IsBadWord kinds words fault
@@ -82,15 +82,15 @@ IsKindsFault kinds words fault = ⊥
 
 -- What is wrong with the words of a line that is of no form of a table: no form has its name; else it is in the words
 -- after that name.
-abbrev pub IsCommandFault : {A : Type 0} → List (LineForm A) → List (List ℕ) → CommandFault → Type 0
-IsCommandFault {A} forms all fault =
+abbrev pub IsCommandFault : {A F : Type 0} → List (LineForm A) → List (List ℕ) → CommandFault F → Type 0
+IsCommandFault {A} {F} forms all fault =
     ((name : List ℕ) × (words : List (List ℕ)) × (all ≡ name ∷ words) × (form_named forms name ≡ None)
     × (fault ≡ Unknown (excerpt_of name)))
     ⊎ ((form : LineForm A) × (words : List (List ℕ)) × (all ≡ form.name ∷ words)
     × (form_named forms form.name ≡ Some form) × IsKindsFault form.kinds words fault)
 
 -- what is wrong is this, or a growth was refused
-abbrev pub IsWrong : (CommandFault → Type 0) → Unanswered → Type 0
+abbrev pub IsWrong : {F : Type 0} → (CommandFault F → Type 0) → Unanswered F → Type 0
 IsWrong Is (Wrong fault) = Is fault
 IsWrong Is Memory = ⊤
 

@@ -31,7 +31,7 @@ pub record Progress (S : Type 0) : Type 0 where
   pub text : List ℕ
   pub refused : Bool
 
-abbrev pub progress_of : {S : Type 0} → S → Running → Progress S
+abbrev pub progress_of : {S F : Type 0} → S → Running F → Progress S
 progress_of state r = record {
   state = state;
   lines = r.lines;
@@ -41,8 +41,8 @@ progress_of state r = record {
 }
 
 -- a line was answered that has this number: it found one state and left another, and what it gave was taken
-pub record AnswersLine {S A R : Type 0} (kind : ScriptKind S A R) (s next : S) (old new : Replies) (number : ℕ)
-    (line : List ℕ) (flow : Flow) : Type 0 where
+pub record AnswersLine {S A R F : Type 0} (kind : ScriptKind S A R F) (s next : S) (old new : Replies F) (number : ℕ)
+    (line : List ℕ) (flow : Flow F) : Type 0 where
   pub given : Given A R
   pub gives : Gives kind s number line given next
   pub text : new.text.items ≡ old.text.items ++ line_text kind given
@@ -50,12 +50,12 @@ pub record AnswersLine {S A R : Type 0} (kind : ScriptKind S A R) (s next : S) (
   pub flow_is : IsFlowAfter kind next number line given flow
 
 -- nothing was done of what a line asks for, or it broke off
-abbrev pub MayBreakOff : {S A R : Type 0} → ScriptKind S A R → S → List ℕ → S → Type 0
+abbrev pub MayBreakOff : {S A R F : Type 0} → ScriptKind S A R F → S → List ℕ → S → Type 0
 MayBreakOff kind s line end = (end ≡ s) ⊎ (IsPlain line × kind.breaks_off s line end)
 
 -- the lines that have ended were answered, and none was malformed; these bytes were written, and the rest of
 -- the replies is at hand
-pub record HasAnsweredLines {S A R : Type 0} (kind : ScriptKind S A R) (start : S) (read written : List ℕ)
+pub record HasAnsweredLines {S A R F : Type 0} (kind : ScriptKind S A R F) (start : S) (read written : List ℕ)
     (p : Progress S) : Type 0 where
   pub lines : List (List ℕ)
   pub given : List (Given A R)
@@ -70,7 +70,7 @@ pub record HasAnsweredLines {S A R : Type 0} (kind : ScriptKind S A R) (start : 
   pub well_formed : list_any is_malformed given ≡ false
 
 -- all lines of the script were answered, and none was malformed
-pub record HasLast {S A R : Type 0} (kind : ScriptKind S A R) (start : S) (read written : List ℕ)
+pub record HasLast {S A R F : Type 0} (kind : ScriptKind S A R F) (start : S) (read written : List ℕ)
     (p : Progress S) : Type 0 where
   pub lines : List (List ℕ)
   pub given : List (Given A R)
@@ -81,34 +81,34 @@ pub record HasLast {S A R : Type 0} (kind : ScriptKind S A R) (start : S) (read 
   pub well_formed : list_any is_malformed given ≡ false
 
 -- how a run ends in which a refusal was written or none was, and that goes so far and no further
-abbrev pub result_after : Bool → Result Flow AllocError → Result Status RunFault
+abbrev pub result_after : {F : Type 0} → Bool → Result (Flow F) AllocError → Result (Status F) RunFault
 result_after refused (Ok flow) = Ok (status_after refused flow)
 result_after refused (Err e) = Err Memory
 
 -- the run is at its end, but that the replies at hand are not written
-abbrev pub IsAtLast : {S A R : Type 0} → ScriptKind S A R → S → List ℕ → Type 0 → List ℕ → Progress S
-    → Result Flow AllocError → Type 0
+abbrev pub IsAtLast : {S A R F : Type 0} → ScriptKind S A R F → S → List ℕ → Type 0 → List ℕ → Progress S
+    → Result (Flow F) AllocError → Type 0
 IsAtLast kind start read at_end written p r =
     ScriptHasWritten kind start read at_end (written ++ p.text) (result_after p.refused r) p.state
 
 -- the lines that end in the bytes were answered: the run goes on, or was stopped by a malformed line, or is
 -- out of memory
-abbrev pub AnswersAs : {S A R : Type 0} → ScriptKind S A R → S → List ℕ → List ℕ → Progress S
-    → Result Flow AllocError → Type 0
+abbrev pub AnswersAs : {S A R F : Type 0} → ScriptKind S A R F → S → List ℕ → List ℕ → Progress S
+    → Result (Flow F) AllocError → Type 0
 AnswersAs kind start read written p (Ok GoesOn) = HasAnsweredLines kind start read written p
 AnswersAs kind start read written p (Ok (Stopped bad)) = IsAtLast kind start read ⊥ written p (Ok (Stopped bad))
 AnswersAs kind start read written p (Err e) = IsAtLast kind start read ⊥ written p (Err e)
 
 -- the last line was answered, or was malformed, or the run is out of memory
-abbrev pub AnswersLast : {S A R : Type 0} → ScriptKind S A R → S → List ℕ → List ℕ → Progress S
-    → Result Flow AllocError → Type 0
+abbrev pub AnswersLast : {S A R F : Type 0} → ScriptKind S A R F → S → List ℕ → List ℕ → Progress S
+    → Result (Flow F) AllocError → Type 0
 AnswersLast kind start read written p (Ok GoesOn) = HasLast kind start read written p
 AnswersLast kind start read written p (Ok (Stopped bad)) =
     IsAtLast kind start read (Unit {0}) written p (Ok (Stopped bad))
 AnswersLast kind start read written p (Err e) = IsAtLast kind start read (Unit {0}) written p (Err e)
 
 -- all but the replies at hand stay as they were
-pub record IsKeptBeside (old new : Running) : Type 0 where
+pub record IsKeptBeside {F : Type 0} (old new : Running F) : Type 0 where
   pub lines : new.lines ≡ old.lines
   pub line : new.line ≡ old.line
   pub refused : new.replies.is_refused ≡ old.replies.is_refused
@@ -116,16 +116,16 @@ pub record IsKeptBeside (old new : Running) : Type 0 where
 -- ---- one read of a run
 
 -- more bytes were written after these, and the run ended so, in this state
-abbrev pub EndsWith : {S A R : Type 0} → ScriptKind S A R → S → List ℕ → Type 0 → List ℕ → Option (List ℕ)
-    → Option (List ℕ) → Result Status RunFault → S → Type 0
+abbrev pub EndsWith : {S A R F : Type 0} → ScriptKind S A R F → S → List ℕ → Type 0 → List ℕ → Option (List ℕ)
+    → Option (List ℕ) → Result (Status F) RunFault → S → Type 0
 EndsWith kind start read at_end written contents_old contents_new result left =
     (more : List ℕ) × Appends contents_old contents_new more
     × ScriptHasWritten kind start read at_end (written ++ more) result left
 
 -- the lines that end in the bytes of a read were answered, and the replies written: the run goes on, or it
 -- ends so
-abbrev pub TurnsTo : {S A R : Type 0} → ScriptKind S A R → S → List ℕ → List ℕ → Progress S → Option (List ℕ)
-    → Option (List ℕ) → Result Flow RunFault → Type 0
+abbrev pub TurnsTo : {S A R F : Type 0} → ScriptKind S A R F → S → List ℕ → List ℕ → Progress S → Option (List ℕ)
+    → Option (List ℕ) → Result (Flow F) RunFault → Type 0
 TurnsTo kind start read written p contents_old contents_new (Ok GoesOn) =
     (more : List ℕ) × Appends contents_old contents_new more
     × HasAnsweredLines kind start read (written ++ more) p × (p.text ≡ [])
@@ -135,8 +135,8 @@ TurnsTo kind start read written p contents_old contents_new (Err fault) =
     EndsWith kind start read ⊥ written contents_old contents_new (Err fault) p.state
 
 -- the run ended so, and the writer was flushed: a failure to flush is a fault of a run that had none
-abbrev pub EndsFlushed : Option (List ℕ) → Option (List ℕ) → Result Status RunFault → Result Status RunFault
-    → Type 0
+abbrev pub EndsFlushed : {F : Type 0} → Option (List ℕ) → Option (List ℕ) → Result (Status F) RunFault
+    → Result (Status F) RunFault → Type 0
 EndsFlushed contents_old contents_new (Ok status) result =
     Keeps contents_old contents_new × ((result ≡ Ok status) ⊎ (result ≡ Err Write))
 EndsFlushed contents_old contents_new (Err fault) result =

@@ -10,11 +10,11 @@ use Rattle.txc_script.specs.declared.fault.RunFault.TheVariants.{Read, Write, Me
 use Rattle.txc_script.specs.declared.fault.Status.{Status}
 
 -- what lines of a script give, which are counted from 1, and the state that they leave
-abbrev pub Answers : {S A R : Type 0} → ScriptKind S A R → S → List (List ℕ) → List (Given A R) → S → Type 0
+abbrev pub Answers : {S A R F : Type 0} → ScriptKind S A R F → S → List (List ℕ) → List (Given A R) → S → Type 0
 Answers kind start lines given end = AreGiven kind start 1 lines given end
 
 -- a run answered these lines and did what comes after them, and this state is left
-pub record Ends {S A R : Type 0} (kind : ScriptKind S A R) (start : S) (read : List ℕ) (at_end : Type 0)
+pub record Ends {S A R F : Type 0} (kind : ScriptKind S A R F) (start : S) (read : List ℕ) (at_end : Type 0)
     (lines : List (List ℕ)) (given : List (Given A R)) (closing : Closing) (left : S) : Type 0 where
   pub end : S
   pub answers : Answers kind start lines given end
@@ -23,7 +23,7 @@ pub record Ends {S A R : Type 0} (kind : ScriptKind S A R) (start : S) (read : L
 
 -- where a run broke off that had answered these lines, which left this state: right after them; or in the
 -- line after them; or, where these are all lines, in what comes after them
-pub data Breaks {S A R : Type 0} (kind : ScriptKind S A R) (read : List ℕ) (at_end : Type 0)
+pub data Breaks {S A R F : Type 0} (kind : ScriptKind S A R F) (read : List ℕ) (at_end : Type 0)
     (lines : List (List ℕ)) (end left : S) : Type 0 where
   After : (others : List ℕ) → BeginsWithLines read lines others → left ≡ end → Breaks kind read at_end lines end left
   Within : (others line : List ℕ) → BeginsWithLines read lines others
@@ -32,7 +32,7 @@ pub data Breaks {S A R : Type 0} (kind : ScriptKind S A R) (read : List ℕ) (at
   AtEnd : AreLinesOf read lines → at_end → kind.breaks_at_end end left → Breaks kind read at_end lines end left
 
 -- a run answered these lines, broke off then, and left this state
-pub record BreaksOff {S A R : Type 0} (kind : ScriptKind S A R) (start : S) (read : List ℕ) (at_end : Type 0)
+pub record BreaksOff {S A R F : Type 0} (kind : ScriptKind S A R F) (start : S) (read : List ℕ) (at_end : Type 0)
     (lines : List (List ℕ)) (given : List (Given A R)) (left : S) : Type 0 where
   pub end : S
   pub answers : Answers kind start lines given end
@@ -42,30 +42,30 @@ pub record BreaksOff {S A R : Type 0} (kind : ScriptKind S A R) (start : S) (rea
 -- lines that it answered, and then what is written after all lines. After a fault of the reader these are all
 -- lines that had ended; out of memory, those before it broke off; after a fault of the writer, a prefix of the
 -- text was written. After a fault of the reader, and out of memory, no line was malformed.
-abbrev pub ScriptHasWritten : {S A R : Type 0} → ScriptKind S A R → S → List ℕ → Type 0 → List ℕ
-    → Result Status RunFault → S → Type 0
-ScriptHasWritten {S} {A} {R} kind start read at_end written (Ok status) left =
+abbrev pub ScriptHasWritten : {S A R F : Type 0} → ScriptKind S A R F → S → List ℕ → Type 0 → List ℕ
+    → Result (Status F) RunFault → S → Type 0
+ScriptHasWritten {S} {A} {R} {F} kind start read at_end written (Ok status) left =
     (lines : List (List ℕ)) × (given : List (Given A R)) × (closing : Closing)
     × Ends kind start read at_end lines given closing left
     × (written ≡ lines_text kind given ++ closing.text) × IsStatusOf kind left lines given closing status
-ScriptHasWritten {S} {A} {R} kind start read at_end written (Err Read) left =
+ScriptHasWritten {S} {A} {R} {F} kind start read at_end written (Err Read) left =
     (lines : List (List ℕ)) × (given : List (Given A R)) × (rest : List ℕ)
     × Answers kind start lines given left × BeginsWithLines read lines rest × HasNoEnd rest
     × (written ≡ lines_text kind given) × (list_any is_malformed given ≡ false)
-ScriptHasWritten {S} {A} {R} kind start read at_end written (Err Write) left =
+ScriptHasWritten {S} {A} {R} {F} kind start read at_end written (Err Write) left =
     (lines : List (List ℕ)) × (given : List (Given A R)) × (n : ℕ)
     × ((BreaksOff kind start read at_end lines given left × (written ≡ take n (lines_text kind given)))
     ⊎ ((closing : Closing) × Ends kind start read at_end lines given closing left
     × (written ≡ take n (lines_text kind given ++ closing.text))))
-ScriptHasWritten {S} {A} {R} kind start read at_end written (Err Memory) left =
+ScriptHasWritten {S} {A} {R} {F} kind start read at_end written (Err Memory) left =
     (lines : List (List ℕ)) × (given : List (Given A R))
     × BreaksOff kind start read at_end lines given left
     × (written ≡ lines_text kind given) × (list_any is_malformed given ≡ false)
 
 -- A run that begins in this state: what it read of the reader's bytes, what it wrote after the writer's, how
 -- it ended, and the state that it left.
-abbrev pub ScriptHasRun : {S A R : Type 0} → ScriptKind S A R → S → Option (List ℕ) → Option (List ℕ)
-    → Option (List ℕ) → Option (List ℕ) → Result Status RunFault → S → Type 0
+abbrev pub ScriptHasRun : {S A R F : Type 0} → ScriptKind S A R F → S → Option (List ℕ) → Option (List ℕ)
+    → Option (List ℕ) → Option (List ℕ) → Result (Status F) RunFault → S → Type 0
 ScriptHasRun kind start remaining_old remaining_new contents_old contents_new result left =
     (read : List ℕ) × (written : List ℕ)
     × Consumes remaining_old remaining_new read × Appends contents_old contents_new written

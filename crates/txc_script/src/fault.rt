@@ -7,13 +7,13 @@ use thiserror::Error;
 
 /// How a run ended that reached the end of its script, or a malformed line.
 #[derive(Debug, Drop)]
-pub enum Status {
+pub enum Status<F> {
     /// No line was refused.
     Done,
     /// A line was refused, and none was malformed.
     Refused,
     /// The last line that was read is malformed.
-    Malformed(MalformedLine),
+    Malformed(MalformedLine<F>),
 }
 
 /// Why a run ended early. The replies to the lines before were written, as far as the writer took
@@ -32,10 +32,10 @@ pub enum RunFault {
 }
 
 /// The status that a program ends with after a run that ended so.
-pub fn exit_of(ended: &Result<Status, RunFault>) -> u8
+pub fn exit_of<F>(ended: &Result<Status<F>, RunFault>) -> u8
     ensures all_done { ended.now ≡ Ok Status.Done → result ≡ 0 }
     ensures line_refused { ended.now ≡ Ok Status.Refused → result ≡ 1 }
-    ensures line_malformed { (line : MalformedLine) → ended.now ≡ Ok (Status.Malformed line) → result ≡ 1 }
+    ensures line_malformed { (line : MalformedLine F) → ended.now ≡ Ok (Status.Malformed line) → result ≡ 1 }
     ensures read_fault { ended.now ≡ Err RunFault.Read → result ≡ 4 }
     ensures write_fault { ended.now ≡ Err RunFault.Write → result ≡ 4 }
     ensures out_of_memory { ended.now ≡ Err RunFault.Memory → result ≡ 5 }

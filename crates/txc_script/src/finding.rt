@@ -123,7 +123,7 @@ fn has_empty_word(line: &[u8]) -> bool
 }
 
 /// What is wrong with a line whose bytes are not as they may be.
-pub fn bad_bytes<K: Script>(kind: &K, state: &K::State, line: &[u8]) -> LineFault
+pub fn bad_bytes<K: Script>(kind: &K, state: &K::State, line: &[u8]) -> LineFault<K::Fault>
     requires { IsPlain line.now → ⊥ }
     ensures { IsFaultOf (K.kind kind.now) state.now line.now result }
 {
@@ -141,8 +141,8 @@ pub fn bad_words<K: Script>(
     kind: &K,
     state: &K::State,
     line: &[u8],
-    fault: CommandFault,
-) -> LineFault
+    fault: CommandFault<K::Fault>,
+) -> LineFault<K::Fault>
     requires plain { IsPlain line.now }
     requires wrong { (K.kind kind.now).is_wrong state.now (words_of line.now) fault }
     ensures { IsFaultOf (K.kind kind.now) state.now line.now result }

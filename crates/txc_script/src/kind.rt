@@ -16,9 +16,11 @@ pub trait Script {
     type Asked;
     /// What a line is replied.
     type Reply;
+    /// What is wrong with lines of this kind alone.
+    type Fault: Drop;
 
     // What the lines are, what they give, and what comes after them.
-    ghost kind: { Self → ScriptKind Self.State Self.Asked Self.Reply };
+    ghost kind: { Self → ScriptKind Self.State Self.Asked Self.Reply Self.Fault };
 
     /// Does what a line asks for that is neither empty nor a comment, and puts what is written of the reply
     /// after the text. Returns whether that holds a refusal. Else it leaves why: of a line that asks for nothing, what
@@ -29,7 +31,7 @@ pub trait Script {
         state: &mut Self::State,
         line: &[u8],
         text: &mut Vec<u8>,
-        why: &mut Unanswered,
+        why: &mut Unanswered<Self::Fault>,
     ) -> Option<bool>
         requires { IsPlain line.now }
         ensures answered { IfSome result (LineIsAnswered (kind self.now) state.old line.now state.new

@@ -47,7 +47,7 @@ pub struct WordFault {
 
 /// What is wrong with the words of a line: the first of these.
 #[derive(Debug, Drop)]
-pub enum CommandFault {
+pub enum CommandFault<F> {
     /// There is no command of this name.
     Unknown(Excerpt),
     /// The command has another number of words after it.
@@ -58,22 +58,13 @@ pub enum CommandFault {
         given: usize,
     },
     Word(WordFault),
-    /// It ends before a word that says what the others are to be: how such a line is written.
-    Usage(&'static str),
-    /// Too few words are after the command.
-    Few {
-        /// How many there are to be at least.
-        least: usize,
-        /// How many there are.
-        given: usize,
-    },
-    /// It may not stand where it does: where such a line stands.
-    Misplaced(&'static str),
+    /// What is wrong with lines of this kind of script alone.
+    Own(F),
 }
 
 /// What is wrong with a malformed line: the first of these.
 #[derive(Debug, Drop)]
-pub enum LineFault {
+pub enum LineFault<F> {
     /// It has more than 4,096 bytes.
     TooLong,
     /// A byte outside 0x20 to 0x7E.
@@ -85,15 +76,15 @@ pub enum LineFault {
     /// A blank stands at an end, or two side by side.
     Blanks,
     /// It is no command.
-    Command(CommandFault),
+    Command(CommandFault<F>),
 }
 
 /// A malformed line of a script.
 #[derive(Debug, Drop)]
-pub struct MalformedLine {
+pub struct MalformedLine<F> {
     /// Its number among all lines, counted from 1.
     pub number: u64,
-    pub fault: LineFault,
+    pub fault: LineFault<F>,
 }
 
 fn write_number<W: fmt::Write>(f: &mut fmt::Formatter<W>, most: u64) -> fmt::Result {
@@ -139,7 +130,7 @@ impl fmt::Display for WordFault {
     }
 }
 
-impl fmt::Display for CommandFault {
+impl<F: fmt::Display> fmt::Display for CommandFault<F> {
     fn fmt<W: fmt::Write>(&self, f: &mut fmt::Formatter<W>) -> fmt::Result {
         match self {
             CommandFault::Unknown(name) => write!(f, "unknown command `{name}`"),
@@ -148,19 +139,12 @@ impl fmt::Display for CommandFault {
                 write!(f, "{wanted} {words} must follow the command, not {given}")
             }
             CommandFault::Word(fault) => write!(f, "{fault}"),
-            CommandFault::Usage(form) => write!(f, "expected `{form}`"),
-            CommandFault::Few { least, given } => {
-                write!(
-                    f,
-                    "at least {least} words must follow the command, not {given}"
-                )
-            }
-            CommandFault::Misplaced(place) => f.write_str(place),
+            CommandFault::Own(fault) => write!(f, "{fault}"),
         }
     }
 }
 
-impl fmt::Display for LineFault {
+impl<F: fmt::Display> fmt::Display for LineFault<F> {
     fn fmt<W: fmt::Write>(&self, f: &mut fmt::Formatter<W>) -> fmt::Result {
         match self {
             LineFault::TooLong => write!(f, "longer than {} bytes", MAX_LINE_LEN),
@@ -176,7 +160,7 @@ impl fmt::Display for LineFault {
     }
 }
 
-impl fmt::Display for MalformedLine {
+impl<F: fmt::Display> fmt::Display for MalformedLine<F> {
     fn fmt<W: fmt::Write>(&self, f: &mut fmt::Formatter<W>) -> fmt::Result {
         write!(f, "line {}: {}", self.number, self.fault)
     }

@@ -14,13 +14,13 @@ use std::alloc::Global;
 
 /// What the words say, of which there are so many, each by its kind; or the first that is not of its kind. The kinds are
 /// these, and then the other one.
-pub fn read_each<'a>(
+pub fn read_each<'a, F>(
     alloc: Global,
     kinds: &[WordKind],
     other: WordKind,
     words: WordsLeft<'a>,
     count: usize,
-) -> Result<Vec<Said<'a>>, Unanswered>
+) -> Result<Vec<Said<'a>>, Unanswered<F>>
     requires { length (words_left words) ≡ count }
     ensures answer { IfOk result (λ said. SayAll (kinds_for kinds.now other (words_left words.entry))
         (words_left words.entry) said.items) }
@@ -51,12 +51,12 @@ pub fn read_each<'a>(
 }
 
 /// What the words say, of which there are so many, each by its kind; or what is wrong with them.
-pub fn read_words<'a>(
+pub fn read_words<'a, F>(
     alloc: Global,
     kinds: &[WordKind],
     words: WordsLeft<'a>,
     count: usize,
-) -> Result<Vec<Said<'a>>, Unanswered>
+) -> Result<Vec<Said<'a>>, Unanswered<F>>
     requires { length (words_left words) ≡ count }
     ensures answer { IfOk result (λ said. SayAll kinds.now (words_left words.entry) said.items) }
     ensures refused { IfErr result (IsWrong (IsKindsFault kinds.now (words_left words.entry))) }

@@ -27,7 +27,7 @@ pub trait Row: Drop {
 
     /// What the words say, if there are as many and each is of its kind. Else, where there are as many, it leaves what is
     /// wrong. That is large, so no answer has room for it.
-    fn read(alloc: Global, words: WordsLeft<'_>, why: &mut Unanswered) -> Option<Self>
+    fn read<F: Drop>(alloc: Global, words: WordsLeft<'_>, why: &mut Unanswered<F>) -> Option<Self>
         ensures answer { IfSome result (λ row. Mean kinds (words_left words.entry) (said row)) }
         ensures refused { IfNone result (length (words_left words.entry) ≡ length kinds
             → IsWrong (IsKindsFault kinds (words_left words.entry)) why.new) };
@@ -45,7 +45,7 @@ impl Row for () {
     }
 
     #[inline(always)]
-    fn read(alloc: Global, words: WordsLeft<'_>, why: &mut Unanswered) -> Option<()> {
+    fn read<F: Drop>(alloc: Global, words: WordsLeft<'_>, why: &mut Unanswered<F>) -> Option<()> {
         let mut left = words;
         match left.pop() {
             None => Some(()),
@@ -64,7 +64,11 @@ impl<A: Word, B: Row> Row for (A, B) {
     }
 
     #[inline(always)]
-    fn read(alloc: Global, words: WordsLeft<'_>, why: &mut Unanswered) -> Option<(A, B)> {
+    fn read<F: Drop>(
+        alloc: Global,
+        words: WordsLeft<'_>,
+        why: &mut Unanswered<F>,
+    ) -> Option<(A, B)> {
         let mut left = words;
         let Some(word) = left.pop() else {
             return None;
@@ -72,7 +76,7 @@ impl<A: Word, B: Row> Row for (A, B) {
         let first = match A::read(alloc, word) {
             Ok(first) => first,
             Err(unsaid) => {
-                leave_first::<A>(word, unsaid, why);
+                leave_first::<A, F>(word, unsaid, why);
                 return None;
             }
         };
@@ -89,26 +93,28 @@ impl<A: Word, B: Row> Row for (A, B) {
 /// Leaves that the first word is of another kind.
 #[cold]
 #[inline(never)]
-fn leave_first<A: Word>(word: &[u8], unsaid: Unsaid, why: &mut Unanswered)
+fn leave_first<A: Word, F: Drop>(word: &[u8], unsaid: Unsaid, why: &mut Unanswered<F>)
     requires { IsUnsaid A.kind word.now unsaid }
     ensures { (kinds : List WordKind) (words : List (List ℕ)) → length (word.now ∷ words) ≡ length (A.kind ∷ kinds)
         → IsWrong (IsKindsFault (A.kind ∷ kinds) (word.now ∷ words)) why.new }
 {
-    *why = match unsaid {
-        Unsaid::Memory => Unanswered::Memory,
-        Unsaid::Bad(at) => Unanswered::Wrong(CommandFault::Word(WordFault {
-            number: 1,
-            kind: A::kind(),
-            at,
-            text: Excerpt::new(word),
-        })),
-    };
+    match unsaid {
+        Unsaid::Memory => *why = Unanswered::Memory,
+        Unsaid::Bad(at) => {
+            *why = Unanswered::Wrong(CommandFault::Word(WordFault {
+                number: 1,
+                kind: A::kind(),
+                at,
+                text: Excerpt::new(word),
+            }));
+        }
+    }
 }
 
 /// Leaves what is wrong with words, where a good one stands before them.
 #[cold]
 #[inline(never)]
-fn one_later(why: &mut Unanswered)
+fn one_later<F>(why: &mut Unanswered<F>)
     ensures { (kind : WordKind) (kinds : List WordKind) (word : List ℕ) (words : List (List ℕ))
         → length words + 1 < 2 ^ 64 → IsOfKind kind word → length words ≡ length kinds
         → IsWrong (IsKindsFault kinds words) why.old
@@ -125,7 +131,7 @@ fn one_later(why: &mut Unanswered)
 /// Leaves that there are more words than wanted, or fewer, if there are.
 #[cold]
 #[inline(never)]
-fn test_count(wanted: usize, words: WordsLeft<'_>, why: &mut Unanswered)
+fn test_count<F: Drop>(wanted: usize, words: WordsLeft<'_>, why: &mut Unanswered<F>)
     ensures { (kinds : List WordKind) → wanted ≡ length kinds
         → (length (words_left words.entry) ≡ length kinds → IsWrong (IsKindsFault kinds (words_left words.entry)) why.old)
         → IsWrong (IsKindsFault kinds (words_left words.entry)) why.new }
@@ -138,7 +144,11 @@ fn test_count(wanted: usize, words: WordsLeft<'_>, why: &mut Unanswered)
 
 /// What the words after a command say; else it leaves what is wrong with them.
 #[inline(always)]
-pub fn read_row<R: Row>(alloc: Global, words: WordsLeft<'_>, why: &mut Unanswered) -> Option<R>
+pub fn read_row<R: Row, F: Drop>(
+    alloc: Global,
+    words: WordsLeft<'_>,
+    why: &mut Unanswered<F>,
+) -> Option<R>
     requires { length R.kinds < 2 ^ 64 }
     ensures answer { IfSome result (λ row. Mean R.kinds (words_left words.entry) (R.said row)) }
     ensures refused { IfNone result (IsWrong (IsKindsFault R.kinds (words_left words.entry)) why.new) }

@@ -19,10 +19,10 @@ fn turn<K: Script, W: Write>(
     alloc: Global,
     kind: &K,
     state: &mut K::State,
-    running: &mut Running,
+    running: &mut Running<K::Fault>,
     bytes: &[u8],
     writer: &mut W,
-) -> Result<Flow, RunFault>
+) -> Result<Flow<K::Fault>, RunFault>
     requires { running.old.lines + length bytes.now < 2 ^ 64 }
     ensures counted { running.new.lines ≤ running.old.lines + length bytes.now }
     ensures turned { (start : K.State) (read written : List ℕ)
@@ -46,9 +46,9 @@ fn finish<K: Script, W: Write>(
     alloc: Global,
     kind: &K,
     state: &mut K::State,
-    running: &mut Running,
+    running: &mut Running<K::Fault>,
     writer: &mut W,
-) -> Result<Status, RunFault>
+) -> Result<Status<K::Fault>, RunFault>
     requires { running.old.lines + 1 < 2 ^ 64 }
     ensures ended { (start : K.State) (read written : List ℕ)
         → HasAnsweredLines (K.kind kind.now) start read written (progress_of state.old running.old)
@@ -75,7 +75,7 @@ fn answer_script<K: Script, R: Read, W: Write>(
     reader: &mut R,
     writer: &mut W,
     reads: &mut Reads,
-) -> Result<Status, RunFault>
+) -> Result<Status<K::Fault>, RunFault>
     requires { reads.old ≡ record { left = 1048576; failure = None } }
     ensures after { ScriptHasRun (K.kind kind.now) state.old (R.remaining reader.old) (R.remaining reader.new)
         (W.contents writer.old) (W.contents writer.new) result state.new }
@@ -99,7 +99,10 @@ fn answer_script<K: Script, R: Read, W: Write>(
 }
 
 /// Flushes the writer at the end of a run. A fault of the run stays the one that is reported.
-fn flush<W: Write>(writer: &mut W, ended: Result<Status, RunFault>) -> Result<Status, RunFault>
+fn flush<F: Drop, W: Write>(
+    writer: &mut W,
+    ended: Result<Status<F>, RunFault>,
+) -> Result<Status<F>, RunFault>
     ensures { EndsFlushed (W.contents writer.old) (W.contents writer.new) ended result }
 {
     let flushed = writer.flush();
@@ -120,7 +123,7 @@ pub fn run_script<K: Script, R: Read, W: Write>(
     state: &mut K::State,
     reader: &mut R,
     writer: &mut W,
-) -> Result<Status, RunFault>
+) -> Result<Status<K::Fault>, RunFault>
     ensures { ScriptHasRun (K.kind kind.now) state.old (R.remaining reader.old) (R.remaining reader.new)
         (W.contents writer.old) (W.contents writer.new) result state.new }
 {

@@ -25,32 +25,32 @@ use std::mem;
 
 /// Whether a run goes on after a line.
 #[derive(Debug, Drop)]
-pub enum Flow {
+pub enum Flow<F> {
     /// The next line is read.
     GoesOn,
     /// A malformed line was read.
-    Stopped(MalformedLine),
+    Stopped(MalformedLine<F>),
 }
 
 /// The replies so far.
 #[derive(Drop)]
-pub struct Replies {
+pub struct Replies<F> {
     /// What is not written yet.
     text: Vec<u8>,
     /// Whether one of them holds a refusal, or a line was malformed.
     is_refused: bool,
     /// Why a line has none, if one has none. It stands here since it is large: a line that is answered makes no room for it.
-    why: Unanswered,
+    why: Unanswered<F>,
 }
 
 /// A run in progress, beside its state.
 #[derive(Drop)]
-pub struct Running {
+pub struct Running<F> {
     /// How many lines were read.
     lines: u64,
     /// The line that has not ended.
     line: LineStart,
-    replies: Replies,
+    replies: Replies<F>,
 }
 
 /// Answers a line with which this is wrong in this state, and which has this number.
@@ -58,11 +58,11 @@ fn answer_malformed<K: Script>(
     alloc: Global,
     kind: &K,
     state: &K::State,
-    replies: &mut Replies,
+    replies: &mut Replies<K::Fault>,
     number: u64,
     line: &[u8],
-    fault: LineFault,
-) -> Result<Flow, AllocError>
+    fault: LineFault<K::Fault>,
+) -> Result<Flow<K::Fault>, AllocError>
     requires { IsFaultOf (K.kind kind.now) state.now line.now fault }
     ensures stopped { IfOk result (IsStoppedAt (K.kind kind.now) state.now number line.now) }
     ensures text { OnOk result (replies.new.text.items ≡ replies.old.text.items ++ malformed_text number) }
@@ -82,10 +82,10 @@ fn answer_bad_bytes<K: Script>(
     alloc: Global,
     kind: &K,
     state: &K::State,
-    replies: &mut Replies,
+    replies: &mut Replies<K::Fault>,
     number: u64,
     line: &[u8],
-) -> Result<Flow, AllocError>
+) -> Result<Flow<K::Fault>, AllocError>
     requires { IsPlain line.now → ⊥ }
     ensures stopped { IfOk result (IsStoppedAt (K.kind kind.now) state.now number line.now) }
     ensures text { OnOk result (replies.new.text.items ≡ replies.old.text.items ++ malformed_text number) }
@@ -103,13 +103,13 @@ fn answer_unanswered<K: Script>(
     alloc: Global,
     kind: &K,
     state: &K::State,
-    replies: &mut Replies,
+    replies: &mut Replies<K::Fault>,
     number: u64,
     line: &[u8],
-) -> Result<Flow, AllocError>
+) -> Result<Flow<K::Fault>, AllocError>
     requires plain { IsPlain line.now }
     requires wrong { IsWrong ((K.kind kind.now).is_wrong state.now (words_of line.now)) replies.old.why }
-    ensures wrong { OnOk result ((fault : CommandFault) × (replies.old.why ≡ Unanswered.Wrong fault)) }
+    ensures wrong { OnOk result ((fault : CommandFault K.Fault) × (replies.old.why ≡ Unanswered.Wrong fault)) }
     ensures stopped { IfOk result (IsStoppedAt (K.kind kind.now) state.now number line.now) }
     ensures text { OnOk result (replies.new.text.items ≡ replies.old.text.items ++ malformed_text number) }
     ensures refused { OnOk result (replies.new.is_refused ≡ true) }
@@ -129,11 +129,11 @@ fn answer<K: Script>(
     alloc: Global,
     kind: &K,
     state: &mut K::State,
-    replies: &mut Replies,
+    replies: &mut Replies<K::Fault>,
     number: u64,
     line: &[u8],
     known_plain: bool,
-) -> Result<Flow, AllocError>
+) -> Result<Flow<K::Fault>, AllocError>
     requires { known_plain ≡ true → ArePlain line.now }
     ensures answered { IfOk result (AnswersLine (K.kind kind.now) state.old state.new replies.old replies.new
         number line.now) }
@@ -155,9 +155,9 @@ fn answer<K: Script>(
     }
 }
 
-impl Running {
+impl<F: Drop> Running<F> {
     /// No line was read.
-    pub fn new(alloc: Global) -> Result<Running, AllocError>
+    pub fn new(alloc: Global) -> Result<Running<F>, AllocError>
         ensures no_line { IfOk result (λ r. r.lines ≡ 0) }
         ensures nothing_kept { IfOk result (λ r. r.line ≡ []) }
         ensures no_output { IfOk result (λ r. r.replies.text.items ≡ []) }
@@ -177,7 +177,7 @@ impl Running {
     }
 
     /// The status of a run that ends so.
-    pub fn status(&self, end: Flow) -> Status
+    pub fn status(&self, end: Flow<F>) -> Status<F>
         ensures { result ≡ status_after self.now.replies.is_refused end }
     {
         if let Flow::Stopped(line) = end {
@@ -191,14 +191,14 @@ impl Running {
     }
 
     /// Answers a line.
-    fn answer_line<K: Script>(
+    fn answer_line<K: Script<Fault = F>>(
         &mut self,
         alloc: Global,
         kind: &K,
         state: &mut K::State,
         line: &[u8],
         known_plain: bool,
-    ) -> Result<Flow, AllocError>
+    ) -> Result<Flow<F>, AllocError>
         requires count { self.old.lines + 1 < 2 ^ 64 }
         requires plain { known_plain ≡ true → ArePlain line.now }
         ensures answered { IfOk result (AnswersLine (K.kind kind.now) state.old state.new self.old.replies
@@ -221,12 +221,12 @@ impl Running {
     }
 
     /// Answers the line that is kept.
-    fn answer_kept<K: Script>(
+    fn answer_kept<K: Script<Fault = F>>(
         &mut self,
         alloc: Global,
         kind: &K,
         state: &mut K::State,
-    ) -> Result<Flow, AllocError>
+    ) -> Result<Flow<F>, AllocError>
         requires { self.old.lines + 1 < 2 ^ 64 }
         ensures answered { IfOk result (AnswersLine (K.kind kind.now) state.old state.new self.old.replies
             self.new.replies (self.old.lines + 1) self.old.line) }
@@ -251,14 +251,14 @@ impl Running {
     }
 
     /// Answers the line that ends after these bytes. One that lies whole in them is not copied.
-    fn end_line<K: Script>(
+    fn end_line<K: Script<Fault = F>>(
         &mut self,
         alloc: Global,
         kind: &K,
         state: &mut K::State,
         bytes: &[u8],
         known_plain: bool,
-    ) -> Result<Flow, AllocError>
+    ) -> Result<Flow<F>, AllocError>
         requires count { self.old.lines + 1 < 2 ^ 64 }
         requires no_end { HasNoEnd bytes.now }
         requires plain { known_plain ≡ true → ArePlain bytes.now }
@@ -278,7 +278,7 @@ impl Running {
     }
 
     /// A line goes on with these bytes.
-    fn extend_line(&mut self, rest: &[u8]) -> Result<Flow, AllocError>
+    fn extend_line(&mut self, rest: &[u8]) -> Result<Flow<F>, AllocError>
         ensures goes_on { IfOk result (λ flow. flow ≡ Flow.GoesOn) }
         ensures line { OnOk result (self.new.line ≡ take MAX_KEPT (self.old.line ++ rest.now)) }
         ensures counted { self.new.lines ≡ self.old.lines }
@@ -291,13 +291,13 @@ impl Running {
     }
 
     /// Answers the lines that end in these bytes.
-    pub fn answer_lines<K: Script>(
+    pub fn answer_lines<K: Script<Fault = F>>(
         &mut self,
         alloc: Global,
         kind: &K,
         state: &mut K::State,
         bytes: &[u8],
-    ) -> Result<Flow, AllocError>
+    ) -> Result<Flow<F>, AllocError>
         requires { self.old.lines + length bytes.now < 2 ^ 64 }
         ensures counted { self.new.lines ≤ self.old.lines + length bytes.now }
         ensures answered { (start : K.State) (read written : List ℕ)
@@ -321,12 +321,12 @@ impl Running {
     }
 
     /// Answers the last line, if its line feed is missing.
-    fn answer_last<K: Script>(
+    fn answer_last<K: Script<Fault = F>>(
         &mut self,
         alloc: Global,
         kind: &K,
         state: &mut K::State,
-    ) -> Result<Flow, AllocError>
+    ) -> Result<Flow<F>, AllocError>
         requires { self.old.lines + 1 < 2 ^ 64 }
         ensures { (start : K.State) (read written : List ℕ)
             → HasAnsweredLines (K.kind kind.now) start read written (progress_of state.old self.old)
@@ -339,12 +339,12 @@ impl Running {
     }
 
     /// Does what comes after all lines.
-    fn close<K: Script>(
+    fn close<K: Script<Fault = F>>(
         &mut self,
         alloc: Global,
         kind: &K,
         state: &mut K::State,
-    ) -> Result<Flow, AllocError>
+    ) -> Result<Flow<F>, AllocError>
         ensures { (start : K.State) (read written : List ℕ)
             → HasLast (K.kind kind.now) start read written (progress_of state.old self.old)
             → IsAtLast (K.kind kind.now) start read (Unit {0}) written (progress_of state.new self.new) result }
@@ -359,12 +359,12 @@ impl Running {
     }
 
     /// Answers the last line, if its line feed is missing, and does what comes after all lines.
-    pub fn finish<K: Script>(
+    pub fn finish<K: Script<Fault = F>>(
         &mut self,
         alloc: Global,
         kind: &K,
         state: &mut K::State,
-    ) -> Result<Flow, AllocError>
+    ) -> Result<Flow<F>, AllocError>
         requires { self.old.lines + 1 < 2 ^ 64 }
         ensures { (start : K.State) (read written : List ℕ)
             → HasAnsweredLines (K.kind kind.now) start read written (progress_of state.old self.old)

@@ -13,20 +13,20 @@ pub enum Unsaid {
 
 /// Why a line was not answered.
 #[derive(Debug, Drop)]
-pub enum Unanswered {
+pub enum Unanswered<F> {
     /// It asks for nothing: this is wrong with its words.
-    Wrong(CommandFault),
+    Wrong(CommandFault<F>),
     /// A growth was refused.
     Memory,
 }
 
-impl From<AllocError> for Unanswered {
+impl<F> From<AllocError> for Unanswered<F> {
     ghost use Rattle.std.specs.Prelude.{◌≡◌};
     ghost use Rattle.txc_script.specs.declared.unread.Unanswered.TheVariants as reasons;
 
     ghost from_gives = { λ _ reason. reason ≡ reasons.Memory };
 
-    fn from(_error: AllocError) -> Unanswered {
+    fn from(_error: AllocError) -> Unanswered<F> {
         Unanswered::Memory
     }
 }

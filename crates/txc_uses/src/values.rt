@@ -1,6 +1,7 @@
 //! A history of numbers, a world, and what no library calls of stamps, tags, a node, scripts and answers.
 use anyhow::{Context, Result};
 use std::alloc::Global;
+use std::convert::Infallible;
 use txc_node::{Counts, Hit, NodeCore, Reply};
 use txc_rows::{Query, VersionRows};
 use txc_script::{Excerpt, RunFault, exit_of, write_text};
@@ -67,5 +68,5 @@ pub fn answers(alloc: Global) -> Result<(usize, u8)> {
     rows.set_step_limit(Some(1000));
     write_text(&mut std::io::sink(), b"written")?;
     let count = counted.tests.max(rows.matching(&query)?.len());
-    Ok((count, exit_of(&Err(RunFault::Write))))
+    Ok((count, exit_of::<Infallible>(&Err(RunFault::Write))))
 }

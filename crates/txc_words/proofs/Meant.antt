@@ -6,7 +6,6 @@ use Rattle.txc_rows.specs.declared.row.TheConstants.{MAX_BODY_LEN}
 use Rattle.txc_script.specs.Lines.{change_named, query_named}
 use Rattle.txc_script.specs.LineFaults.{IsKindsFault}
 use Rattle.txc_script.specs.SaidWords.{AllSaidOf, Mean, SaidOf, SayAll, SaysWord}
-use Rattle.txc_script.specs.declared.line_fault.CommandFault.{CommandFault}
 use Rattle.txc_script.specs.declared.line_fault.WordKind.{WordKind}
 use Rattle.txc_script.specs.declared.line_fault.WordKind.TheVariants as word_kinds
 use Rattle.txc_script.specs.declared.said.ChangeName.{ChangeName}
@@ -16,7 +15,7 @@ use Rattle.txc_script.specs.declared.said.QueryName.TheVariants.{ById, ByGroup, 
 use Rattle.txc_script.specs.declared.said.Said.{Said}
 use Rattle.txc_script.specs.declared.said.Said.TheVariants as said
 use Rattle.txc_script.proofs.Offered.{all_said_by, meant, none_wrong, said_by, said_of}
-use Rattle.txc_words.specs.Faults.{IsFaultAfter, IsUnkindFault, first_kinds, kinds_of_change, kinds_of_query, change_line, kinds_after_name, place, query_line, second_of}
+use Rattle.txc_words.specs.Faults.{IsFaultAfter, IsUnkindFault, WordsFault, first_kinds, kinds_of_change, kinds_of_query, change_line, kinds_after_name, place, query_line, second_of}
 use Rattle.txc_words.specs.Said.{AreBodies, SaysAfter, change_said, query_said}
 use Rattle.txc_words.specs.declared.name.LineName.{LineName}
 use Rattle.txc_words.specs.declared.name.LineName.TheVariants as names
@@ -32,7 +31,7 @@ none_mapped f None e = refl
 none_mapped f (Some x) e = absurd (none_some (f x) e)
 
 -- nothing is wrong with words that say what they are to say
-pub none_after : (name : LineName) (words : List (List ℕ)) (fault : CommandFault) (values : List Said) → IsFaultAfter name words fault → SaysAfter name words values → ⊥
+pub none_after : (name : LineName) (words : List (List ℕ)) (fault : WordsFault) (values : List Said) → IsFaultAfter name words fault → SaysAfter name words values → ⊥
 none_after name words fault values h k =
     none_wrong k.kinds words fault values (subst (λ (o : Option (List WordKind)). MatchOption o (IsUnkindFault name words fault) (λ kinds. IsKindsFault kinds words fault)) k.known h) k.say
 

@@ -3,16 +3,20 @@ use Rattle.std.specs.Prelude.{◌≡◌, ◌<◌, ◌≤◌, ℕ, List, [], ◌�
 use Rattle.std.specs.List.{flat_map}
 use Rattle.txc_rows.specs.declared.row.TheConstants.{MAX_BODY_LEN}
 use Rattle.txc_script.specs.LineFaults.{IsKindsFault}
+use Rattle.txc_script.specs.declared.fault.Status.{Status}
 use Rattle.txc_script.specs.declared.line_fault.CommandFault.{CommandFault}
-use Rattle.txc_script.specs.declared.line_fault.CommandFault.TheVariants.{Usage}
+use Rattle.txc_script.specs.declared.line_fault.CommandFault.TheVariants.{Own}
 use Rattle.txc_script.specs.declared.line_fault.WordKind.{WordKind}
 use Rattle.txc_script.specs.declared.line_fault.WordKind.TheVariants.{Key, Stamp, Table, Id, Function, Number, Text, QueryName, ChangeName}
 use Rattle.txc_script.specs.declared.said.QueryName as query_names
 use Rattle.txc_script.specs.declared.said.QueryName.TheVariants as queries
 use Rattle.txc_script.specs.declared.said.ChangeName as change_names
 use Rattle.txc_script.specs.declared.said.ChangeName.TheVariants as changes
+use Rattle.txc_script.specs.declared.unread.Unanswered.{Unanswered}
 use Rattle.txc_script.specs.Lines.{change_named, change_text, query_named, query_text}
 use Rattle.txc_words.specs.Names.{name_text}
+use Rattle.txc_words.specs.declared.fault.OwnFault.{OwnFault}
+use Rattle.txc_words.specs.declared.fault.OwnFault.TheVariants.{Usage}
 use Rattle.txc_words.specs.declared.name.LineName.{LineName}
 use Rattle.txc_words.specs.declared.name.LineName.TheVariants as names
 use Rattle.txc_tags.specs.declared.text.number.TheConstants.{LAST_NUMBER}
@@ -127,14 +131,25 @@ second_of words = []
 
 -- ---- what is wrong
 
+-- what may be wrong with the words of a line
+abbrev pub WordsFault : Type 0
+WordsFault = CommandFault OwnFault
+
+-- why such a line was not answered, and how a run of such lines ends
+abbrev pub WordsUnanswered : Type 0
+WordsUnanswered = Unanswered OwnFault
+
+abbrev pub WordsStatus : Type 0
+WordsStatus = Status OwnFault
+
 -- What is wrong where the second word names no query and no change: the words end before it; else it names none, or the
 -- one before it is not of its kind.
-abbrev pub IsUnkindFault : LineName → List (List ℕ) → CommandFault → Type 0
-IsUnkindFault name words (Usage form) = (form.now ≡ usage_text name) × (length words < 2)
+abbrev pub IsUnkindFault : LineName → List (List ℕ) → WordsFault → Type 0
+IsUnkindFault name words (Own (Usage form)) = (form.now ≡ usage_text name) × (length words < 2)
 IsUnkindFault name words fault = (2 ≤ length words) × IsKindsFault (first_kinds name) (take 2 words) fault
 
 -- what is wrong with the words after a line's name
-abbrev pub IsFaultAfter : LineName → List (List ℕ) → CommandFault → Type 0
+abbrev pub IsFaultAfter : LineName → List (List ℕ) → WordsFault → Type 0
 IsFaultAfter name words fault =
     MatchOption (kinds_after_name name (second_of words)) (IsUnkindFault name words fault)
     (λ kinds. IsKindsFault kinds words fault)

@@ -2,9 +2,11 @@
 //! with their words.
 #![tactic(auto)]
 
+mod fault;
 mod kinds;
 mod name;
 mod said;
 
+pub use fault::OwnFault;
 pub use name::{LineName, name_of};
 pub use said::{LAST_MOMENT, change_of, query_of, read_after_name};

@@ -5,6 +5,7 @@ ghost use Rattle.txc_script.specs.Words.{words_left};
 ghost use Rattle.txc_words.specs.Faults.{IsFaultAfter, IsUnkindFault, kinds_after_name, second_of};
 ghost use Rattle.txc_words.specs.Said.{AreBodies, SaysAfter, change_said, query_said, row_said};
 
+use crate::fault::OwnFault;
 use crate::kinds::{first_kinds, kinds_after_name, usage_of};
 use crate::name::LineName;
 use std::alloc::{AllocError, Global};
@@ -33,13 +34,13 @@ fn find_without_kinds(
     name: LineName,
     words: WordsLeft<'_>,
     count: usize,
-) -> Unanswered
+) -> Unanswered<OwnFault>
     requires counted { length (words_left words) ≡ count }
     requires unknown { kinds_after_name name (second_of (words_left words)) ≡ None }
     ensures { IsWrong (IsUnkindFault name (words_left words.entry)) result }
 {
     if count < 2 {
-        return Unanswered::Wrong(CommandFault::Usage(usage_of(name)));
+        return Unanswered::Wrong(CommandFault::Own(OwnFault::Usage(usage_of(name))));
     }
     match read_words(alloc, first_kinds(name), words.first(2), 2) {
         Ok(_) => unreachable!(),
@@ -53,7 +54,7 @@ pub fn read_after_name<'a>(
     name: LineName,
     words: WordsLeft<'a>,
     count: usize,
-) -> Result<Vec<Said<'a>>, Unanswered>
+) -> Result<Vec<Said<'a>>, Unanswered<OwnFault>>
     requires { length (words_left words) ≡ count }
     ensures answer { IfOk result (λ said. SaysAfter name (words_left words.entry) said.items) }
     ensures refused { IfErr result (IsWrong (IsFaultAfter name (words_left words.entry))) }

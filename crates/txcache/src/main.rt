@@ -9,7 +9,7 @@ use std::io;
 use std::io::Print;
 use std::process::ExitCode;
 use txc_arguments::{WordsError, read_arguments, read_words};
-use txc_modes::{RunFault, Status, exit_of, run};
+use txc_modes::{OwnFault, RunFault, Status, exit_of, run};
 use txc_settings::{Settings, SettingsError};
 
 fn main(rt: HostRuntime) -> ExitCode {
@@ -58,7 +58,7 @@ fn end_by_arguments<R: Print + Eprint>(rt: &R, error: &clap::Error) -> ExitCode 
         let _ = rt.eprint(error);
         return ExitCode::from(2);
     }
-    let ended = match rt.print(error) {
+    let ended: Result<Status<OwnFault>, RunFault> = match rt.print(error) {
         Ok(()) => Ok(Status::Done),
         Err(_) => Err(RunFault::Write),
     };
@@ -82,7 +82,7 @@ fn end(rt: &impl Eprint, text: impl Display + Drop, status: u8) -> ExitCode {
 }
 
 /// Prints on standard error what is wrong with a malformed line, or why the run ended early.
-fn print_fault(rt: &impl Eprint, ended: &Result<Status, RunFault>) {
+fn print_fault(rt: &impl Eprint, ended: &Result<Status<OwnFault>, RunFault>) {
     match ended {
         Ok(Status::Malformed(line)) => {
             let _ = rt.eprintln(line);

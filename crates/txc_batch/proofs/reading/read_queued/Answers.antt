@@ -1,4 +1,4 @@
-use Rattle.std.proofs.Common.{List, sym, ap, subst, arith, inl, inr, ◌∙◌}
+use Rattle.std.proofs.Common.{List, ℕ, sym, ap, subst, arith, inl, inr, ◌∙◌}
 use Rattle.txc_script.specs.LineFaults.{IsKindsFault, IsWrong, kinds_for}
 use Rattle.txc_script.specs.SaidWords.{SayAll}
 use Rattle.txc_script.specs.Words.{words_left}
@@ -7,13 +7,14 @@ use Rattle.txc_script.specs.declared.line_fault.WordKind.TheVariants.{Key}
 use Rattle.txc_script.proofs.Offered.{wrong_as}
 use Rattle.txc_batch.specs.BatchFaults.{IsJobFault}
 use Rattle.txc_batch.specs.declared.reading.TheConstants.{LEAST_WORDS}
-use Rattle.txc_script.specs.declared.line_fault.CommandFault.TheVariants.{Few}
+use Rattle.txc_script.specs.declared.line_fault.CommandFault.TheVariants.{Own}
+use Rattle.txc_words.specs.declared.fault.OwnFault.TheVariants.{Few}
 use Rattle.txc_batch.specs.Orders.{job_kinds, job_said}
 use Rattle.txc_batch.proofs.JobFaults.{job_there}
 use Rattle.txc_batch.proofs.reading.read_queued.Goals as goal
 
 pub returns-then-count-lt-LEAST_WORDS-clause-refused : goal.returns-then-count-lt-LEAST_WORDS-clause-refused
-returns-then-count-lt-LEAST_WORDS-clause-refused c = inl (omega (arith, c.requires, c.if-count-lt-LEAST_WORDS.true), ap (Few LEAST_WORDS) (sym c.requires))
+returns-then-count-lt-LEAST_WORDS-clause-refused c = inl (omega (arith, c.requires, c.if-count-lt-LEAST_WORDS.true), ap (λ (n : ℕ). Own (Few LEAST_WORDS n)) (sym c.requires))
 
 pub returns-in_err-said-clause-refused : goal.returns-in_err-said-clause-refused
 returns-in_err-said-clause-refused c =

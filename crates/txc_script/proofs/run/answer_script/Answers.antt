@@ -48,7 +48,7 @@ returns-in_err-turn-clause-after g c =
     let start = c.args.state.now in
     let read = i.read ++ take c.in_ok-n.n c.read.new.piece in
     let fault = c.in_err-turn.field-0.0 in
-    subst (λ (r : Result Status RunFault). ScriptHasRun kind start (g.R.Read.remaining c.args.reader.now) (g.R.Read.remaining c.read.new.reader) (g.W.Write.contents c.args.writer.now) (g.W.Write.contents c.turn.new.writer) r c.turn.new.state)
+    subst (λ (r : Result (Status g.row.K-Fault.Denot) RunFault). ScriptHasRun kind start (g.R.Read.remaining c.args.reader.now) (g.R.Read.remaining c.read.new.reader) (g.W.Write.contents c.args.writer.now) (g.W.Write.contents c.turn.new.writer) r c.turn.new.state)
     (sym (err_is c.from_residual-in_err-turn.result fault c.from_residual-in_err-turn.ensures))
     (run_ends kind ⊥ start _ _ _ _ _ read i.written (Err fault) c.turn.new.state (Consumes-trans _ _ _ i.read (take c.in_ok-n.n c.read.new.piece) i.consumed c.in_ok-n.ensures.bytes.0) i.appended (λ h. absurd h)
     (c.in_err-turn.ensures.turned start i.read i.written i.answered))

@@ -13,7 +13,7 @@ returns-then-not-is_plain-clause-answered g c =
 pub returns-in-Some-clause-answered : goal.returns-in-Some-clause-answered
 returns-in-Some-clause-answered g c =
     let plain : IsPlain c.args.line.now = search rules in
-    let q : Replies = record { text = c.answer.new.text; is_refused = c.args.replies.now.is_refused || c.in-Some.is_refused; why = c.answer.new.why } in
+    let q : Replies g.row.K-Fault.Denot = record { text = c.answer.new.text; is_refused = c.args.replies.now.is_refused || c.in-Some.is_refused; why = c.answer.new.why } in
     line_answered (g.K.Script.kind c.args.kind.now) c.args.state.now c.answer.new.state c.args.replies.now q c.in-Some.is_refused c.args.number c.args.line.now plain c.in-Some.ensures.answered refl
 
 pub returns-in-None-clause-answered : goal.returns-in-None-clause-answered

@@ -4,17 +4,16 @@ use Rattle.std.specs.Prelude.{MatchOption}
 use Rattle.txc_script.specs.LineFaults.{IsKindsFault}
 use Rattle.txc_script.specs.SaidWords.{SayAll}
 use Rattle.txc_script.specs.Words.{words_left}
-use Rattle.txc_script.specs.declared.line_fault.CommandFault.{CommandFault}
 use Rattle.txc_script.specs.declared.line_fault.WordKind.{WordKind}
 use Rattle.txc_script.specs.declared.said.Said.{Said}
 use Rattle.txc_script.proofs.Offered.{wrong_in, wrong_of}
-use Rattle.txc_words.specs.Faults.{IsFaultAfter, IsUnkindFault, kinds_after_name, second_of}
+use Rattle.txc_words.specs.Faults.{IsFaultAfter, IsUnkindFault, WordsFault, kinds_after_name, second_of}
 use Rattle.txc_words.specs.Said.{SaysAfter}
 use Rattle.txc_words.specs.declared.name.LineName.{LineName}
 use Rattle.txc_words.proofs.said.read_after_name.Goals as goal
 
 -- by the kinds, or where there are none
-by_kinds : (name : LineName) (words : List (List ℕ)) (o : Option (List WordKind)) (fault : CommandFault) → kinds_after_name name (second_of words) ≡ o
+by_kinds : (name : LineName) (words : List (List ℕ)) (o : Option (List WordKind)) (fault : WordsFault) → kinds_after_name name (second_of words) ≡ o
     → MatchOption o (IsUnkindFault name words fault) (λ kinds. IsKindsFault kinds words fault) → IsFaultAfter name words fault
 by_kinds name words o fault e h = subst (λ (k : Option (List WordKind)). MatchOption k (IsUnkindFault name words fault) (λ kinds. IsKindsFault kinds words fault)) (sym e) h
 

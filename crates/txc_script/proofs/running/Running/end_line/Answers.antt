@@ -17,5 +17,5 @@ returns-in-Ok-clause-answered g c start read written h =
 
 pub returns-in-Err-clause-answered : goal.returns-in-Err-clause-answered
 returns-in-Err-clause-answered g c start read written h =
-    let q : Running = record c.args.self.now { line = c.add.new.self } in
+    let q : Running g.row.F.Denot = record c.args.self.now { line = c.add.new.self } in
     halted_before (g.K.Script.kind c.args.kind.now) start read written _ c.args.state.now c.args.self.now q c.in-Err.e h refl
