@@ -37,6 +37,9 @@ pub struct Plan {
     pub recent: usize,
     /// After how many milliseconds a transaction renews its newest pin, where it may.
     pub renew_after: u64,
+    /// For less than how many milliseconds a client keeps its pins from one page to the next, where it reads them so.
+    /// 0: each page begins with pins of its own.
+    pub keep_pins: u64,
     /// How many calls of functions may run at once, from 1 to [`txc_permits::MAX_PERMITS`].
     pub permits: u64,
     /// How many commits and pins are stored, where anybody can read them: from 1 to [`txc_stream::MAX_CAPACITY`].
@@ -68,6 +71,7 @@ impl Plan {
         capacity: 4096,
         recent: 64,
         renew_after: 5000,
+        keep_pins: 0,
         permits: 64,
         events: Some(65_536),
         records: None,
