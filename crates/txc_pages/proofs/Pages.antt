@@ -1,6 +1,6 @@
 -- One call of a page more, and what the calls of a page leave at a node.
 use Rattle.std.proofs.Common.{◌≡◌, ◌∙◌, ℕ, zero, suc, List, [], ◌∷◌, ◌++◌, slice_get, Option, Some, Result, Ok, Err, refl, sym, ap, subst, append-nil, append_assoc}
-use Rattle.std.specs.Prelude.{IfOk, OnErr}
+use Rattle.std.specs.Prelude.{IfOk, IsOk, OnErr, OnOk}
 use Rattle.std.specs.List.{filter}
 use Rattle.std.proofs.lemmas.List.Elements.{filter-append}
 use Rattle.txc_stream.specs.Names.{Name}
@@ -166,6 +166,14 @@ pages_stand_once next row histories old calls new made node before after was is 
 -- no pass has seen less
 pub none_have_grown : (a b : ClientValue) → a ≡ b → HaveGrown b.passes a.passes
 none_have_grown a b same = subst (λ (c : ClientValue). HaveGrown b.passes c.passes) (sym same) (have_grown_self b.passes)
+
+-- what holds of each transaction that began so holds where a page was shown
+pub began_so : {T F S E : Type 0} (P : T → Type 0) (Q : Type 0) → ((txn : T) → P txn → Q) → (begun : Result T F) (shown : Result S E)
+    → OnOk shown (IsOk begun) → IfOk begun P → OnOk shown Q
+began_so P Q so (Ok txn) (Ok shown) is holds = so txn holds
+began_so P Q so (Ok txn) (Err error) is holds = tt
+began_so P Q so (Err refused) (Ok shown) is holds = cc is
+began_so P Q so (Err refused) (Err error) is holds = tt
 
 -- ---- the bounds of a page of the last state
 

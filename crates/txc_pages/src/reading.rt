@@ -1,5 +1,5 @@
 //! The reading of pages.
-ghost use Rattle.std.specs.Prelude.{◌≡◌, IfErr, IfOk};
+ghost use Rattle.std.specs.Prelude.{◌≡◌, [], IfErr, IfOk, IsOk, OnOk};
 ghost use Rattle.txc_client.specs.Kept.{AreKept};
 ghost use Rattle.txc_client.specs.Ports.{HaveGrown};
 ghost use Rattle.txc_pages.specs.Pages.{IsLeftByRefused, IsPageRun, IsPageRefused};
@@ -174,6 +174,7 @@ fn shown_in<'a, A: App, D: Definition, J: Naming, P: Page<A, D>, B: Begun, R: Wa
 )
     requires new { IfOk begun (λ txn. txn.txn.core.recorded ≡ []) }
     requires handed_back { IfErr begun (λ e. e.1 ≡ B.client) }
+    ensures began { OnOk result.0 (IsOk begun.entry) }
     ensures shows { IfOk result.0 (λ shown.
         P.shows page.now shown.receipt.answers.items shown.output) }
     ensures explained { IfOk result.0 (λ shown. Explains A.next shown.receipt.seen.history B.bounds
