@@ -2,14 +2,16 @@
 """Whether a site goes through ten million events in generations: with no page torn and no bid lost, in a process that does not grow, and
 with nodes that stay warm. Beside the gate.
 
-usage: soak_site.py [THREADS [EVENTS [GENERATIONS [stored]]]]      by default 3 threads, and 1,000,000 events in each of 11 generations
+usage: soak_site.py [THREADS [EVENTS [GENERATIONS [BIDS [SECONDS [stored]]]]]]
+  by default 3 threads, 1,000,000 events in each of 11 generations, 4 bids after each page, and 900 seconds at most
 
-The program's source lies in bench/soak_site; it is compiled with no proof. Its visitors read pages and bid, as many of the one as of
-the other, and judge them: each bid is an event. With the last word the site's events are stored, and its plan has room for as many.
+The program's source lies in bench/soak_site; it is compiled with no proof. Its visitors read pages and bid, and judge them: each bid is
+an event. With the last word the site's events are stored, and its plan has room for as many.
 This script reads the size of the process from outside (VmRSS of /proc/PID/status), and prints the greatest of each generation; how many
 lookups and hits there were in the last second of the generation before, and in the first of this; and how long no visitor was there.
-It fails where a page was torn or refused or a bid lost, where the greatest size of the last generation is more than GROWTH_KB above that
-of the second, or where the hits of a first second are fewer than WARM of all that the same lookups had before; and ends after TIME seconds.
+It fails where a page was torn or refused or a bid lost, where there were fewer generations, where the greatest size of the last one
+is more than GROWTH_KB above that of the second, or where the hits of a first second are fewer than WARM of all that the same
+lookups had before.
 """
 import os
 import re
@@ -25,8 +27,7 @@ import with_tests
 ROOT = with_tests.ROOT
 GROWTH_KB = 4_096
 WARM = 0.9
-TIME = 900
-GENERATION = re.compile(r"generation (\d+): (\d+) to (\d+) ms, (\d+) pages, (\d+) torn, (\d+) refused, (\d+) bids, (-?\d+) lost, (\d+) conflicts, at (\d+)")
+GENERATION = re.compile(r"generation (\d+): (\d+) to (\d+) ms, (\d+) pages, (\d+) torn, (\d+) refused, (\d+) bids, (\d+) seen, (\d+) conflicts, at (\d+)")
 
 
 def built(room):
@@ -52,17 +53,16 @@ def size(process):
         return None
 
 
-def run(program, words):
-    """What it printed, and its sizes by the moment in milliseconds."""
+def run(program, words, most):
+    """What it printed, and its sizes by the moment in milliseconds. A minute after its time it is killed."""
     sizes, begun = [], time.time()
     with tempfile.TemporaryFile("w+") as said:
         process = subprocess.Popen([program, *words], stdout=said, stderr=subprocess.STDOUT)
         while process.poll() is None:
             now = size(process)
             sizes += [(time.monotonic() * 1000, now)] if now else []
-            if time.time() - begun > TIME:
+            if time.time() - begun > most + 60:
                 process.kill()
-                sys.exit(f"soak_site.py: not ended after {TIME} s; {sizes[-1][1]:,} KB")
             time.sleep(0.05)
         said.seek(0)
         return said.read(), sizes, time.time() - begun
@@ -72,7 +72,7 @@ class Generation:
     """What its visitors did, and what the first of them saw of the nodes: the moment, the lookups and the hits by then."""
 
     def __init__(self, line):
-        self.number, self.begun, self.ended, self.pages, self.torn, self.refused, self.bids, self.lost, self.conflicts, self.stamp = map(int, line)
+        self.number, self.begun, self.ended, self.pages, self.torn, self.refused, self.bids, self.seen, self.conflicts, self.stamp = map(int, line)
         self.looks = []
 
     def between(self, first, last):
@@ -92,35 +92,43 @@ def read(said):
     return found
 
 
+def text_of(it, before, most, wrong):
+    """The line of a generation; what it lacks of the one before comes to what is wrong."""
+    text = f"{it.number:2}: {it.ended - it.begun:,} ms, {it.pages:,} pages, {it.bids:,} bids, {it.conflicts:,} conflicts, at {it.stamp:,}, {most:,} KB at most"
+    if before:
+        asked, had = before.between(before.looks[-1][0] - 1000, before.looks[-1][0])
+        ask, hits = it.between(it.begun, it.begun + 1000)
+        share = hits * asked / (ask * had) if ask and had else 0
+        text += f"; hits {had:,} of {asked:,} before, {hits:,} of {ask:,} after ({share:.3f}), {it.begun - before.ended:,} ms between"
+        wrong += [f"{it.number} is cold"] if share < WARM else []
+    return text
+
+
 def judge(said, sizes, seconds, generations):
     """Prints what came, and returns what was not as it is to be."""
-    found, wrong, most, before = read(said), [], [], None
+    found, wrong, most, before, bids = read(said), [], [], None, 0
     # the program's clock, where that is another than this one's
     ahead = sizes[0][0] - found[0].begun if found and abs(sizes[0][0] - found[0].begun) > 10_000 else 0
     for it in found:
+        bids += it.bids
         most.append(max([kb for at, kb in sizes if it.begun <= at - ahead <= it.ended] or [0]))
-        text = f"{it.number:2}: {it.ended - it.begun:,} ms, {it.pages:,} pages, {it.bids:,} bids, {it.conflicts:,} conflicts, at {it.stamp:,}, {most[-1]:,} KB at most"
-        if before:
-            asked, had = before.between(before.looks[-1][0] - 1000, before.looks[-1][0])
-            ask, hits = it.between(it.begun, it.begun + 1000)
-            share = hits * asked / (ask * had) if ask and had else 0
-            text += f"; hits {had:,} of {asked:,} before, {hits:,} of {ask:,} after ({share:.3f}), {it.begun - before.ended:,} ms between"
-            wrong += [f"{it.number} is cold"] if share < WARM else []
-        wrong += [f"{it.number}: {it.torn} torn, {it.refused} refused, {it.lost} lost"] if it.torn or it.refused or it.lost else []
-        print(text)
+        print(text_of(it, before, most[-1], wrong))
+        if it.torn or it.refused or it.seen != bids:
+            wrong.append(f"{it.number}: {it.torn} torn, {it.refused} refused, {bids - it.seen} lost")
         before = it
-    print(f"{sum(it.bids for it in found):,} bids, {sum(it.stamp for it in found):,} events in {seconds:.0f} s; {max(kb for _, kb in sizes):,} KB at most")
-    if len(found) != generations or "ended, " not in said:
-        wrong.append(said[-500:])
+    print(f"{sum(it.pages for it in found):,} pages, {bids:,} bids, {sum(it.stamp for it in found):,} events in {seconds:.0f} s; {max(kb for _, kb in sizes):,} KB at most")
+    if len(found) != generations or f"ended, {generations} generations" not in said:
+        wrong.append(f"{len(found)} generations of {generations}; {said[-200:]}")
     if len(most) > 2 and most[-1] > most[1] + GROWTH_KB:
         wrong.append(f"{most[1]:,} KB in the second generation, {most[-1]:,} KB in the last")
     return wrong
 
 
 def main():
-    numbers = [int(it.replace(",", "")) for it in sys.argv[1:4]] + [3, 1_000_000, 11][len(sys.argv[1:4]):]
+    numbers = [int(it.replace(",", "")) for it in sys.argv[1:6]]
+    numbers += [3, 1_000_000, 11, 4, 900][len(numbers):]
     with tempfile.TemporaryDirectory() as room:
-        said, sizes, seconds = run(built(room), [*map(str, numbers), *sys.argv[4:5]])
+        said, sizes, seconds = run(built(room), [*map(str, numbers), *sys.argv[6:7]], numbers[4])
     wrong = judge(said, sizes, seconds, numbers[2])
     if wrong:
         sys.exit("\n".join(["soak_site.py: not so", *wrong]))
