@@ -21,7 +21,7 @@ use txc_definition::Definition;
 use txc_keeper::{Clock, CountedClock, SiteError};
 use txc_ledger::{Change, Written};
 use txc_shared::LeftNode;
-use txc_visits::{Application, OpenError, Plan, Visits, Warmth, over_new_histories};
+use txc_visits::{Application, OpenError, Plan, Succession, Visits, Warmth, over_new_histories};
 
 /// What a site gave in all its generations.
 #[derive(Drop)]
@@ -101,8 +101,9 @@ where
         front: begun,
         warmth,
     } = begun;
+    let succession = Succession::InTurn(warmth);
     let visits = over_new_histories::<A, D, V, C, R>(
-        rt, alloc, plan, core, warmth, count, visitors, clock,
+        rt, alloc, plan, core, succession, count, visitors, clock,
     )?;
     let Visits {
         outputs,

@@ -19,7 +19,8 @@ use txc_keeper::{Clock, CountedClock, SiteError, Tended};
 use txc_ledger::{Change, Ledger, Written, write_change};
 use txc_permits::PermitPool;
 use txc_visits::{
-    Application, LastState, Numbers, OpenError, Plan, Visitor, Visits, over_new_histories, registry,
+    Application, LastState, Numbers, OpenError, Plan, Succession, Visitor, Visits,
+    over_new_histories, registry,
 };
 
 /// What a site gave.
@@ -108,8 +109,9 @@ where
         return Err(OpenError::Site(SiteError::Plan));
     }
     let (opening, core) = opened::<A, D, O, R>(rt, alloc, plan, opening)?;
+    let alone = Succession::Alone;
     let visits = over_new_histories::<A, D, V, C, R>(
-        rt, alloc, plan, core, None, count, visitors, clock,
+        rt, alloc, plan, core, alone, count, visitors, clock,
     )?;
     let Visits {
         outputs,

@@ -102,8 +102,22 @@ impl<A: App, J: Naming> Foundation<A, J> {
         }
     }
 
-    /// The database without its lock, once no thread has it any more, and what its nodes held. No pin is held but one
-    /// that is lost.
+    /// The database without its lock, once no thread has it any more. No pin is held but one that is lost.
+    pub(crate) fn into_core(self, rt: &impl Wait, alloc: Global) -> DbCore
+        ensures database { IsDatabaseOf J.database_history result }
+    {
+        let Foundation {
+            ledger,
+            nodes: _,
+            plan: _,
+            tallies: _,
+            moment: _,
+        } = self;
+        let _ = retire(rt, alloc, &ledger, u64::MAX, 0);
+        ledger.into_core()
+    }
+
+    /// The same, and what its nodes hold once each has taken all events.
     pub(crate) fn into_parts(self, rt: &impl Wait, alloc: Global) -> (DbCore, Vec<LeftNode<A>>)
         ensures database { IsDatabaseOf J.database_history result.0 }
         ensures left { All (λ left. left.seen.events ≡ J.database_history) result.1.items }

@@ -1,9 +1,10 @@
 //! A visit of threads over histories that are named for it.
-ghost use Rattle.std.specs.Prelude.{◌≡◌, ◌≤◌, All, IfErr, IfOk, IfSome, length, vec_len};
+ghost use Rattle.std.specs.Prelude.{◌≡◌, ◌≤◌, All, IfErr, IfOk, length, vec_len};
 ghost use Rattle.txc_db.specs.Shared.{IsDatabaseOf};
 ghost use Rattle.txc_visits.specs.Sites.{IsVisitRefused, HaveCome};
 ghost use Rattle.txc_visits.specs.Plans.{IsPlan};
 ghost use Rattle.txc_visits.specs.Histories.{AreHistoriesOf, HaveHistoriesBy};
+ghost use Rattle.txc_visits.specs.Successions.{GoesOverTo};
 ghost use Rattle.txc_visits.specs.Tended.{IsTendedAsPlanned};
 
 use crate::application::Application;
@@ -14,7 +15,7 @@ use crate::numbers::Numbers;
 use crate::plan::Plan;
 use crate::visiting::{Came, visit};
 use crate::visitor::Visitor;
-use crate::warming::Warmth;
+use crate::warming::Succession;
 use std::alloc::Global;
 use std::marker::Brand;
 use std::sync::Wait;
@@ -35,18 +36,17 @@ pub struct Visits<A: App, T> {
     pub tended: Option<Result<Tended, SiteError>>,
     pub numbers: Numbers,
     pub core: DbCore,
-    /// What its nodes held, where their records are not stored.
+    /// Of a site that is one of several: what its nodes held, where their records are not stored.
     pub left: Vec<LeftNode<A>>,
 }
 
-/// Lets the threads visit a site of the database and of new nodes. These begin with what other nodes left, where that
-/// is given.
+/// Lets the threads visit a site of the database and of new nodes.
 pub fn over_new_histories<A, D, V, C, R>(
     rt: &R,
     alloc: Global,
     plan: Plan,
     core: DbCore,
-    warmth: Option<Warmth<A>>,
+    succession: Succession<A>,
     count: usize,
     visitors: &V,
     clock: &C,
@@ -58,7 +58,7 @@ where
     C: Clock + Sync,
     R: Threads + Wait + Sync,
     requires plan { IsPlan plan }
-    requires warm { IfSome warmth (λ w. w.front.events ≡ core.events) }
+    requires warm { GoesOverTo core.events succession }
     ensures each { IfOk result (λ visited. vec_len visited.outputs ≡ count) }
     ensures gives { IfOk result (λ visited.
         HaveCome (V.gives visitors.now plan core.events) visited.outputs.items) }
@@ -70,7 +70,7 @@ where
 {
     let histories = new_histories(alloc, plan.nodes, plan.records)?;
     over_histories::<A, D, V, Brand, C, R>(
-        rt, alloc, plan, core, warmth, histories, count, visitors, clock,
+        rt, alloc, plan, core, succession, histories, count, visitors, clock,
     )
 }
 
@@ -80,7 +80,7 @@ fn over_histories<A, D, V, J, C, R>(
     alloc: Global,
     plan: Plan,
     core: DbCore,
-    warmth: Option<Warmth<A>>,
+    succession: Succession<A>,
     histories: Vec<NodeHistory>,
     count: usize,
     visitors: &V,
@@ -95,7 +95,7 @@ where
     R: Threads + Wait + Sync,
     requires plan { IsPlan plan }
     requires database { core.events ≡ J.database_history }
-    requires warm { IfSome warmth (λ w. w.front.events ≡ J.database_history) }
+    requires warm { GoesOverTo J.database_history succession }
     requires each { vec_len histories ≡ plan.nodes }
     requires histories { AreHistoriesOf J.node_histories 0 histories.items }
     requires stored_so { HaveHistoriesBy plan J.node_histories }
@@ -112,9 +112,15 @@ where
     let (foundation, committers) = Foundation::<A, J>::new(
         rt, alloc, plan, core, histories, count,
     )?;
-    if let Some(warmth) = warmth {
-        foundation.warm(rt, alloc, warmth);
-    }
+    let goes_over = match succession {
+        Succession::Alone => false,
+        Succession::InTurn(warmth) => {
+            if let Some(warmth) = warmth {
+                foundation.warm(rt, alloc, warmth);
+            }
+            true
+        }
+    };
     let mut pool = PermitPool::new(alloc, plan.permits)?;
     let came = visit::<A, D, V, J, C, R>(
         rt,
@@ -128,7 +134,11 @@ where
     )?;
     let Came { outputs, tended } = came;
     let numbers = Numbers::of(&foundation.tallies).with_nodes(rt, &foundation.nodes);
-    let (core, left) = foundation.into_parts(rt, alloc);
+    let (core, left) = if goes_over {
+        foundation.into_parts(rt, alloc)
+    } else {
+        (foundation.into_core(rt, alloc), Vec::new(alloc))
+    };
     Ok(Visits {
         outputs,
         tended,

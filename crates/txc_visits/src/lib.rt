@@ -2,8 +2,8 @@
 //!
 //! [`over_new_histories`] makes a site of a database by a [`Plan`], and starts the threads. A [`Visitor`] does what
 //! each of these does, by a [`SiteClient`], which reads pages and writes changes. What they leave can be read once
-//! all have ended ([`LastState`]). What the nodes held goes over to those of a site that goes on from there
-//! ([`Warmth`]).
+//! all have ended ([`LastState`]). Where a site goes on from another one ([`Succession`]), what the nodes of that held goes
+//! over ([`Warmth`]).
 #![tactic(auto)]
 
 mod application;
@@ -27,4 +27,4 @@ pub use last_state::LastState;
 pub use numbers::Numbers;
 pub use plan::{MAX_NODES, Plan};
 pub use visitor::Visitor;
-pub use warming::Warmth;
+pub use warming::{Succession, Warmth};

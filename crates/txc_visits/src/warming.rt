@@ -26,6 +26,15 @@ pub struct Warmth<A: App> {
     ghost state: { EndInOneState whole front },
 }
 
+/// Whether a site is alone, or one of several of which each goes on from the one before.
+#[derive(Drop)]
+pub enum Succession<A: App> {
+    /// Its nodes begin with nothing, and nothing of what they hold goes over.
+    Alone,
+    /// Its nodes begin with what is given, and leave what they hold for those of the next site.
+    InTurn(Option<Warmth<A>>),
+}
+
 /// Lets the node take all events, by a pass of its own. Where it refuses a pass or a step, the rest is left.
 fn take_all<A: App, J: Naming>(rt: &impl Wait, alloc: Global, node: &SharedNode<A, J>) {
     let Ok(mut pass) = node.pass(rt) else {
