@@ -1,5 +1,5 @@
 -- What is wrong with words, and with the words of a line.
-use Rattle.std.specs.Prelude.{◌≡◌, ◌≢◌, ◌⊎◌, ◌==◌, ◌+◌, ℕ, Bool, false, List, [], ◌∷◌, ◌++◌, Option, Some, None, Result, Ok, Err, ⊤, length, nat_lt, ◌||◌}
+use Rattle.std.specs.Prelude.{◌≡◌, ◌≢◌, ◌⊎◌, ◌==◌, ◌+◌, ℕ, Bool, true, false, List, [], ◌∷◌, ◌++◌, Option, Some, None, Result, Ok, Err, ⊤, length, nat_lt, ◌||◌}
 use Rattle.std.specs.List.{list_any}
 use Rattle.txc_tags.specs.TextGrammar.{IsLongestPrefix}
 use Rattle.txc_tags.specs.TextKey.{key_text, IsKeyInRange}
@@ -10,7 +10,7 @@ use Rattle.txc_script.specs.Lines.{IsPlain}
 use Rattle.txc_script.specs.SaidWords.{IsOfKind, Means, SaysWord}
 use Rattle.txc_script.specs.Words.{words_of}
 use Rattle.txc_script.specs.declared.line_fault.WordKind.{WordKind}
-use Rattle.txc_script.specs.declared.line_fault.WordKind.TheVariants.{Key, Tags}
+use Rattle.txc_script.specs.declared.line_fault.WordKind.TheVariants.{Key, Tags, Bytes}
 use Rattle.txc_script.specs.declared.line_fault.WordFault.{WordFault}
 use Rattle.txc_script.specs.declared.line_fault.CommandFault.{CommandFault}
 use Rattle.txc_script.specs.declared.line_fault.CommandFault.TheVariants.{Unknown, Count, Word}
@@ -55,6 +55,12 @@ pub record IsBadWord (kinds : List WordKind) (words : List (List ℕ)) (fault : 
   pub number : fault.number ≡ length good + 1
   pub text : fault.text ≡ excerpt_of word
   pub stops : StopsAt fault.kind word fault.at
+
+-- what a word of this kind says takes memory
+abbrev pub takes_memory : WordKind → Bool
+takes_memory Tags = true
+takes_memory Bytes = true
+takes_memory kind = false
 
 -- ---- lines
 

@@ -1,6 +1,7 @@
 //! Reading the words after a command, each as what it says.
-ghost use Rattle.std.specs.Prelude.{◌≡◌, ◌<◌, ◌+◌, ◌^◌, ℕ, List, ◌∷◌, length, IfSome, IfNone};
-ghost use Rattle.txc_script.specs.LineFaults.{IsKindsFault, IsUnsaid, IsWrong};
+ghost use Rattle.std.specs.Prelude.{◌≡◌, ◌<◌, ◌+◌, ◌^◌, ℕ, List, ◌∷◌, length, IfSome, IfNone, true};
+ghost use Rattle.std.specs.List.{list_any};
+ghost use Rattle.txc_script.specs.LineFaults.{takes_memory, IsKindsFault, IsUnsaid, IsWrong};
 ghost use Rattle.txc_script.specs.SaidWords.{AllSaidOf, IsOfKind, Mean};
 ghost use Rattle.txc_script.specs.Words.{words_left};
 ghost use Rattle.txc_script.specs.declared.line_fault.WordKind.{WordKind};
@@ -30,7 +31,9 @@ pub trait Row: Drop {
     fn read<F: Drop>(alloc: Global, words: WordsLeft<'_>, why: &mut Unanswered<F>) -> Option<Self>
         ensures answer { IfSome result (λ row. Mean kinds (words_left words.entry) (said row)) }
         ensures refused { IfNone result (length (words_left words.entry) ≡ length kinds
-            → IsWrong (IsKindsFault kinds (words_left words.entry)) why.new) };
+            → IsWrong (IsKindsFault kinds (words_left words.entry)) why.new) }
+        ensures memory { IfNone result (length (words_left words.entry) ≡ length kinds
+            → why.new ≡ Unanswered.Memory → list_any takes_memory kinds ≡ true) };
 }
 
 impl Row for () {
@@ -95,7 +98,8 @@ impl<A: Word, B: Row> Row for (A, B) {
 #[inline(never)]
 fn leave_first<A: Word, F: Drop>(word: &[u8], unsaid: Unsaid, why: &mut Unanswered<F>)
     requires { IsUnsaid A.kind word.now unsaid }
-    ensures { (kinds : List WordKind) (words : List (List ℕ)) → length (word.now ∷ words) ≡ length (A.kind ∷ kinds)
+    ensures memory { why.new ≡ Unanswered.Memory → unsaid ≡ Unsaid.Memory }
+    ensures wrong { (kinds : List WordKind) (words : List (List ℕ)) → length (word.now ∷ words) ≡ length (A.kind ∷ kinds)
         → IsWrong (IsKindsFault (A.kind ∷ kinds) (word.now ∷ words)) why.new }
 {
     match unsaid {
@@ -115,7 +119,8 @@ fn leave_first<A: Word, F: Drop>(word: &[u8], unsaid: Unsaid, why: &mut Unanswer
 #[cold]
 #[inline(never)]
 fn one_later<F>(why: &mut Unanswered<F>)
-    ensures { (kind : WordKind) (kinds : List WordKind) (word : List ℕ) (words : List (List ℕ))
+    ensures memory { why.new ≡ Unanswered.Memory → why.old ≡ Unanswered.Memory }
+    ensures wrong { (kind : WordKind) (kinds : List WordKind) (word : List ℕ) (words : List (List ℕ))
         → length words + 1 < 2 ^ 64 → IsOfKind kind word → length words ≡ length kinds
         → IsWrong (IsKindsFault kinds words) why.old
         → IsWrong (IsKindsFault (kind ∷ kinds) (word ∷ words)) why.new }
@@ -132,7 +137,9 @@ fn one_later<F>(why: &mut Unanswered<F>)
 #[cold]
 #[inline(never)]
 fn test_count<F: Drop>(wanted: usize, words: WordsLeft<'_>, why: &mut Unanswered<F>)
-    ensures { (kinds : List WordKind) → wanted ≡ length kinds
+    ensures memory { why.new ≡ Unanswered.Memory
+        → (length (words_left words.entry) ≡ wanted) × (why.old ≡ Unanswered.Memory) }
+    ensures wrong { (kinds : List WordKind) → wanted ≡ length kinds
         → (length (words_left words.entry) ≡ length kinds → IsWrong (IsKindsFault kinds (words_left words.entry)) why.old)
         → IsWrong (IsKindsFault kinds (words_left words.entry)) why.new }
 {
@@ -142,7 +149,8 @@ fn test_count<F: Drop>(wanted: usize, words: WordsLeft<'_>, why: &mut Unanswered
     }
 }
 
-/// What the words after a command say; else it leaves what is wrong with them.
+/// What the words after a command say; else it leaves what is wrong with them. That it is out of memory it leaves only
+/// where there are as many words as kinds, and what one of them says takes memory.
 #[inline(always)]
 pub fn read_row<R: Row, F: Drop>(
     alloc: Global,
@@ -152,6 +160,8 @@ pub fn read_row<R: Row, F: Drop>(
     requires { length R.kinds < 2 ^ 64 }
     ensures answer { IfSome result (λ row. Mean R.kinds (words_left words.entry) (R.said row)) }
     ensures refused { IfNone result (IsWrong (IsKindsFault R.kinds (words_left words.entry)) why.new) }
+    ensures memory { IfNone result (why.new ≡ Unanswered.Memory
+        → (length (words_left words.entry) ≡ length R.kinds) × (list_any takes_memory R.kinds ≡ true)) }
 {
     let row = R::read(alloc, words, why);
     if row.is_none() {

@@ -1,9 +1,9 @@
 //! Words, each of its kind.
-ghost use Rattle.std.specs.Prelude.{◌≡◌, ℕ, IfOk, IfErr, IfSome, IfNone};
+ghost use Rattle.std.specs.Prelude.{◌≡◌, ℕ, Err, IfOk, IfErr, IfSome, IfNone, true};
 ghost use Rattle.txc_tags.specs.declared.key.TheConstants.{LAST_FUNCTION};
 ghost use Rattle.txc_tags.specs.declared.tag.TheConstants.{LAST_TABLE};
 ghost use Rattle.txc_tags.specs.declared.text.number.TheConstants.{LAST_NUMBER};
-ghost use Rattle.txc_script.specs.LineFaults.{IsUnsaid};
+ghost use Rattle.txc_script.specs.LineFaults.{takes_memory, IsUnsaid};
 ghost use Rattle.txc_script.specs.Lines.{IsNumberWord};
 ghost use Rattle.txc_script.specs.SaidWords.{Means, SaidOf};
 ghost use Rattle.txc_script.specs.declared.line_fault.WordKind.{WordKind};
@@ -31,7 +31,8 @@ pub trait Word: Drop {
     /// What the word says, if it is of the kind.
     fn read(alloc: Global, word: &[u8]) -> Result<Self, Unsaid>
         ensures answer { IfOk result (λ value. Means kind word.now (said value)) }
-        ensures refused { IfErr result (IsUnsaid kind word.now) };
+        ensures refused { IfErr result (IsUnsaid kind word.now) }
+        ensures memory { result ≡ Err Unsaid.Memory → takes_memory kind ≡ true };
 }
 
 impl Word for Key {

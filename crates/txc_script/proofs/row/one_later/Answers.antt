@@ -4,8 +4,8 @@ use Rattle.txc_script.specs.LineFaults.{IsBadWord, IsKindsFault, IsWrong}
 use Rattle.txc_script.proofs.SaidKinds.{bad_within, later_bad}
 use Rattle.txc_script.proofs.row.one_later.Goals as goal
 
-pub returns-in-Wrong-Word : goal.returns-in-Wrong-Word
-returns-in-Wrong-Word g c kind kinds word words small is same wrong =
+pub returns-in-Wrong-Word-clause-wrong : goal.returns-in-Wrong-Word-clause-wrong
+returns-in-Wrong-Word-clause-wrong g c kind kinds word words small is same wrong =
     let fault = c.in-Wrong-Word.fault in
     let bad : IsBadWord kinds words fault = (subst (IsKindsFault kinds words) c.in-Wrong-Word.field-0-is (subst (IsWrong (IsKindsFault kinds words)) c.in-Wrong-Word.is wrong)).1 in
     let few : fault.number + 1 ≤ 18446744073709551615 = omega (arith, bad_within kinds words fault bad, small) in
