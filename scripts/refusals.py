@@ -37,7 +37,8 @@ LEFT_OUT = {
 }
 
 # Each allocation of a row of a test is refused, or of a script, where all those runs take at most so many seconds of one
-# core. Of another an evenly spaced sample is refused, of at most so many, which takes no longer.
+# core. Of another an evenly spaced sample is refused, of at most so many, which takes no longer; and then all the same, where
+# the sample of a test shows that they end so early that all its runs take no longer either.
 COST = 1_800
 SAMPLE = 2_000
 
@@ -278,10 +279,22 @@ def refuse_all(
     return told, sorted(left)
 
 
+def refuse_numbers(pool: ThreadPoolExecutor, case: Case, found: list[Row]) -> tuple[dict[int, str | None], list[int]]:
+    """As `forked`, of the rows' allocations: all, or a sample."""
+    numbers = [(it,) for row in found for it in chosen(row.first, row.count, row.seconds + FORK)]
+    begun = seconds_of_children()
+    told, left = refuse_all(pool, case, "REFUSE_NUMBERS", numbers)
+    seconds = (seconds_of_children() - begun) / max(len(numbers), 1)
+    rest = [(it,) for row in found for it in range(row.first, row.first + row.count) if it not in told]
+    if left or seconds * len(rest) > COST:
+        return told, left
+    ends, left = refuse_all(pool, case, "REFUSE_NUMBERS", rest)
+    return {**told, **ends}, left
+
+
 def refuse_test(pool: ThreadPoolExecutor, case: Case, found: list[Row]) -> tuple[dict[int, str | None], int]:
     """Refuses the allocations of a test's rows. Returns what is wrong with each, and how many there were for threads."""
-    numbers = [(it,) for row in found for it in chosen(row.first, row.count, row.seconds + FORK)]
-    told, left = refuse_all(pool, case, "REFUSE_NUMBERS", numbers)
+    told, left = refuse_numbers(pool, case, found)
     places = [(row.number, it - row.first + 1, it) for row in found for it in left if row.first <= it < row.first + row.count]
     ends, rest = refuse_all(pool, case, "REFUSE_PLACES", places)
     return {**told, **ends, **dict.fromkeys(rest, "there were threads where its row begins")}, len(places)
