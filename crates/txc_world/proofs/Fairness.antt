@@ -273,6 +273,14 @@ loss_unpin p a stamp e h = gone_so ⊥ (HasLost p a) (λ no. absurd no) e (gone_
 pub counts_itself : (p : PortsValue) (a : Account) (reply : Reply) → IfReplyLost reply (HasLost p a) → ActCounts p p a a reply
 counts_itself p a reply loss = record { fair = fair_itself p a; loss = loss }
 
+-- what was taken stays, and nothing of its own is left
+pub counts_unowned : (p : PortsValue) (c c' : CoreValue) (reply : Reply) → c'.taken ≡ c.taken → left_pin c'.pinning ≡ None → IfReplyLost reply (HasLost p (account_of_core c))
+    → ActCounts p p (account_of_core c) (account_of_core c') reply
+counts_unowned p c c' reply taken left loss = record {
+  fair = fair_same p p (account_of_core c) (account_of_core c') refl refl (λ t. rw left (omega arith)) (λ t. rw taken (omega arith));
+  loss = loss;
+}
+
 -- one pin after another is given back
 pub fair_rest : {A : Type 0} → (old between new : PortsValue) (pins : List Pin) (i : ℕ) (pin : Pin) (given : Result A UnknownPin) → GiveBackCountsUsers
     → GiveBackTransition (pin.stamp ∷ []) between new given → i < length pins → pin ≡ get_or pins i pin → IsFair old between (handed pins) (handed (drop i pins))

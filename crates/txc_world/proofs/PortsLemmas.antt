@@ -1,19 +1,24 @@
 -- What the steps of a world keep of its ports.
-use Rattle.std.proofs.Common.{◌≡◌, ◌∙◌, ◌⊎◌, inl, inr, ℕ, zero, suc, ◌+◌, ◌<◌, arith, ◌==◌, ◌||◌, eq-eqb, ne_eqb, remove, Bool, true, false, List, [], ◌∷◌, ◌++◌, length, get_or, set, Some, All, Result, Ok, Err, refl, ap, sym, subst}
+use Rattle.std.proofs.Common.{◌≡◌, ◌∙◌, ◌⊎◌, inl, inr, ℕ, zero, suc, ◌+◌, ◌<◌, arith, ◌==◌, ◌||◌, eq-eqb, ne_eqb, remove, Bool, true, false, List, [], ◌∷◌, ◌++◌, length, get_or, set, Some, All, Result, Ok, Err, refl, ap, sym, subst, length-append}
 use Rattle.std.proofs.lemmas.List.{length-set}
 use Rattle.std.proofs.lemmas.Option.{slice_get-get_or}
 use Rattle.std.proofs.Math.Seq.{map-set_same}
 use Rattle.std.proofs.lemmas.List.Elements.{All-set, All-get_or, All-from_get_or, All-append}
 use mathlib.Core.List.{IsPrefix}
 use Rattle.txc_stream.proofs.Offered.{prefix_self, prefix_push}
+use Rattle.std.specs.Prelude.{IfErr, IfOk, IsOk}
 use Rattle.txc_rows.specs.declared.query.Change.{Change}
+use Rattle.txc_rows.specs.declared.query.Query.{Query}
+use Rattle.txc_rows.specs.RowTags.{query_tag}
+use Rattle.txc_validity.specs.declared.answer.Found.{Found}
+use Rattle.txc_validity.specs.Answers.{IsAnswer}
 use Rattle.txc_db.specs.declared.error.DbError.{DbError}
 use Rattle.txc_db.specs.declared.error.DbError.TheVariants as errors
 use Rattle.txc_db.specs.declared.pinned.Pinned.{Pinned}
 use Rattle.txc_db.specs.Seen.{FrontValue}
 use Rattle.txc_db.specs.DatabaseValue.{DatabaseValue, after_commit, after_pin, is_held, newest, without, after_event_of, where_some, newest_net, newest_state, front_of}
-use Rattle.txc_db.specs.History.{commit_event, moment_at, pin_event}
-use Rattle.txc_db.specs.Calls.{IsLeft, IsPinnable}
+use Rattle.txc_db.specs.History.{commit_event, moment_at, pin_event, state_at}
+use Rattle.txc_db.specs.Calls.{IsAnswerable, IsLeft, IsPinnable, IsQueryRefused}
 use Rattle.std.specs.List.{AllByRecursion}
 use Rattle.txc_cushion.specs.declared.error.AddError.{AddError}
 use Rattle.txc_cushion.specs.Cushion.{cushion_front}
@@ -23,7 +28,7 @@ use Rattle.txc_shared.specs.declared.error.NodeError.{NodeError}
 use Rattle.txc_world.specs.NodeSteps.{AdvanceTransition}
 use Rattle.txc_world.specs.Parts.{IsPartOf}
 use Rattle.txc_world.specs.Ports.{PortsValue, whole_of, IsNodeOf, ArePorts, KeepsRow, HasLedNode}
-use Rattle.txc_world.specs.Asks.{AddTransition}
+use Rattle.txc_world.specs.Asks.{AddTransition, HasPinned, QueryTransition}
 use Rattle.txc_world.specs.Keeping.{stamps_of_pins, HasAddedSpare, HasPinnedSpare}
 use Rattle.txc_world.proofs.PartLemmas.{part_itself, part_then}
 use Rattle.txc_world.proofs.NodeLemmas.{StaysNode, node_stays}
@@ -155,6 +160,15 @@ led_advanced p q same at old new advanced within is led =
     led_from p q same at (λ was is. AdvanceTransition q.actors (whole_of q) was is advanced) old new within is
     (subst (λ (v : PortsValue). AdvanceTransition v.actors (whole_of v) old new advanced) same led)
 
+-- ---- queries
+
+-- what comes of a query, by what the database returns
+pub query_led : (p : PortsValue) (query : Query) (stamp : ℕ) (r : Result Found DbError)
+    → IfOk r (λ found. IsAnswer (state_at p.database.history) query stamp p.database.horizon (newest p.database) found) → IfOk r (λ found. found.tags ≡ query_tag query ∷ [])
+    → (IsOk r → IsAnswerable p.database stamp) → IfErr r (IsQueryRefused p.database query stamp) → QueryTransition query stamp p r
+query_led p query stamp (Ok found) answer tag only_if refused = (record { answer = answer; tag = tag }, only_if refl)
+query_led p query stamp (Err e) answer tag only_if refused = refused
+
 -- ---- events more
 
 -- one event more is a longer history
@@ -182,6 +196,22 @@ ports_with_spare p d pinned spare are grown front is =
     one : (s : Pinned) → s.front ≡ front_of d → (i : ℕ) → i < 1 → IsPartOf (front_of d) (get_or (s ∷ []) i s).front
     one s f zero within = subst (λ (v : FrontValue). IsPartOf (front_of d) v) (sym f) (part_itself (front_of d))
     one s f (suc i) within = absurd (omega (arith, within))
+
+pub pinned_from : (p q : PortsValue) (same : p ≡ q) (d : DatabaseValue) (now at_least : ℕ) (pinned : Pinned)
+    → d ≡ after_pin p.database now → IsPinnable p.database at_least → pinned.stamp ≡ newest d → pinned.moment ≡ now → pinned.front ≡ front_of d
+    → moment_at pinned.front.history pinned.stamp ≡ Some pinned.moment → HasPinned now at_least q (record p { database = d }) pinned
+pinned_from p q same d now at_least pinned after only_if stamp moment front shown =
+    let next : newest d ≡ newest p.database + 1 = ap newest after ∙ length-append p.database.history (pin_event now ∷ []) in
+    let low = only_if.late in
+    subst (λ (v : PortsValue). HasPinned now at_least v (record p { database = d }) pinned) same (record {
+      after = ap (λ (e : DatabaseValue). record p { database = e }) after;
+      only_if = only_if;
+      stamp = stamp;
+      moment = moment;
+      late = omega (arith, low, next, stamp);
+      front = front;
+      shown = shown;
+    })
 
 pub pinned_spare : (p q : PortsValue) (same : p ≡ q) (d : DatabaseValue) (spare : List Pinned) (now : ℕ) (pinned : Pinned)
     → d ≡ after_pin p.database now → IsPinnable p.database 0 → pinned.stamp ≡ newest d → pinned.moment ≡ now → pinned.front ≡ front_of d

@@ -1,5 +1,5 @@
 -- One step of a world.
-use Rattle.std.proofs.Common.{◌≡◌, ℕ, zero, suc, List, [], ◌∷◌, length, Option, Some, None, refl, sym, ap, subst, ◌∙◌, slice_get, slice_set}
+use Rattle.std.proofs.Common.{◌≡◌, ℕ, zero, suc, List, [], ◌∷◌, length, Option, Some, None, map, refl, sym, ap, subst, ◌∙◌, slice_get, slice_set}
 use Rattle.std.specs.Prelude.{All, option_map}
 use Rattle.std.proofs.lemmas.Option.{slice_get-map}
 use Rattle.std.proofs.lemmas.List.{map-set}
@@ -15,11 +15,13 @@ use Rattle.txc_world.specs.declared.actor.Actor.TheVariants.{Idle, Reading, Writ
 use Rattle.txc_world.specs.declared.reply.Reply.{Reply}
 use Rattle.txc_world.specs.declared.settings.WorldSettings.{WorldSettings}
 use Rattle.txc_world.specs.declared.step.Act.{Act}
+use Rattle.txc_world.specs.declared.step.Keep.{Keep}
 use Rattle.txc_world.specs.declared.step.Step.TheVariants as steps
-use Rattle.txc_world.specs.Observation.{Observation, act_in, after, floor_at, floor_by, observed_after, IsActDue, IsDue, IsExplainedIn, ReplyExplains}
+use Rattle.txc_world.specs.Observation.{Observation, act_in, after, floor_at, floor_by, keep_in, observed_after, spare_after, IsActDue, IsDue, IsExplainedIn, IsKeepDue, ReplyExplains}
 use Rattle.txc_world.specs.Parts.{IsPartOf}
 use Rattle.txc_world.specs.Ports.{PortsValue, whole_of, KeepsRow}
 use Rattle.txc_world.specs.Actors.{observed_at, observed_of, HasCall, IsActor, IsActorThere}
+use Rattle.txc_world.specs.Keeping.{stamps_of_pins}
 use Rattle.txc_world.specs.Worlds.{told_of, IsWorld}
 use Rattle.txc_world.proofs.Whole.{part_kept}
 
@@ -124,3 +126,19 @@ module _ {A C : Type 0} (settings : WorldSettings) (ports : PortsValue) (floors 
   explained_act next new act reply now h shows =
       let explained : IsExplainedIn next new.database.history (told_of settings ports floors actors) (steps.Actor number act) reply = rw observed_there h in
       subst (λ (t : Observation). IsExplainedIn next new.database.history t (steps.Actor number act) reply) shows explained
+
+-- ---- what is shown of the keeper's step
+
+module _ {A C : Type 0} (settings : WorldSettings) (ports : PortsValue) (floors : List ℕ) (actors : List (Option (Actor A C))) where
+  pub told_keep : (new : PortsValue) (keep : Keep) (reply : Reply) (now : Observation) → new.database.history ≡ keep_in keep reply ports.database.history
+      → stamps_of_pins new.spare ≡ spare_after keep reply (stamps_of_pins ports.spare) → told_of settings ports floors actors ≡ now
+      → told_of settings new floors actors ≡ after now (steps.Keeper keep) reply
+  told_keep new keep reply now history spare shows =
+      let told : told_of settings new floors actors ≡ after (told_of settings ports floors actors) (steps.Keeper keep) reply =
+      λ i. record { settings = settings; history = history i; spare = spare i; floors = floors; actors = map observed_at actors }
+      in told ∙ ap (λ (t : Observation). after t (steps.Keeper keep) reply) shows
+
+  pub due_keep : (keep : Keep) (reply : Reply) (now : Observation) → length ports.nodes ≡ settings.nodes → IsKeepDue (length ports.nodes) (stamps_of_pins ports.spare) keep reply
+      → told_of settings ports floors actors ≡ now → IsDue now (steps.Keeper keep) reply
+  due_keep keep reply now nodes due shows =
+      subst (λ (t : Observation). IsDue t (steps.Keeper keep) reply) shows (subst (λ (n : ℕ). IsKeepDue n (stamps_of_pins ports.spare) keep reply) nodes due)

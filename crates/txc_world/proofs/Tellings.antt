@@ -193,12 +193,16 @@ module _ (next : Next) (start : Observation) (steps : List Step) (i : ℕ) (repl
 pub length_more : (replies : List Reply) (reply : Reply) (i : ℕ) → length replies ≡ i → length (replies ++ reply ∷ []) ≡ i + 1
 length_more replies reply i e = length-append replies (reply ∷ []) ∙ ap (λ n. n + 1) e
 
--- at the end of the loop
+-- at the end of the loop all are taken
+pub steps_done : (steps : List Step) (i : ℕ) → length steps ≤ i → i ≤ length steps → take i steps ≡ steps
+steps_done steps i past within =
+    let at : i ≡ length steps = omega (arith, past, within) in
+    ap (λ n. take n steps) at ∙ take-length steps
+
 pub loop_whole : (next : Next) (start : Observation) (steps : List Step) (i : ℕ) (replies : List Reply) (now : Observation) → length steps ≤ i → i ≤ length steps
     → now ≡ told_by start (take i steps) replies → AreExplained next start (take i steps) replies → AreExplainedIn next now.history start steps replies
 loop_whole next start steps i replies now past within is e =
-    let at : i ≡ length steps = omega (arith, past, within) in
-    let all : take i steps ≡ steps = ap (λ n. take n steps) at ∙ take-length steps in
+    let all = steps_done steps i past within in
     let e' = subst (λ (ss : List Step). AreExplained next start ss replies) all e in
     let is' : now ≡ told_by start steps replies = is ∙ ap (λ (ss : List Step). told_by start ss replies) all in
     rw is' (whole next start steps replies e')

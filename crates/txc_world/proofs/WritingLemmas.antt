@@ -1,6 +1,6 @@
 -- An open read-write transaction, step by step.
 use Rattle.std.proofs.Common.{◌≡◌, ◌∙◌, inl, inr, ℕ, ◌+◌, ◌-◌, arith, List, [], ◌∷◌, ◌++◌, length, take, Option, Some, None, Ok, Err, refl, ap, sym, subst}
-use Rattle.std.specs.Prelude.{Result, Vec}
+use Rattle.std.specs.Prelude.{option_map, Result, Vec}
 use Rattle.std.specs.declared.alloc.Global.{Global}
 use Rattle.std.proofs.lemmas.List.{length_push, take_at}
 use Rattle.txc_tags.specs.Keys.{Call}
@@ -15,17 +15,19 @@ use Rattle.txc_app.specs.Eval.{Next}
 use Rattle.txc_registry.specs.Objects.{Objects}
 use Rattle.txc_ports.specs.declared.error.TxnError.{TxnError}
 use Rattle.txc_ports.specs.declared.turn.Turn.TheVariants as turns
+use Rattle.txc_ports.specs.Turns.{IsAsk}
 use Rattle.txc_rw.specs.declared.given.Given.{Given}
 use Rattle.txc_rw.specs.declared.given.Given.TheVariants as given
-use Rattle.txc_rw.specs.Core.{answers_after, queried_after, IsRightReply, IsRw, IsRwIdle, QueryTurn, RwHolds, RwValue}
+use Rattle.txc_rw.specs.Core.{answers_after, queried_after, IsRightReply, IsRw, IsRwIdle, IsRwTurn, QueryTurn, RwHolds, RwValue}
 use Rattle.txc_rw.specs.Transitions.{RowsTransition}
 use Rattle.txc_ports.specs.Refusals.{refused_request}
 use Rattle.txc_world.specs.Writing.{with_rows, FindTransitionRw, IsRead}
 use Rattle.txc_world.specs.declared.actor.OpenCall.{OpenCall}
-use Rattle.txc_world.specs.Observation.{writing}
+use Rattle.txc_world.specs.ActorValues.{opened}
+use Rattle.txc_world.specs.Observation.{given_of, writing, writing_on, Writing}
 use Rattle.txc_world.specs.Ports.{PortsValue}
 use Rattle.txc_world.specs.Asks.{QueryTransition}
-use Rattle.txc_world.specs.Actors.{told_by_turn, HasRwCall}
+use Rattle.txc_world.specs.Actors.{told_answers, told_by_turn, HasRwCall, IsNoted}
 
 pub writing_same : (b b' : ℕ) (k k' : Option Call) (a a' : List Given) (c c' : List Change) → b ≡ b' → k ≡ k' → a ≡ a' → c ≡ c'
     → writing (record { base = b; call = k; answers = a; changes = c }) ≡ writing (record { base = b'; call = k'; answers = a'; changes = c' })
@@ -149,3 +151,24 @@ fits_queried next os c c' is h = subst (λ (v : RwValue). IsRw next os v) (sym i
 
 pub still_idle : (c c' : RwValue) → c' ≡ record c { queried = c'.queried; answers = c'.answers } → IsRwIdle c → IsRwIdle c'
 still_idle c c' is idle = (ap (λ (v : RwValue). v.call.need) is ∙ idle.0, ap (λ (v : RwValue). v.reading) is ∙ idle.1)
+
+-- ---- what comes of a turn
+
+-- a call that asks is open with its turn; else none is open
+pub rw_call_noted : (c : RwValue) (key : Call) (turn : QueryTurn) (call : Option (OpenCall Query)) (end : Option (Result (List ℕ) TxnError)) → IsNoted (opened key) turn call end
+    → IsRwTurn c turn → (IsAsk turn → c.call.top ≡ key) → HasRwCall c call
+rw_call_noted c key (turns.Ask query) call end noted turn goes_on =
+    subst (HasRwCall c) (sym noted.0) (record { turn = turn; key = goes_on; answers = refl; not_lost = tt })
+rw_call_noted c key (turns.Ended result) call end noted turn goes_on = subst (HasRwCall c) (sym noted.0) turn
+
+-- what is shown of it
+pub rw_observed_noted : (w : Writing) (base : ℕ) (answers : List Given) (changes : List Change) (key : Call) (turn : QueryTurn) (call : Option (OpenCall Query))
+    (end : Option (Result (List ℕ) TxnError)) → IsNoted (opened key) turn call end → base ≡ w.base → w.call ≡ Some key → answers ≡ answers_after w.answers key turn → changes ≡ w.changes
+    → writing (record { base = base; call = option_map (λ (c : OpenCall Query). c.key) call; answers = told_answers call answers; changes = changes }) ≡ writing (writing_on end w)
+rw_observed_noted w base answers changes key (turns.Ask query) call end noted b k a d =
+    rw (noted.0, noted.1) (writing_same base w.base (Some key) w.call answers w.answers changes w.changes b (sym k) a d)
+rw_observed_noted w base answers changes key (turns.Ended (Ok value)) call end noted b k a d =
+    rw (noted.0, noted.1) (writing_same base w.base None None answers (given_of w.call value w.answers) changes w.changes b refl
+    (a ∙ sym (ap (λ (o : Option Call). given_of o value w.answers) k)) d)
+rw_observed_noted w base answers changes key (turns.Ended (Err error)) call end noted b k a d =
+    rw (noted.0, noted.1) (writing_same base w.base None None answers w.answers changes w.changes b refl a d)

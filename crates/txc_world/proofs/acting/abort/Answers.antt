@@ -1,7 +1,8 @@
-use Rattle.std.proofs.Common.{◌≡◌, ◌∙◌, ℕ, List, Some, None, [], ◌∷◌, arith, refl, sym, subst, rules}
+use Rattle.std.proofs.Common.{◌≡◌, ◌∙◌, ℕ, List, Some, None, [], ◌∷◌, ap, arith, refl, sym, subst}
 use Rattle.txc_txn.specs.Core.{left_pin}
 use Rattle.txc_world.proofs.Fairness.{fair_ended}
 use Rattle.txc_world.specs.Keeping.{GiveBackTransition}
+use Rattle.txc_world.specs.Ports.{PortsValue}
 use Rattle.txc_cushion.proofs.Counts.{give_back_counts}
 use Rattle.txc_world.proofs.acting.abort.Goals as goal
 
@@ -36,10 +37,28 @@ returns-in-Some-clause-acted g c =
     let is : left_pin c.args.current.txn.core.pinning ≡ Some c.in-Some.stamp = sym c.cancel-left.ensures.unpin ∙ c.in-Some.is in
     let fair = fair_ended c.args.ports.now c.give_back.new.self c.args.current.txn.core _ c.give_back.result give_back_counts c.give_back.ensures.leads
     (c.deref.ensures.value ∙ c.cancel-left.ensures.give_back) (c.in-Some.stamp ∷ []) (λ t. rw is (omega arith)) in
-    search (rules, fair)
+    record {
+      fits = c.cancel-left.ensures.idle;
+      told = refl;
+      history = ap (λ (p : PortsValue). p.database.history) c.give_back.ensures.same;
+      due = tt;
+      explained = tt;
+      keeps = c.give_back.ensures.keeps;
+      spare = ap (λ (p : PortsValue). p.spare) c.give_back.ensures.same;
+      counts = record { fair = fair; loss = tt };
+    }
 
 pub returns-clause-acted : goal.returns-clause-acted
 returns-clause-acted g c =
     let fair = fair_ended c.args.ports.now c.give_back.new.self c.args.current.txn.core _ c.give_back.result give_back_counts c.give_back.ensures.leads
     (c.deref.ensures.value ∙ c.cancel-left.ensures.give_back) [] (λ t. omega arith) in
-    search (rules, fair)
+    record {
+      fits = c.cancel-left.ensures.idle;
+      told = refl;
+      history = ap (λ (p : PortsValue). p.database.history) c.give_back.ensures.same;
+      due = tt;
+      explained = tt;
+      keeps = c.give_back.ensures.keeps;
+      spare = ap (λ (p : PortsValue). p.spare) c.give_back.ensures.same;
+      counts = record { fair = fair; loss = tt };
+    }

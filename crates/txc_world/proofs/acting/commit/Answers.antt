@@ -1,4 +1,4 @@
-use Rattle.std.proofs.Common.{ℕ, List, ap, subst, sym, ◌∙◌, [], arith, rules}
+use Rattle.std.proofs.Common.{ℕ, List, ap, subst, sym, ◌∙◌, [], arith, refl}
 use Rattle.txc_txn.specs.Core.{Explains}
 use Rattle.txc_world.specs.Ports.{PortsValue}
 use Rattle.txc_world.proofs.Explaining.{explained_later}
@@ -30,4 +30,13 @@ returns-clause-acted g c =
     c.args.current.txn.core.bounds c.finish-receipt.result.0.pin c.args.current.txn.core.recorded c.requires.fits.seen.begins explained) in
     let fair = fair_ended c.args.ports.now c.give_back.new.self c.args.current.txn.core _ c.give_back.result give_back_counts c.give_back.ensures.leads
     (c.deref.ensures.value ∙ c.finish-receipt.ensures.give_back) [] (λ t. omega arith) in
-    search (rules, c.requires.no_call, later, fair)
+    record {
+      fits = c.finish-receipt.ensures.idle;
+      told = refl;
+      history = ap (λ (p : PortsValue). p.database.history) c.give_back.ensures.same;
+      due = rw c.requires.no_call tt;
+      explained = later;
+      keeps = c.give_back.ensures.keeps;
+      spare = ap (λ (p : PortsValue). p.spare) c.give_back.ensures.same;
+      counts = record { fair = fair; loss = tt };
+    }

@@ -1,19 +1,20 @@
-use Rattle.std.proofs.Common.{inl, Some, refl, ap, sym, subst, ◌∙◌, rules}
+use Rattle.std.proofs.Common.{inl, Some, refl, ap, sym, subst, ◌∙◌}
 use Rattle.txc_tags.specs.Keys.{Call}
 use Rattle.txc_txn.specs.Transitions.{StartTransition}
 use Rattle.txc_world.specs.declared.actor.Actor.TheVariants.{Reading}
 use Rattle.txc_world.specs.declared.reply.Refusal.TheVariants.{MidCall}
 use Rattle.txc_world.specs.declared.step.Act.TheVariants.{Start}
-use Rattle.txc_world.specs.ActorValues.{call_at_turn, opened, reads}
-use Rattle.txc_world.specs.Actors.{IsOpenCall}
-use Rattle.txc_db.specs.Seen.{FrontValue}
+use Rattle.txc_world.specs.declared.reply.Reply.TheVariants.{Started}
+use Rattle.txc_world.specs.ActorValues.{call_at_turn, reads}
 use Rattle.txc_txn.specs.Core.{CoreValue}
 use Rattle.txc_txn.proofs.Offered.{adds_none}
 use Rattle.txc_world.specs.Parts.{IsPartOf}
 use Rattle.txc_world.specs.Ports.{whole_of}
 use Rattle.txc_world.proofs.Acted.{none_by_test, reading_mid_call, refused_so}
 use Rattle.txc_world.proofs.Losing.{none_left, start_not_lost}
+use Rattle.txc_world.proofs.Fairness.{counts_unowned}
 use Rattle.txc_world.proofs.PortsLemmas.{keeps_itself}
+use Rattle.txc_world.proofs.Turning.{reading_same}
 use Rattle.txc_world.proofs.acting.start.Goals as goal
 
 pub returns-then-is_some-clause-acted : goal.returns-then-is_some-clause-acted
@@ -41,17 +42,32 @@ returns-clause-leads g c = λ next pass.
 
 pub returns-clause-acted : goal.returns-clause-acted
 returns-clause-acted g c =
+    let whole = whole_of c.args.whole.now in
+    let core = c.args.current.now.txn.core in
+    let new = c.start-turn.new.self.core in
     let no_call = none_by_test c.args.current.now.call (sym c.is_some.ensures ∙ c.if-is_some.false) in
     let same = c.start-turn.ensures.same in
-    let seen = subst (λ (f : FrontValue). IsPartOf (whole_of c.args.whole.now) f) (sym (ap (λ (v : CoreValue). v.seen) same)) c.requires.fits.seen in
-    let nodes = ap (λ (v : CoreValue). v.nodes) same ∙ c.requires.fits.nodes in
-    let call : IsOpenCall (whole_of c.args.whole.now) c.start-turn.new.self.core (opened c.copy-2.result c.start-turn.result) = record {
-      turn = c.start-turn.ensures.turn_fits;
-      no_value = c.start-turn.ensures.no_value;
-      key = λ asks. c.start-turn.ensures.begins asks ∙ ap Some (c.copy.ensures ∙ sym c.copy-2.ensures);
-      adds = adds_none (IsPartOf (whole_of c.args.whole.now)) c.start-turn.result c.start-turn.ensures.no_add;
-      not_lost = start_not_lost ⊥ c.start-turn.new.self.core c.start-turn.new.self.objects c.start-turn.result c.args.current.now.txn.core c.args.current.now.txn.objects
-          c.copy.result c.start-turn.ensures.leads;
-      drops = none_left c.start-turn.new.self.core c.start-turn.ensures.left;
-    } in
-    search (rules, no_call, keeps_itself, seen, nodes, call)
+    record {
+      fits = record {
+        seen = subst (IsPartOf whole) (sym (ap (λ (v : CoreValue). v.seen) same)) c.requires.fits.seen;
+        nodes = ap (λ (v : CoreValue). v.nodes) same ∙ c.requires.fits.nodes;
+        call = record {
+          turn = c.start-turn.ensures.turn_fits;
+          no_value = c.start-turn.ensures.no_value;
+          key = λ asks. c.start-turn.ensures.begins asks ∙ ap Some (c.copy.ensures ∙ sym c.copy-2.ensures);
+          adds = adds_none (IsPartOf whole) c.start-turn.result c.start-turn.ensures.no_add;
+          not_lost = start_not_lost ⊥ new c.start-turn.new.self.objects c.start-turn.result core c.args.current.now.txn.objects
+              c.copy.result c.start-turn.ensures.leads;
+          drops = none_left new c.start-turn.ensures.left;
+        };
+      };
+      told =
+          reading_same new.bounds core.bounds (Some c.copy-2.result) (Some c.args.key.now) new.recorded core.recorded
+          (ap (λ (v : CoreValue). v.bounds) same) (ap Some c.copy-2.ensures) (ap (λ (v : CoreValue). v.recorded) same);
+      history = refl;
+      due = rw no_call refl;
+      explained = tt;
+      keeps = keeps_itself c.args.whole.now;
+      spare = refl;
+      counts = counts_unowned c.args.whole.now core new Started (ap (λ (v : CoreValue). v.taken) same) c.start-turn.ensures.left tt;
+    }

@@ -1,9 +1,12 @@
-use Rattle.std.proofs.Common.{ℕ, ap, refl, sym, subst, rules, arith}
-use Rattle.std.proofs.lemmas.Grind.{common_steps}
-use Rattle.txc_world.specs.Observation.{leaving}
+use Rattle.std.proofs.Common.{ℕ, List, ap, refl, sym, subst, ◌∙◌}
+use Rattle.txc_rows.specs.declared.query.Change.{Change}
+use Rattle.txc_db.specs.History.{History}
+use Rattle.txc_rw.specs.Core.{RwHolds}
+use Rattle.txc_world.specs.Observation.{commit_in, leaving}
 use Rattle.txc_world.specs.Holdings.{HasLost}
 use Rattle.txc_world.specs.Losing.{IfGone}
 use Rattle.txc_world.specs.Ports.{PortsValue}
+use Rattle.txc_world.proofs.KeptLemmas.{commit_told, refused_history}
 use Rattle.txc_world.proofs.CommitLemmas.{explained_lent, explained_open}
 use Rattle.txc_world.proofs.WritingCounts.{based, fair_commit, fair_not_committed, loss_commit}
 use Rattle.txc_rw.proofs.Commits.{event_commits_are_right, event_tags_are_sound, quiet_commits_are_right}
@@ -36,7 +39,9 @@ returns-in-Ok-clause-acted g c =
     record {
       fits = c.cancel-unpin.ensures.idle;
       told = ap leaving c.base-base.ensures;
-      history = grind (arith, common_steps);
+      history =
+          commit_told c.args.ports.now c.commit.new.self c.base-base.result c.tags-read.result.now c.changes-changes.result.now c.in-Ok.stamp c.in-Ok.ensures.leads
+          ∙ ap (λ (changes : List Change). commit_in changes c.in-Ok.stamp c.args.ports.now.database.history) c.changes-changes.ensures.answer;
       due = rw c.requires.no_call tt;
       explained = explained;
       keeps = c.in-Ok.ensures.keeps;
@@ -49,4 +54,18 @@ returns-in-Err-clause-acted g c =
     let fair = fair_not_committed c.args.ports.now c.commit.new.self c.base-base.result c.args.current.core.base _ _ c.in-Err.refusal c.in-Err.ensures.leads in
     let lost = subst (λ (b : ℕ). IfGone c.in-Err.refusal (HasLost c.args.ports.now (based b))) c.base-base.ensures
     (loss_commit c.args.ports.now c.base-base.result _ _ c.in-Err.refusal c.count_right.ensures c.in-Err.ensures.leads.1) in
-    search (rules, c.requires.no_call, fair, lost)
+    let same = refused_history c.args.ports.now c.commit.new.self c.in-Err.refusal c.in-Err.ensures.leads.0 in
+    record {
+      fits = record {
+        fits = c.requires.fits.fits;
+        holds = subst (λ (L : History). RwHolds g.A.App.next L c.args.current.registry c.args.current.core) (sym same) c.requires.fits.holds;
+        call = c.requires.fits.call;
+      };
+      told = refl;
+      history = same;
+      due = rw c.requires.no_call tt;
+      explained = tt;
+      keeps = c.in-Err.ensures.keeps;
+      spare = ap (λ (p : PortsValue). p.spare) c.in-Err.ensures.leads.0.is;
+      counts = record { fair = fair; loss = lost };
+    }

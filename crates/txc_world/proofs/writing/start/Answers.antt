@@ -1,4 +1,4 @@
-use Rattle.std.proofs.Common.{rules, ◌≡◌, Some, Err, [], ap, refl, subst, sym, ◌∙◌}
+use Rattle.std.proofs.Common.{◌≡◌, Some, Err, [], ap, refl, subst, sym, ◌∙◌}
 use Rattle.std.specs.Prelude.{IsNone, IsSome}
 use Rattle.txc_tags.specs.Keys.{Call}
 use Rattle.txc_registry.specs.Objects.{activity_of}
@@ -54,4 +54,13 @@ returns-clause-acted g c =
     ∙ ap (λ call. told_answers call old.answers) (sym c.requires.no_call))
     (ap (λ (v : RwValue). v.changes) c.start-turn.ensures.same) in
     let counts = counts_based c.args.whole.now c.args.whole.now old.base new.base Started refl (ap (λ (v : RwValue). v.base) c.start-turn.ensures.same) tt in
-    search (rules, c.requires.no_call, keeps_itself, holds, call, told, counts)
+    record {
+      fits = record { fits = c.start-turn.ensures.fits; holds = holds; call = call };
+      told = told;
+      history = refl;
+      due = rw c.requires.no_call refl;
+      explained = tt;
+      keeps = keeps_itself c.args.whole.now;
+      spare = refl;
+      counts = counts;
+    }

@@ -1,5 +1,4 @@
-use Rattle.std.proofs.Common.{Option, List, Some, refl, ap, ◌∙◌, slice_set, arith, rules}
-use Rattle.txc_world.specs.declared.actor.Actor.{Actor}
+use Rattle.std.proofs.Common.{refl, ap, ◌∙◌, arith}
 use Rattle.txc_world.specs.Worlds.{WorldValue}
 use Rattle.txc_world.proofs.Balancing.{world_balanced}
 use Rattle.txc_world.proofs.Transitions.{world_led}
@@ -28,7 +27,12 @@ returns g c = record {
       c.act_at-reply.ensures.there c.act_at-reply.new.actors.items c.args.self.now _ c.args.doing.now c.act_at-reply.result
       c.act_at-reply.ensures.others
       c.act_at-reply.ensures.leads c.self.view_is refl;
-  world = search rules;
+  world = record {
+    history = refl;
+    spare = refl;
+    count = c.act_at-reply.ensures.acted.keeps.count ∙ c.self.invariant.nodes;
+    nodes = c.are_true-2.ensures;
+  };
   due =
       due_act c.self.inside.settings c.self.inside.ports c.self.inside.sessions.items c.self.inside.actors.items c.args.number c.act_at-reply.ensures.was
       c.act_at-reply.ensures.there c.args.doing.now c.act_at-reply.result c.args.self.now.told c.act_at-reply.ensures.acted.due

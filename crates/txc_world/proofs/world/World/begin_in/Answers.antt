@@ -1,4 +1,5 @@
-use Rattle.std.proofs.Common.{◌≡◌, ℕ, subst, rules}
+use Rattle.std.proofs.Common.{◌≡◌, ◌∙◌, ℕ, List, ap, subst}
+use Rattle.txc_world.specs.Worlds.{WorldValue}
 use Rattle.txc_world.specs.declared.step.Step.TheVariants.{Actor}
 use Rattle.txc_world.specs.Acts.{IsWholeStep}
 use Rattle.txc_world.specs.Observation.{begin_at, floor_at}
@@ -6,7 +7,8 @@ use Rattle.txc_world.proofs.world.World.begin_in.Goals as goal
 
 pub returns : goal.returns
 returns g c =
-    let at : c.floor_at-at_least.result ≡ floor_at c.args.self.now.told.floors c.args.number = search rules in
+    let at : c.floor_at-at_least.result ≡ floor_at c.args.self.now.told.floors c.args.number =
+    c.floor_at-at_least.ensures ∙ ap (λ (floors : List ℕ). floor_at floors c.args.number) (c.deref.ensures.value ∙ ap (λ (w : WorldValue). w.told.floors) c.self.view_is) in
     let acted = subst (λ (n : ℕ). IsWholeStep g.A.App.next c.args.self.now (Actor c.args.number (begin_at n c.args.now c.args.staleness)) c.act.result c.act.new.self) at c.act.ensures in
     record {
       told = acted.told;

@@ -1,8 +1,10 @@
-use Rattle.std.proofs.Common.{ℕ, refl, sym, ◌∙◌, ap, length, Some}
+use Rattle.std.proofs.Common.{ℕ, refl, sym, ◌∙◌, ap, length, subst, Some}
 use Rattle.std.proofs.lemmas.List.{length-map}
 use Rattle.std.proofs.lemmas.Simd.{map-map}
 use Rattle.std.proofs.lemmas.List.Elements.{All-map}
 use Rattle.txc_world.specs.declared.actor.Actor.TheVariants.{Idle}
+use Rattle.txc_world.specs.Keeping.{stamps_of_pins}
+use Rattle.txc_world.specs.Making.{AreNewPorts}
 use Rattle.txc_world.specs.Ports.{whole_of}
 use Rattle.txc_world.specs.Actors.{observed_at, IsActorThere}
 use Rattle.txc_world.specs.ActorValues.{actor_at}
@@ -19,6 +21,21 @@ invariant_of-result g c = record {
       ∙ sym (ap length c.in_ok-actors.ensures ∙ length-map c.args.registries.items (λ r. Some (Idle r)));
   there = rw c.in_ok-actors.ensures (All-map (IsActorThere g.A.App.next (whole_of c.in_ok-ports.ports) c.args.settings.nodes) (λ r. Some (Idle r)) c.args.registries.items c.requires.all_idle);
 }
+
+pub returns-clause-settings : goal.returns-clause-settings
+returns-clause-settings g c = refl
+
+pub returns-clause-history : goal.returns-clause-history
+returns-clause-history g c = c.in_ok-ports.ensures.new.history
+
+pub returns-clause-spare : goal.returns-clause-spare
+returns-clause-spare g c = ap stamps_of_pins c.in_ok-ports.ensures.new.spare
+
+pub returns-clause-floors : goal.returns-clause-floors
+returns-clause-floors g c = rw c.deref.ensures.value at c.in_ok-sessions.ensures
+
+pub returns-clause-ports : goal.returns-clause-ports
+returns-clause-ports g c = subst (λ (n : ℕ). AreNewPorts c.args.settings n c.in_ok-ports.ports) c.len.ensures c.in_ok-ports.ensures.new
 
 pub returns-clause-actors : goal.returns-clause-actors
 returns-clause-actors g c = rw c.in_ok-actors.ensures (map-map observed_at (λ r. Some (Idle r)) c.args.registries.items)

@@ -1,4 +1,7 @@
-use Rattle.txc_world.proofs.Tellings.{length_more, loop_due, loop_explained, loop_told, loop_whole}
+use Rattle.std.proofs.Common.{◌∙◌, List, ap, subst}
+use Rattle.txc_world.specs.declared.step.Step.{Step}
+use Rattle.txc_world.specs.Observation.{told_by, AreDue, AreExplained}
+use Rattle.txc_world.proofs.Tellings.{length_more, loop_due, loop_explained, loop_told, loop_whole, steps_done}
 use Rattle.txc_world.proofs.Balancing.{loop_tidy, loop_tidy_end}
 use Rattle.txc_world.proofs.Transitions.{loop_led, loop_led_end}
 use Rattle.txc_world.proofs.Forward.{loop_back}
@@ -25,6 +28,18 @@ loop-step-preserved g c =
       each = length_more replies c.step-reply.result i h.each;
       room = rw c.push_reserved.ensures.capacity h.room;
     })
+
+pub returns-clause-told : goal.returns-clause-told
+returns-clause-told g c =
+    c.loop-step.invariant.told ∙ ap (λ (ss : List Step). told_by c.args.self.now.told ss c.loop-step.replies.items) (steps_done c.args.steps.now c.loop-step.step-index c.loop-step-test.false c.loop-step.auto.step-index-end)
+
+pub returns-clause-explained : goal.returns-clause-explained
+returns-clause-explained g c =
+    subst (λ (ss : List Step). AreExplained g.A.App.next c.args.self.now.told ss c.loop-step.replies.items) (steps_done c.args.steps.now c.loop-step.step-index c.loop-step-test.false c.loop-step.auto.step-index-end) c.loop-step.invariant.explained
+
+pub returns-clause-due : goal.returns-clause-due
+returns-clause-due g c =
+    subst (λ (ss : List Step). AreDue c.args.self.now.told ss c.loop-step.replies.items) (steps_done c.args.steps.now c.loop-step.step-index c.loop-step-test.false c.loop-step.auto.step-index-end) c.loop-step.invariant.due
 
 pub returns-clause-explained_in_the_end : goal.returns-clause-explained_in_the_end
 returns-clause-explained_in_the_end g c =

@@ -1,0 +1,29 @@
+use Rattle.std.proofs.Common.{◌≡◌, ◌∙◌, ap, refl, sym, subst}
+use Rattle.txc_app.proofs.Claims.{found_rows_hold}
+use Rattle.txc_db.specs.Calls.{IsAnswerable}
+use Rattle.txc_ports.specs.Asking.{IsFoundOver}
+use Rattle.txc_db.specs.DatabaseValue.{front_of}
+use Rattle.txc_db.specs.Seen.{FrontValue}
+use Rattle.txc_world.specs.Asks.{IsAnswerWithFront}
+use Rattle.txc_world.specs.Ports.{PortsValue}
+use Rattle.txc_world.proofs.ports.Ports.find.Goals as goal
+
+pub returns-clause-leads : goal.returns-clause-leads
+returns-clause-leads g c =
+    let database = c.self.inside.database in
+    let query = c.args.query.now in
+    let stamp = c.args.stamp in
+    let found = c.in_ok-answer.ensures in
+    let front : c.in_ok-front.front ≡ front_of database = c.in_ok-front.ensures ∙ ap front_of c.query.ensures.same in
+    subst (λ (p : PortsValue). IsAnswerWithFront query stamp p (record { answer = c.in_ok-answer.answer; front = c.in_ok-front.front }) × IsAnswerable p.database stamp) c.self.view_is (
+      record {
+        answer = found.answer;
+        tag = found.tag;
+        front = front;
+        over = subst (λ (f : FrontValue). IsFoundOver f.history query stamp c.in_ok-answer.answer) (sym front) (record {
+          around = found.answer.validity.around;
+          rows = found_rows_hold database.history query stamp database.horizon c.in_ok-answer.answer found.answer found.tag;
+        });
+      },
+      found.only_if refl,
+    )
