@@ -53,6 +53,22 @@ pub struct Running<F> {
     replies: Replies<F>,
 }
 
+/// Puts the reply to a malformed line, which has this number, at the end.
+fn reply_malformed<F>(
+    alloc: Global,
+    replies: &mut Replies<F>,
+    number: u64,
+) -> Result<(), AllocError>
+    ensures text { OnOk result (replies.new.text.items ≡ replies.old.text.items ++ malformed_text number) }
+    ensures refused { OnOk result (replies.new.is_refused ≡ true) }
+    ensures unchanged { OnErr result (replies.new.text.items ≡ replies.old.text.items) }
+{
+    let text = format!(in alloc; "line {number}: malformed\n")?;
+    replies.text.extend_from_slice(text.as_bytes())?;
+    replies.is_refused = true;
+    Ok(())
+}
+
 /// Answers a line with which this is wrong in this state, and which has this number.
 fn answer_malformed<K: Script>(
     alloc: Global,
@@ -69,9 +85,7 @@ fn answer_malformed<K: Script>(
     ensures refused { OnOk result (replies.new.is_refused ≡ true) }
     ensures unchanged { OnErr result (replies.new.text.items ≡ replies.old.text.items) }
 {
-    let text = format!(in alloc; "line {number}: malformed\n")?;
-    replies.text.extend_from_slice(text.as_bytes())?;
-    replies.is_refused = true;
+    reply_malformed(alloc, replies, number)?;
     Ok(Flow::Stopped(MalformedLine { number, fault }))
 }
 
