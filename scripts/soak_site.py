@@ -8,10 +8,10 @@ usage: soak_site.py [THREADS [EVENTS [GENERATIONS [BIDS [SECONDS [stored]]]]]]
 The program's source lies in bench/soak_site; it is compiled with no proof. Its visitors read pages and bid, and judge them: each bid is
 an event. With the last word the site's events are stored, and its plan has room for as many.
 This script reads the size of the process from outside (VmRSS of /proc/PID/status), and prints the greatest of each generation; how many
-lookups and hits there were in the last second of the generation before, and in the first of this; and how long no visitor was there.
-It fails where a page was torn or refused or a bid lost, where there were fewer generations, where the greatest size of the last one
-is more than GROWTH_KB above that of the second, or where the hits of a first second are fewer than WARM of all that the same
-lookups had before.
+lookups and hits there were in the last second of the generation before, and in the first of this; which share of the last LOOKUPS
+there and of the first here were hits; and how long no visitor was there. It fails where a page was torn or refused or a bid lost, where
+there were fewer generations, where the greatest size of the last one is more than GROWTH_KB above that of the second, or where
+the share of hits is less than WARM of what it was before.
 """
 import os
 import re
@@ -27,6 +27,7 @@ import with_tests
 ROOT = with_tests.ROOT
 GROWTH_KB = 4_096
 WARM = 0.9
+LOOKUPS = 3_000
 GENERATION = re.compile(r"generation (\d+): (\d+) to (\d+) ms, (\d+) pages, (\d+) torn, (\d+) refused, (\d+) bids, (\d+) seen, (\d+) conflicts, at (\d+)")
 
 
@@ -68,6 +69,16 @@ def run(program, words, most):
         return said.read(), sizes, time.time() - begun
 
 
+def counted(looks):
+    """The lookups and the hits from the first of these looks to the last."""
+    return (looks[-1][1] - looks[0][1], looks[-1][2] - looks[0][2]) if len(looks) > 1 else (0, 0)
+
+
+def share(looks):
+    lookups, hits = counted(looks)
+    return hits / max(lookups, 1)
+
+
 class Generation:
     """What its visitors did, and what the first of them saw of the nodes: the moment, the lookups and the hits by then."""
 
@@ -77,8 +88,14 @@ class Generation:
 
     def between(self, first, last):
         """The lookups and the hits between two moments, as far as they were looked at."""
-        within = [it for it in self.looks if first <= it[0] <= last]
-        return (within[-1][1] - within[0][1], within[-1][2] - within[0][2]) if len(within) > 1 else (0, 0)
+        return counted([it for it in self.looks if first <= it[0] <= last])
+
+    def first_share(self):
+        """Which share of its first lookups were hits."""
+        return share([it for it in self.looks if it[1] - self.looks[0][1] <= LOOKUPS])
+
+    def last_share(self):
+        return share([it for it in self.looks if self.looks[-1][1] - it[1] <= LOOKUPS])
 
 
 def read(said):
@@ -98,9 +115,9 @@ def text_of(it, before, most, wrong):
     if before:
         asked, had = before.between(before.looks[-1][0] - 1000, before.looks[-1][0])
         ask, hits = it.between(it.begun, it.begun + 1000)
-        share = hits * asked / (ask * had) if ask and had else 0
-        text += f"; hits {had:,} of {asked:,} before, {hits:,} of {ask:,} after ({share:.3f}), {it.begun - before.ended:,} ms between"
-        wrong += [f"{it.number} is cold"] if share < WARM else []
+        last, first = before.last_share(), it.first_share()
+        text += f"; hits {had:,} of {asked:,} before, {hits:,} of {ask:,} after ({last:.3f}, {first:.3f}), {it.begun - before.ended:,} ms between"
+        wrong += [f"{it.number} is cold"] if first < WARM * last else []
     return text
 
 
