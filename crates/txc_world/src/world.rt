@@ -96,9 +96,10 @@ impl<A: App, C: Cacheable> World<A, C> {
         ensures idle { IfOk result (λ world. world.actors ≡ map (λ registry. resting registry) registries.items) }
         ensures refused { IfErr result IsWant }
     {
-        let ports = Ports::new(alloc, &settings, registries.len())?;
+        let count = registries.len();
         let sessions = new_sessions(alloc, &registries)?;
         let actors = idle_actors(alloc, registries)?;
+        let ports = Ports::new(alloc, &settings, count)?;
         Ok(World {
             settings,
             ports,

@@ -16,7 +16,7 @@ pub invariant_of-result : goal.invariant_of-result
 invariant_of-result g c = record {
   nodes = c.in_ok-ports.ensures.new.count;
   some = c.requires.nodes;
-  passes = ap length c.in_ok-actors.ensures ∙ length-map c.args.registries.items (λ r. Some (Idle r)) ∙ sym (c.len.ensures ∙ c.args.registries.ok.0) ∙ sym c.in_ok-ports.ensures.new.actors_are;
+  passes = ap length c.in_ok-actors.ensures ∙ length-map c.args.registries.items (λ r. Some (Idle r)) ∙ sym (c.len-count.ensures ∙ c.args.registries.ok.0) ∙ sym c.in_ok-ports.ensures.new.actors_are;
   sessions = ap length c.in_ok-sessions.ensures ∙ length-map {B = ℕ} c.deref.result.now (λ r. 0) ∙ ap length c.deref.ensures.value
       ∙ sym (ap length c.in_ok-actors.ensures ∙ length-map c.args.registries.items (λ r. Some (Idle r)));
   there = rw c.in_ok-actors.ensures (All-map (IsActorThere g.A.App.next (whole_of c.in_ok-ports.ports) c.args.settings.nodes) (λ r. Some (Idle r)) c.args.registries.items c.requires.all_idle);
@@ -35,7 +35,7 @@ pub returns-clause-floors : goal.returns-clause-floors
 returns-clause-floors g c = rw c.deref.ensures.value at c.in_ok-sessions.ensures
 
 pub returns-clause-ports : goal.returns-clause-ports
-returns-clause-ports g c = subst (λ (n : ℕ). AreNewPorts c.args.settings n c.in_ok-ports.ports) c.len.ensures c.in_ok-ports.ensures.new
+returns-clause-ports g c = subst (λ (n : ℕ). AreNewPorts c.args.settings n c.in_ok-ports.ports) c.len-count.ensures c.in_ok-ports.ensures.new
 
 pub returns-clause-actors : goal.returns-clause-actors
 returns-clause-actors g c = rw c.in_ok-actors.ensures (map-map observed_at (λ r. Some (Idle r)) c.args.registries.items)
@@ -49,7 +49,7 @@ returns-clause-balanced g c =
     c.in_ok-ports.ensures.new.holds c.in_ok-ports.ensures.new.entries c.in_ok-ports.ensures.new.spare c.in_ok-actors.ensures
 
 pub returns-in_err-sessions-clause-refused : goal.returns-in_err-sessions-clause-refused
-returns-in_err-sessions-clause-refused g c = memory_is_wanting c.from_residual-in_err-sessions.result c.from_residual-in_err-sessions.ensures.1
+returns-in_err-sessions-clause-refused g c = memory_is_wanting c.from_residual.result c.from_residual.ensures.1
 
 pub returns-in_err-actors-clause-refused : goal.returns-in_err-actors-clause-refused
 returns-in_err-actors-clause-refused g c = memory_is_wanting c.from_residual-in_err-actors.result c.from_residual-in_err-actors.ensures.1
