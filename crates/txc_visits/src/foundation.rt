@@ -103,7 +103,7 @@ impl<A: App, J: Naming> Foundation<A, J> {
     }
 
     /// The database without its lock, once no thread has it any more. No pin is held but one that is lost.
-    pub(crate) fn into_core(self, rt: &impl Wait, alloc: Global) -> DbCore
+    fn into_core(self, rt: &impl Wait, alloc: Global) -> DbCore
         ensures database { IsDatabaseOf J.database_history result }
     {
         let Foundation {
@@ -118,7 +118,7 @@ impl<A: App, J: Naming> Foundation<A, J> {
     }
 
     /// The same, and what its nodes hold once each has taken all events.
-    pub(crate) fn into_parts(self, rt: &impl Wait, alloc: Global) -> (DbCore, Vec<LeftNode<A>>)
+    fn into_parts(self, rt: &impl Wait, alloc: Global) -> (DbCore, Vec<LeftNode<A>>)
         ensures database { IsDatabaseOf J.database_history result.0 }
         ensures left { All (λ left. left.seen.events ≡ J.database_history) result.1.items }
     {
@@ -132,6 +132,22 @@ impl<A: App, J: Naming> Foundation<A, J> {
         let _ = retire(rt, alloc, &ledger, u64::MAX, 0);
         let left = leave_each(rt, alloc, plan, nodes);
         (ledger.into_core(), left)
+    }
+
+    /// The database, and what its nodes hold where that goes over to those of the next site.
+    pub(crate) fn end(
+        self,
+        rt: &impl Wait,
+        alloc: Global,
+        goes_over: bool,
+    ) -> (DbCore, Vec<LeftNode<A>>)
+        ensures database { IsDatabaseOf J.database_history result.0 }
+        ensures left { All (λ left. left.seen.events ≡ J.database_history) result.1.items }
+    {
+        if goes_over {
+            return self.into_parts(rt, alloc);
+        }
+        (self.into_core(rt, alloc), Vec::new(alloc))
     }
 }
 

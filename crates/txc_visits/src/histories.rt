@@ -134,11 +134,7 @@ where
     )?;
     let Came { outputs, tended } = came;
     let numbers = Numbers::of(&foundation.tallies).with_nodes(rt, &foundation.nodes);
-    let (core, left) = if goes_over {
-        foundation.into_parts(rt, alloc)
-    } else {
-        (foundation.into_core(rt, alloc), Vec::new(alloc))
-    };
+    let (core, left) = foundation.end(rt, alloc, goes_over);
     Ok(Visits {
         outputs,
         tended,
