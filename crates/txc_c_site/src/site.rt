@@ -15,6 +15,7 @@ use txc_registry::{Cacheable, Registry, enlist};
 use txc_rows::Row;
 use txc_shared::NodeSettings;
 use txc_stream::MAX_CAPACITY as MAX_EVENTS;
+use txc_supply::Supplied;
 use txc_tags::LAST_FUNCTION;
 
 /// The object of a function.
