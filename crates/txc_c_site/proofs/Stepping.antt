@@ -4,7 +4,7 @@ use Rattle.std.specs.Prelude.{Result, Ok, Err, IsSome, IsTrue, ◌↔◌, if◌t
 use Rattle.txc_app.specs.declared.ask.Answer.{Answer}
 use Rattle.txc_app.specs.declared.ask.Answer.TheVariants as answers
 use Rattle.txc_txn.specs.Kept.{IsTxn}
-use Rattle.txc_caller.specs.Acting.{IsStepIn}
+use Rattle.txc_caller.specs.Acting.{IsComputedOnMiss, IsStepIn}
 use Rattle.txc_caller.specs.Reading.{CallerReading, KeepsReading}
 use Rattle.txc_caller.specs.declared.frames.OpenCall.{OpenCall}
 use Rattle.txc_caller.specs.declared.step.CallerError.{CallerError}
@@ -36,12 +36,13 @@ buffer_is : (bytes bytes' : List ℕ) (len len' : ℕ) → bytes' ≡ bytes → 
 buffer_is bytes bytes' len len' same lens = ap (λ (b : List ℕ). buffer b len') same ∙ ap (λ (l : ℕ). buffer bytes l) lens
 
 module _ (old new : CallerReading) (step : Result Step CallerError) (bytes bytes' : List ℕ) (len len' number : ℕ) (keeps : KeepsReading old new) (meant : IsTxn opaque_next new.txn)
-    (number_is : number ≡ step_number (length bytes) (last_given new) step) (len_is : len' ≡ step_len (last_given new) step len)
+    (on_miss : IsComputedOnMiss new.txn.core old.ports.node new.ports.node step) (number_is : number ≡ step_number (length bytes) (last_given new) step) (len_is : len' ≡ step_len (last_given new) step len)
     (bytes_are : bytes' ≡ step_bytes (last_given new) step bytes) where
   pub stepped_in : (doing : Option OpenCall) → IsStepIn doing old new step → HasOpenCallStepped doing old new number (buffer bytes len) (buffer bytes' len')
   stepped_in (Some o) h = record {
     step = step;
     is_step = h;
+    on_miss = on_miss;
     keeps = keeps;
     meant = meant;
     number_is = number_is;

@@ -17,7 +17,7 @@ use Rattle.txc_app.specs.declared.ask.Answer.TheVariants.{Rows}
 use Rattle.txc_ports.specs.declared.error.TxnError.{TxnError}
 use Rattle.txc_ports.specs.declared.error.TxnError.TheVariants.{Memory}
 use Rattle.txc_txn.specs.Kept.{IsTxn}
-use Rattle.txc_caller.specs.Acting.{IsStepOf}
+use Rattle.txc_caller.specs.Acting.{IsComputedOnMiss, IsStepOf}
 use Rattle.txc_caller.specs.Reading.{top_or, AsksNext, CallerReading, KeepsReading}
 use Rattle.txc_caller.specs.Writing.{CallerWriting, IsChangeRefused}
 use Rattle.txc_caller.specs.declared.frames.OpenCall.{OpenCall}
@@ -55,11 +55,12 @@ pub record Buffer : Type 0 where
 abbrev pub buffer : List ℕ → ℕ → Buffer
 buffer bytes len = record { bytes = bytes; len = len }
 
--- The step of that call has come to this, and is told by this number and in the buffer. The transaction explains
--- its answers as before.
+-- The step of that call has come to this, and is told by this number and in the buffer: what the caller is to compute
+-- the node has not. The transaction explains its answers as before.
 pub record HasCallStepped (k : Call) (old new : CallerReading) (number : ℕ) (was is : Buffer) : Type 0 where
   pub step : Result Step CallerError
   pub is_step : IsStepOf old.txn.core.recorded k new.txn.core.recorded new.doing step
+  pub on_miss : IsComputedOnMiss new.txn.core old.ports.node new.ports.node step
   pub keeps : KeepsReading old new
   pub meant : IsTxn opaque_next new.txn
   pub number_is : number ≡ step_number (length was.bytes) (last_given new) step
