@@ -432,14 +432,17 @@ fn call_inside<A: App, C: Suppliable>(
         given,
         kept,
     } = call;
-    let has_room = frames.make_room();
+    let Ok(()) = frames.make_room() else {
+        return out_of_memory(OpenCall {
+            frames,
+            given,
+            kept,
+        });
+    };
     let call = OpenCall {
         frames,
         given,
         kept,
-    };
-    let Ok(()) = has_room else {
-        return out_of_memory(call);
     };
     let told = Told::Waits(Awaited::Hit(key.copy()));
     hand_over(alloc, ports, txn, call, Ask::Call(key), told)

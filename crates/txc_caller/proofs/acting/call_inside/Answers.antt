@@ -11,19 +11,19 @@ use Rattle.txc_caller.proofs.acting.call_inside.Goals as goal
 pub returns-in_default-clause-acted : goal.returns-in_default-clause-acted
 returns-in_default-clause-acted g c =
     acted_self g.A.App.next c.args.ports.now c.args.txn.now c.args.call.frames.top c.out_of_memory.result
-    (subst (λ (k : Call). IsActOf g.A.App.next c.args.txn.now.core.recorded k c.args.txn.now c.out_of_memory.result) c.make_room-has_room.ensures.top
-    (c.out_of_memory.ensures.acted g.A.App.next c.args.txn.now c.requires.waits.kept (c.requires.waits.top ∙ sym (ap (λ (k : Call). Some k) c.make_room-has_room.ensures.top))))
+    (subst (λ (k : Call). IsActOf g.A.App.next c.args.txn.now.core.recorded k c.args.txn.now c.out_of_memory.result) c.make_room.ensures.top
+    (c.out_of_memory.ensures.acted g.A.App.next c.args.txn.now c.requires.waits.kept (c.requires.waits.top ∙ sym (ap (λ (k : Call). Some k) c.make_room.ensures.top))))
 
 pub hand_over-requires : goal.hand_over-requires
 hand_over-requires g c = record {
-  asks = subst (λ (i : Called). asks_next g.A.App.next c.args.txn.now.objects i.key c.args.call.given ≡ Some (asks.Call c.args.key)) (sym c.make_room-has_room.ensures.inner) c.requires.asks;
-  waits = waits_as g.A.App.next c.args.ports.now c.args.txn.now c.args.call.frames.top c.make_room-has_room.new.self.top c.args.call.kept c.make_room-has_room.ensures.top c.requires.waits;
+  asks = subst (λ (i : Called). asks_next g.A.App.next c.args.txn.now.objects i.key c.args.call.given ≡ Some (asks.Call c.args.key)) (sym c.make_room.ensures.inner) c.requires.asks;
+  waits = waits_as g.A.App.next c.args.ports.now c.args.txn.now c.args.call.frames.top c.make_room.new.self.top c.args.call.kept c.make_room.ensures.top c.requires.waits;
   room = c.in-Ok.ensures.room;
 }
 
 pub returns-clause-acted : goal.returns-clause-acted
 returns-clause-acted g c =
-    subst (λ (k : Call). HasCallerActed g.A.App.next c.args.ports.now c.hand_over.new.ports c.args.txn.now c.hand_over.new.txn k c.hand_over.result) c.make_room-has_room.ensures.top c.hand_over.ensures.acted
+    subst (λ (k : Call). HasCallerActed g.A.App.next c.args.ports.now c.hand_over.new.ports c.args.txn.now c.hand_over.new.txn k c.hand_over.result) c.make_room.ensures.top c.hand_over.ensures.acted
 
 pub returns-in_default-clause-on_miss : goal.returns-in_default-clause-on_miss
 returns-in_default-clause-on_miss g c =
