@@ -1,37 +1,15 @@
 //! Steps at the node, for one thread.
-ghost use Rattle.std.specs.Prelude.{◌≡◌, IfSome};
-ghost use Rattle.txc_app.specs.Claims.{IsTrueIn, entry_shown};
-ghost use Rattle.txc_caller.specs.Ports.{kept_as, CallerInsertLeads, CallerLookupLeads, CallerSweepLeads, KeepsNode};
+ghost use Rattle.std.specs.Prelude.{◌≡◌};
+ghost use Rattle.txc_app.specs.Claims.{IsTrueIn};
+ghost use Rattle.txc_caller.specs.Ports.{kept_as, CallerInsertLeads, CallerSweepLeads, KeepsNode};
 
 use std::alloc::Global;
 use txc_app::App;
-use txc_db::{Answered, HistoryFront};
-use txc_node::{Entry, Shown};
+use txc_db::HistoryFront;
+use txc_node::Entry;
 use txc_ports::Kept;
 use txc_shared::{Advanced, Insertion, NodeError, StoredNode};
 use txc_stamp::Stamp;
-use txc_tags::Key;
-
-/// What the node has of the call at the stamps from `lo` to `hi`, both included. A node that refuses has
-/// nothing.
-pub(crate) fn look_up<A: App>(
-    alloc: Global,
-    node: &mut StoredNode<A>,
-    key: &Key,
-    lo: Stamp,
-    hi: Stamp,
-) -> Option<Answered<Shown>>
-    requires { node.old.passes ≡ 1 }
-    ensures leads { CallerLookupLeads key.now lo hi node.old node.new result }
-    ensures right { IfSome result (λ hit.
-        IsTrueIn A.next hit.front.history (entry_shown key.now hit.answer)) }
-{
-    match node.lookup(alloc, 0, key, lo, hi) {
-        Ok(Some(hit)) => Some(hit),
-        Ok(None) => None,
-        Err(_) => None,
-    }
-}
 
 // What a node keeps that made the insertion.
 fn kept_as(insertion: Insertion) -> Kept
