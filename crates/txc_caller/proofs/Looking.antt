@@ -1,5 +1,5 @@
 -- What the node had of a call, and when the caller is to compute it.
-use Rattle.std.proofs.Common.{◌≡◌, ℕ, true, Option, Some, None, Result, Ok, Err, ap, sym, subst}
+use Rattle.std.proofs.Common.{◌≡◌, ℕ, true, Option, Some, None, Result, Ok, Err, refl, ap, sym, subst}
 use Rattle.txc_db.specs.Seen.{FrontValue}
 use Rattle.txc_shared.specs.Nodes.{NodeValue}
 use Rattle.txc_ports.specs.declared.request.PortRequest.{PortRequest}
@@ -11,7 +11,7 @@ use Rattle.txc_ports.proofs.Offered.{by_exchange}
 use Rattle.txc_txn.specs.Core.{CoreAsks, CoreValue}
 use Rattle.txc_caller.specs.Acting.{IsComputedOnMiss, IsNotComputed}
 use Rattle.txc_caller.specs.Given.{counted_reply}
-use Rattle.txc_caller.specs.Looking.{HasMissed, IsLookedUp, StandsLookedUp}
+use Rattle.txc_caller.specs.Looking.{is_miss, HasMissed, IsLookedUp, StandsLookedUp}
 use Rattle.txc_caller.specs.Ports.{is_of_pin, CallerExchangeLeads, CallerPorts}
 use Rattle.txc_caller.specs.declared.stand.Stand.{Stand}
 use Rattle.txc_caller.specs.declared.stand.Stand.TheVariants.{Kept}
@@ -48,10 +48,19 @@ module _ (seen : FrontValue) (old new : CallerPorts) where
     looked_up_in (exchanges.Insert number entry kept) leads asks = tt
 
     -- a lookup that the core asks is made
-    pub looked_up : (request : PortRequest) (reply : PortReply) → CoreAsks c request
+    pub lookup_made : (request : PortRequest) (reply : PortReply) → CoreAsks c request
         → IsExchange (CallerExchangeLeads seen old new) request reply → IsLookedUp c old.node new.node reply
-    looked_up request reply asks leads =
+    lookup_made request reply asks leads =
         by_exchange (CallerExchangeLeads seen old new) (λ (q : PortRequest) (r : PortReply). CoreAsks c q → IsLookedUp c old.node new.node r) looked_up_in request reply leads asks
+
+pub miss_is : (reply : PortReply) → is_miss reply ≡ true → reply ≡ replies.Lookup None
+miss_is (replies.Lookup None) yes = refl
+miss_is (replies.Lookup (Some hit)) yes = absurd (cc yes)
+miss_is (replies.Pin pinned) yes = absurd (cc yes)
+miss_is (replies.AddPin pinned added) yes = absurd (cc yes)
+miss_is (replies.Unpin unpinned) yes = absurd (cc yes)
+miss_is (replies.Query found) yes = absurd (cc yes)
+miss_is (replies.Insert kept) yes = absurd (cc yes)
 
 module _ (c : CoreValue) (old new : NodeValue) where
   -- of what stands so a reply is kept back

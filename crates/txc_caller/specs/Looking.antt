@@ -1,5 +1,5 @@
 -- What the node had of a call, when it was asked.
-use Rattle.std.specs.Prelude.{◌≡◌, ℕ, Option, None}
+use Rattle.std.specs.Prelude.{◌≡◌, ℕ, Bool, true, false, Option, None}
 use Rattle.txc_tags.specs.Keys.{Call}
 use Rattle.txc_node.specs.declared.hit.Shown.{Shown}
 use Rattle.txc_db.specs.declared.answered.Answered.{Answered}
@@ -32,6 +32,11 @@ IsLookedUp c old new reply = Unit {0}
 abbrev pub StandsLookedUp : CoreValue → NodeValue → NodeValue → Stand → Type 0
 StandsLookedUp c old new (Kept reply) = IsLookedUp c old new reply
 StandsLookedUp c old new stand = Unit {0}
+
+-- a lookup found nothing
+abbrev pub is_miss : PortReply → Bool
+is_miss (Lookup None) = true
+is_miss reply = false
 
 -- it has nothing whose reach holds a member
 pub record HasMissed (c : CoreValue) (old new : NodeValue) : Type 0 where

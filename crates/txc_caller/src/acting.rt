@@ -1,14 +1,13 @@
 //! What a caller does in an open call, and how the call stands after it.
-ghost use Rattle.std.specs.Prelude.{◌≡◌, ◌++◌, ◌∷◌, [], List, None, Ok, Some, true};
+ghost use Rattle.std.specs.Prelude.{◌≡◌, ◌++◌, ◌∷◌, [], List, Ok, Some};
 ghost use Rattle.txc_app.specs.Eval.{Next};
 ghost use Rattle.txc_tags.specs.Keys.{Call};
 ghost use Rattle.txc_ports.specs.declared.recorded.Recorded.{Recorded};
 ghost use Rattle.txc_txn.specs.Core.{open_call, IsIdle};
 ghost use Rattle.txc_txn.specs.Kept.{TxnValue};
 ghost use Rattle.txc_shared.specs.Nodes.{NodeValue};
-ghost use Rattle.txc_ports.specs.declared.reply.PortReply.TheVariants.{Lookup};
 ghost use Rattle.txc_caller.specs.Acting.{ask_of, HasCallerActed, HasRoomFor, HasRoomOnceTold, IsActOf, IsAwaitingCaller, IsComputedOnMiss, IsNotComputed};
-ghost use Rattle.txc_caller.specs.Looking.{IsLookedUp};
+ghost use Rattle.txc_caller.specs.Looking.{is_miss, IsLookedUp};
 ghost use Rattle.txc_caller.specs.declared.step.Step.TheVariants.{Compute};
 ghost use Rattle.txc_caller.specs.Standing.{asks_next, IsKeptBack, IsStanding, KeepsOn};
 
@@ -131,11 +130,16 @@ fn standing(stand: Stand, frames: Frames, answer: Answer) -> Acted
 
 // Whether the reply is a miss.
 fn is_miss(reply: &PortReply) -> bool
-    ensures { result ≡ true → reply.now ≡ Lookup None }
+    ensures { result ≡ is_miss reply.now }
 {
     match reply {
         PortReply::Lookup(None) => true,
-        _ => false,
+        PortReply::Lookup(Some(_)) => false,
+        PortReply::Pin(_) => false,
+        PortReply::AddPin(_, _) => false,
+        PortReply::Unpin(_) => false,
+        PortReply::Query(_) => false,
+        PortReply::Insert(_) => false,
     }
 }
 

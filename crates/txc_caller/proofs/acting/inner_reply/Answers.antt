@@ -7,7 +7,7 @@ use Rattle.txc_caller.specs.Acting.{IsActOf}
 use Rattle.txc_caller.specs.Given.{counted_reply}
 use Rattle.txc_caller.specs.Standing.{IsKeptBack}
 use Rattle.txc_caller.proofs.Acts.{acted_self, waits_for}
-use Rattle.txc_caller.proofs.Looking.{missed, not_computed, on_miss}
+use Rattle.txc_caller.proofs.Looking.{miss_is, missed, not_computed, on_miss}
 use Rattle.txc_caller.proofs.Turning.{kept_counted}
 use Rattle.txc_caller.proofs.acting.inner_reply.Goals as goal
 
@@ -24,7 +24,7 @@ returns-then-is_miss-clause-on_miss g c = λ before looked.
     let core = c.args.txn.now.core in
     let members : c.members.result.now ≡ core.pins.members = c.members.ensures ∙ ap (λ (w : CoreValue). w.pins.members) c.core.ensures in
     let none : counted_reply core.pins.members c.args.kept ≡ Lookup None =
-    subst (λ (ms : List Pin). counted_reply ms c.args.kept ≡ Lookup None) members (sym c.counted-reply.ensures ∙ c.is_miss.ensures c.if-is_miss.true) in
+    subst (λ (ms : List Pin). counted_reply ms c.args.kept ≡ Lookup None) members (sym c.counted-reply.ensures ∙ miss_is c.counted-reply.result (sym c.is_miss.ensures ∙ c.if-is_miss.true)) in
     on_miss core before c.args.ports.now.node c.computing.result.step c.computing.ensures.step (missed core before c.args.ports.now.node c.args.kept looked none)
 
 pub answered-requires : goal.answered-requires
