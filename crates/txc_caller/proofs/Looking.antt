@@ -54,13 +54,13 @@ module _ (seen : FrontValue) (old new : CallerPorts) where
         by_exchange (CallerExchangeLeads seen old new) (λ (q : PortRequest) (r : PortReply). CoreAsks c q → IsLookedUp c old.node new.node r) looked_up_in request reply leads asks
 
 pub miss_is : (reply : PortReply) → is_miss reply ≡ true → reply ≡ replies.Lookup None
-miss_is (replies.Lookup None) yes = refl
-miss_is (replies.Lookup (Some hit)) yes = absurd (cc yes)
-miss_is (replies.Pin pinned) yes = absurd (cc yes)
-miss_is (replies.AddPin pinned added) yes = absurd (cc yes)
-miss_is (replies.Unpin unpinned) yes = absurd (cc yes)
-miss_is (replies.Query found) yes = absurd (cc yes)
-miss_is (replies.Insert kept) yes = absurd (cc yes)
+miss_is (replies.Lookup None) is = refl
+miss_is (replies.Lookup (Some hit)) is = absurd (cc is)
+miss_is (replies.Pin pinned) is = absurd (cc is)
+miss_is (replies.AddPin pinned added) is = absurd (cc is)
+miss_is (replies.Unpin unpinned) is = absurd (cc is)
+miss_is (replies.Query found) is = absurd (cc is)
+miss_is (replies.Insert kept) is = absurd (cc is)
 
 module _ (c : CoreValue) (old new : NodeValue) where
   -- of what stands so a reply is kept back
@@ -80,7 +80,7 @@ module _ (c : CoreValue) (old new : NodeValue) where
   on_miss step is h = subst (IsComputedOnMiss c old new) (sym is) h
 
   pub not_computed : (step : Result Step CallerError) → IsNotComputed step → IsComputedOnMiss c old new step
-  not_computed (Ok steps.Compute) no = absurd no
-  not_computed (Ok steps.Answered) no = tt
-  not_computed (Ok (steps.Value value)) no = tt
-  not_computed (Err error) no = tt
+  not_computed (Ok steps.Compute) none = absurd none
+  not_computed (Ok steps.Answered) none = tt
+  not_computed (Ok (steps.Value value)) none = tt
+  not_computed (Err error) none = tt

@@ -186,7 +186,8 @@ fn feed_to_end<A: App, C: Suppliable>(
     ensures not_computed { IsNotComputed result.step }
 {
     match feed(alloc, ports, txn, kept) {
-        Stand::Kept(_) => {
+        Stand::Kept(reply) => {
+            let _reply = reply;
             end_call(ports, txn);
             ended(TxnError::Memory)
         }
