@@ -73,7 +73,7 @@ found_rows_hold L q t horizon found h tags = record {
   covered = λ still s inside. ap (λ (set : List Tag). covers_all set (q ∷ [])) tags ∙ covers_itself q;
 }
 
--- what such a call comes to in a state in which these are the rows
+-- what such a call gives in a state in which these are the rows
 comes_to : (next : Next) (q : Query) (rows : List RowValue) (k : Call) (bytes : List ℕ) → IsDoneAfter next k q rows bytes
     → (s : State) → rows ≡ answer q s → (eval next k s ≡ Some bytes) × (met next k s ≡ q ∷ [])
 comes_to next q rows k bytes done s same =

@@ -1,4 +1,4 @@
--- What a call comes to.
+-- What a call gives without a cache.
 use Rattle.std.proofs.Common.{◌≡◌, inl, inr, ℕ, zero, suc, List, [], ◌∷◌, ◌++◌, Option, Some, None, Bool, true, false, cond, nat_lt, ◌==◌, refl, sym, ap, ◌∙◌, arith}
 use borrow.Author.Tests.{eqb-true}
 use Rattle.std.proofs.lemmas.Bool.Decides.{nat_tests}
@@ -29,7 +29,7 @@ lt_other g f e = grind (arith, nat_tests)
 abbrev below : Next → Rows → ℕ → Calls
 below next rows f g = cond (nat_lt g.function f) (called_with next rows (call_below next rows g.function) g) no_value
 
--- a call of a function below f comes to what it comes to by itself
+-- a call of a function below f gives what it gives by itself
 pub below_is : (next : Next) (rows : Rows) (f : ℕ) (g : Call) → call_below next rows f g ≡ below next rows f g
 unfolding call_below
 below_is next rows zero g = rw (lt_none g.function) refl

@@ -13,8 +13,8 @@ use Rattle.txc_batch.specs.declared.order.Order.TheVariants.{Write, Pin, Run}
 use Rattle.txc_batch.specs.declared.prepared.PrepareError.{PrepareError}
 
 -- what jobs run over was led from the one to the other, and all else stayed
-abbrev pub LeadsSource : (SourceValue → SourceValue → Type 0) → BatchState → BatchState → Type 0
-LeadsSource leads s end = (source : SourceValue) × leads s.source source × (end ≡ record s { source = source })
+abbrev pub SourceTransition : (SourceValue → SourceValue → Type 0) → BatchState → BatchState → Type 0
+SourceTransition leads s end = (source : SourceValue) × leads s.source source × (end ≡ record s { source = source })
 
 -- the job stands behind the others, and has the number of its place among them
 pub record Queues (q : QueuedValue) (s end : BatchState) : Type 0 where
@@ -25,9 +25,9 @@ pub record Queues (q : QueuedValue) (s end : BatchState) : Type 0 where
 -- a change or a pin was made, or refused, and has its reply; a job was put behind the others, and has no reply yet
 abbrev pub DoesOrder : BatchState → Order → Option (Result ℕ PrepareError) → BatchState → Type 0
 DoesOrder s (Write change) None end = ⊥
-DoesOrder s (Write change) (Some told) end = LeadsSource (λ old new. MakesChange change old told new) s end
+DoesOrder s (Write change) (Some told) end = SourceTransition (λ old new. MakesChange change old told new) s end
 DoesOrder s (Pin now) None end = ⊥
-DoesOrder s (Pin now) (Some told) end = LeadsSource (λ old new. MakesPin now old told new) s end
+DoesOrder s (Pin now) (Some told) end = SourceTransition (λ old new. MakesPin now old told new) s end
 DoesOrder s (Run q) reply end = (reply ≡ None) × Queues q s end
 
 -- nothing was done of what a line asks for, or it is a change or a pin, and was made or refused

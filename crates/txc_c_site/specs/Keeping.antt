@@ -6,7 +6,7 @@ use Rattle.txc_db.specs.DatabaseValue.{after_vacuum, next_horizon}
 use Rattle.txc_db.specs.declared.error.DbError.{DbError}
 use Rattle.txc_shared.specs.declared.error.NodeError.{NodeError}
 use Rattle.txc_shared.specs.declared.error.NodeError.TheVariants.{Memory}
-use Rattle.txc_caller.specs.Ports.{CallerSweepLeads, HasRetired}
+use Rattle.txc_caller.specs.Ports.{CallerSweepTransition, HasRetired}
 use Rattle.txc_caller.specs.Reading.{CallerValue}
 use Rattle.txc_c_site.specs.Sites.{Stays}
 use Rattle.txc_c_site.specs.Turning.{database_number}
@@ -33,7 +33,7 @@ sweep_told (Err error) was = was
 -- it drops what ends at the horizon or before it, and tells how many entries; or it refuses
 pub record HasSweptNode (horizon : ℕ) (old : CallerValue) (number : ℕ) (was is : TxcKept) (new : CallerValue) : Type 0 where
   pub swept : Result ℕ NodeError
-  pub leads : CallerSweepLeads horizon old.ports.node new.ports.node swept
+  pub leads : CallerSweepTransition horizon old.ports.node new.ports.node swept
   pub same : new ≡ record old { ports = record old.ports { node = new.ports.node } }
   pub number_is : number ≡ sweep_number swept
   pub told : is ≡ sweep_told swept was

@@ -31,11 +31,11 @@ use Rattle.txc_call.specs.Reaches.{InReach}
 use Rattle.txc_call.specs.Frames.{answers_in, begun_frame, given, AnswerHolds, AreFew, AreUnreached, FramesHold, InAll, IsOpen, IsRising}
 use Rattle.txc_call.specs.Needs.{reply_reach, InNeed, IsUnreached, IsWaiting, NeedFits, NeedHolds, ReplyHolds}
 use Rattle.txc_call.specs.Calling.{Calling, CallHolds, CallIsUnreached, InCall, IsCalling}
-use Rattle.txc_call.specs.Turns.{Standing, UnlessRefused, count_refusal, call_refusal, value_refusal, ask_refusal, entry_of_frame, outcome_of, unreached, Onward, DoneLeads, AllowedLeads, AskLeads, AfterAsk, AfterMiss, AfterReply, AfterRows, AfterValue, next_ask, with_answer, with_begun}
+use Rattle.txc_call.specs.Turns.{Standing, UnlessRefused, count_refusal, call_refusal, value_refusal, ask_refusal, entry_of_frame, outcome_of, unreached, Onward, DoneTransition, AllowedTransition, AskTransition, AfterAsk, AfterMiss, AfterReply, AfterRows, AfterValue, next_ask, with_answer, with_begun}
 use Rattle.txc_call.specs.Laws.{at_start, CallsComeToTheirValues, InsertionsAreTrue, IsLed, IsLedBy, IsLedFrom}
 use Rattle.txc_call.proofs.Claims.{meets_at}
 use Rattle.txc_call.proofs.Answering.{rows_answer, value_answers}
-use Rattle.txc_call.proofs.Leading.{few_by}
+use Rattle.txc_call.proofs.Transitions.{few_by}
 use Rattle.txc_call.proofs.OpenFrames.{closed, free_below, hold_closed, hold_opened, hold_resumed, in_given, opened, resumed, unreached_given}
 
 -- ---- refusals that did not come
@@ -94,7 +94,7 @@ module _ (next : Next) (top : Call) (law : RightAnswersGiveTheValue) (s : Standi
 
   module _ (outer : List Frame) (asked : ℕ) (frame : Frame) (os : Objects) (goes_on : Onward) (few : AreFew outer) (may : frame.answers < MAX_ASKS) where
     done_keeps : (bytes : List ℕ) (r : Option Interval) → frame.reach ≡ r → length bytes ≤ MAX_VALUE_LEN → IsOpen next os top (asks.Done bytes) (frame ∷ outer) → GoesOn goes_on frame outer os
-        → DoneLeads outer asked frame r bytes (with_activity os frame.key.function idle) goes_on (Ok s) → KeepsFrames (frame ∷ outer) os
+        → DoneTransition outer asked frame r bytes (with_activity os frame.key.function idle) goes_on (Ok s) → KeepsFrames (frame ∷ outer) os
     done_keeps bytes (Some r) is short h on leads =
         let e : s ≡ record { frames = outer; asked = asked; need = Some (needs.Insert (entry_of_frame frame bytes r)); objects = with_activity os frame.key.function idle } = cc in
         subst (λ (st : Standing). Keeps next top (λ L. FramesHold next L os (frame ∷ outer)) (λ t. InAll t (frame ∷ outer)) (AreUnreached (frame ∷ outer)) st) (sym e) record {
@@ -116,7 +116,7 @@ module _ (next : Next) (top : Call) (law : RightAnswersGiveTheValue) (s : Standi
         (on bytes leads is (closed next os top (asks.Done bytes) frame outer h))
 
     allowed_keeps : (ask : Ask) → ask_refusal os frame.key.function ask ≡ None → IsOpen next os top ask (frame ∷ outer) → GoesOn goes_on frame outer os
-        → AllowedLeads outer asked frame ask os goes_on (Ok s) → KeepsFrames (frame ∷ outer) os
+        → AllowedTransition outer asked frame ask os goes_on (Ok s) → KeepsFrames (frame ∷ outer) os
     allowed_keeps (asks.Query q) ok h on leads =
         let e : s ≡ record { frames = frame ∷ outer; asked = asked; need = Some (needs.Query q); objects = os } = cc in
         subst (λ (st : Standing). Keeps next top (λ L. FramesHold next L os (frame ∷ outer)) (λ t. InAll t (frame ∷ outer)) (AreUnreached (frame ∷ outer)) st) (sym e) record {
@@ -138,10 +138,10 @@ module _ (next : Next) (top : Call) (law : RightAnswersGiveTheValue) (s : Standi
         done_keeps bytes frame.reach refl (short_by_test bytes (nat_le (length bytes) MAX_VALUE_LEN) refl ok) h on leads
 
   ask_keeps : (outer : List Frame) (asked : ℕ) (frame : Frame) (ask : Ask) (os : Objects) (goes_on : Onward) → AreFew outer
-      → IsOpen next os top ask (frame ∷ outer) → GoesOn goes_on frame outer os → AskLeads outer asked frame ask os goes_on (Ok s) → KeepsFrames (frame ∷ outer) os
+      → IsOpen next os top ask (frame ∷ outer) → GoesOn goes_on frame outer os → AskTransition outer asked frame ask os goes_on (Ok s) → KeepsFrames (frame ∷ outer) os
   ask_keeps outer asked frame ask os goes_on few h on leads =
-      let counted = allowed (count_refusal frame.answers asked) s (UnlessRefused (ask_refusal os frame.key.function ask) (Ok s) (AllowedLeads outer (asked + 1) frame ask os goes_on (Ok s))) leads in
-      let fine = allowed (ask_refusal os frame.key.function ask) s (AllowedLeads outer (asked + 1) frame ask os goes_on (Ok s)) counted.1 in
+      let counted = allowed (count_refusal frame.answers asked) s (UnlessRefused (ask_refusal os frame.key.function ask) (Ok s) (AllowedTransition outer (asked + 1) frame ask os goes_on (Ok s))) leads in
+      let fine = allowed (ask_refusal os frame.key.function ask) s (AllowedTransition outer (asked + 1) frame ask os goes_on (Ok s)) counted.1 in
       allowed_keeps outer (asked + 1) frame os goes_on few (few_by frame.answers asked (sym counted.0)) ask fine.0 h on fine.1
 
   -- an answer comes to the innermost frame
@@ -150,7 +150,7 @@ module _ (next : Next) (top : Call) (law : RightAnswersGiveTheValue) (s : Standi
       → IsWaiting next os top wanted (frame ∷ outer) → (t : ℕ) → InReach t reach → InAll t (frame ∷ outer)
       → next_ask next os frame x ≡ Some ask
       → GoesOn goes_on (given frame reach tags) outer (with_answer os frame.key.function x)
-      → AskLeads outer asked (given frame reach tags) ask (with_answer os frame.key.function x) goes_on (Ok s)
+      → AskTransition outer asked (given frame reach tags) ask (with_answer os frame.key.function x) goes_on (Ok s)
       → KeepsBeside H reach (frame ∷ outer) os
   given_keeps outer asked frame wanted ask x reach tags os goes_on H right waits t here all asked_next on leads =
       let os' = with_answer os frame.key.function x in
@@ -183,7 +183,7 @@ module _ (next : Next) (top : Call) (law : RightAnswersGiveTheValue) (s : Standi
       let os' : Objects = with_answer os frame.key.function (answers.Value o.value) in
       ⊎_elim
       (λ no. let no' : Ok s ≡ Err no.0 = no.1 in absurd (cc))
-      (λ (three : (ask : Ask) × (next_ask next os frame (answers.Value o.value) ≡ Some ask) × AskLeads outer asked after ask os' goes_on (Ok s)).
+      (λ (three : (ask : Ask) × (next_ask next os frame (answers.Value o.value) ≡ Some ask) × AskTransition outer asked after ask os' goes_on (Ok s)).
       given_keeps outer asked frame (asks.Call o.key) three.0 (answers.Value o.value) o.reach o.tags os goes_on
       (λ L. ValueHolds next L o.key o.value o.reach o.tags) (λ L. value_answers next L frame.key.function o.key o.value o.reach o.tags up.0)
       waits t here all three.1
@@ -212,7 +212,7 @@ module _ (next : Next) (top : Call) (law : RightAnswersGiveTheValue) (s : Standi
       let os' : Objects = with_answer os frame.key.function (answers.Rows found.rows.items) in
       ⊎_elim
       (λ no. let no' : Ok s ≡ Err no.0 = no.1 in absurd (cc))
-      (λ (three : (ask : Ask) × (next_ask next os frame (answers.Rows found.rows.items) ≡ Some ask) × AskLeads outer asked after ask os' goes_on (Ok s)).
+      (λ (three : (ask : Ask) × (next_ask next os frame (answers.Rows found.rows.items) ≡ Some ask) × AskTransition outer asked after ask os' goes_on (Ok s)).
       given_keeps outer asked frame (asks.Query q) three.0 (answers.Rows found.rows.items) (Some found.reach) found.tags os goes_on
       (λ L. RowsHold L q found.rows.items (Some found.reach) found.tags) (λ L. rows_answer next L frame.key.function q found.rows.items (Some found.reach) found.tags)
       waits t here all three.1
@@ -376,14 +376,14 @@ module _ (next : Next) (s : Standing) where
   counts_one asked is = inr (omega arith)
 
   done_counts : (outer : List Frame) (asked : ℕ) (frame : Frame) (r : Option Interval) (bytes : List ℕ) (os : Objects) (goes_on : Onward)
-      → ((idle_os : Objects) (bytes : List ℕ) → goes_on idle_os bytes → Counts (asked + 1)) → DoneLeads outer (asked + 1) frame r bytes os goes_on (Ok s) → Counts asked
+      → ((idle_os : Objects) (bytes : List ℕ) → goes_on idle_os bytes → Counts (asked + 1)) → DoneTransition outer (asked + 1) frame r bytes os goes_on (Ok s) → Counts asked
   done_counts outer asked frame (Some r) bytes os goes_on on leads =
       let e : s ≡ record { frames = outer; asked = asked + 1; need = Some (needs.Insert (entry_of_frame frame bytes r)); objects = os } = cc in
       counts_one asked (ap (λ (st : Standing). st.asked) e)
   done_counts outer asked frame None bytes os goes_on on leads = counts_less asked (on os bytes leads)
 
   allowed_counts : (outer : List Frame) (asked : ℕ) (frame : Frame) (ask : Ask) (os : Objects) (goes_on : Onward)
-      → ((idle_os : Objects) (bytes : List ℕ) → goes_on idle_os bytes → Counts (asked + 1)) → AllowedLeads outer (asked + 1) frame ask os goes_on (Ok s) → Counts asked
+      → ((idle_os : Objects) (bytes : List ℕ) → goes_on idle_os bytes → Counts (asked + 1)) → AllowedTransition outer (asked + 1) frame ask os goes_on (Ok s) → Counts asked
   allowed_counts outer asked frame (asks.Query q) os goes_on on leads =
       let e : s ≡ record { frames = frame ∷ outer; asked = asked + 1; need = Some (needs.Query q); objects = os } = cc in
       counts_one asked (ap (λ (st : Standing). st.asked) e)
@@ -394,10 +394,10 @@ module _ (next : Next) (s : Standing) where
       done_counts outer asked frame frame.reach bytes (with_activity os frame.key.function idle) goes_on on leads
 
   ask_counts : (outer : List Frame) (asked : ℕ) (frame : Frame) (ask : Ask) (os : Objects) (goes_on : Onward)
-      → ((idle_os : Objects) (bytes : List ℕ) → goes_on idle_os bytes → Counts (asked + 1)) → AskLeads outer asked frame ask os goes_on (Ok s) → Counts asked
+      → ((idle_os : Objects) (bytes : List ℕ) → goes_on idle_os bytes → Counts (asked + 1)) → AskTransition outer asked frame ask os goes_on (Ok s) → Counts asked
   ask_counts outer asked frame ask os goes_on on leads =
-      let counted = allowed (count_refusal frame.answers asked) s (UnlessRefused (ask_refusal os frame.key.function ask) (Ok s) (AllowedLeads outer (asked + 1) frame ask os goes_on (Ok s))) leads in
-      let fine = allowed (ask_refusal os frame.key.function ask) s (AllowedLeads outer (asked + 1) frame ask os goes_on (Ok s)) counted.1 in
+      let counted = allowed (count_refusal frame.answers asked) s (UnlessRefused (ask_refusal os frame.key.function ask) (Ok s) (AllowedTransition outer (asked + 1) frame ask os goes_on (Ok s))) leads in
+      let fine = allowed (ask_refusal os frame.key.function ask) s (AllowedTransition outer (asked + 1) frame ask os goes_on (Ok s)) counted.1 in
       allowed_counts outer asked frame ask os goes_on on fine.1
 
   value_counts : (frames : List Frame) (asked : ℕ) (o : Outcome) (os : Objects) → AfterValue next frames asked o os (Ok s) → Counts asked
@@ -410,7 +410,7 @@ module _ (next : Next) (s : Standing) where
       let os' : Objects = with_answer os frame.key.function (answers.Value o.value) in
       ⊎_elim
       (λ no. let no' : Ok s ≡ Err no.0 = no.1 in absurd (cc))
-      (λ (three : (ask : Ask) × (next_ask next os frame (answers.Value o.value) ≡ Some ask) × AskLeads outer asked after ask os' goes_on (Ok s)).
+      (λ (three : (ask : Ask) × (next_ask next os frame (answers.Value o.value) ≡ Some ask) × AskTransition outer asked after ask os' goes_on (Ok s)).
       ask_counts outer asked after three.0 os' goes_on (λ idle_os bytes leads'. value_counts outer (asked + 1) (unreached after bytes) idle_os leads') three.2)
       leads
 

@@ -2,6 +2,6 @@ pub mod Claims
 pub mod Answering
 pub mod OpenFrames
 pub mod Stacks
-pub mod Leading
+pub mod Transitions
 pub mod Keeping
 pub mod Offered

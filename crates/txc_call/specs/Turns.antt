@@ -100,26 +100,26 @@ Onward = Objects → List ℕ → Type 0
 
 -- what comes of a frame that is done, once its object is idle: a value with a reach is inserted, else it goes
 -- on
-abbrev pub DoneLeads : List Frame → ℕ → Frame → Option Interval → List ℕ → Objects → Onward → Turn → Type 0
-DoneLeads outer asked frame (Some reach) bytes objects goes_on turn =
+abbrev pub DoneTransition : List Frame → ℕ → Frame → Option Interval → List ℕ → Objects → Onward → Turn → Type 0
+DoneTransition outer asked frame (Some reach) bytes objects goes_on turn =
     turn ≡ needing outer asked (needs.Insert (entry_of_frame frame bytes reach)) objects
-DoneLeads outer asked frame None bytes objects goes_on turn = goes_on objects bytes
+DoneTransition outer asked frame None bytes objects goes_on turn = goes_on objects bytes
 
 -- what comes of an ask that is allowed
-abbrev pub AllowedLeads : List Frame → ℕ → Frame → Ask → Objects → Onward → Turn → Type 0
-AllowedLeads outer asked frame (asks.Query q) objects goes_on turn =
+abbrev pub AllowedTransition : List Frame → ℕ → Frame → Ask → Objects → Onward → Turn → Type 0
+AllowedTransition outer asked frame (asks.Query q) objects goes_on turn =
     turn ≡ needing (frame ∷ outer) asked (needs.Query q) objects
-AllowedLeads outer asked frame (asks.Call k) objects goes_on turn =
+AllowedTransition outer asked frame (asks.Call k) objects goes_on turn =
     turn ≡ needing (frame ∷ outer) asked (needs.Lookup k) objects
-AllowedLeads outer asked frame (asks.Done bytes) objects goes_on turn =
-    DoneLeads outer asked frame frame.reach bytes (with_activity objects frame.key.function idle) goes_on turn
+AllowedTransition outer asked frame (asks.Done bytes) objects goes_on turn =
+    DoneTransition outer asked frame frame.reach bytes (with_activity objects frame.key.function idle) goes_on turn
 
 -- what comes of an ask of the innermost frame: it is counted, then looked at
-abbrev pub AskLeads : List Frame → ℕ → Frame → Ask → Objects → Onward → Turn → Type 0
-AskLeads outer asked frame ask objects goes_on turn =
+abbrev pub AskTransition : List Frame → ℕ → Frame → Ask → Objects → Onward → Turn → Type 0
+AskTransition outer asked frame ask objects goes_on turn =
     UnlessRefused (count_refusal frame.answers asked) turn
     (UnlessRefused (ask_refusal objects frame.key.function ask) turn
-    (AllowedLeads outer (asked + 1) frame ask objects goes_on turn))
+    (AllowedTransition outer (asked + 1) frame ask objects goes_on turn))
 
 -- ---- answers
 
@@ -152,11 +152,11 @@ rows_held found =
     record { answer = answers.Rows found.rows.items; reach = Some found.reach; tags = found.tags }
 
 -- what comes of an answer to the innermost frame: it goes on with it, if memory is there
-abbrev pub AnswerLeads : Next → List Frame → ℕ → Frame → HeldAnswer → Objects → Onward → Turn → Type 0
-AnswerLeads next outer asked frame x objects goes_on turn =
+abbrev pub AnswerTransition : Next → List Frame → ℕ → Frame → HeldAnswer → Objects → Onward → Turn → Type 0
+AnswerTransition next outer asked frame x objects goes_on turn =
     UnlessMemory turn (
     (ask : Ask) × (next_ask next objects frame x.answer ≡ Some ask)
-    × AskLeads outer asked (given frame x.reach x.tags) ask
+    × AskTransition outer asked (given frame x.reach x.tags) ask
     (with_answer objects frame.key.function x.answer) goes_on turn
     )
 
@@ -165,7 +165,7 @@ AnswerLeads next outer asked frame x objects goes_on turn =
 abbrev pub AfterValue : Next → List Frame → ℕ → Outcome → Objects → Turn → Type 0
 AfterValue next [] asked o objects turn = turn ≡ needing [] asked (needs.Value o) objects
 AfterValue next (frame ∷ outer) asked o objects turn =
-    AnswerLeads next outer asked frame (value_held o) objects
+    AnswerTransition next outer asked frame (value_held o) objects
     (λ after bytes.
     AfterValue next outer (asked + 1) (unreached (given frame o.reach o.tags) bytes) after turn)
     turn
@@ -178,7 +178,7 @@ outwards next outer asked frame turn after bytes =
 -- what comes of what the innermost frame asks
 abbrev pub AfterAsk : Next → List Frame → ℕ → Frame → Ask → Objects → Turn → Type 0
 AfterAsk next outer asked frame ask objects turn =
-    AskLeads outer asked frame ask objects (outwards next outer asked frame turn) turn
+    AskTransition outer asked frame ask objects (outwards next outer asked frame turn) turn
 
 -- why a call that no node has does not begin, where its function asks this first
 abbrev pub IsBeginRefusal : ℕ → Option Ask → CallError → Type 0
@@ -200,7 +200,7 @@ AfterMiss next frames asked k objects turn =
 abbrev pub AfterRows : Next → List Frame → ℕ → Found → Objects → Turn → Type 0
 AfterRows next [] asked found objects turn = ⊥
 AfterRows next (frame ∷ outer) asked found objects turn =
-    AnswerLeads next outer asked frame (rows_held found) objects
+    AnswerTransition next outer asked frame (rows_held found) objects
     (outwards next outer asked (given frame (Some found.reach) found.tags) turn) turn
 
 -- ---- replies

@@ -27,7 +27,7 @@ use Rattle.txc_ports.specs.declared.kept.Kept.{Kept}
 use Rattle.txc_ports.specs.declared.request.PortRequest.TheVariants as requests
 use Rattle.txc_ports.specs.declared.reply.PortReply.TheVariants as replies
 use Rattle.txc_caller.proofs.Acts.{for_none, for_this}
-use Rattle.txc_caller.specs.Ports.{CallerPorts, AreCallerPorts, CallerAddLeads, CallerFindLeads, HasAskedPorts, CallerInsertLeads, KeepsNode, CallerLookupLeads, CallerPinLeads, CallerUnpinLeads}
+use Rattle.txc_caller.specs.Ports.{CallerPorts, AreCallerPorts, CallerAddTransition, CallerFindTransition, HasAskedPorts, CallerInsertTransition, KeepsNode, CallerLookupTransition, CallerPinTransition, CallerUnpinTransition}
 
 -- ---- the node
 
@@ -45,12 +45,12 @@ node_left old new errors.HistoryFull same = node_same old new same
 node_left old new errors.PassesFull same = node_same old new same
 node_left old new errors.Memory same = node_same old new same
 
-pub node_looked_up : (old new : NodeValue) (key : Call) (lo hi : ℕ) (hit : Option (Answered Shown)) → CallerLookupLeads key lo hi old new hit → KeepsNode old new
+pub node_looked_up : (old new : NodeValue) (key : Call) (lo hi : ℕ) (hit : Option (Answered Shown)) → CallerLookupTransition key lo hi old new hit → KeepsNode old new
 node_looked_up old new key lo hi (Some hit) leads = node_after old new (Lookup key lo hi) leads.0
 node_looked_up old new key lo hi None (inl leads) = node_after old new (Lookup key lo hi) leads.0
 node_looked_up old new key lo hi None (inr refused) = node_left old new refused.0 refused.2
 
-pub node_inserted : (old new : NodeValue) (seen : FrontValue) (entry : Entry) (kept : Option Kept) → CallerInsertLeads seen entry old new kept → KeepsNode old new
+pub node_inserted : (old new : NodeValue) (seen : FrontValue) (entry : Entry) (kept : Option Kept) → CallerInsertTransition seen entry old new kept → KeepsNode old new
 node_inserted old new seen entry (Some kept) has = record { row = has.longer.events; passes = ap (λ (n : NodeValue). n.passes) has.after }
 node_inserted old new seen entry None refused = node_left old new refused.0 refused.2
 
@@ -62,7 +62,7 @@ ports_with_node p node are keeps = record { cushion = are.cushion; node = keeps.
 pub looked_up : (key : Call) (lo hi : ℕ) (old new : NodeValue) (r : Result (Option (Answered Shown)) NodeError)
     → OnOk r (new ≡ after_call old 0 (Lookup key lo hi)) → IfOk r (λ o. option_map (λ f. f.answer) o ≡ lookup_answer old.cache key lo hi)
     → IfOk r (λ o. IfSome o (λ f. f.front ≡ old.seen)) → IfErr r (IsNodeLeft old new) → IfErr r (IsLookupRefused old lo hi)
-    → CallerLookupLeads key lo hi old new (result_unwrap_or r None)
+    → CallerLookupTransition key lo hi old new (result_unwrap_or r None)
 looked_up key lo hi old new (Ok (Some hit)) after answer front left refused = (after, sym answer, front)
 looked_up key lo hi old new (Ok None) after answer front left refused = inl (after, sym answer)
 looked_up key lo hi old new (Err e) after answer front left refused = inr (e, refused, left)
@@ -73,7 +73,7 @@ found_so P (Ok o) h = h
 found_so P (Err e) h = tt
 
 -- what a hit shows is of the row
-pub hit_row : (old new : NodeValue) (key : Call) (lo hi : ℕ) (hit : Option (Answered Shown)) (row : Name) → old.seen.events ≡ row → CallerLookupLeads key lo hi old new hit
+pub hit_row : (old new : NodeValue) (key : Call) (lo hi : ℕ) (hit : Option (Answered Shown)) (row : Name) → old.seen.events ≡ row → CallerLookupTransition key lo hi old new hit
     → IfSome hit (λ h. h.front.events ≡ row)
 hit_row old new key lo hi (Some hit) row is leads = ap (λ (f : FrontValue). f.events) leads.2 ∙ is
 hit_row old new key lo hi None row is leads = tt
@@ -81,7 +81,7 @@ hit_row old new key lo hi None row is leads = tt
 -- ---- requests
 
 module _ (next : Next) (seen : FrontValue) (old new : CallerPorts) where
-  pub asked_pin : (now at_least : ℕ) (pinned : Result Pinned DbError) → new.database.events ≡ old.database.events → CallerPinLeads now at_least old new pinned
+  pub asked_pin : (now at_least : ℕ) (pinned : Result Pinned DbError) → new.database.events ≡ old.database.events → CallerPinTransition now at_least old new pinned
       → HasAskedPorts next seen (requests.Pin now at_least) old new (replies.Pin pinned)
   asked_pin now at_least (Ok pinned) events h = record {
     answer = (h.moment, h.late, h.shown);
@@ -97,7 +97,7 @@ module _ (next : Next) (seen : FrontValue) (old new : CallerPorts) where
   }
 
   pub asked_add : (pinned : Pinned) (added : Result (Unit {0}) AddError) → pinned.front.events ≡ old.database.events → new ≡ record old { cushion = new.cushion }
-      → CallerAddLeads pinned old new added → HasAskedPorts next seen (requests.AddPin pinned) old new (replies.AddPin pinned added)
+      → CallerAddTransition pinned old new added → HasAskedPorts next seen (requests.AddPin pinned) old new (replies.AddPin pinned added)
   asked_add pinned added of same h = record {
     answer = refl;
     row = for_this (λ (f : FrontValue). f.events ≡ old.database.events) pinned.front of;
@@ -105,7 +105,7 @@ module _ (next : Next) (seen : FrontValue) (old new : CallerPorts) where
     events = ap (λ (p : CallerPorts). p.database.events) same;
   }
 
-  pub asked_unpin : (stamp : ℕ) (unpinned : Result (Unit {0}) DbError) → new.database.events ≡ old.database.events → CallerUnpinLeads stamp old new unpinned
+  pub asked_unpin : (stamp : ℕ) (unpinned : Result (Unit {0}) DbError) → new.database.events ≡ old.database.events → CallerUnpinTransition stamp old new unpinned
       → HasAskedPorts next seen (requests.Unpin stamp) old new (replies.Unpin unpinned)
   asked_unpin stamp unpinned events h = record {
     answer = tt;
@@ -115,7 +115,7 @@ module _ (next : Next) (seen : FrontValue) (old new : CallerPorts) where
   }
 
   pub asked_lookup : (node : ℕ) (key : Call) (lo hi : ℕ) (hit : Option (Answered Shown)) → new ≡ record old { node = new.node }
-      → CallerLookupLeads key lo hi old.node new.node hit → IfSome hit (λ h. IsTrueIn next h.front.history (entry_shown key h.answer))
+      → CallerLookupTransition key lo hi old.node new.node hit → IfSome hit (λ h. IsTrueIn next h.front.history (entry_shown key h.answer))
       → IfSome hit (λ h. h.front.events ≡ old.database.events) → HasAskedPorts next seen (requests.Lookup node key lo hi) old new (replies.Lookup hit)
   asked_lookup node key lo hi (Some hit) same h right of = record {
     answer = right;
@@ -130,7 +130,7 @@ module _ (next : Next) (seen : FrontValue) (old new : CallerPorts) where
     events = ap (λ (p : CallerPorts). p.database.events) same;
   }
 
-  pub asked_query : (query : Query) (stamp : ℕ) (found : Result (Answered Found) DbError) → new ≡ old → CallerFindLeads query stamp old.database found
+  pub asked_query : (query : Query) (stamp : ℕ) (found : Result (Answered Found) DbError) → new ≡ old → CallerFindTransition query stamp old.database found
       → HasAskedPorts next seen (requests.Query query stamp) old new (replies.Query found)
   asked_query query stamp (Ok found) same h = record {
     answer = h.over;
@@ -146,7 +146,7 @@ module _ (next : Next) (seen : FrontValue) (old new : CallerPorts) where
   }
 
   pub asked_insert : (node : ℕ) (entry : Entry) (kept : Option Kept) → new ≡ record old { node = new.node }
-      → CallerInsertLeads seen entry old.node new.node kept → HasAskedPorts next seen (requests.Insert node entry) old new (replies.Insert kept)
+      → CallerInsertTransition seen entry old.node new.node kept → HasAskedPorts next seen (requests.Insert node entry) old new (replies.Insert kept)
   asked_insert node entry kept same h = record {
     answer = tt;
     row = for_none (λ (f : FrontValue). f.events ≡ old.database.events);

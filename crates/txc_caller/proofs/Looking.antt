@@ -12,7 +12,7 @@ use Rattle.txc_txn.specs.Core.{CoreAsks, CoreValue}
 use Rattle.txc_caller.specs.Acting.{IsComputedOnMiss, IsNotComputed}
 use Rattle.txc_caller.specs.Given.{counted_reply}
 use Rattle.txc_caller.specs.Looking.{is_miss, HasMissed, IsLookedUp, StandsLookedUp}
-use Rattle.txc_caller.specs.Ports.{is_of_pin, CallerExchangeLeads, CallerPorts}
+use Rattle.txc_caller.specs.Ports.{is_of_pin, CallerExchangeTransition, CallerPorts}
 use Rattle.txc_caller.specs.declared.stand.Stand.{Stand}
 use Rattle.txc_caller.specs.declared.stand.Stand.TheVariants.{Kept}
 use Rattle.txc_caller.specs.declared.step.CallerError.{CallerError}
@@ -20,7 +20,7 @@ use Rattle.txc_caller.specs.declared.step.Step.{Step}
 use Rattle.txc_caller.specs.declared.step.Step.TheVariants as steps
 
 module _ (seen : FrontValue) (old new : CallerPorts) where
-  node_in : (x : Exchange) → CallerExchangeLeads seen old new x → is_of_pin (request_of x) ≡ true → new.node ≡ old.node
+  node_in : (x : Exchange) → CallerExchangeTransition seen old new x → is_of_pin (request_of x) ≡ true → new.node ≡ old.node
   node_in (exchanges.Pin now at_least (Ok pinned)) leads of = ap (λ (p : CallerPorts). p.node) leads.after
   node_in (exchanges.Pin now at_least (Err error)) leads of = ap (λ (p : CallerPorts). p.node) leads.is
   node_in (exchanges.AddPin pinned given (Ok added)) leads of = ap (λ (p : CallerPorts). p.node) leads
@@ -33,12 +33,12 @@ module _ (seen : FrontValue) (old new : CallerPorts) where
 
   -- what is about the pin of the present leaves the node
   pub node_kept : (request : PortRequest) (reply : PortReply) → is_of_pin request ≡ true
-      → IsExchange (CallerExchangeLeads seen old new) request reply → new.node ≡ old.node
+      → IsExchange (CallerExchangeTransition seen old new) request reply → new.node ≡ old.node
   node_kept request reply of leads =
-      by_exchange (CallerExchangeLeads seen old new) (λ (q : PortRequest) (r : PortReply). is_of_pin q ≡ true → new.node ≡ old.node) node_in request reply leads of
+      by_exchange (CallerExchangeTransition seen old new) (λ (q : PortRequest) (r : PortReply). is_of_pin q ≡ true → new.node ≡ old.node) node_in request reply leads of
 
   module _ (c : CoreValue) where
-    looked_up_in : (x : Exchange) → CallerExchangeLeads seen old new x → CoreAsks c (request_of x) → IsLookedUp c old.node new.node (reply_of x)
+    looked_up_in : (x : Exchange) → CallerExchangeTransition seen old new x → CoreAsks c (request_of x) → IsLookedUp c old.node new.node (reply_of x)
     looked_up_in (exchanges.Lookup number key lo hi hit) leads asks =
         record { number = number; key = key; lo = lo; hi = hi; asks = asks; leads = leads.1 }
     looked_up_in (exchanges.Pin now at_least pinned) leads asks = tt
@@ -49,9 +49,9 @@ module _ (seen : FrontValue) (old new : CallerPorts) where
 
     -- a lookup that the core asks is made
     pub lookup_made : (request : PortRequest) (reply : PortReply) → CoreAsks c request
-        → IsExchange (CallerExchangeLeads seen old new) request reply → IsLookedUp c old.node new.node reply
+        → IsExchange (CallerExchangeTransition seen old new) request reply → IsLookedUp c old.node new.node reply
     lookup_made request reply asks leads =
-        by_exchange (CallerExchangeLeads seen old new) (λ (q : PortRequest) (r : PortReply). CoreAsks c q → IsLookedUp c old.node new.node r) looked_up_in request reply leads asks
+        by_exchange (CallerExchangeTransition seen old new) (λ (q : PortRequest) (r : PortReply). CoreAsks c q → IsLookedUp c old.node new.node r) looked_up_in request reply leads asks
 
 pub miss_is : (reply : PortReply) → is_miss reply ≡ true → reply ≡ replies.Lookup None
 miss_is (replies.Lookup None) is = refl

@@ -9,7 +9,7 @@ use Rattle.txc_ports.specs.declared.reply.PortReply.{PortReply}
 use Rattle.txc_ports.specs.declared.reply.PortReply.TheVariants.{Lookup}
 use Rattle.txc_txn.specs.Core.{CoreAsks, CoreValue}
 use Rattle.txc_caller.specs.Given.{counted_reply}
-use Rattle.txc_caller.specs.Ports.{CallerLookupLeads}
+use Rattle.txc_caller.specs.Ports.{CallerLookupTransition}
 use Rattle.txc_caller.specs.declared.stand.Stand.{Stand}
 use Rattle.txc_caller.specs.declared.stand.Stand.TheVariants.{Kept}
 
@@ -21,7 +21,7 @@ pub record HasLookedUp (c : CoreValue) (old new : NodeValue) (hit : Option (Answ
   pub lo : ℕ
   pub hi : ℕ
   pub asks : CoreAsks c (requests.Lookup number key lo hi)
-  pub leads : CallerLookupLeads key lo hi old new hit
+  pub leads : CallerLookupTransition key lo hi old new hit
 
 -- the same, where the reply is one to that
 abbrev pub IsLookedUp : CoreValue → NodeValue → NodeValue → PortReply → Type 0

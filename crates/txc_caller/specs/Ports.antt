@@ -63,14 +63,14 @@ pub record HasRefusedPin (at_least : ℕ) (old new : CallerPorts) (e : DbError) 
   pub refused : IsPinRefused old.database at_least e
 
 -- of a pin: it was made, or the database refused
-abbrev pub CallerPinLeads : ℕ → ℕ → CallerPorts → CallerPorts → Result Pinned DbError → Type 0
-CallerPinLeads now at_least old new (Ok pinned) = HasPinnedForCaller now at_least old new pinned
-CallerPinLeads now at_least old new (Err e) = HasRefusedPin at_least old new e
+abbrev pub CallerPinTransition : ℕ → ℕ → CallerPorts → CallerPorts → Result Pinned DbError → Type 0
+CallerPinTransition now at_least old new (Ok pinned) = HasPinnedForCaller now at_least old new pinned
+CallerPinTransition now at_least old new (Err e) = HasRefusedPin at_least old new e
 
 -- the pin is in the pincushion; or it was refused, and nothing has changed
-abbrev pub CallerAddLeads : {A : Type 0} → Pinned → CallerPorts → CallerPorts → Result A AddError → Type 0
-CallerAddLeads pinned old new (Ok added) = new ≡ record old { cushion = after_add old.cushion pinned }
-CallerAddLeads pinned old new (Err e) = (new ≡ old) × IsAddRefused old.cushion pinned.stamp e
+abbrev pub CallerAddTransition : {A : Type 0} → Pinned → CallerPorts → CallerPorts → Result A AddError → Type 0
+CallerAddTransition pinned old new (Ok added) = new ≡ record old { cushion = after_add old.cushion pinned }
+CallerAddTransition pinned old new (Err e) = (new ≡ old) × IsAddRefused old.cushion pinned.stamp e
 
 -- one user of each of the stamps is taken away; or one has none left, and nothing has changed
 abbrev pub AreGivenBack : List ℕ → CushionValue → CushionValue → Type 0
@@ -78,10 +78,10 @@ AreGivenBack stamps old new =
     (new ≡ after_give_back old stamps) ⊎ ((new ≡ old) × ((stamp : ℕ) × IsFirstUnused old.entries stamps stamp))
 
 -- there is one hold of the stamp fewer; or the database refused, and nothing has changed
-abbrev pub CallerUnpinLeads : {A : Type 0} → ℕ → CallerPorts → CallerPorts → Result A DbError → Type 0
-CallerUnpinLeads stamp old new (Ok unpinned) = (new ≡ record old { database = after_unpin old.database stamp })
+abbrev pub CallerUnpinTransition : {A : Type 0} → ℕ → CallerPorts → CallerPorts → Result A DbError → Type 0
+CallerUnpinTransition stamp old new (Ok unpinned) = (new ≡ record old { database = after_unpin old.database stamp })
     × (is_held stamp old.database.holds ≡ true)
-CallerUnpinLeads stamp old new (Err e) = (new ≡ old) × IsUnpinRefused old.database stamp e
+CallerUnpinTransition stamp old new (Err e) = (new ≡ old) × IsUnpinRefused old.database stamp e
 
 -- the hold of a pin that was not added is taken away, if there is one; or the database refused
 abbrev pub IsLetGo : Option ℕ → DatabaseValue → DatabaseValue → Type 0
@@ -111,9 +111,9 @@ pub record IsAnswerOfWhole (query : RowQuery) (stamp : ℕ) (d : DatabaseValue) 
   pub over : IsFoundOver found.front.history query stamp found.answer
 
 -- of a query: it was answered, or the database refused
-abbrev pub CallerFindLeads : RowQuery → ℕ → DatabaseValue → Result (Answered Found) DbError → Type 0
-CallerFindLeads query stamp d (Ok found) = IsAnswerOfWhole query stamp d found
-CallerFindLeads query stamp d (Err e) = IsQueryRefused d query stamp e
+abbrev pub CallerFindTransition : RowQuery → ℕ → DatabaseValue → Result (Answered Found) DbError → Type 0
+CallerFindTransition query stamp d (Ok found) = IsAnswerOfWhole query stamp d found
+CallerFindTransition query stamp d (Err e) = IsQueryRefused d query stamp e
 
 -- ---- the node
 
@@ -122,10 +122,10 @@ abbrev pub HasRefusedLookup : NodeValue → ℕ → ℕ → NodeValue → Type 0
 HasRefusedLookup old lo hi new = (e : NodeError) × IsLookupRefused old lo hi e × IsNodeLeft old new e
 
 -- a lookup at just these stamps finds this, and is a step of the node; or the node refuses, and has nothing
-abbrev pub CallerLookupLeads : Call → ℕ → ℕ → NodeValue → NodeValue → Option (Answered Shown) → Type 0
-CallerLookupLeads key lo hi old new (Some hit) = (new ≡ after_call old 0 (Lookup key lo hi))
+abbrev pub CallerLookupTransition : Call → ℕ → ℕ → NodeValue → NodeValue → Option (Answered Shown) → Type 0
+CallerLookupTransition key lo hi old new (Some hit) = (new ≡ after_call old 0 (Lookup key lo hi))
     × (lookup_answer old.cache key lo hi ≡ Some hit.answer) × (hit.front ≡ old.seen)
-CallerLookupLeads key lo hi old new None =
+CallerLookupTransition key lo hi old new None =
     ((new ≡ after_call old 0 (Lookup key lo hi)) × (lookup_answer old.cache key lo hi ≡ None))
     ⊎ HasRefusedLookup old lo hi new
 
@@ -145,15 +145,15 @@ abbrev pub HasRefusedStep : NodeValue → NodeValue → Type 0
 HasRefusedStep old new = (e : NodeError) × IsStepRefused old e × IsNodeLeft old new e
 
 -- the node takes the entry, as it is; or it refuses, and keeps nothing
-abbrev pub CallerInsertLeads : FrontValue → Entry → NodeValue → NodeValue → Option Kept → Type 0
-CallerInsertLeads seen entry old new (Some kept) = HasTakenEntry seen entry old new kept
-CallerInsertLeads seen entry old new None = HasRefusedStep old new
+abbrev pub CallerInsertTransition : FrontValue → Entry → NodeValue → NodeValue → Option Kept → Type 0
+CallerInsertTransition seen entry old new (Some kept) = HasTakenEntry seen entry old new kept
+CallerInsertTransition seen entry old new None = HasRefusedStep old new
 
 -- the node drops the entries that end at the horizon or before it; or it refuses the step
-abbrev pub CallerSweepLeads : ℕ → NodeValue → NodeValue → Result ℕ NodeError → Type 0
-CallerSweepLeads horizon old new (Ok count) =
+abbrev pub CallerSweepTransition : ℕ → NodeValue → NodeValue → Result ℕ NodeError → Type 0
+CallerSweepTransition horizon old new (Ok count) =
     (new ≡ after_call old 0 (Sweep horizon)) × (count ≡ swept_count old.cache horizon)
-CallerSweepLeads horizon old new (Err e) = IsStepRefused old e × IsNodeLeft old new e
+CallerSweepTransition horizon old new (Err e) = IsStepRefused old e × IsNodeLeft old new e
 
 -- a step keeps the row of the node, and its passes
 pub record KeepsNode (old new : NodeValue) : Type 0 where
@@ -171,16 +171,16 @@ is_of_pin request = false
 
 -- What a request comes to, once it was replied so: a pin is made; a pin is added, or a hold taken away; the node
 -- makes a step; a query changes nothing. What is refused changes nothing that is told here.
-abbrev pub CallerExchangeLeads : FrontValue → CallerPorts → CallerPorts → Exchange → Type 0
-CallerExchangeLeads seen old new (exchanges.Pin now at_least pinned) = CallerPinLeads now at_least old new pinned
-CallerExchangeLeads seen old new (exchanges.AddPin pinned given added) = CallerAddLeads pinned old new added
-CallerExchangeLeads seen old new (exchanges.Unpin stamp unpinned) = CallerUnpinLeads stamp old new unpinned
-CallerExchangeLeads seen old new (exchanges.Lookup node key lo hi hit) =
-    (new ≡ record old { node = new.node }) × CallerLookupLeads key lo hi old.node new.node hit
-CallerExchangeLeads seen old new (exchanges.Query query stamp found) =
-    (new ≡ old) × CallerFindLeads query stamp old.database found
-CallerExchangeLeads seen old new (exchanges.Insert node entry kept) =
-    (new ≡ record old { node = new.node }) × CallerInsertLeads seen entry old.node new.node kept
+abbrev pub CallerExchangeTransition : FrontValue → CallerPorts → CallerPorts → Exchange → Type 0
+CallerExchangeTransition seen old new (exchanges.Pin now at_least pinned) = CallerPinTransition now at_least old new pinned
+CallerExchangeTransition seen old new (exchanges.AddPin pinned given added) = CallerAddTransition pinned old new added
+CallerExchangeTransition seen old new (exchanges.Unpin stamp unpinned) = CallerUnpinTransition stamp old new unpinned
+CallerExchangeTransition seen old new (exchanges.Lookup node key lo hi hit) =
+    (new ≡ record old { node = new.node }) × CallerLookupTransition key lo hi old.node new.node hit
+CallerExchangeTransition seen old new (exchanges.Query query stamp found) =
+    (new ≡ old) × CallerFindTransition query stamp old.database found
+CallerExchangeTransition seen old new (exchanges.Insert node entry kept) =
+    (new ≡ record old { node = new.node }) × CallerInsertTransition seen entry old.node new.node kept
 
 -- The reply is one to the request, and right in the history that it shows, which is of the row; and so much comes of
 -- the request. The row stays.
@@ -188,5 +188,5 @@ pub record HasAskedPorts (next : Next) (seen : FrontValue) (request : PortReques
     (reply : PortReply) : Type 0 where
   pub answer : IsReplyTo next request reply
   pub row : IsOfRow old.database.events reply
-  pub leads : IsExchange (CallerExchangeLeads seen old new) request reply
+  pub leads : IsExchange (CallerExchangeTransition seen old new) request reply
   pub events : new.database.events ≡ old.database.events

@@ -3,7 +3,7 @@ ghost use Rattle.std.specs.Prelude.{◌≡◌, IfErr, IfOk, OnErr, OnOk, length}
 ghost use Rattle.txc_cushion.specs.Cushion.{retired};
 ghost use Rattle.txc_db.specs.Calls.{IsVacuumRefused};
 ghost use Rattle.txc_db.specs.DatabaseValue.{after_vacuum, next_horizon};
-ghost use Rattle.txc_caller.specs.Ports.{CallerSweepLeads, HasRetired};
+ghost use Rattle.txc_caller.specs.Ports.{CallerSweepTransition, HasRetired};
 
 use crate::caller::Caller;
 use std::alloc::{AllocError, Global};
@@ -40,7 +40,7 @@ impl<A: App, C: Suppliable> Caller<A, C> {
 
     /// Has the node drop the entries that end at the horizon or before it, and counts them.
     pub fn sweep(&mut self, alloc: Global, horizon: Stamp) -> Result<usize, NodeError>
-        ensures leads { CallerSweepLeads horizon self.old.ports.node self.new.ports.node result }
+        ensures leads { CallerSweepTransition horizon self.old.ports.node self.new.ports.node result }
         ensures same { self.new ≡ record self.old { ports = record self.old.ports { node = self.new.ports.node } } }
     {
         self.ports.sweep(alloc, horizon)

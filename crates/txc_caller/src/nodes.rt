@@ -1,7 +1,7 @@
 //! Steps at the node, for one thread.
 ghost use Rattle.std.specs.Prelude.{◌≡◌};
 ghost use Rattle.txc_app.specs.Claims.{IsTrueIn};
-ghost use Rattle.txc_caller.specs.Ports.{kept_as, CallerInsertLeads, CallerSweepLeads, KeepsNode};
+ghost use Rattle.txc_caller.specs.Ports.{kept_as, CallerInsertTransition, CallerSweepTransition, KeepsNode};
 
 use std::alloc::Global;
 use txc_app::App;
@@ -31,7 +31,7 @@ pub(crate) fn insert<A: App>(
     requires pass { node.old.passes ≡ 1 }
     requires row { seen.now.events ≡ node.old.seen.events }
     requires is_true { IsTrueIn A.next seen.now.history entry }
-    ensures { CallerInsertLeads seen.now entry node.old node.new result }
+    ensures { CallerInsertTransition seen.now entry node.old node.new result }
 {
     match node.insert(alloc, 0, entry, seen) {
         Ok(insertion) => Some(kept_as(insertion)),
@@ -66,7 +66,7 @@ pub(crate) fn sweep<A: App>(
     horizon: Stamp,
 ) -> Result<usize, NodeError>
     requires { node.old.passes ≡ 1 }
-    ensures leads { CallerSweepLeads horizon node.old node.new result }
+    ensures leads { CallerSweepTransition horizon node.old node.new result }
     ensures keeps { KeepsNode node.old node.new }
 {
     match node.sweep(alloc, 0, horizon) {

@@ -11,7 +11,7 @@ ghost use Rattle.txc_db.specs.Seen.{FrontValue};
 ghost use Rattle.txc_node.specs.declared.node.TheConstants.{MAX_CAPACITY, MAX_RECENT};
 ghost use Rattle.txc_stream.specs.declared.row.TheConstants.{MAX_CAPACITY as MAX_ROW};
 ghost use Rattle.txc_shared.specs.Nodes.{start_of};
-ghost use Rattle.txc_caller.specs.Ports.{CallerAddLeads, CallerFindLeads, CallerInsertLeads, CallerPinLeads, CallerSweepLeads, CallerUnpinLeads, AreLetGo, AreGivenBack, HasRetired, IsLetGo};
+ghost use Rattle.txc_caller.specs.Ports.{CallerAddTransition, CallerFindTransition, CallerInsertTransition, CallerPinTransition, CallerSweepTransition, CallerUnpinTransition, AreLetGo, AreGivenBack, HasRetired, IsLetGo};
 
 use crate::nodes;
 use std::alloc::{AllocError, Global};
@@ -54,7 +54,7 @@ impl<A: App> Ports<A> {
 
     // A pin of the moment `now`.
     fn pin(&mut self, alloc: Global, now: u64, at_least: Stamp) -> Result<Pinned, DbError>
-        ensures leads { CallerPinLeads now at_least self.old self.new result }
+        ensures leads { CallerPinTransition now at_least self.old self.new result }
         ensures events { self.new.database.events ≡ self.old.database.events }
     {
         let pinned = self.database.pin(alloc, now, at_least)?;
@@ -69,7 +69,7 @@ impl<A: App> Ports<A> {
         stamp: Stamp,
     ) -> Result<Answered<Found>, DbError>
         ensures same { self.new ≡ self.old }
-        ensures leads { CallerFindLeads query.now stamp self.old.database result }
+        ensures leads { CallerFindTransition query.now stamp self.old.database result }
     {
         found_rows_give_true_entries();
         let answer = self.database.query(alloc, query, stamp)?;
@@ -148,7 +148,7 @@ impl<A: App> Ports<A> {
         requires row { seen.now.events ≡ self.old.database.events }
         requires is_true { IsTrueIn A.next seen.now.history entry }
         ensures same { self.new ≡ record self.old { node = self.new.node } }
-        ensures leads { CallerInsertLeads seen.now entry self.old.node self.new.node result }
+        ensures leads { CallerInsertTransition seen.now entry self.old.node self.new.node result }
     {
         nodes::insert(alloc, &mut self.node, entry, seen)
     }
@@ -156,7 +156,7 @@ impl<A: App> Ports<A> {
     // Adds a pin to the pincushion.
     fn add(&mut self, pinned: &Pinned) -> Result<(), AddError>
         requires { pinned.now.front.events ≡ self.old.database.events }
-        ensures leads { CallerAddLeads pinned.now self.old self.new result }
+        ensures leads { CallerAddTransition pinned.now self.old self.new result }
         ensures same { self.new ≡ record self.old { cushion = self.new.cushion } }
     {
         match self.cushion.add(pinned) {
@@ -167,7 +167,7 @@ impl<A: App> Ports<A> {
 
     /// Takes one hold of the stamp away.
     pub(crate) fn unpin(&mut self, stamp: Stamp) -> Result<(), DbError>
-        ensures leads { CallerUnpinLeads stamp self.old self.new result }
+        ensures leads { CallerUnpinTransition stamp self.old self.new result }
         ensures history { self.new.database.history ≡ self.old.database.history }
         ensures events { self.new.database.events ≡ self.old.database.events }
         ensures same { self.new ≡ record self.old { database = self.new.database } }
@@ -241,7 +241,7 @@ impl<A: App> Ports<A> {
 
     /// Has the node drop the entries that end at the horizon or before it, and counts them.
     pub(crate) fn sweep(&mut self, alloc: Global, horizon: Stamp) -> Result<usize, NodeError>
-        ensures leads { CallerSweepLeads horizon self.old.node self.new.node result }
+        ensures leads { CallerSweepTransition horizon self.old.node self.new.node result }
         ensures same { self.new ≡ record self.old { node = self.new.node } }
     {
         nodes::sweep(alloc, &mut self.node, horizon)

@@ -20,14 +20,14 @@ use Rattle.txc_call.specs.declared.need.Need.TheVariants as needs
 use Rattle.txc_call.specs.declared.need.Outcome.{Outcome}
 use Rattle.txc_call.specs.declared.reply.Reply.{Reply}
 use Rattle.txc_call.specs.declared.reply.Reply.TheVariants as replies
-use Rattle.txc_call.specs.Turns.{Standing, Onward, UnlessRefused, count_refusal, ask_refusal, AllowedLeads, DoneLeads, AskLeads, AfterValue, AfterAsk, AfterMiss, AfterRows, AfterReply, next_ask, outcome_of, unreached, with_answer, with_begun}
+use Rattle.txc_call.specs.Turns.{Standing, Onward, UnlessRefused, count_refusal, ask_refusal, AllowedTransition, DoneTransition, AskTransition, AfterValue, AfterAsk, AfterMiss, AfterRows, AfterReply, next_ask, outcome_of, unreached, with_answer, with_begun}
 use Rattle.txc_call.specs.Frames.{begun_frame, given}
 use Rattle.txc_app.specs.declared.ask.Answer.TheVariants as answers
 use Rattle.txc_cushion.specs.Pinning.{pin_of}
 use Rattle.txc_call.specs.Turns.{Turn as CallTurn}
 use Rattle.txc_txn.specs.Core.{CoreAsks, CoreValue, IsAnswered, IsNarrowed, IsPinningAt, IsTurn, PinningFits, PinsAfter, WaitsForPin}
 use Rattle.txc_txn.specs.Kept.{TxnValue, IsTxn, HasGoneOn}
-use Rattle.txc_txn.specs.Leading.{CallLeads, HitLeads, ReplyLeads, StandingLeads}
+use Rattle.txc_txn.specs.Transitions.{CallTransition, HitTransition, ReplyTransition, StandingTransition}
 use Rattle.txc_ports.specs.Refusals.{refused_pin}
 use Rattle.txc_ports.specs.declared.request.PortRequest.{PortRequest}
 use Rattle.txc_ports.specs.declared.request.PortRequest.TheVariants as requests
@@ -61,21 +61,21 @@ asked_once asked s less is = inr (omega (arith, is), omega (arith, is, less))
 
 module _ (asked : ℕ) (s : Standing) (less : asked < MAX_CALL_ASKS) (frame : Frame) (outer : List Frame) (goes_on : Onward)
     (on : (os : Objects) (bytes : List ℕ) → goes_on os bytes → Counts (asked + 1) s) where
-  done_counts : (bytes : List ℕ) (r : Option Interval) (os : Objects) → DoneLeads outer (asked + 1) frame r bytes os goes_on (Ok s) → Counts asked s
+  done_counts : (bytes : List ℕ) (r : Option Interval) (os : Objects) → DoneTransition outer (asked + 1) frame r bytes os goes_on (Ok s) → Counts asked s
   done_counts bytes (Some reach) os leads = let e : s.asked ≡ asked + 1 = cc in asked_once asked s less e
   done_counts bytes None os leads = counts_more asked s (on os bytes leads)
 
-  allowed_counts : (ask : Ask) (os : Objects) → AllowedLeads outer (asked + 1) frame ask os goes_on (Ok s) → Counts asked s
+  allowed_counts : (ask : Ask) (os : Objects) → AllowedTransition outer (asked + 1) frame ask os goes_on (Ok s) → Counts asked s
   allowed_counts (asks.Query q) os leads = let e : s.asked ≡ asked + 1 = cc in asked_once asked s less e
   allowed_counts (asks.Call k) os leads = let e : s.asked ≡ asked + 1 = cc in asked_once asked s less e
   allowed_counts (asks.Done bytes) os leads = done_counts bytes frame.reach _ leads
 
 ask_counts : (asked : ℕ) (s : Standing) (frame : Frame) (outer : List Frame) (goes_on : Onward)
     → ((os : Objects) (bytes : List ℕ) → goes_on os bytes → Counts (asked + 1) s)
-    → (ask : Ask) (os : Objects) → AskLeads outer asked frame ask os goes_on (Ok s) → Counts asked s
+    → (ask : Ask) (os : Objects) → AskTransition outer asked frame ask os goes_on (Ok s) → Counts asked s
 ask_counts asked s frame outer goes_on on ask os leads =
-    let counted = allowed (count_refusal frame.answers asked) s (UnlessRefused (ask_refusal os frame.key.function ask) (Ok s) (AllowedLeads outer (asked + 1) frame ask os goes_on (Ok s))) leads in
-    let fine = allowed (ask_refusal os frame.key.function ask) s (AllowedLeads outer (asked + 1) frame ask os goes_on (Ok s)) counted.1 in
+    let counted = allowed (count_refusal frame.answers asked) s (UnlessRefused (ask_refusal os frame.key.function ask) (Ok s) (AllowedTransition outer (asked + 1) frame ask os goes_on (Ok s))) leads in
+    let fine = allowed (ask_refusal os frame.key.function ask) s (AllowedTransition outer (asked + 1) frame ask os goes_on (Ok s)) counted.1 in
     allowed_counts asked s (within_budget frame.answers asked counted.0) frame outer goes_on on ask os fine.1
 
 module _ (next : Next) (s : Standing) where
@@ -87,7 +87,7 @@ module _ (next : Next) (s : Standing) where
       let os' : Objects = with_answer os frame.key.function (answers.Value o.value) in
       ⊎_elim
       (λ no. let no' : Ok s ≡ Err no.0 = no.1 in cc)
-      (λ (three : (ask : Ask) × (next_ask next os frame (answers.Value o.value) ≡ Some ask) × AskLeads outer asked after ask os' goes_on (Ok s)).
+      (λ (three : (ask : Ask) × (next_ask next os frame (answers.Value o.value) ≡ Some ask) × AskTransition outer asked after ask os' goes_on (Ok s)).
       ask_counts asked s after outer goes_on (λ idle_os bytes on. value_counts outer (asked + 1) (unreached after bytes) idle_os on) three.0 os' three.2)
       leads
 
@@ -202,11 +202,11 @@ lost_present reach old new same is = let no : false ≡ true = sym (ap (λ (p : 
 module _ (next : Next) (old new : TxnValue) (was : IsTxn next old) (now : IsTxn next new) (request : PortRequest) (asking : CoreAsks new.core request) where
   -- to what the call needs
   call_leads_less : (need : Need) (reply : Reply) → old.core.pinning ≡ None → (new.core.pins.has_present ≡ true → old.core.pins.has_present ≡ true)
-      → CallLeads next old.core old.objects need reply new.core new.objects (turns.Ask request) → left_of new.core < left_of old.core
+      → CallTransition next old.core old.objects need reply new.core new.objects (turns.Ask request) → left_of new.core < left_of old.core
   call_leads_less need reply none keeps leads = go leads.0 leads.1 leads.2
     where
       go : (stands : CallTurn) → AfterReply next old.core.call.frames old.core.call.asked old.objects need reply stands
-          → StandingLeads stands new.core new.objects (turns.Ask request) → left_of new.core < left_of old.core
+          → StandingTransition stands new.core new.objects (turns.Ask request) → left_of new.core < left_of old.core
       go (Err error) after stand = cc stand
       go (Ok s) after stand =
           ⊎_elim
@@ -219,7 +219,7 @@ module _ (next : Next) (old new : TxnValue) (was : IsTxn next old) (now : IsTxn 
           (reply_counts next s old.core.call.frames old.core.call.asked old.objects need reply after)
 
   hit_less : (k : Call) (hit : Shown) → old.core.pinning ≡ None → IsNarrowed hit.reach old.core.pins new.core.pins
-      → HitLeads next old.core old.objects k hit new.core new.objects (turns.Ask request) → left_of new.core < left_of old.core
+      → HitTransition next old.core old.objects k hit new.core new.objects (turns.Ask request) → left_of new.core < left_of old.core
   hit_less k hit none pins leads = go (kept hit.reach old.core.pins.members) refl
     where
       go : (members : List Pin) → kept hit.reach old.core.pins.members ≡ members → left_of new.core < left_of old.core
@@ -228,7 +228,7 @@ module _ (next : Next) (old new : TxnValue) (was : IsTxn next old) (now : IsTxn 
           let some : kept hit.reach old.core.pins.members ≢ [] = λ no. let both : m ∷ ms ≡ [] = sym is ∙ no in cc both in
           call_leads_less (needs.Lookup k) (replies.Hit hit) none (lost_present hit.reach old.core.pins new.core.pins (pins.held some)) (leads.held some)
 
-  asks_less : (reply : PortReply) → IsAnswered old.core reply → ReplyLeads next old.core old.objects reply new.core new.objects (turns.Ask request)
+  asks_less : (reply : PortReply) → IsAnswered old.core reply → ReplyTransition next old.core old.objects reply new.core new.objects (turns.Ask request)
       → PinsAfter old.core reply new.core.pins → left_of new.core < left_of old.core
   asks_less (ports.Pin (Ok pinned)) answered leads pins =
       let same : request ≡ requests.AddPin pinned = cc in
@@ -267,6 +267,6 @@ pub goes_down : (next : Next) (old new : TxnValue) (reply : PortReply) (turn : P
     → HasGoneOn next old reply new turn → requests_left turn new.core < suc (left_of old.core)
 goes_down next old new reply turn was now answered on = go turn on.turn_fits on.leads
   where
-    go : (turn : PortTurn) → IsTurn new.core turn → ReplyLeads next old.core old.objects reply new.core new.objects turn → requests_left turn new.core < suc (left_of old.core)
+    go : (turn : PortTurn) → IsTurn new.core turn → ReplyTransition next old.core old.objects reply new.core new.objects turn → requests_left turn new.core < suc (left_of old.core)
     go (turns.Ask request) fits leads = sucs_less (left_of new.core) (left_of old.core) (asks_less next old new was now request fits reply answered leads on.pins)
     go (turns.Ended result) fits leads = none_less (left_of old.core)

@@ -14,17 +14,17 @@ use Rattle.txc_ports.specs.Exchanges.{Exchange, IsExchange}
 use Rattle.txc_ports.proofs.Offered.{both_exchange, by_exchange}
 use Rattle.txc_txn.specs.Kept.{HasGoneOn}
 use Rattle.txc_client.specs.Ports.{PassesAfter}
-use Rattle.txc_client.specs.Run.{ExchangeLeads, ExchangesLead, HasBegun, HasRun, IsToldSo}
+use Rattle.txc_client.specs.Run.{ExchangeTransition, ExchangesTransition, HasBegun, HasRun, IsToldSo}
 use Rattle.txc_client.specs.Txn.{RoTxnValue}
 
 module _ (next : Next) (row : Name) (node_histories : ℕ → Name) where
   led_more : (old mid new : RoTxnValue) (asking then turn : PortTurn) (exchanges : List Exchange) (x : Exchange)
-      → ExchangesLead next row node_histories old asking exchanges mid then → ExchangeLeads next row node_histories mid then x new turn
-      → ExchangesLead next row node_histories old asking (exchanges ++ x ∷ []) new turn
+      → ExchangesTransition next row node_histories old asking exchanges mid then → ExchangeTransition next row node_histories mid then x new turn
+      → ExchangesTransition next row node_histories old asking (exchanges ++ x ∷ []) new turn
   led_more old mid new asking then turn [] x led step = (
     new,
     turn,
-    subst (λ (v : RoTxnValue). ExchangeLeads next row node_histories v asking x new turn) led.0 (subst (λ (t : PortTurn). ExchangeLeads next row node_histories mid t x new turn) led.1 step),
+    subst (λ (v : RoTxnValue). ExchangeTransition next row node_histories v asking x new turn) led.0 (subst (λ (t : PortTurn). ExchangeTransition next row node_histories mid t x new turn) led.1 step),
     (refl, refl),
   )
   led_more old mid new asking then turn (first ∷ exchanges) x led step =
@@ -36,7 +36,7 @@ module _ (next : Next) (row : Name) (node_histories : ℕ → Name) where
     pub first_turn : PortTurn
     pub exchanges : List Exchange
     pub begun : HasBegun old k first first_turn
-    pub led : ExchangesLead next row node_histories first first_turn exchanges new turn
+    pub led : ExchangesTransition next row node_histories first first_turn exchanges new turn
 
   module _ (old : RoTxnValue) (k : Call) where
     -- it has ended
@@ -51,7 +51,7 @@ module _ (next : Next) (row : Name) (node_histories : ℕ → Name) where
 
     -- an exchange more
     pub run_on : (mid new : RoTxnValue) (then turn : PortTurn) (x : Exchange)
-        → HasRunTo old k mid then → ExchangeLeads next row node_histories mid then x new turn → HasRunTo old k new turn
+        → HasRunTo old k mid then → ExchangeTransition next row node_histories mid then x new turn → HasRunTo old k new turn
     run_on mid new then turn x run step = record {
       first = run.first;
       first_turn = run.first_turn;

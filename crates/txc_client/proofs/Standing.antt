@@ -28,7 +28,7 @@ use Rattle.txc_ports.specs.Exchanges.{Exchange}
 use Rattle.txc_ports.specs.Exchanges as exchanges
 use Rattle.txc_client.specs.Laws.{asks, own_records, IsOne, AreOne, Leaves, AreLeftBy, HasAdded, CallsStandOnce}
 use Rattle.txc_client.specs.Ports.{InsertLeaves, IsCallAt, LookupLeaves, PassesAfter, reply_to_lookup}
-use Rattle.txc_client.specs.Run.{ExchangesLead}
+use Rattle.txc_client.specs.Run.{ExchangesTransition}
 use Rattle.txc_client.specs.Txn.{RoTxnValue}
 
 -- ---- the records of a pass among others
@@ -205,7 +205,7 @@ module _ (node_histories : ℕ → Name) (olds news : List PassValue) (node : �
 -- ---- a run
 
 module _ (next : Next) (row : Name) (node_histories : ℕ → Name) (node : ℕ) where
-  led_adds : (xs : List Exchange) (old new : RoTxnValue) (asking turn : PortTurn) (p : PassValue) → ExchangesLead next row node_histories old asking xs new turn
+  led_adds : (xs : List Exchange) (old new : RoTxnValue) (asking turn : PortTurn) (p : PassValue) → ExchangesTransition next row node_histories old asking xs new turn
       → slice_get old.passes node ≡ Some p → AddedAt node (filter (asks node) xs) p new.passes
   led_adds [] old new asking turn p led is = stays_at node p old.passes new.passes (ap (λ (v : RoTxnValue). v.passes) led.0) is
   led_adds (x ∷ xs) old new asking turn p led is =

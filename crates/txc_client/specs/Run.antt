@@ -18,7 +18,7 @@ use Rattle.txc_ports.specs.Asking.{IsAnsweredRight, IsOfRow}
 use Rattle.txc_txn.specs.Core.{open_call, IsTurn}
 use Rattle.txc_ports.specs.Turns.{PortTurn, IsAsk}
 use Rattle.txc_txn.specs.Kept.{HasGoneOn}
-use Rattle.txc_txn.specs.Leading.{StartLeads}
+use Rattle.txc_txn.specs.Transitions.{StartTransition}
 use Rattle.txc_client.specs.Ports.{PassesAfter}
 use Rattle.txc_client.specs.Txn.{RoTxnValue}
 
@@ -46,14 +46,14 @@ pub record IsGiven (next : Next) (row : Name) (x : Exchange) : Type 0 where
 -- the call has begun, with this turn, and no pass was used
 pub record HasBegun (old : RoTxnValue) (k : Call) (new : RoTxnValue) (turn : PortTurn) : Type 0 where
   pub turn_fits : IsTurn new.txn.core turn
-  pub leads : StartLeads old.txn.core old.txn.objects k new.txn.core new.txn.objects turn
+  pub leads : StartTransition old.txn.core old.txn.objects k new.txn.core new.txn.objects turn
   pub begins : IsAsk turn → open_call new.txn.core ≡ Some k
   pub functions : numbers_of new.txn.objects ≡ numbers_of old.txn.objects
   pub same : new.txn.core ≡ record old.txn.core { call = new.txn.core.call; pinning = new.txn.core.pinning }
   pub passes : new.passes ≡ old.passes
 
 -- the turn asks, the request leaves the passes so, and the reply to it leads on to the next turn
-pub record ExchangeLeads (next : Next) (row : Name) (node_histories : ℕ → Name) (old : RoTxnValue) (asking : PortTurn)
+pub record ExchangeTransition (next : Next) (row : Name) (node_histories : ℕ → Name) (old : RoTxnValue) (asking : PortTurn)
     (x : Exchange) (new : RoTxnValue) (turn : PortTurn) : Type 0 where
   pub asks : asking ≡ Ask (request_of x)
   pub given : IsGiven next row x
@@ -61,10 +61,10 @@ pub record ExchangeLeads (next : Next) (row : Name) (node_histories : ℕ → Na
   pub goes_on : HasGoneOn next old.txn (reply_of x) new.txn turn
 
 -- the exchanges lead on, one after the other, to the last turn
-abbrev pub ExchangesLead : Next → Name → (ℕ → Name) → RoTxnValue → PortTurn → List Exchange → RoTxnValue → PortTurn → Type 0
-ExchangesLead next row node_histories old asking [] new turn = (new ≡ old) × (turn ≡ asking)
-ExchangesLead next row node_histories old asking (x ∷ exchanges) new turn = (after : RoTxnValue) × (then : PortTurn)
-    × ExchangeLeads next row node_histories old asking x after then × ExchangesLead next row node_histories after then exchanges new turn
+abbrev pub ExchangesTransition : Next → Name → (ℕ → Name) → RoTxnValue → PortTurn → List Exchange → RoTxnValue → PortTurn → Type 0
+ExchangesTransition next row node_histories old asking [] new turn = (new ≡ old) × (turn ≡ asking)
+ExchangesTransition next row node_histories old asking (x ∷ exchanges) new turn = (after : RoTxnValue) × (then : PortTurn)
+    × ExchangeTransition next row node_histories old asking x after then × ExchangesTransition next row node_histories after then exchanges new turn
 
 -- the call of a transaction ran from its beginning, by such exchanges, until it ended with this
 pub record HasRun (next : Next) (row : Name) (node_histories : ℕ → Name) (old : RoTxnValue) (k : Call)
@@ -73,4 +73,4 @@ pub record HasRun (next : Next) (row : Name) (node_histories : ℕ → Name) (ol
   pub first_turn : PortTurn
   pub exchanges : List Exchange
   pub begun : HasBegun old k first first_turn
-  pub led : ExchangesLead next row node_histories first first_turn exchanges new (Ended result)
+  pub led : ExchangesTransition next row node_histories first first_turn exchanges new (Ended result)

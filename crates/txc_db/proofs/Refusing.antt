@@ -1,7 +1,8 @@
 -- Refusals, one in terms of another, and what they leave.
-use Rattle.std.proofs.Common.{◌≡◌, ◌≢◌, inl, inr, ℕ, List, [], ◌∷◌, refl, sym, subst}
+use Rattle.std.proofs.Common.{◌≡◌, ◌≢◌, inl, inr, ℕ, List, [], ◌∷◌, false, true≢false, refl, sym, subst, ◌∙◌}
 use Rattle.std.specs.Prelude.{Result, Ok, Err, IfErr}
 use Rattle.std.specs.Result.{IsErrAnd}
+use Rattle.txc_stream.specs.Names.{HasRow}
 use Rattle.txc_tags.specs.declared.tag.Tag.{Tag}
 use Rattle.txc_rows.specs.declared.query.Change.{Change}
 use Rattle.txc_rows.specs.declared.store_error.StoreError.TheVariants as store
@@ -28,6 +29,15 @@ base_refused d base read changes Broken h = inl h
 base_refused d base read changes (FutureStamp last) h = h
 base_refused d base read changes (SnapshotGone horizon) h = h
 base_refused d base read changes e h = absurd h
+
+-- a base is refused as broken by a broken database alone
+pub base_taken : {T : Type 0} (r : Result T DbError) (d : DatabaseValue) (base : ℕ) (e : DbError) → IsErrAnd r (λ y. y ≡ e) → IsBaseRefused d base e
+    → d.broken ≡ false → r ≡ Err Broken → HasRow d.events
+base_taken (Ok x) d base e is h whole broken = absurd is
+base_taken (Err y) d base Broken is h whole broken = absurd (true≢false (sym h ∙ whole))
+base_taken (Err y) d base (FutureStamp last) is h whole broken = absurd (cc (is, broken))
+base_taken (Err y) d base (SnapshotGone horizon) is h whole broken = absurd (cc (is, broken))
+base_taken (Err y) d base e is h whole broken = absurd h
 
 some_in : (c : Change) (changes : List Change) → IsIn c changes → changes ≢ []
 some_in c [] is none = is

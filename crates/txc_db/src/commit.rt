@@ -118,6 +118,7 @@ impl DbCore {
         ensures room { IsOk result → newest self.old < events_room self.old.events }
         ensures unchanged { IfErr result (IsLeft self.old self.new) }
         ensures refused { IfErr result (IsAppendRefused self.old) }
+        ensures taken { result ≡ Err DbError.Broken → HasRow self.old.events }
     {
         versions_keep_states();
         let events = self.told.len();
@@ -167,6 +168,7 @@ impl DbCore {
         ensures only_if { IsOk result → IsCommittable self.old base read.now changes.now }
         ensures unchanged { IfErr result (IsLeft self.old self.new) }
         ensures refused { IfErr result (IsCommitRefused self.old base read.now changes.now) }
+        ensures taken { self.old.broken ≡ false → result ≡ Err DbError.Broken → HasRow self.old.events }
     {
         net_changes_are_differences();
         states_are_maps();

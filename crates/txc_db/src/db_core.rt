@@ -1,5 +1,5 @@
 //! The database for one thread, which its lock holds too.
-ghost use Rattle.std.specs.Prelude.{◌≡◌, ◌+◌, ◌≤◌, ◌∷◌, [], ◌↔◌, true, false, length, Ok, Err, IfOk, OnOk, OnErr, IfErr, ◌⊎◌, IsOk, IsTrue, MatchOption};
+ghost use Rattle.std.specs.Prelude.{◌≡◌, ◌≢◌, ◌+◌, ◌≤◌, ◌∷◌, [], ◌↔◌, true, false, length, Ok, Err, IfOk, OnOk, OnErr, IfErr, ◌⊎◌, IsOk, IsTrue, MatchOption};
 ghost use mathlib.Core.List.{IsPrefix};
 ghost use Rattle.txc_rows.specs.RowTags.{query_tag};
 ghost use Rattle.txc_validity.specs.Answers.{IsAnswer};
@@ -299,6 +299,7 @@ impl DbCore {
     pub(crate) fn check_pin(&self, at_least: Stamp) -> Result<(), DbError>
         ensures only_if { IsOk result ↔ IsPinnable self.now at_least }
         ensures refused { IfErr result (IsPinRefused self.now at_least) }
+        ensures whole { self.now.broken ≡ false → result ≢ Err DbError.Broken }
     {
         if self.broken {
             return Err(DbError::Broken);
@@ -326,6 +327,7 @@ impl DbCore {
         ensures only_if { IsOk result → IsPinnable self.old at_least }
         ensures unchanged { IfErr result (IsLeft self.old self.new) }
         ensures refused { IfErr result (IsPinRefused self.old at_least) }
+        ensures taken { self.old.broken ≡ false → result ≡ Err DbError.Broken → HasRow self.old.events }
     {
         versions_keep_states();
         tags_are_sound();

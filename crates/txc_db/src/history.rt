@@ -225,7 +225,7 @@ impl History {
     }
 
     /// Appends an event that was prepared and stands beside its tags. `false` where another record stands in its
-    /// cell; then nothing has changed.
+    /// cell, as none does where the events are not stored; then nothing has changed.
     pub(crate) fn append(&mut self, next: Prepared) -> bool
         requires prepared { IsPrepared self.old next }
         requires room { length self.old.history < events_room self.old.events }
@@ -236,6 +236,7 @@ impl History {
           room = self.new.room;
         } }
         ensures unchanged { result ≡ false → self.new ≡ self.old }
+        ensures taken { result ≡ false → HasRow self.old.events }
     {
         match next {
             Prepared::Stored(event) => self.front.append(event).is_ok(),

@@ -36,7 +36,7 @@ use Rattle.txc_call.specs.Needs.{reach_of, reply_reach, NeedFits, NeedHolds, Rep
 use Rattle.txc_call.specs.Calling.{Calling, CallHolds, InCall, IsCalling}
 use Rattle.txc_rw.specs.declared.given.Given.{Given}
 use Rattle.txc_rw.specs.declared.given.Given.TheVariants as given
-use Rattle.txc_rw.specs.Leading.{RowsLead}
+use Rattle.txc_rw.specs.Transitions.{RowsTransition}
 use Rattle.txc_rw.specs.Answers.{AgreeOn, AreRightIn, IsRightIn, committed, state_of}
 use Rattle.txc_rw.specs.Core.{RwValue, RwHolds, IsBegun, IsFoundAt, IsRwState, IsReady, IsRightReply, IsRw, only_one, tags_of}
 use Rattle.txc_rw.specs.declared.reading.Reading.{Reading}
@@ -118,7 +118,7 @@ module _ (next : Next) (L : History) (objects : Objects) (c : RwValue) (q : Quer
   counted_read : RwHolds next L objects (record c { queried = c.queried ++ q ∷ []; reading = None })
   counted_read = holds_queried next L objects c h q objects c.call (c.queried ++ q ∷ []) None refl refl (λ changes agree hold. hold)
 
-  pub rows_lead : (c' : RwValue) (reply : Result Found DbError) (result : Result (Vec RowValue Global) TxnError) → c.reading ≡ Some q → IsRightReply L c reply → RowsLead c q reply c' result
+  pub rows_lead : (c' : RwValue) (reply : Result Found DbError) (result : Result (Vec RowValue Global) TxnError) → c.reading ≡ Some q → IsRightReply L c reply → RowsTransition c q reply c' result
       → RwHolds next L objects c'
   rows_lead c' (Ok found) (Ok rows) asked right leads =
       subst (RwHolds next L objects) (sym leads.1)
@@ -131,35 +131,35 @@ module _ (next : Next) (L : History) (objects : Objects) (c : RwValue) (q : Quer
 -- what the core does with the answer to a query of its own
 module _ (c : RwValue) (q : Query) (reply : Result Found DbError) (queried : List Query) (answers : List Given) (reading : Option Query) (none : reading ≡ None) where
   pub rows_refused : (cause : DbError) (error : TxnError) → reply ≡ Err cause → error ≡ refused_request cause
-      → RowsLead c q reply (record c { reading = reading }) (Err error)
+      → RowsTransition c q reply (record c { reading = reading }) (Err error)
   rows_refused cause error is so =
       let same : record c { reading = reading } ≡ record c { reading = None } = λ i. record c { reading = none i } in
       let both : Err error ≡ Err (refused_request cause) = ap Err so in
-      subst (λ (r : Result Found DbError). RowsLead c q r (record c { reading = reading }) (Err error)) (sym is) (both, same)
+      subst (λ (r : Result Found DbError). RowsTransition c q r (record c { reading = reading }) (Err error)) (sym is) (both, same)
 
   pub rows_dropped : (found : Found) → reply ≡ Ok found → queried ≡ c.queried ++ q ∷ [] → answers ≡ c.answers
-      → RowsLead c q reply (record c { queried = queried; answers = answers; reading = reading }) (Err Memory)
+      → RowsTransition c q reply (record c { queried = queried; answers = answers; reading = reading }) (Err Memory)
   rows_dropped found is more left =
       let same : record c { queried = queried; answers = answers; reading = reading } ≡ record c { queried = c.queried ++ q ∷ []; reading = None } =
       λ i. record c { queried = more i; answers = left i; reading = none i } in
-      subst (λ (r : Result Found DbError). RowsLead c q r (record c { queried = queried; answers = answers; reading = reading }) (Err Memory)) (sym is) (refl, same)
+      subst (λ (r : Result Found DbError). RowsTransition c q r (record c { queried = queried; answers = answers; reading = reading }) (Err Memory)) (sym is) (refl, same)
 
   pub rows_kept : (found : Found) (copy : Vec RowValue Global) → reply ≡ Ok found → queried ≡ c.queried ++ q ∷ [] → copy.items ≡ found.rows.items
       → answers ≡ c.answers ++ given.Rows q found.rows.items ∷ []
-      → RowsLead c q reply (record c { queried = queried; answers = answers; reading = reading }) (Ok copy)
+      → RowsTransition c q reply (record c { queried = queried; answers = answers; reading = reading }) (Ok copy)
   rows_kept found copy is more copied kept =
       let one_more : answers ≡ c.answers ++ given.Rows q copy.items ∷ [] = kept ∙ ap (λ (rows : List RowValue). c.answers ++ given.Rows q rows ∷ []) (sym copied) in
       let same : record c { queried = queried; answers = answers; reading = reading } ≡ record c { queried = c.queried ++ q ∷ []; answers = c.answers ++ given.Rows q copy.items ∷ []; reading = None } =
       λ i. record c { queried = more i; answers = one_more i; reading = none i } in
-      subst (λ (r : Result Found DbError). RowsLead c q r (record c { queried = queried; answers = answers; reading = reading }) (Ok copy)) (sym is) (copied, same)
+      subst (λ (r : Result Found DbError). RowsTransition c q r (record c { queried = queried; answers = answers; reading = reading }) (Ok copy)) (sym is) (copied, same)
 
 -- and so for the query that is waited for, whatever it is called
 pub rows_led_for : (old was new : RwValue) (q p : Query) (reply : Result Found DbError) (result : Result (Vec RowValue Global) TxnError) → was ≡ old → was.reading ≡ Some q → old.reading ≡ Some p
-    → RowsLead was q reply new result → RowsLead old p reply new result
+    → RowsTransition was q reply new result → RowsTransition old p reply new result
 rows_led_for old was new q p reply result same asked is leads =
     let two : Some q ≡ Some p = sym asked ∙ (ap (λ (w : RwValue). w.reading) same ∙ is) in
     let one : q ≡ p = cc in
-    subst (λ (x : Query). RowsLead old x reply new result) one (subst (λ (w : RwValue). RowsLead w q reply new result) same leads)
+    subst (λ (x : Query). RowsTransition old x reply new result) one (subst (λ (w : RwValue). RowsTransition w q reply new result) same leads)
 
 -- ---- rows
 

@@ -15,7 +15,7 @@ use Rattle.txc_ports.specs.declared.error.TxnError.{TxnError}
 use Rattle.txc_ports.specs.declared.error.TxnError.TheVariants.{Memory}
 use Rattle.txc_rw.specs.declared.given.Given.{Given}
 use Rattle.txc_rw.specs.declared.given.Given.TheVariants as given
-use Rattle.txc_rw.specs.Leading.{IsQueryLeft}
+use Rattle.txc_rw.specs.Transitions.{IsQueryLeft}
 use Rattle.txc_rw.specs.Answers.{AreRightIn, IsRightIn}
 use Rattle.txc_rw.specs.Core.{RwValue, RwHolds, IsRwIdle, IsRw}
 use Rattle.txc_rw.specs.Txn.{IsRwResting, RwTxnValue}

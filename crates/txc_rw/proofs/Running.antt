@@ -24,7 +24,7 @@ use Rattle.txc_ports.specs.declared.turn.Turn.TheVariants.{Ask, Ended}
 use Rattle.txc_ports.specs.Refusals.{refused_call, refused_request}
 use Rattle.txc_rw.specs.declared.given.Given.TheVariants as given
 use Rattle.txc_rw.specs.Core.{QueryTurn, RwValue, queried_after}
-use Rattle.txc_rw.specs.Leading.{query_in, queries_in, standing_of, RwCallLeads, EndsCall, IsLedAt, IsLedTo, IsQueryRefusedAt, IsQueryLeft, IsQueryRefusal, IsUncachedRun, IsStepAt, IsUncached, RowsLead, RwStandingLeads, Step}
+use Rattle.txc_rw.specs.Transitions.{query_in, queries_in, standing_of, RwCallTransition, EndsCall, IsLedAt, IsLedTo, IsQueryRefusedAt, IsQueryLeft, IsQueryRefusal, IsUncachedRun, IsStepAt, IsUncached, RowsTransition, RwStandingTransition, Step}
 
 module _ (next : Next) (s : State) where
   led_more : (from mid end : CallTurn) (steps : List Step) (x : Step) → IsLedAt next s from steps mid → IsStepAt next s mid x end → IsLedAt next s from (steps ++ x ∷ []) end
@@ -107,11 +107,11 @@ pub record IsRunSo (next : Next) (row : Name) (s : State) (from : CallTurn) (old
   pub stands : CallTurn
   pub led : IsLedTo next s from queries stands
   pub queried : new.queried ≡ old.queried ++ queries
-  pub does : RwStandingLeads stands new objects turn ⊎ IsAskRefused row old.base stands turn
+  pub does : RwStandingTransition stands new objects turn ⊎ IsAskRefused row old.base stands turn
 
 -- as the core begins
 pub run_begins : (next : Next) (row : Name) (s : State) (from : CallTurn) (old new : RwValue) (objects : Objects) (turn : QueryTurn) → new.queried ≡ old.queried
-    → RwCallLeads next s from [] new objects turn → IsRunSo next row s from old new objects turn
+    → RwCallTransition next s from [] new objects turn → IsRunSo next row s from old new objects turn
 run_begins next row s from old new objects turn same leads = record {
   queries = [];
   stands = leads.0;
@@ -122,7 +122,7 @@ run_begins next row s from old new objects turn same leads = record {
 
 -- as it ends, with its value or a refusal
 ends : (row : Name) (base : ℕ) (stands : CallTurn) (new : RwValue) (objects : Objects) (result : Result (List ℕ) TxnError)
-    → RwStandingLeads stands new objects (Ended result) ⊎ IsAskRefused row base stands (Ended result) → EndsCall row base stands objects result
+    → RwStandingTransition stands new objects (Ended result) ⊎ IsAskRefused row base stands (Ended result) → EndsCall row base stands objects result
 ends row base (Ok standing) new objects (Ok v) (inl h) = h
 ends row base (Ok standing) new objects (Ok v) (inr h) = absurd h
 ends row base (Ok standing) new objects (Err e) (inl h) = inl h
@@ -142,7 +142,7 @@ run_over next row s from old new objects result h = record {
 
 -- a core that asks: its call stands as it came so far
 run_asks : (next : Next) (row : Name) (s : State) (from : CallTurn) (old core : RwValue) (objects : Objects) (asked : Query) (queries : List Query) (stands : CallTurn)
-    → IsLedTo next s from queries stands → RwStandingLeads stands core objects (Ask asked) ⊎ IsAskRefused row old.base stands (Ask asked)
+    → IsLedTo next s from queries stands → RwStandingTransition stands core objects (Ask asked) ⊎ IsAskRefused row old.base stands (Ask asked)
     → IsLedTo next s from queries (standing_of core.call objects)
 run_asks next row s from old core objects asked queries (Ok standing) led (inl does) = subst (λ (t : CallTurn). IsLedTo next s from queries t) (sym does) led
 run_asks next row s from old core objects asked queries (Ok standing) led (inr does) = absurd does
@@ -155,7 +155,7 @@ pub run_goes_on : (next : Next) (row : Name) (s : State) (from : CallTurn) (old 
     → new.queried ≡ queried_after core.queried core.reading reply
     → IfErr reply (MayRefuse row (λ d. IsQueryRefused d q old.base))
     → ((e : DbError) → reply ≡ Err e → turn ≡ Ended (Err (refused_request e)))
-    → ((f : Found) → reply ≡ Ok f → RwCallLeads next s (standing_of core.call objects) (q ∷ []) new objects' turn)
+    → ((f : Found) → reply ≡ Ok f → RwCallTransition next s (standing_of core.call objects) (q ∷ []) new objects' turn)
     → IsRunSo next row s from old new objects' turn
 run_goes_on next row s from old core new objects objects' turn (Ok f) q h reading need queried refused is leads =
     let on = leads f refl in
@@ -181,7 +181,7 @@ run_goes_on next row s from old core new objects objects' turn (Err e) q h readi
 
 -- from the core that was asked it, what comes of the database's answer, told of the core before
 module _ (old asking new : RwValue) (q : Query) (same : asking ≡ record old { reading = Some q }) (none : old.reading ≡ None) where
-  pub query_after : (reply : Result Found DbError) (result : Result (Vec RowValue Global) TxnError) → RowsLead asking q reply new result
+  pub query_after : (reply : Result Found DbError) (result : Result (Vec RowValue Global) TxnError) → RowsTransition asking q reply new result
       → IfOk result (λ rows. new ≡ record old { queried = old.queried ++ q ∷ []; answers = old.answers ++ given.Rows q rows.items ∷ [] })
   query_after (Ok found) (Ok rows) leads =
       leads.1
@@ -190,7 +190,7 @@ module _ (old asking new : RwValue) (q : Query) (same : asking ≡ record old { 
   query_after (Err cause) (Ok rows) leads = cc leads.0
   query_after reply (Err error) leads = tt
 
-  pub query_left : (reply : Result Found DbError) (result : Result (Vec RowValue Global) TxnError) → RowsLead asking q reply new result → IfErr result (IsQueryLeft old q new)
+  pub query_left : (reply : Result Found DbError) (result : Result (Vec RowValue Global) TxnError) → RowsTransition asking q reply new result → IfErr result (IsQueryLeft old q new)
   query_left reply (Ok rows) leads = tt
   query_left (Ok found) (Err error) leads = inr (
     leads.0,
@@ -203,7 +203,7 @@ module _ (old asking new : RwValue) (q : Query) (same : asking ≡ record old { 
       )
 
   pub query_refused : (row : Name) (reply : Result Found DbError) (result : Result (Vec RowValue Global) TxnError) → IfErr reply (MayRefuse row (λ d. IsQueryRefused d q old.base))
-      → RowsLead asking q reply new result → IfErr result (IsQueryRefusal row old.base q)
+      → RowsTransition asking q reply new result → IfErr result (IsQueryRefusal row old.base q)
   query_refused row reply (Ok rows) refused leads = tt
   query_refused row (Ok found) (Err error) refused leads = inl leads.0
   query_refused row (Err cause) (Err error) refused leads = let is : error ≡ refused_request cause = cc leads.0 in inr (cause, refused, is)

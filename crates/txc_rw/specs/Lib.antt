@@ -3,4 +3,4 @@ pub mod Core
 pub mod Outcomes
 pub mod Txn
 pub mod Laws
-pub mod Leading
+pub mod Transitions

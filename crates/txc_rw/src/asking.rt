@@ -25,7 +25,7 @@ use txc_tags::Key;
 impl RwCore {
     ghost use Rattle.txc_rw.specs.Core.{answers_after, IsDone, IsRw, IsRwIdle, IsRwTurn, RwHolds};
     ghost use Rattle.txc_ports.specs.Turns.{IsAsk};
-    ghost use Rattle.txc_rw.specs.Leading.{standing_of, RwCallLeads, RwStandingLeads};
+    ghost use Rattle.txc_rw.specs.Transitions.{standing_of, RwCallTransition, RwStandingTransition};
 
     /// Asks the database a query at its base. Once it is asked, it takes no memory to count it as read.
     pub fn ask(&mut self, alloc: Global, query: &Query) -> Result<(), TxnError>
@@ -57,7 +57,7 @@ impl RwCore {
         ensures answers { (next : Next) (objects : Objects) → IsCalling next objects self.old.call
             → self.new.answers ≡ answers_after self.old.answers self.old.call.top (Turn.Ended result) }
         ensures leads { (objects : Objects)
-            → RwStandingLeads (standing_of self.old.call objects) self.new objects (Turn.Ended result) }
+            → RwStandingTransition (standing_of self.old.call objects) self.new objects (Turn.Ended result) }
         ensures same { self.new
             ≡ record self.old { answers = self.new.answers; call = record self.old.call { need = None } } }
     {
@@ -97,7 +97,7 @@ impl RwCore {
         ensures goes_on { IsAsk result → self.new.call.top ≡ self.old.call.top }
         ensures counted { IsAsk result
             → (¬ (IsDone self.old.call.need)) × (self.old.call.asked ≤ self.new.call.asked) }
-        ensures leads { (s : State) → RwCallLeads A.next s (standing_of self.old.call registry.old) []
+        ensures leads { (s : State) → RwCallTransition A.next s (standing_of self.old.call registry.old) []
             self.new registry.new result }
         ensures functions { numbers_of registry.new ≡ numbers_of registry.old }
         ensures same { self.new ≡ record self.old {
@@ -130,7 +130,7 @@ impl RwCore {
         ensures turn { IsRwTurn self.new result }
         ensures no_value { self.old.answers ≡ answers_after self.old.answers self.old.call.top result }
         ensures after { IsAsk result → self.new ≡ record self.old { reading = Some query } }
-        ensures leads { RwStandingLeads (standing_of self.old.call registry.old) self.new registry.new result }
+        ensures leads { RwStandingTransition (standing_of self.old.call registry.old) self.new registry.new result }
         ensures functions { numbers_of registry.new ≡ numbers_of registry.old }
         ensures same { self.new ≡ record self.old { call = self.new.call; reading = self.new.reading } }
     {
@@ -158,7 +158,7 @@ impl RwCore {
         ensures answers { self.new.answers ≡ answers_after self.old.answers key result }
         ensures begins { IsAsk result → self.new.call.top ≡ key }
         ensures leads { IsSome (activity_of registry.old key.function)
-            → (s : State) → RwCallLeads A.next s (standing_of (started key) registry.old) []
+            → (s : State) → RwCallTransition A.next s (standing_of (started key) registry.old) []
             self.new registry.new result }
         ensures missing { IsNone (activity_of registry.old key.function)
             → result ≡ Turn.Ended (Err (TxnError.Call (NoFunction key.function))) }

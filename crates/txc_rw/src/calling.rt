@@ -6,7 +6,7 @@ ghost use Rattle.txc_registry.specs.Objects.{activity_of, numbers_of, Objects};
 ghost use Rattle.txc_call.specs.declared.error.CallError.TheVariants.{NoFunction};
 ghost use Rattle.txc_call.specs.Calling.{started};
 ghost use Rattle.txc_rw.specs.Core.{IsRw, IsRwIdle, RwHolds};
-ghost use Rattle.txc_rw.specs.Leading.{standing_of, IsQueryLeft, IsQueryRefusal, IsUncachedRun};
+ghost use Rattle.txc_rw.specs.Transitions.{standing_of, IsQueryLeft, IsQueryRefusal, IsUncachedRun};
 
 use crate::finding::find;
 use crate::given::Given;

@@ -56,7 +56,7 @@ fn at_one(found: Found) -> Found
 impl RwCore {
     ghost use Rattle.txc_rw.specs.Core.{answers_after, queried_after, IsRightReply, IsRw, IsRwTurn, RwHolds};
     ghost use Rattle.txc_ports.specs.Turns.{IsAsk};
-    ghost use Rattle.txc_rw.specs.Leading.{standing_of, RowsLead, RwCallLeads};
+    ghost use Rattle.txc_rw.specs.Transitions.{standing_of, RowsTransition, RwCallTransition};
 
     /// Goes on with the database's answer to the query that its call asked. A refusal of the database ends the
     /// call; whatever ends it, what was answered counts as read.
@@ -79,7 +79,7 @@ impl RwCore {
         ensures leads { (s : State) (query : Query) (found : Found)
             → self.old.call.need ≡ Some (Need.Query query) → reply ≡ Ok found
             → found.rows.items ≡ answer query s
-            → RwCallLeads A.next s (standing_of self.old.call registry.old) (query ∷ [])
+            → RwCallTransition A.next s (standing_of self.old.call registry.old) (query ∷ [])
             self.new registry.new result }
         ensures functions { numbers_of registry.new ≡ numbers_of registry.old }
         ensures refused { (error : DbError) → reply ≡ Err error
@@ -123,7 +123,7 @@ impl RwCore {
         ensures holds { (next : Next) (objects : Objects) (L : History) → IsRightReply L self.old reply
             → RwHolds next L objects self.old → RwHolds next L objects self.new }
         ensures leads { (query : Query) → self.old.reading ≡ Some query
-            → RowsLead self.old query reply self.new result }
+            → RowsTransition self.old query reply self.new result }
     {
         let Some(Reading { query, tags: read }) = mem::replace(&mut self.reading, None) else {
             unreachable!()

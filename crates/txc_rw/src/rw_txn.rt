@@ -11,7 +11,7 @@ ghost use Rattle.txc_call.specs.declared.error.CallError.TheVariants.{NoFunction
 ghost use Rattle.txc_rw.specs.declared.rw_core.TheConstants.{MAX_CHANGES};
 ghost use Rattle.txc_rw.specs.Answers.{state_of, AgreeOn, AreRightIn};
 ghost use Rattle.txc_rw.specs.Core.{tags_read, IsBegun, IsWriteRefused};
-ghost use Rattle.txc_rw.specs.Leading.{HasRunAtBase, IsQueryLeft, IsQueryRefusal};
+ghost use Rattle.txc_rw.specs.Transitions.{HasRunAtBase, IsQueryLeft, IsQueryRefusal};
 ghost use Rattle.txc_rw.specs.Outcomes.{IsCommitted};
 
 use crate::calling::{call_at, query_at};

@@ -7,7 +7,7 @@ ghost use Rattle.txc_call.specs.declared.need.Need.{Need};
 ghost use Rattle.txc_call.specs.Calling.{turn_after, CallHolds, InCall, IsAtRest, IsCalling};
 ghost use Rattle.txc_call.specs.Needs.{reply_reach, ReplyFits};
 ghost use Rattle.txc_rw.specs.Core.{needs_no_node, HasCounted, NeedsOnly};
-ghost use Rattle.txc_rw.specs.Leading.{standing_of, IsLedTo};
+ghost use Rattle.txc_rw.specs.Transitions.{standing_of, IsLedTo};
 
 use std::alloc::Global;
 use txc_app::App;

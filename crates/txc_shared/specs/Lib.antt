@@ -9,3 +9,4 @@ pub mod Writers
 pub mod Locked
 pub mod Worked
 pub mod Leaving
+pub mod Codes

@@ -36,7 +36,7 @@ use Rattle.txc_txn.specs.declared.pinning.PinStep.{PinStep}
 use Rattle.txc_ports.specs.Answers.{IsFresh, AreConsistent}
 use Rattle.txc_txn.specs.Meaning.{IsMeant, LieWithin}
 use Rattle.txc_txn.specs.Core.{CoreValue, CoreHolds, IsCore, IsFreshPinning, IsFreshStep, IsRightPortReply, PinningFits, Explains, begun_core, first_call, least_present, receipt_pin}
-use Rattle.txc_txn.specs.Leading.{NeedLeads, PresentPinLeads, ReplyLeads, StandingLeads, StandsStill}
+use Rattle.txc_txn.specs.Transitions.{NeedTransition, PresentPinTransition, ReplyTransition, StandingTransition, StandsStill}
 use Rattle.std.specs.Option.{ForSome}
 use Rattle.std.specs.Prelude.{IsNone, IsSome}
 use Rattle.txc_ports.specs.Fronts.{front_of_reply}
@@ -277,8 +277,8 @@ core_begun next objects nodes renew_after bounds pins call idle empty none some 
 -- ---- how the call stands
 
 -- what the core does with how its call stands
-pub need_stands : (old new : CoreValue) (objects objects' : Objects) (turn : PortTurn) → NeedLeads old objects new objects' turn
-    → StandingLeads (Ok (record { frames = old.call.frames; asked = old.call.asked; need = old.call.need; objects = objects })) new objects' turn
+pub need_stands : (old new : CoreValue) (objects objects' : Objects) (turn : PortTurn) → NeedTransition old objects new objects' turn
+    → StandingTransition (Ok (record { frames = old.call.frames; asked = old.call.asked; need = old.call.need; objects = objects })) new objects' turn
 need_stands old new objects objects' (turns.Ask request) h = (ap (λ (call : Calling). call.frames) h.0, ap (λ (call : Calling). call.asked) h.0, ap (λ (call : Calling). call.need) h.0, h.1)
 need_stands old new objects objects' (turns.Ended (Ok value)) h = h
 need_stands old new objects objects' (turns.Ended (Err error)) h = h
@@ -289,7 +289,7 @@ still_seen : (c : CoreValue) (seen : FrontValue) (objects : Objects) (new : Core
 still_seen c seen objects new objects' h = record { same_call = h.same_call; same_objects = h.same_objects; none = h.none }
 
 pin_seen : (c : CoreValue) (seen : FrontValue) (objects : Objects) (first : Option Call) (new : CoreValue) (objects' : Objects) (turn : PortTurn)
-    → PresentPinLeads first (record c { seen = seen }) objects new objects' turn → PresentPinLeads first c objects new objects' turn
+    → PresentPinTransition first (record c { seen = seen }) objects new objects' turn → PresentPinTransition first c objects new objects' turn
 pin_seen c seen objects None new objects' turn h = (still_seen c seen objects new objects' h.0, h.1)
 pin_seen c seen objects (Some k) new objects' turn h = record {
   there = h.there;
@@ -298,7 +298,7 @@ pin_seen c seen objects (Some k) new objects' turn h = record {
 
 -- nor does what comes of any reply
 pub leads_seen : (next : Next) (c : CoreValue) (seen : FrontValue) (objects : Objects) (reply : PortReply) (new : CoreValue) (objects' : Objects) (turn : PortTurn)
-    → ReplyLeads next (record c { seen = seen }) objects reply new objects' turn → ReplyLeads next c objects reply new objects' turn
+    → ReplyTransition next (record c { seen = seen }) objects reply new objects' turn → ReplyTransition next c objects reply new objects' turn
 leads_seen next c seen objects (ports.Pin (Ok pinned)) new objects' turn h = h
 leads_seen next c seen objects (ports.Pin (Err error)) new objects' turn h = h
 leads_seen next c seen objects (ports.AddPin pinned (Ok added)) new objects' turn h = pin_seen c seen objects (first_call c.pinning) new objects' turn h

@@ -26,7 +26,7 @@ use Rattle.txc_ports.specs.Turns.{PortTurn}
 use Rattle.txc_ports.specs.declared.turn.Turn.TheVariants as turns
 use Rattle.txc_ports.specs.Fronts.{front_of_reply}
 use Rattle.txc_txn.specs.Core.{CoreValue, AddsOnly, HoldsNewest, IsAnswered, CoreAsks, IsNoAdding}
-use Rattle.txc_txn.specs.Leading.{ReplyLeads}
+use Rattle.txc_txn.specs.Transitions.{ReplyTransition}
 use Rattle.txc_txn.specs.Kept.{TxnValue, IsTxn, IsShownRight}
 use Rattle.txc_ports.specs.Asking.{AddsSuch, TurnAddsSuch, IsAnsweredRight, IsReplyTo, MayAsk}
 use Rattle.txc_ports.specs.Exchanges.{Exchange, reply_of, request_of}
@@ -52,7 +52,7 @@ module _ (P : FrontValue → Type 0) where
   -- it is the one of the reply
   module _ (next : Next) (old new : TxnValue) (turn : PortTurn) where
     pub adds_next : (reply : PortReply) → ForSome (front_of_reply reply) P → AddsOnly reply turn
-        → ReplyLeads next old.core old.objects reply new.core new.objects turn → TurnAddsSuch P turn
+        → ReplyTransition next old.core old.objects reply new.core new.objects turn → TurnAddsSuch P turn
     adds_next (replies.Pin (Ok pinned)) of only leads = subst (TurnAddsSuch P) (sym leads) (of pinned.front refl)
     adds_next (replies.Pin (Err error)) of only leads = adds_none turn only
     adds_next (replies.AddPin pinned added) of only leads = adds_none turn only

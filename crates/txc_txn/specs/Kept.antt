@@ -11,7 +11,7 @@ use Rattle.txc_ports.specs.Fronts.{front_of_reply}
 use Rattle.txc_txn.specs.Core.{CoreValue, CoreHolds, IsCore, IsRightPortReply, IsTurn, KeepsSettings, PinsAfter}
 use Rattle.txc_ports.specs.Turns.{PortTurn, IsAsk}
 use Rattle.txc_txn.specs.Core.{left_after, left_pin, open_call, recorded_after, taken_after, AddsOnly, IsNoAdding, IsNoValue, IsOneOf}
-use Rattle.txc_txn.specs.Leading.{ReplyLeads, StartLeads}
+use Rattle.txc_txn.specs.Transitions.{ReplyTransition, StartTransition}
 
 -- what callers see of it: its core, and what its objects do
 pub record TxnValue : Type 0 where
@@ -40,7 +40,7 @@ pub record HasBegunCall (old : TxnValue) (key : Call) (new : TxnValue) (turn : P
   pub no_value : IsNoValue turn
   pub no_add : IsNoAdding turn
   pub left : left_pin new.core.pinning ≡ None
-  pub leads : StartLeads old.core old.objects key new.core new.objects turn
+  pub leads : StartTransition old.core old.objects key new.core new.objects turn
   pub functions : numbers_of new.objects ≡ numbers_of old.objects
   pub same : new.core ≡ record old.core { call = new.core.call; pinning = new.core.pinning }
 
@@ -49,7 +49,7 @@ pub record HasBegunCall (old : TxnValue) (key : Call) (new : TxnValue) (turn : P
 pub record HasGoneOn (next : Next) (old : TxnValue) (reply : PortReply) (new : TxnValue)
     (turn : PortTurn) : Type 0 where
   pub turn_fits : IsTurn new.core turn
-  pub leads : ReplyLeads next old.core old.objects reply new.core new.objects turn
+  pub leads : ReplyTransition next old.core old.objects reply new.core new.objects turn
   pub adds : AddsOnly reply turn
   pub pins : PinsAfter old.core reply new.core.pins
   pub taken : new.core.taken ≡ taken_after old.core.taken reply
@@ -80,7 +80,7 @@ pub record HasAnswered (next : Next) (old : CoreValue) (was : Objects) (reply : 
   pub holds : (L : History) → IsRightPortReply next L old.call.need reply → CoreHolds next L was old
       → CoreHolds next L is new
   pub turn_fits : IsTurn new turn
-  pub leads : ReplyLeads next old was reply new is turn
+  pub leads : ReplyTransition next old was reply new is turn
   pub adds : AddsOnly reply turn
   pub pins : PinsAfter old reply new.pins
   pub taken : new.taken ≡ taken_after old.taken reply

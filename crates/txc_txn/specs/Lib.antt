@@ -1,7 +1,7 @@
 pub mod Meaning
 pub mod Laws
 pub mod Core
-pub mod Leading
+pub mod Transitions
 pub mod Kept
 pub mod Worked
 pub mod Sessions

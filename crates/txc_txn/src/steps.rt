@@ -35,7 +35,7 @@ impl TxnCore {
     ghost use Rattle.txc_txn.specs.Kept.{HasTurned};
     ghost use Rattle.txc_ports.specs.Turns.{IsAsk};
     ghost use Rattle.txc_txn.specs.Core.{WaitsForPin};
-    ghost use Rattle.txc_txn.specs.Leading.{AsksLookup, AsksPin, BeginLeads, CallLeads, IsBeyond, NeedLeads, StandsStill};
+    ghost use Rattle.txc_txn.specs.Transitions.{AsksLookup, AsksPin, BeginTransition, CallTransition, IsBeyond, NeedTransition, StandsStill};
 
     // The least stamp that a pin of the present may have; none beyond the last stamp.
     fn least_present(&self) -> Option<Stamp>
@@ -126,7 +126,7 @@ impl TxnCore {
         ensures need { self.new.machine.need ≡ None }
         ensures ended { ¬ (IsAsk result) }
         ensures leads { (objects objects' : Objects)
-            → NeedLeads (value_of self.old) objects (value_of self.new) objects' result }
+            → NeedTransition (value_of self.old) objects (value_of self.new) objects' result }
         ensures recorded { (next : Next) (objects : Objects) → IsCore next objects (value_of self.old)
             → self.new.recorded.items
             ≡ recorded_after self.old.recorded.items result (Some self.old.machine.top) }
@@ -169,7 +169,7 @@ impl TxnCore {
             ≡ recorded_after self.old.recorded.items result (Some self.old.machine.top) }
         ensures goes_on { IsAsk result → open_call (value_of self.new) ≡ Some self.old.machine.top }
         ensures no_value { (k : Call) → self.old.machine.need ≡ Some (Need.Lookup k) → IsNoValue result }
-        ensures leads { NeedLeads (value_of self.old) registry.old (value_of self.new) registry.new result }
+        ensures leads { NeedTransition (value_of self.old) registry.old (value_of self.new) registry.new result }
         ensures lookup { (k : Call) → self.old.machine.need ≡ Some (Need.Lookup k)
             → StandsStill (value_of self.old) registry.old (value_of self.new) registry.new
             × AsksLookup k result }
@@ -229,7 +229,7 @@ impl TxnCore {
             → CoreHolds A.next L registry.new (value_of self.new) }
         ensures no_value { IsNoValue result }
         ensures begins { IsAsk result → open_call (value_of self.new) ≡ Some key }
-        ensures leads { BeginLeads (value_of self.old) registry.old key
+        ensures leads { BeginTransition (value_of self.old) registry.old key
             (value_of self.new) registry.new result }
         ensures same { value_of self.new
             ≡ record (value_of self.old) { call = self.new.machine; pinning = self.new.pinning } }
@@ -261,7 +261,7 @@ impl TxnCore {
             ≡ recorded_after self.old.recorded.items result (Some self.old.machine.top) }
         ensures goes_on { IsAsk result → open_call (value_of self.new) ≡ Some self.old.machine.top }
         ensures leads { (need : Need) → self.old.machine.need ≡ Some need
-            → CallLeads A.next (value_of self.old) registry.old need reply
+            → CallTransition A.next (value_of self.old) registry.old need reply
             (value_of self.new) registry.new result }
         ensures same { value_of self.new ≡ record (value_of self.old) {
           recorded = self.new.recorded.items;

@@ -16,7 +16,7 @@ use Rattle.txc_world.specs.declared.reply.Refusal.TheVariants.{MidCall}
 use Rattle.txc_world.specs.declared.step.Act.{Act}
 use Rattle.txc_world.specs.declared.step.Act.TheVariants.{BeginRo, Start, Request, Ask, Write, Commit}
 use Rattle.txc_world.specs.Acted.{IsActed}
-use Rattle.txc_world.specs.Acts.{ReadingLeads, WritingLeads}
+use Rattle.txc_world.specs.Acts.{ReadingTransition, WritingTransition}
 use Rattle.txc_world.specs.ActorValues.{reading_value, reads, writes, writing_value}
 use Rattle.txc_world.specs.Actors.{observed_of, IsActor}
 use Rattle.txc_world.specs.Holdings.{account_of, HasLost}
@@ -63,14 +63,14 @@ none_by_test (Some x) is = cc is
 -- a call is open, so a read-only transaction neither starts one nor ends
 pub reading_mid_call : {A C : Type 0} → (next : Next) (pass : ℕ) (p : PortsValue) (o : OpenTxn A C) (act : Act) → is_some o.call ≡ true
     → ((key : Call) × (act ≡ Start key)) ⊎ (act ≡ Commit)
-    → IsActDue (observed_of (Reading o)) act (Refused MidCall) × ReadingLeads next pass act p p (reading_value o) (reads (reading_value o)) (Refused MidCall)
+    → IsActDue (observed_of (Reading o)) act (Refused MidCall) × ReadingTransition next pass act p p (reading_value o) (reads (reading_value o)) (Refused MidCall)
 reading_mid_call next pass p o act is (inl (key, same)) = let there = there_by_test o.call is in rw (same, there.1) (refl, (refl, refl))
 reading_mid_call next pass p o act is (inr same) = let there = there_by_test o.call is in rw (same, there.1) (refl, (refl, refl))
 
 -- a call is open, so a read-write transaction neither starts one, nor asks, nor keeps a change, nor commits
 pub writing_mid_call : {A C : Type 0} → (next : Next) (p : PortsValue) (o : OpenRw A C) (act : Act) → is_some o.call ≡ true
     → ((key : Call) × (act ≡ Start key)) ⊎ (((query : Query) × (act ≡ Ask query)) ⊎ (((change : Change) × (act ≡ Write change)) ⊎ (act ≡ Commit)))
-    → IsActDue (observed_of (Writing o)) act (Refused MidCall) × WritingLeads next act p p (writing_value o) (writes (writing_value o)) (Refused MidCall)
+    → IsActDue (observed_of (Writing o)) act (Refused MidCall) × WritingTransition next act p p (writing_value o) (writes (writing_value o)) (Refused MidCall)
 writing_mid_call next p o act is (inl (key, same)) = let there = there_by_test o.call is in rw (same, there.1) (refl, (refl, refl))
 writing_mid_call next p o act is (inr (inl (query, same))) = let there = there_by_test o.call is in rw (same, there.1) (refl, (refl, refl))
 writing_mid_call next p o act is (inr (inr (inl (change, same)))) = let there = there_by_test o.call is in rw (same, there.1) (refl, (refl, refl))

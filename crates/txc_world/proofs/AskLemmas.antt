@@ -28,9 +28,9 @@ use Rattle.txc_world.specs.declared.did.Did.{Did}
 use Rattle.txc_world.specs.declared.did.Did.TheVariants as dids
 use Rattle.txc_world.specs.Parts.{IsPartOf}
 use Rattle.txc_world.specs.Ports.{PortsValue, whole_of, KeepsRow, HasLedNode}
-use Rattle.txc_world.specs.Asks.{kept_after, AddLeads, AnswersRows, DoesTell, FindLeads, IsAsked, IsAskedAt, IsTold, PinLeads, PortRequestLeads, UnpinLeads}
+use Rattle.txc_world.specs.Asks.{kept_after, AddTransition, AnswersRows, DoesTell, FindTransition, IsAsked, IsAskedAt, IsTold, PinTransition, PortRequestTransition, UnpinTransition}
 use Rattle.txc_world.specs.Holdings.{CountRight}
-use Rattle.txc_world.specs.NodeSteps.{InsertLeads, LookupLeads}
+use Rattle.txc_world.specs.NodeSteps.{InsertTransition, LookupTransition}
 use Rattle.txc_world.proofs.Fairness.{counts_add, counts_pin, counts_query, counts_unpin, fair_led}
 use Rattle.txc_world.specs.Observation.{did_in}
 use Rattle.txc_world.proofs.PartLemmas.{part_itself, part_then}
@@ -48,7 +48,7 @@ for_none : {X : Type 0} (P : X → Type 0) → ForSome None P
 for_none P y is = cc is
 
 module _ (next : Next) (pass : ℕ) (seen : FrontValue) (old new : PortsValue) (keeps : KeepsRow old new) (right : CountRight old) where
-  pub asked_pin : (now at_least : ℕ) (pinned : Result Pinned DbError) → PinLeads now at_least old new pinned
+  pub asked_pin : (now at_least : ℕ) (pinned : Result Pinned DbError) → PinTransition now at_least old new pinned
       → IsAsked next pass seen (requests.Pin now at_least) old new (replies.Pin pinned)
   asked_pin now at_least (Ok pinned) h = record {
     to = (h.moment, h.late, h.shown);
@@ -69,11 +69,11 @@ module _ (next : Next) (pass : ℕ) (seen : FrontValue) (old new : PortsValue) (
     counts = counts_pin old new now at_least (Err e) h;
   }
 
-  spare_added : (pinned : Pinned) (added : Result (Unit {0}) AddError) → AddLeads pinned old new added → new.spare ≡ old.spare
+  spare_added : (pinned : Pinned) (added : Result (Unit {0}) AddError) → AddTransition pinned old new added → new.spare ≡ old.spare
   spare_added pinned (Ok added) h = ap (λ (p : PortsValue). p.spare) h.0
   spare_added pinned (Err e) h = ap (λ (p : PortsValue). p.spare) h.0
 
-  pub asked_add : (pinned : Pinned) (added : Result (Unit {0}) AddError) → IsPartOf (whole_of old) pinned.front → AddLeads pinned old new added
+  pub asked_add : (pinned : Pinned) (added : Result (Unit {0}) AddError) → IsPartOf (whole_of old) pinned.front → AddTransition pinned old new added
       → IsAsked next pass seen (requests.AddPin pinned) old new (replies.AddPin pinned added)
   asked_add pinned added part h = record {
     to = refl;
@@ -85,11 +85,11 @@ module _ (next : Next) (pass : ℕ) (seen : FrontValue) (old new : PortsValue) (
     counts = counts_add old new pinned added right h;
   }
 
-  spare_unpinned : (stamp : ℕ) (unpinned : Result (Unit {0}) DbError) → UnpinLeads stamp old new unpinned → new.spare ≡ old.spare
+  spare_unpinned : (stamp : ℕ) (unpinned : Result (Unit {0}) DbError) → UnpinTransition stamp old new unpinned → new.spare ≡ old.spare
   spare_unpinned stamp (Ok done) h = ap (λ (p : PortsValue). p.spare) h.0
   spare_unpinned stamp (Err e) h = ap (λ (p : PortsValue). p.spare) h.0
 
-  pub asked_unpin : (stamp : ℕ) (unpinned : Result (Unit {0}) DbError) → UnpinLeads stamp old new unpinned
+  pub asked_unpin : (stamp : ℕ) (unpinned : Result (Unit {0}) DbError) → UnpinTransition stamp old new unpinned
       → IsAsked next pass seen (requests.Unpin stamp) old new (replies.Unpin unpinned)
   asked_unpin stamp unpinned h = record {
     to = tt;
@@ -102,7 +102,7 @@ module _ (next : Next) (pass : ℕ) (seen : FrontValue) (old new : PortsValue) (
   }
 
   pub asked_lookup : (node : ℕ) (key : Call) (lo hi : ℕ) (hit : Option (Answered Shown))
-      → HasLedNode node (λ was is. LookupLeads pass key lo hi was is (option_map (λ h. h.answer) hit)) old new
+      → HasLedNode node (λ was is. LookupTransition pass key lo hi was is (option_map (λ h. h.answer) hit)) old new
       → IfSome hit (λ h. IsTrueIn next h.front.history (entry_shown key h.answer)) → IfSome hit (λ h. IsPartOf (whole_of old) h.front)
       → IsAsked next pass seen (requests.Lookup node key lo hi) old new (replies.Lookup hit)
   asked_lookup node key lo hi (Some hit) led true_in part = record {
@@ -125,7 +125,7 @@ module _ (next : Next) (pass : ℕ) (seen : FrontValue) (old new : PortsValue) (
   }
 
   pub asked_insert : (node : ℕ) (entry : Entry) (made : Option Insertion) (kept : Option Kept) → kept ≡ kept_after made
-      → HasLedNode node (λ was is. InsertLeads pass seen entry was is made) old new
+      → HasLedNode node (λ was is. InsertTransition pass seen entry was is made) old new
       → IsAsked next pass seen (requests.Insert node entry) old new (replies.Insert kept)
   asked_insert node entry made kept is led = record {
     to = tt;
@@ -137,7 +137,7 @@ module _ (next : Next) (pass : ℕ) (seen : FrontValue) (old new : PortsValue) (
     counts = record { fair = fair_led old new node _ led; gone = tt };
   }
 
-  pub asked_query : (query : Query) (stamp : ℕ) (found : Result (Answered Found) DbError) → new ≡ old → FindLeads query stamp old found
+  pub asked_query : (query : Query) (stamp : ℕ) (found : Result (Answered Found) DbError) → new ≡ old → FindTransition query stamp old found
       → IsAsked next pass seen (requests.Query query stamp) old new (replies.Query found)
   asked_query query stamp (Ok found) same h = record {
     to = h.0.over;
@@ -191,7 +191,7 @@ module _ (old new : PortsValue) (did : Did) (now : ℕ) where
   led_history : (at : ℕ) (leads : NodeValue → NodeValue → Type 0) → HasLedNode at leads old new → new.database.history ≡ old.database.history
   led_history at leads led = ap (λ (p : PortsValue). p.database.history) led.is
 
-  pub told_history : (pass : ℕ) (seen : FrontValue) (request : PortRequest) (reply : PortReply) → PortRequestLeads pass seen request old new reply → DoesTell reply did
+  pub told_history : (pass : ℕ) (seen : FrontValue) (request : PortRequest) (reply : PortReply) → PortRequestTransition pass seen request old new reply → DoesTell reply did
       → IsAskedAt now request → new.database.history ≡ did_in did now old.database.history
   told_history pass seen (requests.Pin moment at_least) (replies.Pin (Ok pinned)) h told is =
       ap (λ (p : PortsValue). p.database.history) h.after

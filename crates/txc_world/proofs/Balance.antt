@@ -16,11 +16,11 @@ use Rattle.txc_world.specs.declared.reply.Reply.TheVariants.{Refused}
 use Rattle.txc_world.specs.declared.reply.Refusal.TheVariants as refusals
 use Rattle.txc_shared.specs.Nodes.{NodeValue}
 use Rattle.txc_world.specs.Ports.{PortsValue, HasLedNode, HasRefused}
-use Rattle.txc_world.specs.Asks.{UnpinLeads}
-use Rattle.txc_world.specs.Keeping.{stamps_of_pins, GiveBackLeads, HasAddedSpare, PinSpareLeads, RetireLeads, WriteLeads}
+use Rattle.txc_world.specs.Asks.{UnpinTransition}
+use Rattle.txc_world.specs.Keeping.{stamps_of_pins, GiveBackTransition, HasAddedSpare, PinSpareTransition, RetireTransition, WriteTransition}
 use Rattle.txc_world.specs.Holdings.{holdings_of, Account, CountRight}
 use Rattle.txc_world.specs.Tidy.{AreBalanced, KeepsBalance, InHand}
-use Rattle.txc_world.specs.Kept.{KeepLeads}
+use Rattle.txc_world.specs.Kept.{KeepTransition}
 use Rattle.txc_world.proofs.KeptLemmas.{pinned_spare_stamps}
 use Rattle.txc_world.proofs.Times.{held_there, times_append, times_cons, times_one, times_without}
 use Rattle.txc_world.proofs.Fairness.{left_holds, pin_holds}
@@ -48,7 +48,7 @@ committed_holds d (c ∷ cs) other same = same
 -- ---- the database
 
 module _ (old new : PortsValue) where
-  keeps_written : (change : Change) (stamp : ℕ) → WriteLeads change old new (Ok stamp) → KeepsBalance (keeps.Write change) old new (replies.At stamp)
+  keeps_written : (change : Change) (stamp : ℕ) → WriteTransition change old new (Ok stamp) → KeepsBalance (keeps.Write change) old new (replies.At stamp)
   keeps_written change stamp leads = λ in_hand accounts tidy h.
       let d = old.database in
       let holds : new.database.holds ≡ old.database.holds =
@@ -56,13 +56,13 @@ module _ (old new : PortsValue) where
       ∙ committed_holds d (newest_net d (change ∷ [])) (after_event_of d (commit_event (newest_state d) (change ∷ [])) (newest_net d (change ∷ []))) refl in
       balance_same old new in_hand accounts holds (ap (λ (p : PortsValue). p.cushion) leads.0) (ap (λ (p : PortsValue). stamps_of_pins p.spare) leads.0) h
 
-  keeps_not_written : (change : Change) (e : DbError) → WriteLeads change old new (Err e) → KeepsBalance (keeps.Write change) old new (Refused (refusals.Database e))
+  keeps_not_written : (change : Change) (e : DbError) → WriteTransition change old new (Err e) → KeepsBalance (keeps.Write change) old new (Refused (refusals.Database e))
   keeps_not_written change e leads = λ in_hand accounts tidy h. balance_refused old new e leads.0 in_hand accounts h
 
-  keeps_not_pinned : (now : ℕ) (e : DbError) → PinSpareLeads now old new (Err e) → KeepsBalance (keeps.Pin now) old new (Refused (refusals.Database e))
+  keeps_not_pinned : (now : ℕ) (e : DbError) → PinSpareTransition now old new (Err e) → KeepsBalance (keeps.Pin now) old new (Refused (refusals.Database e))
   keeps_not_pinned now e leads = λ in_hand accounts tidy h. balance_refused old new e leads.0 in_hand accounts h
 
-  keeps_pinned : (now stamp : ℕ) → PinSpareLeads now old new (Ok stamp) → KeepsBalance (keeps.Pin now) old new (replies.At stamp)
+  keeps_pinned : (now stamp : ℕ) → PinSpareTransition now old new (Ok stamp) → KeepsBalance (keeps.Pin now) old new (replies.At stamp)
   keeps_pinned now stamp leads = λ in_hand accounts tidy h.
       let pinned = leads.pinned in
       let holds : new.database.holds ≡ old.database.holds ++ pinned.stamp ∷ [] =
@@ -77,7 +77,7 @@ module _ (old new : PortsValue) where
         used = h.used;
       })
 
-  keeps_unpinned : (stamp : ℕ) → CountRight old → UnpinLeads {A = Unit {0}} stamp old new (Ok tt) → KeepsBalance (keeps.Unpin stamp) old new replies.Unpinned
+  keeps_unpinned : (stamp : ℕ) → CountRight old → UnpinTransition {A = Unit {0}} stamp old new (Ok tt) → KeepsBalance (keeps.Unpin stamp) old new replies.Unpinned
   keeps_unpinned stamp right leads = λ in_hand accounts tidy h. rw leads.0 (record {
     held = λ t.
         let a = h.held t in
@@ -127,7 +127,7 @@ module _ (old new : PortsValue) where
         used = h.used;
       })
 
-  keeps_given_back : (stamp : ℕ) → CountRight old → GiveBackLeads {A = Unit {0}} (stamp ∷ []) old new (Ok tt) → KeepsBalance (keeps.GiveBack stamp) old new replies.GivenBack
+  keeps_given_back : (stamp : ℕ) → CountRight old → GiveBackTransition {A = Unit {0}} (stamp ∷ []) old new (Ok tt) → KeepsBalance (keeps.GiveBack stamp) old new replies.GivenBack
   keeps_given_back stamp right leads = λ in_hand accounts tidy h. rw leads.0 (record {
     held = λ t.
         let a = h.held t in
@@ -142,7 +142,7 @@ module _ (old new : PortsValue) where
         omega (arith, a, b, c);
   })
 
-  keeps_retired : (now age : ℕ) (stamps : Vec ℕ Global) → CountRight old → RetireLeads {A = Unit {0}} now age old new (Ok stamps)
+  keeps_retired : (now age : ℕ) (stamps : Vec ℕ Global) → CountRight old → RetireTransition {A = Unit {0}} now age old new (Ok stamps)
       → KeepsBalance (keeps.Retire now age) old new (replies.Retired stamps)
   keeps_retired now age stamps right leads = λ in_hand accounts tidy h. rw (leads.0, leads.1) (record {
     held = λ t.
@@ -164,7 +164,7 @@ module _ (old new : PortsValue) where
       → AreBalanced (stamps_of_pins new.spare) (holdings_of new accounts) in_hand
   nothing_spent same in_hand accounts h = rw same h
 
-  pub kept_balance : CountRight old → (keep : Keep) (reply : Reply) → KeepLeads keep old new reply → KeepsBalance keep old new reply
+  pub kept_balance : CountRight old → (keep : Keep) (reply : Reply) → KeepTransition keep old new reply → KeepsBalance keep old new reply
   kept_balance right (keeps.Write change) (replies.At stamp) leads = keeps_written change stamp leads
   kept_balance right (keeps.Write change) (Refused (refusals.Database e)) leads = keeps_not_written change e leads
   kept_balance right (keeps.Pin now) (replies.At stamp) leads = keeps_pinned now stamp leads

@@ -40,18 +40,18 @@ module _ {A C X : Type 0} (start : X → Option (Actor A C)) (starts : (x : X) �
 
 -- ---- an actor steps
 
-module _ (old new : PortsValue) (accounts : List Account) (place : ℕ) (before after : Account) (there : slice_get accounts place ≡ Some before) (spare : List ℕ) (in_hand : InHand) where
-  acts_balanced : IsFair old new before after → AreBalanced spare (holdings_of old accounts) in_hand → AreBalanced spare (holdings_of new (slice_set accounts place after)) in_hand
+module _ (old new : PortsValue) (accounts : List Account) (number : ℕ) (before after : Account) (there : slice_get accounts number ≡ Some before) (spare : List ℕ) (in_hand : InHand) where
+  acts_balanced : IsFair old new before after → AreBalanced spare (holdings_of old accounts) in_hand → AreBalanced spare (holdings_of new (slice_set accounts number after)) in_hand
   acts_balanced fair h = record {
     held = λ t.
         let a = h.held t in
         let b = fair.holds t in
-        let c = sum_set (λ (x : Account). times t x.own) accounts place before after there in
+        let c = sum_set (λ (x : Account). times t x.own) accounts number before after there in
         omega (arith, a, b, c);
     used = λ t.
         let a = h.used t in
         let b = fair.users t in
-        let c = sum_set (λ (x : Account). times t x.taken) accounts place before after there in
+        let c = sum_set (λ (x : Account). times t x.taken) accounts number before after there in
         omega (arith, a, b, c);
   }
 
@@ -61,8 +61,8 @@ module _ (old new : PortsValue) (accounts : List Account) (place : ℕ) (before 
       let t = lost.stamp in
       let a = h.held t in
       let b = h.used t in
-      let c = sum_at (λ (x : Account). times t x.own) accounts place before there in
-      let d = sum_at (λ (x : Account). times t x.taken) accounts place before there in
+      let c = sum_at (λ (x : Account). times t x.own) accounts number before there in
+      let d = sum_at (λ (x : Account). times t x.taken) accounts number before there in
       let e = lost.had in
       let gone = lost.lost in
       let once = right.once old.cushion t right.cushion in
@@ -73,20 +73,20 @@ module _ (old new : PortsValue) (accounts : List Account) (place : ℕ) (before 
   loses_nothing : (reply : Reply) → CountRight old → AreBalanced spare (holdings_of old accounts) in_hand → ActCounts old new before after reply → LosesNothing reply
   loses_nothing reply right h counts = reply_so (HasLost old before) ⊥ (none_lost right h) reply counts.loss
 
-module _ {A C : Type 0} (settings : WorldSettings) (old new : PortsValue) (floors floors' : List ℕ) (actors : List (Option (Actor A C))) (place : ℕ) (actor actor' : Actor A C)
-    (is : slice_get actors place ≡ Some (Some actor)) where
-  account_there : slice_get (map account_at actors) place ≡ Some (account_of actor)
-  account_there = slice_get-map account_at actors place ∙ ap (λ (o : Option (Option (Actor A C))). option_map account_at o) is
+module _ {A C : Type 0} (settings : WorldSettings) (old new : PortsValue) (floors floors' : List ℕ) (actors : List (Option (Actor A C))) (number : ℕ) (actor actor' : Actor A C)
+    (is : slice_get actors number ≡ Some (Some actor)) where
+  account_there : slice_get (map account_at actors) number ≡ Some (account_of actor)
+  account_there = slice_get-map account_at actors number ∙ ap (λ (o : Option (Option (Actor A C))). option_map account_at o) is
 
   pub world_balanced : (actors' : List (Option (Actor A C))) (was now : WorldValue) (reply : Reply) (in_hand : InHand)
-      → actors' ≡ slice_set actors place (Some actor') → new.spare ≡ old.spare → CountRight old
+      → actors' ≡ slice_set actors number (Some actor') → new.spare ≡ old.spare → CountRight old
       → ActCounts old new (account_of actor) (account_of actor') reply
       → value_of_world settings old floors actors ≡ was → value_of_world settings new floors' actors' ≡ now → IsBalanced was in_hand → IsBalanced now in_hand × LosesNothing reply
   world_balanced actors' was now reply in_hand put spare right counts shows shows' h =
       let h' = subst (λ (w : WorldValue). IsBalanced w in_hand) (sym shows) h in
-      let b = acts_balanced old new (map account_at actors) place (account_of actor) (account_of actor') account_there (stamps_of_pins old.spare) in_hand counts.fair h' in (
-        subst (λ (w : WorldValue). IsBalanced w in_hand) shows' (rw (put, spare, map-set account_at actors place (Some actor')) b),
-        loses_nothing old new (map account_at actors) place (account_of actor) (account_of actor') account_there (stamps_of_pins old.spare) in_hand reply right h' counts,
+      let b = acts_balanced old new (map account_at actors) number (account_of actor) (account_of actor') account_there (stamps_of_pins old.spare) in_hand counts.fair h' in (
+        subst (λ (w : WorldValue). IsBalanced w in_hand) shows' (rw (put, spare, map-set account_at actors number (Some actor')) b),
+        loses_nothing old new (map account_at actors) number (account_of actor) (account_of actor') account_there (stamps_of_pins old.spare) in_hand reply right h' counts,
       )
 
 -- ---- one more step and its reply

@@ -23,7 +23,7 @@ use Rattle.txc_rw.specs.Outcomes.{HasChanged, HasChangedNothing}
 use Rattle.txc_world.specs.declared.actor.OpenCall.{OpenCall}
 use Rattle.txc_world.specs.Observation.{Writing, CommitExplains}
 use Rattle.txc_world.specs.Ports.{PortsValue}
-use Rattle.txc_world.specs.Keeping.{CommitLeads}
+use Rattle.txc_world.specs.Keeping.{CommitTransition}
 use Rattle.txc_world.specs.Actors.{told_answers}
 
 -- ---- with a net change or none
@@ -119,7 +119,7 @@ module _ (next : Next) (objects : Objects) (c : RwValue) (d : DatabaseValue) (h 
   ]
 
   -- what was lent to the commit is the core's
-  pub explained_lent : (old new : PortsValue) (base : ℕ) (read : List Tag) (changes : List Change) (stamp : ℕ) → old.database ≡ d → CommitLeads base read changes old new (Ok stamp)
+  pub explained_lent : (old new : PortsValue) (base : ℕ) (read : List Tag) (changes : List Change) (stamp : ℕ) → old.database ≡ d → CommitTransition base read changes old new (Ok stamp)
       → base ≡ c.base → read ≡ tags_read c → changes ≡ c.changes
       → CommitExplains next new.database.history (newest d) (told_writing c) stamp
   explained_lent old new base read changes stamp same leads one two three =

@@ -38,8 +38,8 @@ use Rattle.txc_txn.specs.Core.{left_after, left_pin, taken_after, CoreAsks, Core
 use Rattle.txc_world.specs.declared.did.Did.{Did}
 use Rattle.txc_world.specs.declared.did.Did.TheVariants as dids
 use Rattle.txc_world.specs.Ports.{PortsValue, HasLedNode}
-use Rattle.txc_world.specs.Asks.{AddLeads, FindLeads, FreshLeads, PinLeads, UnpinLeads}
-use Rattle.txc_world.specs.Keeping.{GiveBackLeads}
+use Rattle.txc_world.specs.Asks.{AddTransition, FindTransition, FreshTransition, PinTransition, UnpinTransition}
+use Rattle.txc_world.specs.Keeping.{GiveBackTransition}
 use Rattle.txc_world.specs.declared.reply.Reply.{Reply}
 use Rattle.txc_world.specs.Actors.{counted, holds_any}
 use Rattle.txc_world.specs.Holdings.{account_of_core, gained, handed, nothing, spent, stamp_if_any, Account, ActCounts, AskCounts, CountRight, HasLost, IsFair, LosesOnlyUnheld}
@@ -70,7 +70,7 @@ fair_hold old new taken stamp holds cushion = record {
 }
 
 -- one hold of the actor's is taken away, or the database refuses, which lets it go
-pub fair_unpin : {A : Type 0} → (old new : PortsValue) (taken : List ℕ) (stamp : ℕ) (done : Result A DbError) → CountRight old → UnpinLeads stamp old new done
+pub fair_unpin : {A : Type 0} → (old new : PortsValue) (taken : List ℕ) (stamp : ℕ) (done : Result A DbError) → CountRight old → UnpinTransition stamp old new done
     → IsFair old new (record { taken = taken; own = stamp ∷ [] }) (record { taken = taken; own = [] })
 fair_unpin old new taken stamp (Ok done) right leads = rw leads.0 (record {
   holds = λ t. let less = times_without right.unpin t stamp old.database.holds leads.1 in omega (arith, less);
@@ -89,7 +89,7 @@ fair_then old between new a b c first second = record {
 }
 
 -- pins are handed out, each with one user more
-pub fair_fresh : (old new : PortsValue) (now staleness at_least : ℕ) (pins : Pins) → CountRight old → FreshLeads {A = Unit {0}} now staleness at_least old new (Ok pins)
+pub fair_fresh : (old new : PortsValue) (now staleness at_least : ℕ) (pins : Pins) → CountRight old → FreshTransition {A = Unit {0}} now staleness at_least old new (Ok pins)
     → IsFair old new nothing (handed pins.pins.items)
 fair_fresh old new now staleness at_least pins right leads = rw (leads.0, leads.1) (record {
   holds = λ t. let one = right.fresh old.cushion now staleness at_least t right.cushion in let same = ap (times t) one.stamps in omega (arith, same);
@@ -97,7 +97,7 @@ fair_fresh old new now staleness at_least pins right leads = rw (leads.0, leads.
 })
 
 -- users are given back, or the pincushion refuses
-pub fair_give_back : {A : Type 0} → (old new : PortsValue) (stamps : List ℕ) (given : Result A UnknownPin) → GiveBackCountsUsers → GiveBackLeads stamps old new given
+pub fair_give_back : {A : Type 0} → (old new : PortsValue) (stamps : List ℕ) (given : Result A UnknownPin) → GiveBackCountsUsers → GiveBackTransition stamps old new given
     → (taken left own rest : List ℕ) → ((t : ℕ) → times t left + times t stamps ≤ times t taken) → ((t : ℕ) → times t rest ≤ times t own)
     → IsFair old new (record { taken = taken; own = own }) (record { taken = left; own = rest })
 fair_give_back old new stamps (Ok given) law leads taken left own rest less fewer_own = rw leads.0 (record {
@@ -163,7 +163,7 @@ pin_holds old new now stamp is at =
     ap (λ (d : DatabaseValue). d.holds) is ∙ ap (λ (s : ℕ). old.database.holds ++ s ∷ []) (sym (at ∙ next))
 
 module _ (old new : PortsValue) where
-  pub counts_pin : (now at_least : ℕ) (pinned : Result Pinned DbError) → PinLeads now at_least old new pinned → AskCounts (requests.Pin now at_least) old new (replies.Pin pinned)
+  pub counts_pin : (now at_least : ℕ) (pinned : Result Pinned DbError) → PinTransition now at_least old new pinned → AskCounts (requests.Pin now at_least) old new (replies.Pin pinned)
   counts_pin now at_least (Ok pinned) h = record {
     fair = fair_hold old new [] pinned.stamp (pin_holds old new now pinned.stamp (ap (λ (p : PortsValue). p.database) h.after) h.stamp) (ap (λ (p : PortsValue). p.cushion) h.after);
     gone = tt;
@@ -173,7 +173,7 @@ module _ (old new : PortsValue) where
     gone = gone_pin old at_least e h.1;
   }
 
-  pub counts_add : (pinned : Pinned) (added : Result (Unit {0}) AddError) → CountRight old → AddLeads pinned old new added → AskCounts (requests.AddPin pinned) old new (replies.AddPin pinned added)
+  pub counts_add : (pinned : Pinned) (added : Result (Unit {0}) AddError) → CountRight old → AddTransition pinned old new added → AskCounts (requests.AddPin pinned) old new (replies.AddPin pinned added)
   counts_add pinned (Ok added) right h = rw h.0 (record {
     fair = record {
       holds = λ t. let one = right.add old.cushion pinned t right.cushion h.1 in let a = one.stamps in let b = times_one t pinned.stamp in omega (arith, a, b);
@@ -183,7 +183,7 @@ module _ (old new : PortsValue) where
   })
   counts_add pinned (Err e) right h = rw h.0 (record { fair = fair_itself old (spent (requests.AddPin pinned)); gone = tt })
 
-  pub counts_unpin : (stamp : ℕ) (unpinned : Result (Unit {0}) DbError) → CountRight old → UnpinLeads stamp old new unpinned → AskCounts (requests.Unpin stamp) old new (replies.Unpin unpinned)
+  pub counts_unpin : (stamp : ℕ) (unpinned : Result (Unit {0}) DbError) → CountRight old → UnpinTransition stamp old new unpinned → AskCounts (requests.Unpin stamp) old new (replies.Unpin unpinned)
   counts_unpin stamp (Ok done) right h = record { fair = fair_unpin {A = Unit {0}} old new [] stamp (Ok done) right h; gone = tt }
   counts_unpin stamp (Err e) right h = record { fair = fair_unpin {A = Unit {0}} old new [] stamp (Err e) right h; gone = gone_unpin old stamp e h.1 }
 
@@ -193,7 +193,7 @@ module _ (old new : PortsValue) where
       fair_same old new nothing nothing (ap (λ (p : PortsValue). p.database.holds) led.is) (ap (λ (p : PortsValue). p.cushion) led.is) (λ t. omega arith) (λ t. omega arith)
 
   -- a query changes nothing
-  pub counts_query : (query : Query) (stamp : ℕ) (found : Result (Answered Found) DbError) → CountRight old → new ≡ old → FindLeads query stamp old found
+  pub counts_query : (query : Query) (stamp : ℕ) (found : Result (Answered Found) DbError) → CountRight old → new ≡ old → FindTransition query stamp old found
       → AskCounts (requests.Query query stamp) old new (replies.Query found)
   counts_query query stamp (Ok found) right same h = record { fair = rw same (fair_itself old nothing); gone = tt }
   counts_query query stamp (Err e) right same h = record { fair = rw same (fair_itself old nothing); gone = gone_query old right query stamp e h }
@@ -261,7 +261,7 @@ loss_counted P members did lost = lost
 -- ---- the ends of a transaction
 
 -- all that was taken is given back; a hold is left, if one was there
-pub fair_ended : {A : Type 0} → (old new : PortsValue) (c : CoreValue) (stamps : List ℕ) (given : Result A UnknownPin) → GiveBackCountsUsers → GiveBackLeads stamps old new given
+pub fair_ended : {A : Type 0} → (old new : PortsValue) (c : CoreValue) (stamps : List ℕ) (given : Result A UnknownPin) → GiveBackCountsUsers → GiveBackTransition stamps old new given
     → stamps ≡ c.taken → (rest : List ℕ) → ((t : ℕ) → times t rest ≤ times t (stamp_if_any (left_pin c.pinning))) → IsFair old new (account_of_core c) (record { taken = []; own = rest })
 fair_ended old new c stamps given law leads same rest fewer =
     fair_give_back old new stamps given law leads c.taken [] (stamp_if_any (left_pin c.pinning)) rest (λ t. rw same (omega arith)) fewer
@@ -275,7 +275,7 @@ counts_itself p a reply loss = record { fair = fair_itself p a; loss = loss }
 
 -- one pin after another is given back
 pub fair_rest : {A : Type 0} → (old between new : PortsValue) (pins : List Pin) (i : ℕ) (pin : Pin) (given : Result A UnknownPin) → GiveBackCountsUsers
-    → GiveBackLeads (pin.stamp ∷ []) between new given → i < length pins → pin ≡ get_or pins i pin → IsFair old between (handed pins) (handed (drop i pins))
+    → GiveBackTransition (pin.stamp ∷ []) between new given → i < length pins → pin ≡ get_or pins i pin → IsFair old between (handed pins) (handed (drop i pins))
     → IsFair old new (handed pins) (handed (drop (i + 1) pins))
 fair_rest old between new pins i pin given law leads within is fair =
     let rest = drop (i + 1) pins in

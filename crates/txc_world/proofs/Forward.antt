@@ -20,18 +20,18 @@ use Rattle.txc_world.proofs.Stepping.{set_length}
 
 -- ---- floors
 
-floor_set : (floors : List ℕ) (place floor : ℕ) → place < length floors → floor_at (slice_set floors place floor) place ≡ floor
-floor_set [] place floor within = omega (arith, within)
+floor_set : (floors : List ℕ) (number floor : ℕ) → number < length floors → floor_at (slice_set floors number floor) number ≡ floor
+floor_set [] number floor within = omega (arith, within)
 floor_set (f ∷ fs) zero floor within = refl
-floor_set (f ∷ fs) (suc place) floor within = floor_set fs place floor (omega (arith, within))
+floor_set (f ∷ fs) (suc number) floor within = floor_set fs number floor (omega (arith, within))
 
-floors_rise : (floors : List ℕ) (at place : ℕ) (raise : ℕ → ℕ) → ((n : ℕ) → n ≤ raise n)
-    → floor_at floors place ≤ floor_at (slice_set floors at (raise (floor_at floors at))) place
-floors_rise [] at place raise up = omega arith
+floors_rise : (floors : List ℕ) (at number : ℕ) (raise : ℕ → ℕ) → ((n : ℕ) → n ≤ raise n)
+    → floor_at floors number ≤ floor_at (slice_set floors at (raise (floor_at floors at))) number
+floors_rise [] at number raise up = omega arith
 floors_rise (f ∷ fs) zero zero raise up = up f
-floors_rise (f ∷ fs) zero (suc place) raise up = omega arith
+floors_rise (f ∷ fs) zero (suc number) raise up = omega arith
 floors_rise (f ∷ fs) (suc at) zero raise up = omega arith
-floors_rise (f ∷ fs) (suc at) (suc place) raise up = floors_rise fs at place raise up
+floors_rise (f ∷ fs) (suc at) (suc number) raise up = floors_rise fs at number raise up
 
 reply_raises : (reply : Reply) (floor : ℕ) → floor ≤ floor_by reply floor
 reply_raises (replies.Receipt None) floor = omega arith
@@ -49,20 +49,20 @@ module _ (told : Observation) (at : ℕ) (act : Act) (reply : Reply) where
   act_has (Some observed) h =
       set_length told.floors at (floor_by reply (floor_at told.floors at)) ∙ h ∙ sym (set_length told.actors at (observed_after act reply observed))
 
-  act_raises : (observed : Option ObservedActor) (place : ℕ) → floor_at told.floors place ≤ floor_at (act_at at act reply told observed).floors place
-  act_raises None place = omega arith
-  act_raises (Some observed) place = floors_rise told.floors at place (floor_by reply) (reply_raises reply)
+  act_raises : (observed : Option ObservedActor) (number : ℕ) → floor_at told.floors number ≤ floor_at (act_at at act reply told observed).floors number
+  act_raises None number = omega arith
+  act_raises (Some observed) number = floors_rise told.floors at number (floor_by reply) (reply_raises reply)
 
 step_has : (told : Observation) (step : Step) (reply : Reply) → HasSessions told → HasSessions (after told step reply)
 step_has told (Actor at act) reply h = act_has told at act reply (slice_get told.actors at) h
 step_has told (BeginIn at now staleness) reply h = act_has told at (begin_at (floor_at told.floors at) now staleness) reply (slice_get told.actors at) h
 step_has told (Keeper keep) reply h = h
 
-step_raises : (told : Observation) (step : Step) (reply : Reply) (place : ℕ) → floor_at told.floors place ≤ floor_at (after told step reply).floors place
-step_raises told (Actor at act) reply place = act_raises told at act reply (slice_get told.actors at) place
-step_raises told (BeginIn at now staleness) reply place =
-    act_raises told at (begin_at (floor_at told.floors at) now staleness) reply (slice_get told.actors at) place
-step_raises told (Keeper keep) reply place = omega arith
+step_raises : (told : Observation) (step : Step) (reply : Reply) (number : ℕ) → floor_at told.floors number ≤ floor_at (after told step reply).floors number
+step_raises told (Actor at act) reply number = act_raises told at act reply (slice_get told.actors at) number
+step_raises told (BeginIn at now staleness) reply number =
+    act_raises told at (begin_at (floor_at told.floors at) now staleness) reply (slice_get told.actors at) number
+step_raises told (Keeper keep) reply number = omega arith
 
 -- ---- one after another
 
@@ -75,11 +75,11 @@ AreExplainedThrough next told [] = Unit {0}
 AreExplainedThrough next told (x ∷ xs) =
     IsExplainedIn next (after told x.0 x.1).history told x.0 x.1 × AreExplainedThrough next (after told x.0 x.1) xs
 
-through_raises : (told : Observation) (xs : List (Step × Reply)) (place : ℕ) → floor_at told.floors place ≤ floor_at (told_through told xs).floors place
-through_raises told [] place = omega arith
-through_raises told (x ∷ xs) place =
-    let first = step_raises told x.0 x.1 place in
-    let rest = through_raises (after told x.0 x.1) xs place in
+through_raises : (told : Observation) (xs : List (Step × Reply)) (number : ℕ) → floor_at told.floors number ≤ floor_at (told_through told xs).floors number
+through_raises told [] number = omega arith
+through_raises told (x ∷ xs) number =
+    let first = step_raises told x.0 x.1 number in
+    let rest = through_raises (after told x.0 x.1) xs number in
     omega (arith, first, rest)
 
 explained_through : (next : Next) (told : Observation) (steps : List Step) (replies : List Reply) → AreExplained next told steps replies
@@ -100,10 +100,10 @@ all_of_both P (x ∷ xs) ys a b = (a.0, all_of_both P xs ys a.1 b)
 
 -- ---- what is told is at most the floor
 
-module _ (next : Next) (L : History) (told : Observation) (has : HasSessions told) (place most : ℕ) where
+module _ (next : Next) (L : History) (told : Observation) (has : HasSessions told) (number most : ℕ) where
   stamp_low : (at stamp : ℕ) (reply : Reply) → ((floor : ℕ) → stamp ≤ floor_by reply floor) → (observed : Option ObservedActor) → slice_get told.actors at ≡ observed
-      → MatchOption observed ⊥ (λ s. ReplyExplains next L (length told.history) s reply) → floor_at (act_at at Commit reply told observed).floors place ≤ most
-      → at ≡ place → stamp ≤ most
+      → MatchOption observed ⊥ (λ s. ReplyExplains next L (length told.history) s reply) → floor_at (act_at at Commit reply told observed).floors number ≤ most
+      → at ≡ number → stamp ≤ most
   stamp_low at stamp reply raises None is h low same = absurd h
   stamp_low at stamp reply raises (Some observed) is h low same =
       let within = slice_get_within told.actors at observed is in
@@ -113,20 +113,20 @@ module _ (next : Next) (L : History) (told : Observation) (has : HasSessions tol
       let up = raises (floor_at told.floors at) in
       omega (arith, low', set, up)
 
-  told_low : (step : Step) (reply : Reply) → IsExplainedIn next L told step reply → floor_at (after told step reply).floors place ≤ most
-      → ToldAtMost place most step reply
+  told_low : (step : Step) (reply : Reply) → IsExplainedIn next L told step reply → floor_at (after told step reply).floors number ≤ most
+      → ToldAtMost number most step reply
   told_low (Actor at Commit) (replies.Receipt (Some pin)) h low =
       stamp_low at pin.stamp (replies.Receipt (Some pin)) (λ floor. omega arith) (slice_get told.actors at) refl h low
   told_low (Actor at Commit) (replies.At stamp) h low = stamp_low at stamp (replies.At stamp) (λ floor. omega arith) (slice_get told.actors at) refl h low
   told_low step reply h low = tt
 
-before_low : (next : Next) (told : Observation) (xs : List (Step × Reply)) (place most : ℕ) → HasSessions told → AreExplainedThrough next told xs
-    → floor_at (told_through told xs).floors place ≤ most → HaveToldAtMost place most xs
-before_low next told [] place most has h low = tt
-before_low next told (x ∷ xs) place most has h low =
-    let up = through_raises (after told x.0 x.1) xs place in (
-      told_low next (after told x.0 x.1).history told has place most x.0 x.1 h.0 (omega (arith, up, low)),
-      before_low next (after told x.0 x.1) xs place most (step_has told x.0 x.1 has) h.1 low,
+before_low : (next : Next) (told : Observation) (xs : List (Step × Reply)) (number most : ℕ) → HasSessions told → AreExplainedThrough next told xs
+    → floor_at (told_through told xs).floors number ≤ most → HaveToldAtMost number most xs
+before_low next told [] number most has h low = tt
+before_low next told (x ∷ xs) number most has h low =
+    let up = through_raises (after told x.0 x.1) xs number in (
+      told_low next (after told x.0 x.1).history told has number most x.0 x.1 h.0 (omega (arith, up, low)),
+      before_low next (after told x.0 x.1) xs number most (step_has told x.0 x.1 has) h.1 low,
     )
 
 -- ---- what an actor reads
@@ -162,97 +162,97 @@ module _ (P : ℕ → Type 0) where
   act_reads Abort (replies.Aborted (Some held)) observed new h = tt
   act_reads act reply observed new h = h
 
--- what is set at a place is there
+-- what is set is there
 set_there : (actors : List ObservedActor) (at : ℕ) (new observed : ObservedActor) → slice_get (slice_set actors at new) at ≡ Some observed → new ≡ observed
 set_there [] at new observed is = cc is
 set_there (s ∷ ss) zero new observed is = cc is
 set_there (s ∷ ss) (suc at) new observed is = set_there ss at new observed is
 
-set_reads : (P : ObservedActor → Type 0) (actors : List ObservedActor) (at place : ℕ) (new : ObservedActor) → (at ≡ place → P new)
-    → ((observed : ObservedActor) → slice_get actors place ≡ Some observed → P observed)
-    → (observed : ObservedActor) → slice_get (slice_set actors at new) place ≡ Some observed → P observed
-set_reads P [] at place new own others observed is = others observed is
+set_reads : (P : ObservedActor → Type 0) (actors : List ObservedActor) (at number : ℕ) (new : ObservedActor) → (at ≡ number → P new)
+    → ((observed : ObservedActor) → slice_get actors number ≡ Some observed → P observed)
+    → (observed : ObservedActor) → slice_get (slice_set actors at new) number ≡ Some observed → P observed
+set_reads P [] at number new own others observed is = others observed is
 set_reads P (s ∷ ss) zero zero new own others observed is = let same : new ≡ observed = cc is in subst P same (own refl)
-set_reads P (s ∷ ss) zero (suc place) new own others observed is = others observed is
+set_reads P (s ∷ ss) zero (suc number) new own others observed is = others observed is
 set_reads P (s ∷ ss) (suc at) zero new own others observed is = others observed is
-set_reads P (s ∷ ss) (suc at) (suc place) new own others observed is = set_reads P ss at place new (λ e. own (ap suc e)) others observed is
+set_reads P (s ∷ ss) (suc at) (suc number) new own others observed is = set_reads P ss at number new (λ e. own (ap suc e)) others observed is
 
-module _ (P : ℕ → Type 0) (place : ℕ) where
+module _ (P : ℕ → Type 0) (number : ℕ) where
   -- a read-only transaction that the actor of the number has open begins so
   abbrev pub Reads : Observation → Type 0
-  Reads told = (observed : ObservedActor) → slice_get told.actors place ≡ Some observed → ReadsFrom P observed
+  Reads told = (observed : ObservedActor) → slice_get told.actors number ≡ Some observed → ReadsFrom P observed
 
-  place_reads : (told : Observation) (at : ℕ) (act : Act) (reply : Reply) → (at ≡ place → NotBegun reply) → Reads told
+  place_reads : (told : Observation) (at : ℕ) (act : Act) (reply : Reply) → (at ≡ number → NotBegun reply) → Reads told
       → (observed : Option ObservedActor) → slice_get told.actors at ≡ observed → Reads (act_at at act reply told observed)
   place_reads told at act reply new h None is = h
   place_reads told at act reply new h (Some was) is =
-      set_reads (ReadsFrom P) told.actors at place (observed_after act reply was)
+      set_reads (ReadsFrom P) told.actors at number (observed_after act reply was)
       (λ same. act_reads P act reply was (new same) (h was (subst (λ (n : ℕ). slice_get told.actors n ≡ Some was) same is))) h
 
-  not_begun : (at : ℕ) (act : Act) (reply : Reply) → BeganNone place (Actor at act) reply → at ≡ place → NotBegun reply
+  not_begun : (at : ℕ) (act : Act) (reply : Reply) → BeganNone number (Actor at act) reply → at ≡ number → NotBegun reply
   not_begun at act replies.Begun none same = absurd (none same)
   not_begun at act reply none same = tt
 
-  not_begun_in : (at now staleness : ℕ) (reply : Reply) → BeganNone place (BeginIn at now staleness) reply → at ≡ place → NotBegun reply
+  not_begun_in : (at now staleness : ℕ) (reply : Reply) → BeganNone number (BeginIn at now staleness) reply → at ≡ number → NotBegun reply
   not_begun_in at now staleness replies.Begun none same = absurd (none same)
   not_begun_in at now staleness reply none same = tt
 
-  step_reads : (told : Observation) (step : Step) (reply : Reply) → BeganNone place step reply → Reads told → Reads (after told step reply)
+  step_reads : (told : Observation) (step : Step) (reply : Reply) → BeganNone number step reply → Reads told → Reads (after told step reply)
   step_reads told (Actor at act) reply none h = place_reads told at act reply (not_begun at act reply none) h (slice_get told.actors at) refl
   step_reads told (BeginIn at now staleness) reply none h =
       place_reads told at (begin_at (floor_at told.floors at) now staleness) reply (not_begun_in at now staleness reply none) h (slice_get told.actors at) refl
   step_reads told (Keeper keep) reply none h = h
 
-  through_reads : (told : Observation) (xs : List (Step × Reply)) → HaveBegunNone place xs → Reads told → Reads (told_through told xs)
+  through_reads : (told : Observation) (xs : List (Step × Reply)) → HaveBegunNone number xs → Reads told → Reads (told_through told xs)
   through_reads told [] none h = h
   through_reads told (x ∷ xs) none h = through_reads (after told x.0 x.1) xs none.1 (step_reads told x.0 x.1 none.0 h)
 
 -- who begins in its session begins at its floor
-begun_reads : (told : Observation) (place now staleness : ℕ) → Reads (λ n. n ≡ floor_at told.floors place) place (after told (BeginIn place now staleness) replies.Begun)
-begun_reads told place now staleness = go (slice_get told.actors place) refl
+begun_reads : (told : Observation) (number now staleness : ℕ) → Reads (λ n. n ≡ floor_at told.floors number) number (after told (BeginIn number now staleness) replies.Begun)
+begun_reads told number now staleness = go (slice_get told.actors number) refl
   where
     P : ℕ → Type 0
-    P n = n ≡ floor_at told.floors place
+    P n = n ≡ floor_at told.floors number
 
-    go : (observed : Option ObservedActor) → slice_get told.actors place ≡ observed
-        → Reads P place (act_at place (begin_at (floor_at told.floors place) now staleness) replies.Begun told observed)
+    go : (observed : Option ObservedActor) → slice_get told.actors number ≡ observed
+        → Reads P number (act_at number (begin_at (floor_at told.floors number) now staleness) replies.Begun told observed)
     go None none = λ observed is. let no : None ≡ Some observed = sym none ∙ is in cc no
     go (Some was) some = λ observed is. subst (ReadsFrom P)
-        (set_there told.actors place (observed_after (begin_at (floor_at told.floors place) now staleness) replies.Begun was) observed is) refl
+        (set_there told.actors number (observed_after (begin_at (floor_at told.floors number) now staleness) replies.Begun was) observed is) refl
 
 -- ---- what a receipt is of
 
-module _ (next : Next) (L : History) (told : Observation) (place : ℕ) where
-  receipt_from : (P : ℕ → Type 0) (pin : Pin) → IsExplainedIn next L told (Actor place Commit) (replies.Receipt (Some pin)) → Reads P place told
+module _ (next : Next) (L : History) (told : Observation) (number : ℕ) where
+  receipt_from : (P : ℕ → Type 0) (pin : Pin) → IsExplainedIn next L told (Actor number Commit) (replies.Receipt (Some pin)) → Reads P number told
       → (n : ℕ) × P n × (n ≤ pin.stamp)
-  receipt_from P pin h reads = go (slice_get told.actors place) refl h
+  receipt_from P pin h reads = go (slice_get told.actors number) refl h
     where
-      of : (observed : ObservedActor) → slice_get told.actors place ≡ Some observed → IsReceiptOfActor next L observed (Some pin) → (n : ℕ) × P n × (n ≤ pin.stamp)
+      of : (observed : ObservedActor) → slice_get told.actors number ≡ Some observed → IsReceiptOfActor next L observed (Some pin) → (n : ℕ) × P n × (n ≤ pin.stamp)
       of idle is x = absurd x
       of (reading r) is x = (r.bounds.at_least, reads (reading r) is, x.1.allowed.late)
       of (writing w) is x = absurd x
       of (leaving stamp) is x = absurd x
 
-      go : (observed : Option ObservedActor) → slice_get told.actors place ≡ observed → MatchOption observed ⊥ (λ s. IsReceiptOfActor next L s (Some pin)) → (n : ℕ) × P n × (n ≤ pin.stamp)
+      go : (observed : Option ObservedActor) → slice_get told.actors number ≡ observed → MatchOption observed ⊥ (λ s. IsReceiptOfActor next L s (Some pin)) → (n : ℕ) × P n × (n ≤ pin.stamp)
       go None is x = absurd x
       go (Some observed) is x = of observed is x
 
   -- once it is told so, it has nothing open to read with
-  receipt_ends : (at : ℕ) (pin : Option Pin) → at ≡ place → IsExplainedIn next L told (Actor at Commit) (replies.Receipt pin)
-      → Reads (λ n. ⊥) place (after told (Actor at Commit) (replies.Receipt pin))
+  receipt_ends : (at : ℕ) (pin : Option Pin) → at ≡ number → IsExplainedIn next L told (Actor at Commit) (replies.Receipt pin)
+      → Reads (λ n. ⊥) number (after told (Actor at Commit) (replies.Receipt pin))
   receipt_ends at pin same h = go (slice_get told.actors at) refl h
     where
       go : (observed : Option ObservedActor) → slice_get told.actors at ≡ observed → MatchOption observed ⊥ (λ s. IsReceiptOfActor next L s pin)
-          → Reads (λ n. ⊥) place (act_at at Commit (replies.Receipt pin) told observed)
+          → Reads (λ n. ⊥) number (act_at at Commit (replies.Receipt pin) told observed)
       go None is x = absurd x
       go (Some was) is x = λ observed there. subst (ReadsFrom (λ n. ⊥))
           (set_there told.actors at idle observed (subst (λ (n : ℕ). slice_get (slice_set told.actors at idle) n ≡ Some observed) (sym same) there)) tt
 
-  commit_ends : (at stamp : ℕ) → at ≡ place → IsExplainedIn next L told (Actor at Commit) (replies.At stamp)
-      → Reads (λ n. ⊥) place (after told (Actor at Commit) (replies.At stamp))
+  commit_ends : (at stamp : ℕ) → at ≡ number → IsExplainedIn next L told (Actor at Commit) (replies.At stamp)
+      → Reads (λ n. ⊥) number (after told (Actor at Commit) (replies.At stamp))
   commit_ends at stamp same h = go (slice_get told.actors at) refl h
     where
-      of : (was : ObservedActor) → IsCommitOf next L (length told.history) was stamp → Reads (λ n. ⊥) place (act_at at Commit (replies.At stamp) told (Some was))
+      of : (was : ObservedActor) → IsCommitOf next L (length told.history) was stamp → Reads (λ n. ⊥) number (act_at at Commit (replies.At stamp) told (Some was))
       of idle x = absurd x
       of (reading r) x = absurd x
       of (writing w) x = λ observed there. subst (ReadsFrom (λ n. ⊥))
@@ -260,46 +260,46 @@ module _ (next : Next) (L : History) (told : Observation) (place : ℕ) where
       of (leaving held) x = absurd x
 
       go : (observed : Option ObservedActor) → slice_get told.actors at ≡ observed → MatchOption observed ⊥ (λ s. IsCommitOf next L (length told.history) s stamp)
-          → Reads (λ n. ⊥) place (act_at at Commit (replies.At stamp) told observed)
+          → Reads (λ n. ⊥) number (act_at at Commit (replies.At stamp) told observed)
       go None is x = absurd x
       go (Some was) is x = of was x
 
-  told_none : (most : ℕ) (step : Step) (reply : Reply) → IsExplainedIn next L told step reply → (Reads (λ n. ⊥) place (after told step reply) → ⊥)
-      → ToldAtMost place most step reply
+  told_none : (most : ℕ) (step : Step) (reply : Reply) → IsExplainedIn next L told step reply → (Reads (λ n. ⊥) number (after told step reply) → ⊥)
+      → ToldAtMost number most step reply
   told_none most (Actor at Commit) (replies.Receipt (Some pin)) h ends = λ same. absurd (ends (receipt_ends at (Some pin) same h))
   told_none most (Actor at Commit) (replies.At stamp) h ends = λ same. absurd (ends (commit_ends at stamp same h))
   told_none most step reply h ends = tt
 
 -- a transaction that is committed has been open since it began
-between_low : (next : Next) (L : History) (told : Observation) (xs : List (Step × Reply)) (place : ℕ) (pin : Pin) → HaveBegunNone place xs → AreExplainedThrough next told xs
-    → IsExplainedIn next L (told_through told xs) (Actor place Commit) (replies.Receipt (Some pin)) → HaveToldAtMost place pin.stamp xs
-between_low next L told [] place pin none h receipt = tt
-between_low next L told (x ∷ xs) place pin none h receipt =
+between_low : (next : Next) (L : History) (told : Observation) (xs : List (Step × Reply)) (number : ℕ) (pin : Pin) → HaveBegunNone number xs → AreExplainedThrough next told xs
+    → IsExplainedIn next L (told_through told xs) (Actor number Commit) (replies.Receipt (Some pin)) → HaveToldAtMost number pin.stamp xs
+between_low next L told [] number pin none h receipt = tt
+between_low next L told (x ∷ xs) number pin none h receipt =
     let now = after told x.0 x.1 in (
-      told_none next now.history told place pin.stamp x.0 x.1 h.0 (λ ended.
-          (receipt_from next L (told_through now xs) place (λ n. ⊥) pin receipt (through_reads (λ n. ⊥) place now xs none.1 ended)).1),
-      between_low next L now xs place pin none.1 h.1 receipt,
+      told_none next now.history told number pin.stamp x.0 x.1 h.0 (λ ended.
+          (receipt_from next L (told_through now xs) number (λ n. ⊥) pin receipt (through_reads (λ n. ⊥) number now xs none.1 ended)).1),
+      between_low next L now xs number pin none.1 h.1 receipt,
     )
 
 pub nobody_goes_back : (next : Next) (told : Observation) (steps : List Step) (answers : List Reply) → HasSessions told → AreExplained next told steps answers
     → NoActorGoesBack steps answers
-nobody_goes_back next told steps answers has explained place now staleness pin before between more apart none =
-    let receipt : Step × Reply = (Actor place Commit, replies.Receipt (Some pin)) in
-    let rest : List (Step × Reply) = (BeginIn place now staleness, replies.Begun) ∷ (between ++ (receipt ∷ more)) in
+nobody_goes_back next told steps answers has explained number now staleness pin before between more apart none =
+    let receipt : Step × Reply = (Actor number Commit, replies.Receipt (Some pin)) in
+    let rest : List (Step × Reply) = (BeginIn number now staleness, replies.Begun) ∷ (between ++ (receipt ∷ more)) in
     let all : AreExplainedThrough next told (before ++ rest) = subst (AreExplainedThrough next told) apart (explained_through next told steps answers explained) in
     let first = explained_apart next told before rest all in
     let start = told_through told before in
-    let begun = after start (BeginIn place now staleness) replies.Begun in
+    let begun = after start (BeginIn number now staleness) replies.Begun in
     let second = explained_apart next begun between (receipt ∷ more) first.1.1 in
     let open_at = told_through begun between in
-    let end = (after open_at (Actor place Commit) (replies.Receipt (Some pin))).history in
-    let reads = through_reads (λ n. n ≡ floor_at start.floors place) place begun between none (begun_reads start place now staleness) in
-    let from = receipt_from next end open_at place (λ n. n ≡ floor_at start.floors place) pin second.1.0 reads in
+    let end = (after open_at (Actor number Commit) (replies.Receipt (Some pin))).history in
+    let reads = through_reads (λ n. n ≡ floor_at start.floors number) number begun between none (begun_reads start number now staleness) in
+    let from = receipt_from next end open_at number (λ n. n ≡ floor_at start.floors number) pin second.1.0 reads in
     let at = from.1 in
     let late = from.2 in
-    all_of_both (λ (x : Step × Reply). ToldAtMost place pin.stamp x.0 x.1) before between
-    (before_low next told before place pin.stamp has first.0 (omega (arith, at, late)))
-    (between_low next end begun between place pin none second.0 second.1.0)
+    all_of_both (λ (x : Step × Reply). ToldAtMost number pin.stamp x.0 x.1) before between
+    (before_low next told before number pin.stamp has first.0 (omega (arith, at, late)))
+    (between_low next end begun between number pin none second.0 second.1.0)
 
 -- at the end of the loop over the steps
 pub loop_back : (next : Next) (start : Observation) (steps : List Step) (i : ℕ) (answers : List Reply) → length steps ≤ i → i ≤ length steps

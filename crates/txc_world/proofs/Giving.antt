@@ -11,8 +11,8 @@ use Rattle.txc_cushion.specs.Cushion.{after_give_back, handed_out}
 use Rattle.txc_cushion.specs.Laws.{GiveBackCountsUsers}
 use Rattle.txc_cushion.specs.Refusals.{HaveUsers, IsFirstUnused}
 use Rattle.txc_world.specs.Ports.{PortsValue}
-use Rattle.txc_world.specs.Asks.{FreshLeads}
-use Rattle.txc_world.specs.Keeping.{GiveBackLeads}
+use Rattle.txc_world.specs.Asks.{FreshTransition}
+use Rattle.txc_world.specs.Keeping.{GiveBackTransition}
 use Rattle.txc_world.specs.Holdings.{CountRight, GivesBack, KeepsPins}
 use Rattle.txc_world.proofs.SameEntries.{pins_back, pins_handed, same_entries}
 use Rattle.txc_world.proofs.Times.{times_cons, times_on, times_one}
@@ -31,13 +31,13 @@ not_unused p s stamp first some = go first.place first.there first.none_left
     go zero there none = let same : s ≡ stamp = cc there in let none' : users_of s p.cushion.entries ≤ 0 = rw same none in omega (arith, none', some)
     go (suc k) there none = cc there
 
-given_one : {A : Type 0} → (old new : PortsValue) (s : ℕ) (given : Result A UnknownPin) → GiveBackCountsUsers → GiveBackLeads (s ∷ []) old new given
+given_one : {A : Type 0} → (old new : PortsValue) (s : ℕ) (given : Result A UnknownPin) → GiveBackCountsUsers → GiveBackTransition (s ∷ []) old new given
     → 0 < users_of s old.cushion.entries → (t : ℕ) → users_of t new.cushion.entries + times t (s ∷ []) ≡ users_of t old.cushion.entries
 given_one old new s (Ok given) law leads some t = rw leads.0 (law old.cushion (s ∷ []) t leads.1).users
 given_one old new s (Err unknown) law leads some t = absurd (not_unused old s unknown.stamp leads.1 some)
 
 pub gives_one : {A : Type 0} → (old between new : PortsValue) (pins : List Pin) (i : ℕ) (pin : Pin) (given : Result A UnknownPin) → GiveBackCountsUsers
-    → GiveBackLeads (pin.stamp ∷ []) between new given → i < length pins → pin ≡ get_or pins i pin → GivesBackSome old between pins (drop i pins)
+    → GiveBackTransition (pin.stamp ∷ []) between new given → i < length pins → pin ≡ get_or pins i pin → GivesBackSome old between pins (drop i pins)
     → GivesBackSome old new pins (drop (i + 1) pins)
 gives_one old between new pins i pin given law leads within is before = λ have t.
     let s = pin.stamp in
@@ -65,7 +65,7 @@ gives_all old new pins i past all = λ have t.
 
 -- no pin comes or goes
 pub pins_then : {A : Type 0} → (old between new : PortsValue) (stamp : ℕ) (given : Result A UnknownPin) → KeepsPins old between
-    → GiveBackLeads (stamp ∷ []) between new given → KeepsPins old new
+    → GiveBackTransition (stamp ∷ []) between new given → KeepsPins old new
 pins_then old between new stamp (Ok given) keeps leads = rw leads.0 (record {
   pins = pins_back (stamp ∷ []) between.cushion.entries ∙ keeps.pins;
   same = ap (λ (p : PortsValue). record p { cushion = after_give_back p.cushion (stamp ∷ []) }) keeps.same;
@@ -73,7 +73,7 @@ pins_then old between new stamp (Ok given) keeps leads = rw leads.0 (record {
 pins_then old between new stamp (Err unknown) keeps leads = rw leads.0 keeps
 
 -- pins that were handed out and are given back leave the users as they were
-users_again : (old between new : PortsValue) (now staleness at_least : ℕ) (pins : Pins) → CountRight old → FreshLeads {A = Unit {0}} now staleness at_least old between (Ok pins)
+users_again : (old between new : PortsValue) (now staleness at_least : ℕ) (pins : Pins) → CountRight old → FreshTransition {A = Unit {0}} now staleness at_least old between (Ok pins)
     → GivesBack between new pins.pins.items → (t : ℕ) → users_of t new.cushion.entries ≡ users_of t old.cushion.entries
 users_again old between new now staleness at_least pins right leads gives = λ t.
     let more : (x : ℕ) → users_of x between.cushion.entries ≡ users_of x old.cushion.entries + times x (map (λ (p : Pin). p.stamp) pins.pins.items) =
@@ -84,7 +84,7 @@ users_again old between new now staleness at_least pins right leads gives = λ t
     omega (arith, m, g)
 
 -- and all else too
-pub all_again : (old between new : PortsValue) (now staleness at_least : ℕ) (pins : Pins) → CountRight old → FreshLeads {A = Unit {0}} now staleness at_least old between (Ok pins)
+pub all_again : (old between new : PortsValue) (now staleness at_least : ℕ) (pins : Pins) → CountRight old → FreshTransition {A = Unit {0}} now staleness at_least old between (Ok pins)
     → GivesBack between new pins.pins.items → KeepsPins between new → new ≡ old
 all_again old between new now staleness at_least pins right leads gives keeps =
     let handed : pins_of between.cushion.entries ≡ pins_of old.cushion.entries =

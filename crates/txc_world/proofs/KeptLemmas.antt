@@ -19,8 +19,8 @@ use Rattle.txc_world.specs.declared.reply.Reply.TheVariants as replies
 use Rattle.txc_world.specs.declared.reply.Reply.TheVariants.{Refused}
 use Rattle.txc_world.specs.declared.reply.Refusal.TheVariants as refusals
 use Rattle.txc_world.specs.Ports.{PortsValue, HasRefused, HasLedNode, KeepsRow}
-use Rattle.txc_world.specs.Keeping.{stamps_of_pins, CommitLeads, HasPinnedSpare, WriteLeads, AddSpareLeads}
-use Rattle.txc_world.specs.Kept.{told_addition, IsKeeperStep, KeepLeads}
+use Rattle.txc_world.specs.Keeping.{stamps_of_pins, CommitTransition, HasPinnedSpare, WriteTransition, AddSpareTransition}
+use Rattle.txc_world.specs.Kept.{told_addition, IsKeeperStep, KeepTransition}
 use Rattle.txc_world.specs.Observation.{commit_in, keep_in, spare_after, IsDueOr, IsKeepDue, IsNoReceipt}
 use Rattle.txc_shared.specs.Nodes.{NodeValue}
 use Rattle.txc_world.proofs.PortsLemmas.{left_history}
@@ -40,7 +40,7 @@ committed d [] e stamp is = rw (ap (nat_lt (length d.history)) is ∙ lt_itself 
 committed d (c ∷ cs) e stamp is = rw (lt_more (length d.history) stamp (is ∙ length-append d.history (e ∷ []))) refl
 
 -- the changes of a commit stand in the history, as its stamp tells
-pub commit_told : (old new : PortsValue) (base : ℕ) (read : List Tag) (changes : List Change) (stamp : ℕ) → CommitLeads base read changes old new (Ok stamp)
+pub commit_told : (old new : PortsValue) (base : ℕ) (read : List Tag) (changes : List Change) (stamp : ℕ) → CommitTransition base read changes old new (Ok stamp)
     → new.database.history ≡ commit_in changes stamp old.database.history
 commit_told old new base read changes stamp leads =
     let d = old.database in
@@ -48,7 +48,7 @@ commit_told old new base read changes stamp leads =
     ap (λ (e : DatabaseValue). e.history) same
     ∙ committed d (newest_net d changes) (commit_event (newest_state d) changes) stamp (leads.1 ∙ ap newest same)
 
-pub written : (old new : PortsValue) (change : Change) (stamp : ℕ) → WriteLeads change old new (Ok stamp)
+pub written : (old new : PortsValue) (change : Change) (stamp : ℕ) → WriteTransition change old new (Ok stamp)
     → new.database.history ≡ keep_in (keeps.Write change) (replies.At stamp) old.database.history
 written old new change stamp leads = commit_told old new (newest old.database) [] (change ∷ []) stamp leads
 
@@ -99,7 +99,7 @@ due_no_node node nodes Suits above =
 -- ---- what is told of a step, by what it leads to
 
 -- an addition
-pub kept_addition : (old new : PortsValue) (stamp : ℕ) (added : Option (Result (Unit {0}) AddError)) → AddSpareLeads stamp old new added
+pub kept_addition : (old new : PortsValue) (stamp : ℕ) (added : Option (Result (Unit {0}) AddError)) → AddSpareTransition stamp old new added
     → KeepsRow old new → IsKeeperStep (keeps.Add stamp) old new (told_addition added)
 kept_addition old new stamp (Some (Ok added)) leads keeps = record { leads = leads; keeps = keeps }
 kept_addition old new stamp (Some (Err e)) leads keeps = record { leads = leads; keeps = keeps }
@@ -113,7 +113,7 @@ module _ (old new : PortsValue) where
   tells_so : (p : PortsValue) → new ≡ p → TellsOf p.database.history (stamps_of_pins p.spare)
   tells_so p is = (ap (λ (q : PortsValue). q.database.history) is, ap (λ (q : PortsValue). stamps_of_pins q.spare) is)
 
-  pub kept_told : (keep : Keep) (reply : Reply) → KeepLeads keep old new reply
+  pub kept_told : (keep : Keep) (reply : Reply) → KeepTransition keep old new reply
       → TellsOf (keep_in keep reply old.database.history) (spare_after keep reply (stamps_of_pins old.spare))
   kept_told (keeps.Write change) (replies.At stamp) leads = (written old new change stamp leads, ap (λ (p : PortsValue). stamps_of_pins p.spare) leads.0)
   kept_told (keeps.Write change) (Refused (refusals.Database e)) leads = (refused_history old new e leads.0, refused_spare old new e leads.0)
@@ -144,7 +144,7 @@ module _ (old new : PortsValue) where
   led_there : (at : ℕ) (leads : NodeValue → NodeValue → Type 0) → HasLedNode at leads old new → at < length old.nodes
   led_there at leads led = slice_get_within old.nodes at led.before led.there
 
-  pub kept_due : (keep : Keep) (reply : Reply) → KeepLeads keep old new reply → IsKeepDue (length old.nodes) (stamps_of_pins old.spare) keep reply
+  pub kept_due : (keep : Keep) (reply : Reply) → KeepTransition keep old new reply → IsKeepDue (length old.nodes) (stamps_of_pins old.spare) keep reply
   kept_due (keeps.Write change) (replies.At stamp) leads = tt
   kept_due (keeps.Write change) (Refused (refusals.Database e)) leads = tt
   kept_due (keeps.Pin now) (replies.At stamp) leads = tt
@@ -172,7 +172,7 @@ module _ (old new : PortsValue) where
   kept_due keep reply leads = absurd leads
 
   -- no step is replied with a receipt
-  pub kept_no_receipt : (keep : Keep) (reply : Reply) → KeepLeads keep old new reply → IsNoReceipt reply
+  pub kept_no_receipt : (keep : Keep) (reply : Reply) → KeepTransition keep old new reply → IsNoReceipt reply
   kept_no_receipt (keeps.Write change) (replies.Receipt pin) leads = absurd leads
   kept_no_receipt keep (replies.Receipt pin) leads = absurd leads
   kept_no_receipt keep reply leads = tt

@@ -23,5 +23,5 @@ pub mod WritingCounts
 pub mod SameEntries
 pub mod Giving
 pub mod Acted
-pub mod Leading
+pub mod Transitions
 pub mod Forward

@@ -38,9 +38,9 @@ use Rattle.txc_txn.specs.declared.pinning.PinStep.TheVariants.{Adding, Dropping}
 use Rattle.txc_txn.specs.Core.{first_call, left_after, left_pin, CoreValue, IsAnswered, IsPinningAt, IsTurn}
 use Rattle.txc_ports.specs.Turns.{IsAsk}
 use Rattle.txc_txn.specs.Kept.{TxnValue}
-use Rattle.txc_txn.specs.Leading.{AsksLookup, AsksPin, BeginLeads, CallLeads, HitLeads, IsWanting, PresentPinLeads, ReplyLeads, StandingLeads, StartLeads}
+use Rattle.txc_txn.specs.Transitions.{AsksLookup, AsksPin, BeginTransition, CallTransition, HitTransition, IsWanting, PresentPinTransition, ReplyTransition, StandingTransition, StartTransition}
 use Rattle.txc_rw.specs.Core.{QueryTurn, RwValue}
-use Rattle.txc_rw.specs.Leading.{standing_of, RwCallLeads, RwStandingLeads}
+use Rattle.txc_rw.specs.Transitions.{standing_of, RwCallTransition, RwStandingTransition}
 use Rattle.txc_world.specs.declared.did.Did.{Did}
 use Rattle.txc_world.specs.declared.did.Did.TheVariants as dids
 use Rattle.txc_world.specs.declared.reply.Reply.{Reply}
@@ -157,33 +157,33 @@ module _ (P : Type 0) where
     wanting_not_lost need error (inl is) = rw is tt
     wanting_not_lost need error (inr is) = rw is.3 tt
 
-    begin_not_lost : (old : CoreValue) (before : Objects) (k : Call) → BeginLeads old before k new objects turn → IfTurnLost turn P
+    begin_not_lost : (old : CoreValue) (before : Objects) (k : Call) → BeginTransition old before k new objects turn → IfTurnLost turn P
     begin_not_lost old before k leads = elim (there_or_not (activity_of before k.function)) [
       | inl none ↦ rw (leads.absent none).1 tt
       | inr some ↦ lookup_not_lost k turn (leads.there some).1
     ]
 
-    pub start_not_lost : (old : CoreValue) (before : Objects) (k : Call) → StartLeads old before k new objects turn → IfTurnLost turn P
+    pub start_not_lost : (old : CoreValue) (before : Objects) (k : Call) → StartTransition old before k new objects turn → IfTurnLost turn P
     start_not_lost old before k leads = go old.pins.members refl
       where
         go : (ms : List Pin) → old.pins.members ≡ ms → IfTurnLost turn P
         go [] none = present_not_lost turn (leads.pins none).asks
         go (m ∷ ms) some = begin_not_lost old before k (leads.begins (λ none. let no : m ∷ ms ≡ [] = sym some ∙ none in cc no))
 
-    standing_not_lost : (stands : CallTurn) → StandingLeads stands new objects turn → IfTurnLost turn P
+    standing_not_lost : (stands : CallTurn) → StandingTransition stands new objects turn → IfTurnLost turn P
     standing_not_lost stands leads = standing_turn stands turn leads
       where
-        standing_turn : (c : CallTurn) (t : PortTurn) → StandingLeads c new objects t → IfTurnLost t P
+        standing_turn : (c : CallTurn) (t : PortTurn) → StandingTransition c new objects t → IfTurnLost t P
         standing_turn (Ok standing) (turns.Ended (Err error)) l = wanting_not_lost standing.need error l
         standing_turn (Ok standing) (turns.Ended (Ok value)) l = tt
         standing_turn (Ok standing) (turns.Ask request) l = tt
         standing_turn (Err error) t l = rw l (call_not_lost error)
 
-    called_not_lost : (next : Next) (old : CoreValue) (before : Objects) (need : Need) (reply : CallReply) → CallLeads next old before need reply new objects turn
+    called_not_lost : (next : Next) (old : CoreValue) (before : Objects) (need : Need) (reply : CallReply) → CallTransition next old before need reply new objects turn
         → IfTurnLost turn P
     called_not_lost next old before need reply leads = standing_not_lost leads.0 leads.2
 
-    hit_not_lost : (next : Next) (old : CoreValue) (before : Objects) (k : Call) (hit : Shown) → HitLeads next old before k hit new objects turn → IfTurnLost turn P
+    hit_not_lost : (next : Next) (old : CoreValue) (before : Objects) (k : Call) (hit : Shown) → HitTransition next old before k hit new objects turn → IfTurnLost turn P
     hit_not_lost next old before k hit leads = go (kept hit.reach old.pins.members) refl
       where
         go : (ms : List Pin) → kept hit.reach old.pins.members ≡ ms → IfTurnLost turn P
@@ -191,13 +191,13 @@ module _ (P : Type 0) where
         go (m ∷ ms) some =
             called_not_lost next old before (needs.Lookup k) (calls_replies.Hit hit) (leads.held (λ none. let no : m ∷ ms ≡ [] = sym some ∙ none in cc no))
 
-    pinned_not_lost : (first : Option Call) (old : CoreValue) (before : Objects) → PresentPinLeads first old before new objects turn → IfTurnLost turn P
+    pinned_not_lost : (first : Option Call) (old : CoreValue) (before : Objects) → PresentPinTransition first old before new objects turn → IfTurnLost turn P
     pinned_not_lost (Some k) old before leads = begin_not_lost old before k leads
     pinned_not_lost None old before leads = ask_not_lost turn leads.1
 
     -- a turn that comes of a reply loses what the port has lost
     pub reply_lost : (next : Next) (old : CoreValue) (before : Objects) (reply : PortReply) → IsAnswered old reply → DropsNone old
-        → IfPortLoses reply P → ReplyLeads next old before reply new objects turn → IfTurnLost turn P
+        → IfPortLoses reply P → ReplyTransition next old before reply new objects turn → IfTurnLost turn P
     reply_lost next old before (ports.Pin (Ok pinned)) to drops lost leads = rw leads tt
     reply_lost next old before (ports.Pin (Err e)) to drops lost leads = rw leads (request_lost e lost)
     reply_lost next old before (ports.AddPin pinned (Ok added)) to drops lost leads = pinned_not_lost (first_call old.pinning) old before leads
@@ -213,14 +213,14 @@ module _ (P : Type 0) where
 
   -- ---- a call of a read-write transaction
 
-  pub rw_not_lost : (stands : CallTurn) (new : RwValue) (objects : Objects) (turn : QueryTurn) → RwStandingLeads stands new objects turn → IfTurnLost turn P
+  pub rw_not_lost : (stands : CallTurn) (new : RwValue) (objects : Objects) (turn : QueryTurn) → RwStandingTransition stands new objects turn → IfTurnLost turn P
   rw_not_lost (Ok standing) new objects (turns.Ended (Err error)) leads = rw leads tt
   rw_not_lost (Ok standing) new objects (turns.Ended (Ok value)) leads = tt
   rw_not_lost (Ok standing) new objects (turns.Ask query) leads = tt
   rw_not_lost (Err error) new objects turn leads = rw leads (call_not_lost error)
 
   pub rw_start_not_lost : (next : Next) (s : State) (k : Call) (before : Objects) (new : RwValue) (objects : Objects) (turn : QueryTurn)
-      → (IsSome (activity_of before k.function) → RwCallLeads next s (standing_of (started k) before) [] new objects turn)
+      → (IsSome (activity_of before k.function) → RwCallTransition next s (standing_of (started k) before) [] new objects turn)
       → (IsNone (activity_of before k.function) → turn ≡ turns.Ended (Err (txns.Call (NoFunction k.function)))) → IfTurnLost turn P
   rw_start_not_lost next s k before new objects turn leads missing = elim (there_or_not (activity_of before k.function)) [
     | inl none ↦ rw (missing none) tt
@@ -252,7 +252,7 @@ dropping_drops_none c stamp error dropping = λ at_stamp why at.
     subst (λ (e : TxnError). IfLost e ⊥) same (pin_not_lost ⊥ error)
 
 pub drops_next : (next : Next) (old new : TxnValue) (reply : PortReply) (turn : PortTurn) → IsTurn new.core turn → left_pin new.core.pinning ≡ left_after reply
-    → ReplyLeads next old.core old.objects reply new.core new.objects turn → DropsNone new.core
+    → ReplyTransition next old.core old.objects reply new.core new.objects turn → DropsNone new.core
 drops_next next old new (ports.Pin (Ok pinned)) turn is left leads =
     adding_drops_none new.core (pin_of pinned) (subst (λ (t : PortTurn). IsTurn new.core t) leads is)
 drops_next next old new (ports.AddPin pinned (Err e)) turn is left leads = dropping_drops_none new.core pinned.stamp e leads.1

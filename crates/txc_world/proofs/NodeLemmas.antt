@@ -22,7 +22,7 @@ use Rattle.txc_shared.specs.Nodes.{NodeValue, after_call, seeing, IsLonger}
 use Rattle.txc_shared.specs.Refusals.{CanRecord, IsLookupRefused, IsNodeLeft, IsNodeBroken}
 use Rattle.txc_stream.proofs.Offered.{longer_is}
 use Rattle.txc_world.specs.Parts.{IsPartOf}
-use Rattle.txc_world.specs.NodeSteps.{LookupLeads, InsertLeads, AdvanceLeads, SweepLeads}
+use Rattle.txc_world.specs.NodeSteps.{LookupTransition, InsertTransition, AdvanceTransition, SweepTransition}
 use Rattle.txc_stream.specs.Names.{HasRow}
 use Rattle.txc_world.specs.Ports.{IsNodeOf}
 use Rattle.txc_world.proofs.PartLemmas.{part_itself}
@@ -79,7 +79,7 @@ module _ (whole : FrontValue) where
   stays_left old new errors.Memory same = stays_same old new same
 
   pub stays_looked_up : (old new : NodeValue) (pass : ℕ) (key : Call) (lo hi : ℕ) (found : Option Shown)
-      → LookupLeads pass key lo hi old new found → StaysNode whole old new
+      → LookupTransition pass key lo hi old new found → StaysNode whole old new
   stays_looked_up old new pass key lo hi (Some shown) leads = stays_after old new pass (Lookup key lo hi) leads.0
   stays_looked_up old new pass key lo hi None (inl leads) = stays_after old new pass (Lookup key lo hi) leads.0
   stays_looked_up old new pass key lo hi None (inr refused) = stays_left old new refused.0 refused.2
@@ -92,7 +92,7 @@ module _ (whole : FrontValue) where
   ]
 
   pub stays_inserted : (old new : NodeValue) (pass : ℕ) (seen : FrontValue) (entry : Entry) (made : Option Insertion)
-      → IsPartOf whole seen → InsertLeads pass seen entry old new made → StaysNode whole old new
+      → IsPartOf whole seen → InsertTransition pass seen entry old new made → StaysNode whole old new
   stays_inserted old new pass seen entry (Some insertion) part has = record {
     settings = ap (λ (n : NodeValue). n.settings) has.after;
     from = ap (λ (n : NodeValue). n.from) has.after;
@@ -108,14 +108,14 @@ module _ (whole : FrontValue) where
       subst (λ (n : NodeValue). StaysNode whole old n) (sym is) (record { settings = refl; from = refl; name = refl; row = λ h. refl; passes = refl; seen = λ h w. part_itself whole })
 
   pub stays_advanced : (old new : NodeValue) (pass : ℕ) (advanced : Result Advanced NodeError)
-      → AdvanceLeads pass whole old new advanced → StaysNode whole old new
+      → AdvanceTransition pass whole old new advanced → StaysNode whole old new
   stays_advanced old new pass (Ok (Taken stamp closed)) leads =
       subst (λ (n : NodeValue). StaysNode whole old n) (sym leads.1.0) (record { settings = refl; from = refl; name = refl; row = λ h. refl; passes = refl; seen = λ h w. part_itself whole })
   stays_advanced old new pass (Ok Idle) leads = stays_seeing old new leads.1.0
   stays_advanced old new pass (Err e) leads = stays_left old new e leads.0
 
   pub stays_swept : (old new : NodeValue) (pass horizon : ℕ) (swept : Result ℕ NodeError)
-      → SweepLeads pass horizon old new swept → StaysNode whole old new
+      → SweepTransition pass horizon old new swept → StaysNode whole old new
   stays_swept old new pass horizon (Ok count) leads = stays_after old new pass (Sweep horizon) leads.1
   stays_swept old new pass horizon (Err e) leads = stays_left old new e leads.0
 
@@ -124,7 +124,7 @@ module _ (whole : FrontValue) where
 pub looked_up : (pass : ℕ) (key : Call) (lo hi : ℕ) (old new : NodeValue) (r : Result (Option (Answered Shown)) NodeError)
     → OnOk r (new ≡ after_call old pass (Lookup key lo hi)) → IfOk r (λ o. option_map (λ f. f.answer) o ≡ lookup_answer old.cache key lo hi)
     → IfErr r (IsNodeLeft old new) → IfErr r (IsLookupRefused old lo hi)
-    → LookupLeads pass key lo hi old new (option_map (λ f. f.answer) (result_unwrap_or r None))
+    → LookupTransition pass key lo hi old new (option_map (λ f. f.answer) (result_unwrap_or r None))
 looked_up pass key lo hi old new (Ok (Some hit)) after answer left refused = (after, sym answer)
 looked_up pass key lo hi old new (Ok None) after answer left refused = inl (after, sym answer)
 looked_up pass key lo hi old new (Err e) after answer left refused = inr (e, refused, left)

@@ -20,10 +20,10 @@ use Rattle.txc_cushion.specs.Cushion.{cushion_front}
 use Rattle.txc_shared.specs.Nodes.{NodeValue}
 use Rattle.txc_shared.specs.declared.advanced.Advanced.{Advanced}
 use Rattle.txc_shared.specs.declared.error.NodeError.{NodeError}
-use Rattle.txc_world.specs.NodeSteps.{AdvanceLeads}
+use Rattle.txc_world.specs.NodeSteps.{AdvanceTransition}
 use Rattle.txc_world.specs.Parts.{IsPartOf}
 use Rattle.txc_world.specs.Ports.{PortsValue, whole_of, IsNodeOf, ArePorts, KeepsRow, HasLedNode}
-use Rattle.txc_world.specs.Asks.{AddLeads}
+use Rattle.txc_world.specs.Asks.{AddTransition}
 use Rattle.txc_world.specs.Keeping.{stamps_of_pins, HasAddedSpare, HasPinnedSpare}
 use Rattle.txc_world.proofs.PartLemmas.{part_itself, part_then}
 use Rattle.txc_world.proofs.NodeLemmas.{StaysNode, node_stays}
@@ -149,11 +149,11 @@ module _ (p q : PortsValue) (same : p ≡ q) where
       })
 
 pub led_advanced : (p q : PortsValue) (same : p ≡ q) (at : ℕ) (old new : NodeValue) (advanced : Result Advanced NodeError) → at < length q.nodes
-    → old ≡ get_or p.nodes at old → AdvanceLeads p.actors (whole_of p) old new advanced
-    → HasLedNode at (λ was is. AdvanceLeads q.actors (whole_of q) was is advanced) q (record p { nodes = set p.nodes at new })
+    → old ≡ get_or p.nodes at old → AdvanceTransition p.actors (whole_of p) old new advanced
+    → HasLedNode at (λ was is. AdvanceTransition q.actors (whole_of q) was is advanced) q (record p { nodes = set p.nodes at new })
 led_advanced p q same at old new advanced within is led =
-    led_from p q same at (λ was is. AdvanceLeads q.actors (whole_of q) was is advanced) old new within is
-    (subst (λ (v : PortsValue). AdvanceLeads v.actors (whole_of v) old new advanced) same led)
+    led_from p q same at (λ was is. AdvanceTransition q.actors (whole_of q) was is advanced) old new within is
+    (subst (λ (v : PortsValue). AdvanceTransition v.actors (whole_of v) old new advanced) same led)
 
 -- ---- events more
 
@@ -294,7 +294,7 @@ keeps_without_spare p q new spare same k = subst (λ (v : PortsValue). KeepsRow 
 pub added_spare : {A : Type 0} (p q : PortsValue) (same : p ≡ q) (stamp i : ℕ) (pinned : Pinned) (spare : List Pinned) (new : PortsValue)
     (reply : Result A AddError) → i < length p.spare → pinned ≡ get_or p.spare i pinned → get_or (stamps_of_pins p.spare) i 0 ≡ stamp
     → is_held stamp (stamps_of_pins p.spare) ≡ true → stamps_of_pins (remove p.spare i) ≡ without stamp (stamps_of_pins p.spare) → spare ≡ remove p.spare i
-    → AddLeads pinned (record p { spare = spare }) new reply → HasAddedSpare stamp q new reply
+    → AddTransition pinned (record p { spare = spare }) new reply → HasAddedSpare stamp q new reply
 added_spare {A = A} p q same stamp i pinned spare new reply within is there held place out leads =
     subst (λ (v : PortsValue). HasAddedSpare stamp v new reply) same (record {
       at = i;
@@ -303,9 +303,9 @@ added_spare {A = A} p q same stamp i pinned spare new reply within is there held
       stamp_is = sym (stamp_at p.spare i pinned within is) ∙ there;
       held = held;
       spare = kept reply leads ∙ place;
-      added = subst (λ (l : List Pinned). AddLeads pinned (record p { spare = l }) new reply) out leads;
+      added = subst (λ (l : List Pinned). AddTransition pinned (record p { spare = l }) new reply) out leads;
     })
   where
-    kept : (r : Result A AddError) → AddLeads pinned (record p { spare = spare }) new r → stamps_of_pins new.spare ≡ stamps_of_pins (remove p.spare i)
+    kept : (r : Result A AddError) → AddTransition pinned (record p { spare = spare }) new r → stamps_of_pins new.spare ≡ stamps_of_pins (remove p.spare i)
     kept (Ok a) l = ap (λ (v : PortsValue). stamps_of_pins v.spare) l.0 ∙ ap stamps_of_pins out
     kept (Err e) l = ap (λ (v : PortsValue). stamps_of_pins v.spare) l.0 ∙ ap stamps_of_pins out

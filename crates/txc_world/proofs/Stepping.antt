@@ -80,47 +80,47 @@ module _ {A C : Type 0} (longer : HoldsInLonger) (next : Next) (settings : World
   }
 
   -- an actor steps
-  pub world_acts : (place floor : ℕ) (actor' : Actor A C) → IsWorld next settings ports floors actors → KeepsRow ports new → IsActor next (whole_of new) (length new.nodes) actor'
-      → IsWorld next settings new (slice_set floors place floor) (slice_set actors place (Some actor'))
-  world_acts place floor actor' h keeps kept =
+  pub world_acts : (number floor : ℕ) (actor' : Actor A C) → IsWorld next settings ports floors actors → KeepsRow ports new → IsActor next (whole_of new) (length new.nodes) actor'
+      → IsWorld next settings new (slice_set floors number floor) (slice_set actors number (Some actor'))
+  world_acts number floor actor' h keeps kept =
       let same : length new.nodes ≡ settings.nodes = keeps.count ∙ h.nodes in
       record {
         nodes = same;
         some = h.some;
-        passes = set_length actors place (Some actor') ∙ h.passes ∙ sym keeps.actors;
-        sessions = set_length floors place floor ∙ h.sessions ∙ sym (set_length actors place (Some actor'));
-        there = All-set (IsActorThere next (whole_of new) settings.nodes) actors place (Some actor') (subst (λ (n : ℕ). IsActor next (whole_of new) n actor') same kept)
+        passes = set_length actors number (Some actor') ∙ h.passes ∙ sym keeps.actors;
+        sessions = set_length floors number floor ∙ h.sessions ∙ sym (set_length actors number (Some actor'));
+        there = All-set (IsActorThere next (whole_of new) settings.nodes) actors number (Some actor') (subst (λ (n : ℕ). IsActor next (whole_of new) n actor') same kept)
             (still_there h keeps);
       }
 
 -- ---- what is told of an actor's step
 
-module _ {A C : Type 0} (settings : WorldSettings) (ports : PortsValue) (floors : List ℕ) (actors : List (Option (Actor A C))) (place : ℕ) (actor : Actor A C)
-    (is : slice_get actors place ≡ Some (Some actor)) where
-  pub observed_there : slice_get (told_of settings ports floors actors).actors place ≡ Some (observed_of actor)
-  observed_there = slice_get-map observed_at actors place ∙ ap (λ (o : Option (Option (Actor A C))). option_map observed_at o) is
+module _ {A C : Type 0} (settings : WorldSettings) (ports : PortsValue) (floors : List ℕ) (actors : List (Option (Actor A C))) (number : ℕ) (actor : Actor A C)
+    (is : slice_get actors number ≡ Some (Some actor)) where
+  pub observed_there : slice_get (told_of settings ports floors actors).actors number ≡ Some (observed_of actor)
+  observed_there = slice_get-map observed_at actors number ∙ ap (λ (o : Option (Option (Actor A C))). option_map observed_at o) is
 
   -- what the world shows after the step is what is told
   pub told_act : (new : PortsValue) (floors' : List ℕ) (actors' : List (Option (Actor A C))) (actor' : Actor A C) (act : Act) (reply : Reply) (now : Observation)
-      → floors' ≡ slice_set floors place (floor_by reply (floor_at floors place))
-      → actors' ≡ slice_set actors place (Some actor')
+      → floors' ≡ slice_set floors number (floor_by reply (floor_at floors number))
+      → actors' ≡ slice_set actors number (Some actor')
       → observed_of actor' ≡ observed_after act reply (observed_of actor)
       → new.database.history ≡ act_in act reply (observed_of actor) ports.database.history → new.spare ≡ ports.spare
-      → told_of settings ports floors actors ≡ now → told_of settings new floors' actors' ≡ after now (steps.Actor place act) reply
+      → told_of settings ports floors actors ≡ now → told_of settings new floors' actors' ≡ after now (steps.Actor number act) reply
   told_act new floors' actors' actor' act reply now noted put observed history spare shows =
-      let told : told_of settings new floors' actors' ≡ after (told_of settings ports floors actors) (steps.Actor place act) reply =
-      rw (noted, put, observed_there, history, spare, map-set observed_at actors place (Some actor'), observed) refl
-      in told ∙ ap (λ (t : Observation). after t (steps.Actor place act) reply) shows
+      let told : told_of settings new floors' actors' ≡ after (told_of settings ports floors actors) (steps.Actor number act) reply =
+      rw (noted, put, observed_there, history, spare, map-set observed_at actors number (Some actor'), observed) refl
+      in told ∙ ap (λ (t : Observation). after t (steps.Actor number act) reply) shows
 
   pub due_act : (act : Act) (reply : Reply) (now : Observation) → IsActDue (observed_of actor) act reply → told_of settings ports floors actors ≡ now
-      → IsDue now (steps.Actor place act) reply
+      → IsDue now (steps.Actor number act) reply
   due_act act reply now h shows =
-      let due : IsDue (told_of settings ports floors actors) (steps.Actor place act) reply = rw observed_there h in
-      subst (λ (t : Observation). IsDue t (steps.Actor place act) reply) shows due
+      let due : IsDue (told_of settings ports floors actors) (steps.Actor number act) reply = rw observed_there h in
+      subst (λ (t : Observation). IsDue t (steps.Actor number act) reply) shows due
 
   pub explained_act : (next : Next) (new : PortsValue) (act : Act) (reply : Reply) (now : Observation)
       → ReplyExplains next new.database.history (length ports.database.history) (observed_of actor) reply
-      → told_of settings ports floors actors ≡ now → IsExplainedIn next new.database.history now (steps.Actor place act) reply
+      → told_of settings ports floors actors ≡ now → IsExplainedIn next new.database.history now (steps.Actor number act) reply
   explained_act next new act reply now h shows =
-      let explained : IsExplainedIn next new.database.history (told_of settings ports floors actors) (steps.Actor place act) reply = rw observed_there h in
-      subst (λ (t : Observation). IsExplainedIn next new.database.history t (steps.Actor place act) reply) shows explained
+      let explained : IsExplainedIn next new.database.history (told_of settings ports floors actors) (steps.Actor number act) reply = rw observed_there h in
+      subst (λ (t : Observation). IsExplainedIn next new.database.history t (steps.Actor number act) reply) shows explained

@@ -82,14 +82,14 @@ keep_goes_on (keeps.Write change) (replies.At stamp) L = changes_go_on (change �
 keep_goes_on (keeps.Pin now) (replies.At stamp) L = (pin_event now ∷ [], refl)
 keep_goes_on keep reply L = prefix_self L
 
-act_at_goes_on : (place : ℕ) (act : Act) (reply : Reply) (told : Observation) (observed : Option ObservedActor) → IsPrefix told.history (act_at place act reply told observed).history
-act_at_goes_on place act reply told None = prefix_self told.history
-act_at_goes_on place act reply told (Some observed) = act_goes_on act reply observed told.history
+act_at_goes_on : (number : ℕ) (act : Act) (reply : Reply) (told : Observation) (observed : Option ObservedActor) → IsPrefix told.history (act_at number act reply told observed).history
+act_at_goes_on number act reply told None = prefix_self told.history
+act_at_goes_on number act reply told (Some observed) = act_goes_on act reply observed told.history
 
 pub after_goes_on : (told : Observation) (step : Step) (reply : Reply) → IsPrefix told.history (after told step reply).history
-after_goes_on told (Actor place act) reply = act_at_goes_on place act reply told (slice_get told.actors place)
-after_goes_on told (BeginIn place now staleness) reply =
-    act_at_goes_on place (begin_at (floor_at told.floors place) now staleness) reply told (slice_get told.actors place)
+after_goes_on told (Actor number act) reply = act_at_goes_on number act reply told (slice_get told.actors number)
+after_goes_on told (BeginIn number now staleness) reply =
+    act_at_goes_on number (begin_at (floor_at told.floors number) now staleness) reply told (slice_get told.actors number)
 after_goes_on told (Keeper keep) reply = keep_goes_on keep reply told.history
 
 pub told_goes_on : (told : Observation) (steps : List Step) (replies : List Reply) → IsPrefix told.history (told_by told steps replies).history
@@ -149,8 +149,8 @@ module _ (next : Next) (L M : History) (on : IsPrefix L M) where
     place_later reply (Some observed) h = reply_later observed reply h
 
   step_later : (told : Observation) (step : Step) (reply : Reply) → IsExplainedIn next L told step reply → IsExplainedIn next M told step reply
-  step_later told (Actor place act) reply h = place_later (length told.history) reply (slice_get told.actors place) h
-  step_later told (BeginIn place now staleness) reply h = place_later (length told.history) reply (slice_get told.actors place) h
+  step_later told (Actor number act) reply h = place_later (length told.history) reply (slice_get told.actors number) h
+  step_later told (BeginIn number now staleness) reply h = place_later (length told.history) reply (slice_get told.actors number) h
   step_later told (Keeper keep) reply h = h
 
 -- what is explained as it is told is explained in the whole history

@@ -22,11 +22,11 @@ use Rattle.txc_world.specs.declared.did.Did.TheVariants as dids
 use Rattle.txc_world.specs.declared.reply.Reply.{Reply}
 use Rattle.txc_world.specs.declared.reply.Reply.TheVariants as replies
 use Rattle.txc_world.specs.Ports.{PortsValue}
-use Rattle.txc_world.specs.Asks.{DoesTellFound, HoldLeads, QueryLeads}
+use Rattle.txc_world.specs.Asks.{DoesTellFound, HoldTransition, QueryTransition}
 use Rattle.txc_world.specs.Holdings.{nothing, Account, ActCounts, CountRight, HasLost, IsFair}
 use Rattle.txc_world.specs.Losing.{IfDidLose, IfGone, IfLost, IfReplyLost, IfResultLost, IfTurnLost}
-use Rattle.txc_world.specs.Keeping.{CommitLeads}
-use Rattle.txc_world.specs.Writing.{FindLeadsRw, HasAskedRw}
+use Rattle.txc_world.specs.Keeping.{CommitTransition}
+use Rattle.txc_world.specs.Writing.{FindTransitionRw, HasAskedRw}
 use Rattle.txc_world.proofs.Balance.{committed_holds}
 use Rattle.txc_world.proofs.Fairness.{counts_itself, fair_hold, fair_same, gone_commit, gone_hold, gone_query, left_holds}
 use Rattle.txc_world.proofs.Losing.{gone_so, request_lost, rw_not_lost}
@@ -50,13 +50,13 @@ module _ (p : PortsValue) (base : ℕ) where
   gone_lost e gone = gone_so (times base p.database.holds ≡ 0) (HasLost p (based base)) (base_lost p base) e gone
 
   -- of a query of the open call
-  pub loss_told : (query : Query) (found : Result Found DbError) (did : Did) → CountRight p → QueryLeads query base p found → DoesTellFound found did
+  pub loss_told : (query : Query) (found : Result Found DbError) (did : Did) → CountRight p → QueryTransition query base p found → DoesTellFound found did
       → IfDidLose did (HasLost p (based base))
   loss_told query (Ok found) did right leads told = rw told.1 tt
   loss_told query (Err e) did right leads told = rw told (gone_lost e (gone_query p right query base e leads))
 
   -- of a query of its own
-  pub loss_found : (query : Query) (result : Result (Vec RowValue Global) TxnError) → CountRight p → FindLeadsRw query base p result → IfResultLost result (HasLost p (based base))
+  pub loss_found : (query : Query) (result : Result (Vec RowValue Global) TxnError) → CountRight p → FindTransitionRw query base p result → IfResultLost result (HasLost p (based base))
   loss_found query (Ok rows) right leads = tt
   loss_found query (Err e) right (inl want) = rw want tt
   loss_found query (Err e) right (inr refused) =
@@ -97,7 +97,7 @@ pub counts_unchanged : (old new : PortsValue) (a : Account) (reply : Reply) → 
 counts_unchanged old new a reply same loss = rw same (counts_itself old a reply loss)
 
 -- the newest stamp is held
-pub counts_begun : (old new : PortsValue) (base : ℕ) → HoldLeads old new (Ok base) → ActCounts old new nothing (based base) (replies.Based base)
+pub counts_begun : (old new : PortsValue) (base : ℕ) → HoldTransition old new (Ok base) → ActCounts old new nothing (based base) (replies.Based base)
 counts_begun old new base leads = record {
   fair = fair_hold old new [] base (ap (λ (p : PortsValue). p.database.holds) leads.0 ∙ ap (λ (s : ℕ). old.database.holds ++ s ∷ []) (sym leads.1))
       (ap (λ (p : PortsValue). p.cushion) leads.0);
@@ -105,7 +105,7 @@ counts_begun old new base leads = record {
 }
 
 -- a commit leaves the holds
-pub fair_commit : (old new : PortsValue) (at base base' stamp : ℕ) (read : List Tag) (changes : List Change) → CommitLeads at read changes old new (Ok stamp) → base' ≡ base
+pub fair_commit : (old new : PortsValue) (at base base' stamp : ℕ) (read : List Tag) (changes : List Change) → CommitTransition at read changes old new (Ok stamp) → base' ≡ base
     → IsFair old new (based base) (based base')
 fair_commit old new at base base' stamp read changes leads is = rw is
     (fair_same old new (based base) (based base)
@@ -113,7 +113,7 @@ fair_commit old new at base base' stamp read changes leads is = rw is
     ∙ committed_holds old.database (newest_net old.database changes) (after_event_of old.database (commit_event (newest_state old.database) changes) (newest_net old.database changes)) refl)
     (ap (λ (p : PortsValue). p.cushion) leads.0) (λ t. omega arith) (λ t. omega arith))
 
-pub fair_not_committed : (old new : PortsValue) (at base : ℕ) (read : List Tag) (changes : List Change) (e : DbError) → CommitLeads at read changes old new (Err e)
+pub fair_not_committed : (old new : PortsValue) (at base : ℕ) (read : List Tag) (changes : List Change) (e : DbError) → CommitTransition at read changes old new (Err e)
     → IsFair old new (based base) (based base)
 fair_not_committed old new at base read changes e leads =
     fair_same old new (based base) (based base) (left_holds old.database new.database e leads.0.left) (ap (λ (p : PortsValue). p.cushion) leads.0.is) (λ t. omega arith) (λ t. omega arith)

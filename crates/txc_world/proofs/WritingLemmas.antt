@@ -18,13 +18,13 @@ use Rattle.txc_ports.specs.declared.turn.Turn.TheVariants as turns
 use Rattle.txc_rw.specs.declared.given.Given.{Given}
 use Rattle.txc_rw.specs.declared.given.Given.TheVariants as given
 use Rattle.txc_rw.specs.Core.{answers_after, queried_after, IsRightReply, IsRw, IsRwIdle, QueryTurn, RwHolds, RwValue}
-use Rattle.txc_rw.specs.Leading.{RowsLead}
+use Rattle.txc_rw.specs.Transitions.{RowsTransition}
 use Rattle.txc_ports.specs.Refusals.{refused_request}
-use Rattle.txc_world.specs.Writing.{with_rows, FindLeadsRw, IsRead}
+use Rattle.txc_world.specs.Writing.{with_rows, FindTransitionRw, IsRead}
 use Rattle.txc_world.specs.declared.actor.OpenCall.{OpenCall}
 use Rattle.txc_world.specs.Observation.{writing}
 use Rattle.txc_world.specs.Ports.{PortsValue}
-use Rattle.txc_world.specs.Asks.{QueryLeads}
+use Rattle.txc_world.specs.Asks.{QueryTransition}
 use Rattle.txc_world.specs.Actors.{told_by_turn, HasRwCall}
 
 pub writing_same : (b b' : ℕ) (k k' : Option Call) (a a' : List Given) (c c' : List Change) → b ≡ b' → k ≡ k' → a ≡ a' → c ≡ c'
@@ -53,7 +53,7 @@ answers_at_start told now key key' turn same is =
 -- ---- what is asked
 
 -- the database's answer at the base is right
-pub right_answer : (p : PortsValue) (c : RwValue) (query : Query) (base : ℕ) (found : Result Found DbError) → QueryLeads query base p found → base ≡ c.base
+pub right_answer : (p : PortsValue) (c : RwValue) (query : Query) (base : ℕ) (found : Result Found DbError) → QueryTransition query base p found → base ≡ c.base
     → c.reading ≡ Some query → IsRightReply p.database.history c found
 right_answer p c query base (Ok found) leads at asked = λ q is.
     let same : query ≡ q = (let both : Some query ≡ Some q = sym asked ∙ is in cc both) in
@@ -80,12 +80,12 @@ still_open c c' changes call none is h =
 
 -- ---- what comes of each step
 
-pub answered_at : (query : Query) (stamp base : ℕ) (p : PortsValue) (found : Result Found DbError) → stamp ≡ base → QueryLeads query stamp p found → QueryLeads query base p found
-answered_at query stamp base p found same leads = subst (λ (n : ℕ). QueryLeads query n p found) same leads
+pub answered_at : (query : Query) (stamp base : ℕ) (p : PortsValue) (found : Result Found DbError) → stamp ≡ base → QueryTransition query stamp p found → QueryTransition query base p found
+answered_at query stamp base p found same leads = subst (λ (n : ℕ). QueryTransition query n p found) same leads
 
-pub answered_rows : (query : Query) (base : ℕ) (p : PortsValue) (found : Result Found DbError) (f : Found) → QueryLeads query base p found → found ≡ Ok f
+pub answered_rows : (query : Query) (base : ℕ) (p : PortsValue) (found : Result Found DbError) (f : Found) → QueryTransition query base p found → found ≡ Ok f
     → f.rows.items ≡ answer query (state_at p.database.history base)
-answered_rows query base p found f leads is = (subst (λ (r : Result Found DbError). QueryLeads query base p r) is leads).0.answer.rows
+answered_rows query base p found f leads is = (subst (λ (r : Result Found DbError). QueryTransition query base p r) is leads).0.answer.rows
 
 pub queried_so : (queried : List Query) (reading : Option Query) (q : Query) (found : Result Found DbError) (now : List Query) → reading ≡ Some q
     → now ≡ queried_after queried reading found → now ≡ queried_after queried (Some q) found
@@ -95,20 +95,20 @@ queried_so queried reading q found now is h = subst (λ (r : Option Query). now 
 
 -- what comes of the database's answer, told of the core before it was asked
 module _ (query : Query) (p : PortsValue) (old asking new : RwValue) (same : asking ≡ record old { reading = Some query }) (none : old.reading ≡ None) where
-  pub own_leads : (found : Result Found DbError) (result : Result (Vec RowValue Global) TxnError) → QueryLeads query old.base p found → RowsLead asking query found new result
-      → FindLeadsRw query old.base p result
+  pub own_leads : (found : Result Found DbError) (result : Result (Vec RowValue Global) TxnError) → QueryTransition query old.base p found → RowsTransition asking query found new result
+      → FindTransitionRw query old.base p result
   own_leads (Ok f) (Ok rows) leads on = (f, leads, on.0)
   own_leads (Ok f) (Err e) leads on = inl on.0
   own_leads (Err cause) (Ok rows) leads on = cc on.0
   own_leads (Err cause) (Err e) leads on = let is : e ≡ refused_request cause = cc on.0 in inr (cause, leads, is)
 
-  pub own_read : (found : Result Found DbError) (result : Result (Vec RowValue Global) TxnError) → RowsLead asking query found new result → IsRead query old.queried new.queried result
+  pub own_read : (found : Result Found DbError) (result : Result (Vec RowValue Global) TxnError) → RowsTransition asking query found new result → IsRead query old.queried new.queried result
   own_read (Ok f) (Ok rows) on = ap (λ (c : RwValue). c.queried) on.1 ∙ ap (λ (c : RwValue). c.queried ++ query ∷ []) same
   own_read (Ok f) (Err e) on = inl (ap (λ (c : RwValue). c.queried) on.1 ∙ ap (λ (c : RwValue). c.queried ++ query ∷ []) same)
   own_read (Err cause) (Ok rows) on = cc on.0
   own_read (Err cause) (Err e) on = inr (ap (λ (c : RwValue). c.queried) on.1 ∙ ap (λ (c : RwValue). c.queried) same)
 
-  pub own_answers : (found : Result Found DbError) (result : Result (Vec RowValue Global) TxnError) → RowsLead asking query found new result
+  pub own_answers : (found : Result Found DbError) (result : Result (Vec RowValue Global) TxnError) → RowsTransition asking query found new result
       → new.answers ≡ with_rows query old.answers result
   own_answers (Ok f) (Ok rows) on = ap (λ (c : RwValue). c.answers) on.1 ∙ ap (λ (c : RwValue). c.answers ++ given.Rows query rows.items ∷ []) same
   own_answers (Ok f) (Err e) on = ap (λ (c : RwValue). c.answers) on.1 ∙ ap (λ (c : RwValue). c.answers) same
@@ -121,7 +121,7 @@ module _ (query : Query) (p : PortsValue) (old asking new : RwValue) (same : ask
       ∙ ap (λ (c : RwValue). record c { queried = new.queried; answers = new.answers; reading = None }) same
       ∙ ap (λ (r : Option Query). record old { queried = new.queried; answers = new.answers; reading = r }) (sym none)
 
-  pub own_same : (found : Result Found DbError) (result : Result (Vec RowValue Global) TxnError) → RowsLead asking query found new result
+  pub own_same : (found : Result Found DbError) (result : Result (Vec RowValue Global) TxnError) → RowsTransition asking query found new result
       → new ≡ record old { queried = new.queried; answers = new.answers }
   own_same (Ok f) (Ok rows) on = kept_so (
       on.1

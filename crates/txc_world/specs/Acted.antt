@@ -5,7 +5,7 @@ use Rattle.txc_world.specs.declared.actor.Actor.{Actor}
 use Rattle.txc_world.specs.declared.reply.Reply.{Reply}
 use Rattle.txc_world.specs.declared.step.Act.{Act}
 use Rattle.txc_world.specs.Actors.{observed_of, IsActor}
-use Rattle.txc_world.specs.Acts.{ActLeads}
+use Rattle.txc_world.specs.Acts.{ActTransition}
 use Rattle.txc_world.specs.Holdings.{account_of, ActCounts}
 use Rattle.txc_world.specs.ActorValues.{actor_value}
 use Rattle.txc_world.specs.Ports.{PortsValue, whole_of, KeepsRow}
@@ -33,14 +33,14 @@ pub record ActsThere {A C : Type 0} (next : Next) (renew_after pass : ℕ) (act 
   pub there : slot ≡ Some was
   pub left : after ≡ Some is
   pub acted : IsActed next act old new was is reply
-  pub leads : ActLeads next renew_after pass act old new (actor_value was) (actor_value is) reply
+  pub leads : ActTransition next renew_after pass act old new (actor_value was) (actor_value is) reply
 
--- the same of the actor at a place, while the others stay as they are
-pub record ActsAt {A C : Type 0} (next : Next) (renew_after place : ℕ) (act : Act) (old new : PortsValue)
+-- the same of the actor of a number, while the others stay as they are
+pub record ActsAt {A C : Type 0} (next : Next) (renew_after number : ℕ) (act : Act) (old new : PortsValue)
     (actors after : List (Option (Actor A C))) (reply : Reply) : Type 0 where
   pub was : Actor A C
   pub is : Actor A C
-  pub there : slice_get actors place ≡ Some (Some was)
-  pub others : after ≡ slice_set actors place (Some is)
+  pub there : slice_get actors number ≡ Some (Some was)
+  pub others : after ≡ slice_set actors number (Some is)
   pub acted : IsActed next act old new was is reply
-  pub leads : ActLeads next renew_after place act old new (actor_value was) (actor_value is) reply
+  pub leads : ActTransition next renew_after number act old new (actor_value was) (actor_value is) reply

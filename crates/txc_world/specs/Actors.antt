@@ -18,7 +18,7 @@ use Rattle.txc_ports.specs.declared.error.TxnError.{TxnError}
 use Rattle.txc_ports.specs.declared.reply.PortReply.{PortReply}
 use Rattle.txc_ports.specs.declared.request.PortRequest.{PortRequest}
 use Rattle.txc_cushion.specs.declared.pins.Pins.{Pins}
-use Rattle.txc_txn.specs.Leading.{StartLeads}
+use Rattle.txc_txn.specs.Transitions.{StartTransition}
 use Rattle.txc_txn.specs.Kept.{HasGoneOn, TxnValue}
 use Rattle.txc_ports.specs.declared.turn.Turn.{Turn}
 use Rattle.txc_ports.specs.declared.turn.Turn.TheVariants as turns
@@ -44,9 +44,9 @@ use Rattle.txc_world.specs.declared.reply.Refusal.TheVariants.{Memory, Transacti
 use Rattle.txc_world.specs.Parts.{IsPartOf}
 use Rattle.txc_world.specs.Ports.{PortsValue}
 use Rattle.txc_ports.specs.Asking.{TurnAddsSuch, IsReplyTo}
-use Rattle.txc_world.specs.Asks.{DoesTell, FreshLeads, PortRequestLeads}
+use Rattle.txc_world.specs.Asks.{DoesTell, FreshTransition, PortRequestTransition}
 use Rattle.txc_world.specs.ActorValues.{call_at_turn, ActorValue, CallValue, reads, resting, leaves}
-use Rattle.txc_world.specs.Keeping.{GiveBackLeads}
+use Rattle.txc_world.specs.Keeping.{GiveBackTransition}
 use Rattle.txc_world.specs.Losing.{IfLost, IfTurnLost}
 use Rattle.txc_world.specs.Observation.{ObservedActor, idle, reading, writing, leaving}
 
@@ -158,25 +158,25 @@ counted members did = did
 -- a core began with the pins that the pincushion handed out for the bounds
 pub record CoreHasBegun (renew_after : ℕ) (bounds : Bounds) (old new : PortsValue) (c : CoreValue) : Type 0 where
   pub pins : Pins
-  pub fresh : FreshLeads {A = Unit {0}} bounds.now bounds.staleness bounds.at_least old new (Ok pins)
+  pub fresh : FreshTransition {A = Unit {0}} bounds.now bounds.staleness bounds.at_least old new (Ok pins)
   pub core : c ≡ begun_core (length old.nodes) renew_after bounds pins c.call
 
 -- a transaction began, with no call and with the functions as they are; or the actor has nothing open, and all is
 -- as it was
-abbrev pub TxnBeginLeads : ℕ → Bounds → PortsValue → PortsValue → Objects → ActorValue → Reply → Type 0
-TxnBeginLeads renew_after bounds old new objects (reads r) reply =
+abbrev pub TxnBeginTransition : ℕ → Bounds → PortsValue → PortsValue → Objects → ActorValue → Reply → Type 0
+TxnBeginTransition renew_after bounds old new objects (reads r) reply =
     CoreHasBegun renew_after bounds old new r.txn.core × (r.txn.objects ≡ objects) × (r.call ≡ None)
     × (reply ≡ Begun)
-TxnBeginLeads renew_after bounds old new objects (resting left) reply = (reply ≡ replies.Refused Memory)
+TxnBeginTransition renew_after bounds old new objects (resting left) reply = (reply ≡ replies.Refused Memory)
     × (new ≡ old) × (left ≡ objects)
-TxnBeginLeads renew_after bounds old new objects actor reply = ⊥
+TxnBeginTransition renew_after bounds old new objects actor reply = ⊥
 
 -- a call is open, with the turn that its start came to
 pub record HasStarted (key : Call) (before : TxnValue) (actor : ActorValue) : Type 0 where
   pub txn : TxnValue
   pub turn : PortTurn
   pub actor_is : actor ≡ reads (record { txn = txn; call = Some (call_at_turn key turn) })
-  pub leads : StartLeads before.core before.objects key txn.core txn.objects turn
+  pub leads : StartTransition before.core before.objects key txn.core txn.objects turn
   pub same : txn.core ≡ record before.core { call = txn.core.call; pinning = txn.core.pinning }
 
 -- One request of a transaction, as a step of the pass: the port that was asked did this, and the transaction
@@ -187,7 +187,7 @@ pub record HasAsked (next : Next) (pass : ℕ) (request : PortRequest) (old new 
   pub port : Did
   pub right : IsReplyTo next request reply
   pub tells : DoesTell reply port
-  pub leads : PortRequestLeads pass before.core.seen request old new reply
+  pub leads : PortRequestTransition pass before.core.seen request old new reply
   pub counts : did ≡ counted before.core.pins.members port
   pub went : HasGoneOn next before reply after turn
 
@@ -206,11 +206,11 @@ pub record HasRequested (next : Next) (pass : ℕ) (key : Call) (request : PortR
 
 -- a request at a turn of the open call: it is made; or the call had ended, which is told, and no port was
 -- asked
-abbrev pub RequestLeads : Next → ℕ → Call → PortTurn → PortsValue → PortsValue → TxnValue → ActorValue → Reply
+abbrev pub RequestTransition : Next → ℕ → Call → PortTurn → PortsValue → PortsValue → TxnValue → ActorValue → Reply
     → Type 0
-RequestLeads next pass key (turns.Ask request) old new before actor reply =
+RequestTransition next pass key (turns.Ask request) old new before actor reply =
     HasRequested next pass key request old new before actor reply
-RequestLeads next pass key (turns.Ended result) old new before actor reply = (new ≡ old)
+RequestTransition next pass key (turns.Ended result) old new before actor reply = (new ≡ old)
     × (actor ≡ reads (record { txn = before; call = None })) × (reply ≡ Ended result)
 
 -- given up: every function is there still and idle, and the hold of the stamp, if there is one, is left
@@ -222,7 +222,7 @@ IsGivenUp held objects actor = ⊥
 
 -- users of these stamps were given back to the pincushion, or it refused, and nothing has changed
 abbrev pub HasGivenBack : List ℕ → PortsValue → PortsValue → Type 0
-HasGivenBack stamps old new = (given : Result (Unit {0}) UnknownPin) × GiveBackLeads stamps old new given
+HasGivenBack stamps old new = (given : Result (Unit {0}) UnknownPin) × GiveBackTransition stamps old new given
 
 -- ---- how it is told
 

@@ -12,10 +12,10 @@ use Rattle.txc_world.specs.declared.reply.Reply.{Reply}
 use Rattle.txc_world.specs.declared.reply.Reply.TheVariants.{Asked, Aborted, Receipt}
 use Rattle.txc_world.specs.Ports.{PortsValue}
 use Rattle.txc_world.specs.Asks.{UnpinTold}
-use Rattle.txc_world.specs.Kept.{KeepLeads}
+use Rattle.txc_world.specs.Kept.{KeepTransition}
 use Rattle.txc_world.specs.ActorValues.{ActorValue, ReadingValue, WritingValue, resting, reads, writes, leaves}
-use Rattle.txc_world.specs.Actors.{HasGivenBack, HasStarted, IsGivenUp, RequestLeads, TxnBeginLeads}
-use Rattle.txc_world.specs.Writing.{BeginRwLeads, CommitLeadsRw, HasFoundRw, HasStartedRw, RequestLeadsRw, WriteLeadsRw}
+use Rattle.txc_world.specs.Actors.{HasGivenBack, HasStarted, IsGivenUp, RequestTransition, TxnBeginTransition}
+use Rattle.txc_world.specs.Writing.{BeginRwTransition, CommitTransitionRw, HasFoundRw, HasStartedRw, RequestTransitionRw, WriteTransitionRw}
 use Rattle.txc_world.specs.Tidy.{in_hand_after, IsTidy, LosesNoSnapshot, InHand}
 use Rattle.txc_world.specs.Observation.{after, begin_at, floor_at, IsDue, IsExplainedIn}
 use Rattle.txc_world.specs.Worlds.{IsBalanced, IsTrueWorld, WorldValue}
@@ -27,52 +27,52 @@ abbrev pub NothingDone : PortsValue → PortsValue → ActorValue → ActorValue
 NothingDone old new before after = (new ≡ old) × (after ≡ before)
 
 -- with nothing open it begins a transaction, or does nothing
-abbrev pub RestingLeads : ℕ → Act → PortsValue → PortsValue → Objects → ActorValue → Reply → Type 0
-RestingLeads renew_after (BeginRo bounds) old new objects actor reply =
-    TxnBeginLeads renew_after bounds old new objects actor reply
-RestingLeads renew_after BeginRw old new objects actor reply = BeginRwLeads old new objects actor reply
-RestingLeads renew_after act old new objects actor reply = NothingDone old new (resting objects) actor
+abbrev pub RestingTransition : ℕ → Act → PortsValue → PortsValue → Objects → ActorValue → Reply → Type 0
+RestingTransition renew_after (BeginRo bounds) old new objects actor reply =
+    TxnBeginTransition renew_after bounds old new objects actor reply
+RestingTransition renew_after BeginRw old new objects actor reply = BeginRwTransition old new objects actor reply
+RestingTransition renew_after act old new objects actor reply = NothingDone old new (resting objects) actor
 
 -- With a read-only transaction open it starts a call or ends the transaction, where no call is open; it
 -- makes the request of the open call; it gives up, in the middle of a call too; or it does nothing.
-abbrev pub ReadingLeads : Next → ℕ → Act → PortsValue → PortsValue → ReadingValue → ActorValue → Reply
+abbrev pub ReadingTransition : Next → ℕ → Act → PortsValue → PortsValue → ReadingValue → ActorValue → Reply
     → Type 0
-ReadingLeads next pass (Start key) old new r actor reply = MatchOption r.call
+ReadingTransition next pass (Start key) old new r actor reply = MatchOption r.call
     ((new ≡ old) × HasStarted key r.txn actor)
     (λ call. NothingDone old new (reads r) actor)
-ReadingLeads next pass Request old new r actor reply = MatchOption r.call
+ReadingTransition next pass Request old new r actor reply = MatchOption r.call
     (NothingDone old new (reads r) actor)
-    (λ call. RequestLeads next pass call.key call.turn old new r.txn actor reply)
-ReadingLeads next pass Commit old new r actor reply = MatchOption r.call
+    (λ call. RequestTransition next pass call.key call.turn old new r.txn actor reply)
+ReadingTransition next pass Commit old new r actor reply = MatchOption r.call
     (HasGivenBack r.txn.core.taken old new × (actor ≡ resting r.txn.objects)
     × (reply ≡ Receipt (receipt_pin r.txn.core.recorded r.txn.core.pins.members)))
     (λ call. NothingDone old new (reads r) actor)
-ReadingLeads next pass Abort old new r actor reply = HasGivenBack r.txn.core.taken old new
+ReadingTransition next pass Abort old new r actor reply = HasGivenBack r.txn.core.taken old new
     × IsGivenUp (left_pin r.txn.core.pinning) r.txn.objects actor
     × (reply ≡ Aborted (left_pin r.txn.core.pinning))
-ReadingLeads next pass act old new r actor reply = NothingDone old new (reads r) actor
+ReadingTransition next pass act old new r actor reply = NothingDone old new (reads r) actor
 
 -- With a read-write transaction open it starts a call, asks, keeps a change or commits, where no call is
 -- open. Or it makes the request of the open call; it gives up, in the middle of a call too; or it does nothing.
-abbrev pub WritingLeads : Next → Act → PortsValue → PortsValue → WritingValue → ActorValue → Reply → Type 0
-WritingLeads next (Start key) old new w actor reply = MatchOption w.call
+abbrev pub WritingTransition : Next → Act → PortsValue → PortsValue → WritingValue → ActorValue → Reply → Type 0
+WritingTransition next (Start key) old new w actor reply = MatchOption w.call
     ((new ≡ old) × HasStartedRw next key w actor)
     (λ call. NothingDone old new (writes w) actor)
-WritingLeads next Request old new w actor reply = MatchOption w.call
+WritingTransition next Request old new w actor reply = MatchOption w.call
     (NothingDone old new (writes w) actor)
-    (λ call. (new ≡ old) × RequestLeadsRw next call.key call.turn old w actor reply)
-WritingLeads next (Ask query) old new w actor reply = MatchOption w.call
+    (λ call. (new ≡ old) × RequestTransitionRw next call.key call.turn old w actor reply)
+WritingTransition next (Ask query) old new w actor reply = MatchOption w.call
     ((new ≡ old) × HasFoundRw query old w actor reply)
     (λ call. NothingDone old new (writes w) actor)
-WritingLeads next (Write change) old new w actor reply = MatchOption w.call
-    ((new ≡ old) × WriteLeadsRw change w actor reply)
+WritingTransition next (Write change) old new w actor reply = MatchOption w.call
+    ((new ≡ old) × WriteTransitionRw change w actor reply)
     (λ call. NothingDone old new (writes w) actor)
-WritingLeads next Commit old new w actor reply = MatchOption w.call
-    (CommitLeadsRw old new w actor reply)
+WritingTransition next Commit old new w actor reply = MatchOption w.call
+    (CommitTransitionRw old new w actor reply)
     (λ call. NothingDone old new (writes w) actor)
-WritingLeads next Abort old new w actor reply = (new ≡ old)
+WritingTransition next Abort old new w actor reply = (new ≡ old)
     × IsGivenUp (Some w.core.base) w.objects actor × (reply ≡ Aborted (Some w.core.base))
-WritingLeads next act old new w actor reply = NothingDone old new (writes w) actor
+WritingTransition next act old new w actor reply = NothingDone old new (writes w) actor
 
 -- one request takes the hold away that is left
 pub record HasTakenAway (old new : PortsValue) (objects : Objects) (stamp : ℕ) (actor : ActorValue)
@@ -82,53 +82,53 @@ pub record HasTakenAway (old new : PortsValue) (objects : Objects) (stamp : ℕ)
   pub unpinned : UnpinTold stamp old new did
   pub actor_is : actor ≡ resting objects
 
-abbrev pub LeavingLeads : Act → PortsValue → PortsValue → Objects → ℕ → ActorValue → Reply → Type 0
-LeavingLeads Request old new objects stamp actor reply = HasTakenAway old new objects stamp actor reply
-LeavingLeads act old new objects stamp actor reply = NothingDone old new (leaves objects stamp) actor
+abbrev pub LeavingTransition : Act → PortsValue → PortsValue → Objects → ℕ → ActorValue → Reply → Type 0
+LeavingTransition Request old new objects stamp actor reply = HasTakenAway old new objects stamp actor reply
+LeavingTransition act old new objects stamp actor reply = NothingDone old new (leaves objects stamp) actor
 
 -- what a step of an actor, which has this pass through the nodes, leaves of the ports and of the actor, by
 -- what it has open
-abbrev pub ActLeads : Next → ℕ → ℕ → Act → PortsValue → PortsValue → ActorValue → ActorValue → Reply → Type 0
-ActLeads next renew_after pass act old new (resting objects) actor reply =
-    RestingLeads renew_after act old new objects actor reply
-ActLeads next renew_after pass act old new (reads r) actor reply =
-    ReadingLeads next pass act old new r actor reply
-ActLeads next renew_after pass act old new (writes w) actor reply =
-    WritingLeads next act old new w actor reply
-ActLeads next renew_after pass act old new (leaves objects stamp) actor reply =
-    LeavingLeads act old new objects stamp actor reply
+abbrev pub ActTransition : Next → ℕ → ℕ → Act → PortsValue → PortsValue → ActorValue → ActorValue → Reply → Type 0
+ActTransition next renew_after pass act old new (resting objects) actor reply =
+    RestingTransition renew_after act old new objects actor reply
+ActTransition next renew_after pass act old new (reads r) actor reply =
+    ReadingTransition next pass act old new r actor reply
+ActTransition next renew_after pass act old new (writes w) actor reply =
+    WritingTransition next act old new w actor reply
+ActTransition next renew_after pass act old new (leaves objects stamp) actor reply =
+    LeavingTransition act old new objects stamp actor reply
 
 -- ---- a step
 
 -- the actor of the number, which was this before, is led so, and the others stay as they are
-pub record HasActed (next : Next) (place : ℕ) (act : Act) (old new : WorldValue) (reply : Reply)
+pub record HasActed (next : Next) (number : ℕ) (act : Act) (old new : WorldValue) (reply : Reply)
     (before : ActorValue) : Type 0 where
   pub actor : ActorValue
-  pub others : new.actors ≡ slice_set old.actors place actor
-  pub leads : ActLeads next old.told.settings.renew_after place act old.ports new.ports before actor reply
+  pub others : new.actors ≡ slice_set old.actors number actor
+  pub leads : ActTransition next old.told.settings.renew_after number act old.ports new.ports before actor reply
 
 -- A step of an actor leads that actor, in its session from the session's floor; where there is no such actor,
 -- nothing changes. A step of the keeper leads the ports, and every actor stays as it is.
-abbrev pub StepLeads : Next → WorldValue → Step → Reply → WorldValue → Type 0
-StepLeads next old (Actor place act) reply new = MatchOption (slice_get old.actors place) (new ≡ old)
-    (λ before. HasActed next place act old new reply before)
-StepLeads next old (BeginIn place now staleness) reply new = MatchOption (slice_get old.actors place) (new ≡ old)
-    (λ before. HasActed next place (begin_at (floor_at old.told.floors place) now staleness) old new reply before)
-StepLeads next old (Keeper keep) reply new = KeepLeads keep old.ports new.ports reply
+abbrev pub StepTransition : Next → WorldValue → Step → Reply → WorldValue → Type 0
+StepTransition next old (Actor number act) reply new = MatchOption (slice_get old.actors number) (new ≡ old)
+    (λ before. HasActed next number act old new reply before)
+StepTransition next old (BeginIn number now staleness) reply new = MatchOption (slice_get old.actors number) (new ≡ old)
+    (λ before. HasActed next number (begin_at (floor_at old.told.floors number) now staleness) old new reply before)
+StepTransition next old (Keeper keep) reply new = KeepTransition keep old.ports new.ports reply
     × (new.actors ≡ old.actors)
 
 -- what a step leaves of a world, and what is told of it; and it is a world that is true
 pub record HasStepped (next : Next) (old : WorldValue) (step : Step) (reply : Reply) (new : WorldValue)
     : Type 0 where
   pub told : new.told ≡ after old.told step reply
-  pub leads : StepLeads next old step reply new
+  pub leads : StepTransition next old step reply new
   pub world : IsTrueWorld next new
 
 -- A step was made: it leads so, is replied what is due, and explains what was told before it. Where each had what is
 -- its own and the step is tidy, each has so after it, and no snapshot is lost.
 pub record IsWholeStep (next : Next) (old : WorldValue) (step : Step) (reply : Reply) (new : WorldValue) : Type 0 where
   pub told : new.told ≡ after old.told step reply
-  pub leads : StepLeads next old step reply new
+  pub leads : StepTransition next old step reply new
   pub world : IsTrueWorld next new
   pub due : IsDue old.told step reply
   pub explained : IsExplainedIn next new.told.history old.told step reply

@@ -33,7 +33,7 @@ use Rattle.txc_world.specs.declared.did.Did.{Did}
 use Rattle.txc_world.specs.declared.did.Did.TheVariants as dids
 use Rattle.txc_world.specs.Holdings.{AskCounts}
 use Rattle.txc_world.specs.Parts.{IsPartOf}
-use Rattle.txc_world.specs.NodeSteps.{LookupLeads, InsertLeads}
+use Rattle.txc_world.specs.NodeSteps.{LookupTransition, InsertTransition}
 use Rattle.txc_world.specs.Ports.{PortsValue, whole_of, KeepsRow, HasRefused, HasLedNode}
 
 -- ---- pins
@@ -49,35 +49,35 @@ pub record HasPinned (now at_least : ℕ) (old new : PortsValue) (pinned : Pinne
   pub shown : moment_at pinned.front.history pinned.stamp ≡ Some pinned.moment
 
 -- of a pin: it was made, or the database refused
-abbrev pub PinLeads : ℕ → ℕ → PortsValue → PortsValue → Result Pinned DbError → Type 0
-PinLeads now at_least old new (Ok pinned) = HasPinned now at_least old new pinned
-PinLeads now at_least old new (Err e) = HasRefused old new e × IsPinRefused old.database at_least e
+abbrev pub PinTransition : ℕ → ℕ → PortsValue → PortsValue → Result Pinned DbError → Type 0
+PinTransition now at_least old new (Ok pinned) = HasPinned now at_least old new pinned
+PinTransition now at_least old new (Err e) = HasRefused old new e × IsPinRefused old.database at_least e
 
 -- of a pin that is added: it is in the pincushion, or was refused, and nothing has changed
-abbrev pub AddLeads : {A : Type 0} → Pinned → PortsValue → PortsValue → Result A AddError → Type 0
-AddLeads pinned old new (Ok added) = (new ≡ record old { cushion = after_add old.cushion pinned })
+abbrev pub AddTransition : {A : Type 0} → Pinned → PortsValue → PortsValue → Result A AddError → Type 0
+AddTransition pinned old new (Ok added) = (new ≡ record old { cushion = after_add old.cushion pinned })
     × IsAddable old.cushion pinned.stamp
-AddLeads pinned old new (Err e) = (new ≡ old) × IsAddRefused old.cushion pinned.stamp e
+AddTransition pinned old new (Err e) = (new ≡ old) × IsAddRefused old.cushion pinned.stamp e
 
 -- of a hold: there is one fewer of the stamp, or the database refused, and nothing has changed
-abbrev pub UnpinLeads : {A : Type 0} → ℕ → PortsValue → PortsValue → Result A DbError → Type 0
-UnpinLeads stamp old new (Ok unpinned) = (new ≡ record old { database = after_unpin old.database stamp })
+abbrev pub UnpinTransition : {A : Type 0} → ℕ → PortsValue → PortsValue → Result A DbError → Type 0
+UnpinTransition stamp old new (Ok unpinned) = (new ≡ record old { database = after_unpin old.database stamp })
     × (is_held stamp old.database.holds ≡ true)
-UnpinLeads stamp old new (Err e) = (new ≡ old) × IsUnpinRefused old.database stamp e
+UnpinTransition stamp old new (Err e) = (new ≡ old) × IsUnpinRefused old.database stamp e
 
 -- of a beginning: the newest of the fresh pins are handed out, each with one user more; or nothing has
 -- changed
-abbrev pub FreshLeads : {A : Type 0} → ℕ → ℕ → ℕ → PortsValue → PortsValue → Result Pins A → Type 0
-FreshLeads now staleness at_least old new (Ok pins) =
+abbrev pub FreshTransition : {A : Type 0} → ℕ → ℕ → ℕ → PortsValue → PortsValue → Result Pins A → Type 0
+FreshTransition now staleness at_least old new (Ok pins) =
     (new ≡ record old { cushion = after_fresh old.cushion now staleness at_least })
     × (pins.pins.items ≡ handed_out old.cushion now staleness at_least)
-FreshLeads now staleness at_least old new (Err e) = new ≡ old
+FreshTransition now staleness at_least old new (Err e) = new ≡ old
 
 -- of a beginning: the newest stamp has one hold more; or the database refused, and nothing has changed
-abbrev pub HoldLeads : PortsValue → PortsValue → Result ℕ DbError → Type 0
-HoldLeads old new (Ok base) = (new ≡ record old { database = after_hold old.database })
+abbrev pub HoldTransition : PortsValue → PortsValue → Result ℕ DbError → Type 0
+HoldTransition old new (Ok base) = (new ≡ record old { database = after_hold old.database })
     × (base ≡ newest old.database) × IsHoldable old.database
-HoldLeads old new (Err e) = (new ≡ old) × IsHoldRefused old.database e
+HoldTransition old new (Err e) = (new ≡ old) × IsHoldRefused old.database e
 
 -- ---- queries
 
@@ -86,9 +86,9 @@ pub record IsAnswerOf (query : Query) (stamp : ℕ) (p : PortsValue) (found : Fo
   pub answer : IsAnswer (state_at p.database.history) query stamp p.database.horizon (newest p.database) found
   pub tag : found.tags ≡ query_tag query ∷ []
 
-abbrev pub QueryLeads : Query → ℕ → PortsValue → Result Found DbError → Type 0
-QueryLeads query stamp p (Ok found) = IsAnswerOf query stamp p found × IsAnswerable p.database stamp
-QueryLeads query stamp p (Err e) = IsQueryRefused p.database query stamp e
+abbrev pub QueryTransition : Query → ℕ → PortsValue → Result Found DbError → Type 0
+QueryTransition query stamp p (Ok found) = IsAnswerOf query stamp p found × IsAnswerable p.database stamp
+QueryTransition query stamp p (Err e) = IsQueryRefused p.database query stamp e
 
 -- the answer of the query at the stamp, with its validity and its tag, and a front of the whole history
 pub record IsAnswerWithFront (query : Query) (stamp : ℕ) (p : PortsValue) (found : Answered Found) : Type 0 where
@@ -98,9 +98,9 @@ pub record IsAnswerWithFront (query : Query) (stamp : ℕ) (p : PortsValue) (fou
   pub front : found.front ≡ whole_of p
   pub over : IsFoundOver found.front.history query stamp found.answer
 
-abbrev pub FindLeads : Query → ℕ → PortsValue → Result (Answered Found) DbError → Type 0
-FindLeads query stamp p (Ok found) = IsAnswerWithFront query stamp p found × IsAnswerable p.database stamp
-FindLeads query stamp p (Err e) = IsQueryRefused p.database query stamp e
+abbrev pub FindTransition : Query → ℕ → PortsValue → Result (Answered Found) DbError → Type 0
+FindTransition query stamp p (Ok found) = IsAnswerWithFront query stamp p found × IsAnswerable p.database stamp
+FindTransition query stamp p (Err e) = IsQueryRefused p.database query stamp e
 
 -- what is told of the rows found: their ids, in order, with their reach and tags
 pub record IsToldOf (found : Found) (rows : RowsFound) : Type 0 where
@@ -156,21 +156,21 @@ UnpinTold stamp old new did = ⊥
 
 -- What comes of a request: a pin, or the hold of one taken away; a pin added; a lookup or an insertion at
 -- the node of its number, as a step of the pass; or a query, which changes nothing.
-abbrev pub PortRequestLeads : ℕ → FrontValue → PortRequest → PortsValue → PortsValue → PortReply → Type 0
-PortRequestLeads pass seen (requests.Pin now at_least) old new (replies.Pin pinned) =
-    PinLeads now at_least old new pinned
-PortRequestLeads pass seen (requests.AddPin pinned) old new (replies.AddPin given added) =
-    AddLeads pinned old new added
-PortRequestLeads pass seen (requests.Unpin stamp) old new (replies.Unpin unpinned) =
-    UnpinLeads stamp old new unpinned
-PortRequestLeads pass seen (requests.Lookup node key lo hi) old new (replies.Lookup hit) =
-    HasLedNode node (λ was is. LookupLeads pass key lo hi was is (option_map (λ h. h.answer) hit)) old new
-PortRequestLeads pass seen (requests.Query query stamp) old new (replies.Query found) =
-    (new ≡ old) × FindLeads query stamp old found
-PortRequestLeads pass seen (requests.Insert node entry) old new (replies.Insert kept) = (made : Option Insertion)
+abbrev pub PortRequestTransition : ℕ → FrontValue → PortRequest → PortsValue → PortsValue → PortReply → Type 0
+PortRequestTransition pass seen (requests.Pin now at_least) old new (replies.Pin pinned) =
+    PinTransition now at_least old new pinned
+PortRequestTransition pass seen (requests.AddPin pinned) old new (replies.AddPin given added) =
+    AddTransition pinned old new added
+PortRequestTransition pass seen (requests.Unpin stamp) old new (replies.Unpin unpinned) =
+    UnpinTransition stamp old new unpinned
+PortRequestTransition pass seen (requests.Lookup node key lo hi) old new (replies.Lookup hit) =
+    HasLedNode node (λ was is. LookupTransition pass key lo hi was is (option_map (λ h. h.answer) hit)) old new
+PortRequestTransition pass seen (requests.Query query stamp) old new (replies.Query found) =
+    (new ≡ old) × FindTransition query stamp old found
+PortRequestTransition pass seen (requests.Insert node entry) old new (replies.Insert kept) = (made : Option Insertion)
     × (kept ≡ kept_after made)
-    × HasLedNode node (λ was is. InsertLeads pass seen entry was is made) old new
-PortRequestLeads pass seen request old new reply = ⊥
+    × HasLedNode node (λ was is. InsertTransition pass seen entry was is made) old new
+PortRequestTransition pass seen request old new reply = ⊥
 
 -- the request asks for this moment, where it asks for a pin
 abbrev pub IsAskedAt : ℕ → PortRequest → Type 0
@@ -184,7 +184,7 @@ pub record IsAsked (next : Next) (pass : ℕ) (seen : FrontValue) (request : Por
   pub to : IsReplyTo next request reply
   pub row : IsOfRow old.database.events reply
   pub shown : ForSome (shown_by reply) (λ front. IsPartOf (whole_of new) front)
-  pub leads : PortRequestLeads pass seen request old new reply
+  pub leads : PortRequestTransition pass seen request old new reply
   pub keeps : KeepsRow old new
   pub spare : new.spare ≡ old.spare
   pub counts : AskCounts request old new reply

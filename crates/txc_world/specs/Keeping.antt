@@ -20,28 +20,28 @@ use Rattle.txc_cushion.specs.Cushion.{after_give_back, after_retire, retired}
 use Rattle.txc_cushion.specs.Refusals.{HaveUsers, IsFirstUnused}
 use Rattle.txc_world.specs.declared.did.RowsFound.{RowsFound}
 use Rattle.txc_world.specs.Ports.{PortsValue, HasRefused}
-use Rattle.txc_world.specs.Asks.{AddLeads, HasPinned, IsToldOf}
+use Rattle.txc_world.specs.Asks.{AddTransition, HasPinned, IsToldOf}
 
 -- ---- the database
 
 -- of changes: they are committed at the base, with so many tags read; or the database refused
-abbrev pub CommitLeads : ℕ → List Tag → List Change → PortsValue → PortsValue → Result ℕ DbError → Type 0
-CommitLeads base read changes old new (Ok stamp) =
+abbrev pub CommitTransition : ℕ → List Tag → List Change → PortsValue → PortsValue → Result ℕ DbError → Type 0
+CommitTransition base read changes old new (Ok stamp) =
     (new ≡ record old { database = after_commit old.database changes })
     × (stamp ≡ newest new.database)
     × IsCommittable old.database base read changes
-CommitLeads base read changes old new (Err e) = HasRefused old new e
+CommitTransition base read changes old new (Err e) = HasRefused old new e
     × IsCommitRefused old.database base read changes e
 
 -- of a change: it is committed at the newest stamp, with nothing read
-abbrev pub WriteLeads : Change → PortsValue → PortsValue → Result ℕ DbError → Type 0
-WriteLeads change old new result = CommitLeads (newest old.database) [] (change ∷ []) old new result
+abbrev pub WriteTransition : Change → PortsValue → PortsValue → Result ℕ DbError → Type 0
+WriteTransition change old new result = CommitTransition (newest old.database) [] (change ∷ []) old new result
 
 -- of a vacuum: the horizon is the least held stamp, or the newest where none is held; or the database refused
-abbrev pub VacuumLeads : PortsValue → PortsValue → Result ℕ DbError → Type 0
-VacuumLeads old new (Ok horizon) = (new ≡ record old { database = after_vacuum old.database })
+abbrev pub VacuumTransition : PortsValue → PortsValue → Result ℕ DbError → Type 0
+VacuumTransition old new (Ok horizon) = (new ≡ record old { database = after_vacuum old.database })
     × (horizon ≡ next_horizon old.database)
-VacuumLeads old new (Err e) = (new ≡ old) × IsVacuumRefused old.database e
+VacuumTransition old new (Err e) = (new ≡ old) × IsVacuumRefused old.database e
 
 -- the answer of the query at the stamp, as it is told
 abbrev pub IsToldAnswer : Query → ℕ → PortsValue → RowsFound → Type 0
@@ -64,9 +64,9 @@ pub record HasPinnedSpare (now : ℕ) (old new : PortsValue) (stamp : ℕ) : Typ
   pub spare : new.spare ≡ old.spare ++ pinned ∷ []
 
 -- of a pin of the keeper: it was made; or the database refused, or there was no room for it
-abbrev pub PinSpareLeads : ℕ → PortsValue → PortsValue → Result ℕ DbError → Type 0
-PinSpareLeads now old new (Ok stamp) = HasPinnedSpare now old new stamp
-PinSpareLeads now old new (Err e) = HasRefused old new e × (IsPinRefused old.database 0 e ⊎ (e ≡ Memory))
+abbrev pub PinSpareTransition : ℕ → PortsValue → PortsValue → Result ℕ DbError → Type 0
+PinSpareTransition now old new (Ok stamp) = HasPinnedSpare now old new stamp
+PinSpareTransition now old new (Err e) = HasRefused old new e × (IsPinRefused old.database 0 e ⊎ (e ≡ Memory))
 
 -- the keeper has the pin no more, and the pincushion took it, or refused
 pub record HasAddedSpare {A : Type 0} (stamp : ℕ) (old new : PortsValue) (reply : Result A AddError)
@@ -77,26 +77,26 @@ pub record HasAddedSpare {A : Type 0} (stamp : ℕ) (old new : PortsValue) (repl
   pub stamp_is : pinned.stamp ≡ stamp
   pub held : is_held stamp (stamps_of_pins old.spare) ≡ true
   pub spare : stamps_of_pins new.spare ≡ without stamp (stamps_of_pins old.spare)
-  pub added : AddLeads pinned (record old { spare = remove old.spare at }) new reply
+  pub added : AddTransition pinned (record old { spare = remove old.spare at }) new reply
 
 -- of adding a pin of the keeper's: it had it, and adds it; or it has none of the stamp, and nothing has
 -- changed
-abbrev pub AddSpareLeads : {A : Type 0} → ℕ → PortsValue → PortsValue → Option (Result A AddError) → Type 0
-AddSpareLeads stamp old new (Some added) = HasAddedSpare stamp old new added
-AddSpareLeads stamp old new None = (new ≡ old) × (is_held stamp (stamps_of_pins old.spare) ≡ false)
+abbrev pub AddSpareTransition : {A : Type 0} → ℕ → PortsValue → PortsValue → Option (Result A AddError) → Type 0
+AddSpareTransition stamp old new (Some added) = HasAddedSpare stamp old new added
+AddSpareTransition stamp old new None = (new ≡ old) × (is_held stamp (stamps_of_pins old.spare) ≡ false)
 
 -- ---- the pincushion
 
 -- of users given back: each stamp has one fewer for each time that it is named; or a first one has none
 -- left, and nothing has changed
-abbrev pub GiveBackLeads : {A : Type 0} → List ℕ → PortsValue → PortsValue → Result A UnknownPin → Type 0
-GiveBackLeads stamps old new (Ok given) = (new ≡ record old { cushion = after_give_back old.cushion stamps })
+abbrev pub GiveBackTransition : {A : Type 0} → List ℕ → PortsValue → PortsValue → Result A UnknownPin → Type 0
+GiveBackTransition stamps old new (Ok given) = (new ≡ record old { cushion = after_give_back old.cushion stamps })
     × HaveUsers old.cushion.entries stamps
-GiveBackLeads stamps old new (Err unknown) = (new ≡ old)
+GiveBackTransition stamps old new (Err unknown) = (new ≡ old)
     × IsFirstUnused old.cushion.entries stamps unknown.stamp
 
 -- of pins taken out: exactly those that no transaction may use and that are too old; or nothing has changed
-abbrev pub RetireLeads : {A : Type 0} → ℕ → ℕ → PortsValue → PortsValue → Result (Vec ℕ Global) A → Type 0
-RetireLeads now age old new (Ok stamps) = (new ≡ record old { cushion = after_retire old.cushion now age })
+abbrev pub RetireTransition : {A : Type 0} → ℕ → ℕ → PortsValue → PortsValue → Result (Vec ℕ Global) A → Type 0
+RetireTransition now age old new (Ok stamps) = (new ≡ record old { cushion = after_retire old.cushion now age })
     × (stamps.items ≡ retired old.cushion now age)
-RetireLeads now age old new (Err e) = new ≡ old
+RetireTransition now age old new (Err e) = new ≡ old

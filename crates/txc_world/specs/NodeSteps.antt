@@ -19,10 +19,10 @@ HasRefusedLookup old lo hi new = (e : NodeError) × IsLookupRefused old lo hi e 
 
 -- Of a lookup: the node made the step, and shows what it has of the call, or has nothing; or it refused,
 -- which is a miss.
-abbrev pub LookupLeads : ℕ → Call → ℕ → ℕ → NodeValue → NodeValue → Option Shown → Type 0
-LookupLeads pass key lo hi old new (Some shown) = (new ≡ after_call old pass (Lookup key lo hi))
+abbrev pub LookupTransition : ℕ → Call → ℕ → ℕ → NodeValue → NodeValue → Option Shown → Type 0
+LookupTransition pass key lo hi old new (Some shown) = (new ≡ after_call old pass (Lookup key lo hi))
     × (lookup_answer old.cache key lo hi ≡ Some shown)
-LookupLeads pass key lo hi old new None =
+LookupTransition pass key lo hi old new None =
     ((new ≡ after_call old pass (Lookup key lo hi)) × (lookup_answer old.cache key lo hi ≡ None))
     ⊎ HasRefusedLookup old lo hi new
 
@@ -38,9 +38,9 @@ abbrev pub HasRefusedStep : NodeValue → NodeValue → Type 0
 HasRefusedStep old new = (e : NodeError) × IsStepRefused old e × IsNodeLeft old new e
 
 -- Of an insertion: the node made the step; or it refused, and keeps nothing.
-abbrev pub InsertLeads : ℕ → FrontValue → Entry → NodeValue → NodeValue → Option Insertion → Type 0
-InsertLeads pass seen entry old new (Some insertion) = NodeHasInserted pass seen entry old new insertion
-InsertLeads pass seen entry old new None = HasRefusedStep old new
+abbrev pub InsertTransition : ℕ → FrontValue → Entry → NodeValue → NodeValue → Option Insertion → Type 0
+InsertTransition pass seen entry old new (Some insertion) = NodeHasInserted pass seen entry old new insertion
+InsertTransition pass seen entry old new None = HasRefusedStep old new
 
 -- ---- steps of the keeper
 
@@ -51,13 +51,13 @@ IsAdvanceRefused n Memory = n.broken ≡ false
 IsAdvanceRefused n e = IsTakingRefused n e
 
 -- of an advance: the node has seen the whole, and took the next event, or has taken all; or it refused
-abbrev pub AdvanceLeads : ℕ → FrontValue → NodeValue → NodeValue → Result Advanced NodeError → Type 0
-AdvanceLeads pass whole old new (Ok advanced) = (old.broken ≡ false)
+abbrev pub AdvanceTransition : ℕ → FrontValue → NodeValue → NodeValue → Result Advanced NodeError → Type 0
+AdvanceTransition pass whole old new (Ok advanced) = (old.broken ≡ false)
     × HasAdvanced (seeing old whole) pass new advanced
-AdvanceLeads pass whole old new (Err e) = IsNodeLeft old new e × IsAdvanceRefused old e
+AdvanceTransition pass whole old new (Err e) = IsNodeLeft old new e × IsAdvanceRefused old e
 
 -- of a sweep: the node made the step, and answers how many entries it dropped; or it refused
-abbrev pub SweepLeads : ℕ → ℕ → NodeValue → NodeValue → Result ℕ NodeError → Type 0
-SweepLeads pass horizon old new (Ok count) = CanRecord old × (new ≡ after_call old pass (Sweep horizon))
+abbrev pub SweepTransition : ℕ → ℕ → NodeValue → NodeValue → Result ℕ NodeError → Type 0
+SweepTransition pass horizon old new (Ok count) = CanRecord old × (new ≡ after_call old pass (Sweep horizon))
     × (count ≡ swept_count old.cache horizon)
-SweepLeads pass horizon old new (Err e) = IsNodeLeft old new e × IsStepRefused old e
+SweepTransition pass horizon old new (Err e) = IsNodeLeft old new e × IsStepRefused old e

@@ -147,7 +147,7 @@ spare_after keep reply spare = spare
 
 -- the floor of the session of the actor of that number
 abbrev pub floor_at : List ℕ → ℕ → ℕ
-floor_at floors place = slice_index_or floors place 0
+floor_at floors number = slice_index_or floors number 0
 
 -- a receipt with a pin, and the stamp of a commit, raise the floor of the actor that is replied so
 abbrev pub floor_by : Reply → ℕ → ℕ
@@ -163,18 +163,18 @@ begin_at floor now staleness = BeginRo (record { now = now; staleness = stalenes
 
 -- the actor's step tells nothing where there is no such actor
 abbrev pub act_at : ℕ → Act → Reply → Observation → Option ObservedActor → Observation
-act_at place act reply told None = told
-act_at place act reply told (Some observed) = record told {
+act_at number act reply told None = told
+act_at number act reply told (Some observed) = record told {
   history = act_in act reply observed told.history;
-  floors = slice_set told.floors place (floor_by reply (floor_at told.floors place));
-  actors = slice_set told.actors place (observed_after act reply observed);
+  floors = slice_set told.floors number (floor_by reply (floor_at told.floors number));
+  actors = slice_set told.actors number (observed_after act reply observed);
 }
 
 -- what one step and its reply make of what was told before
 abbrev pub after : Observation → Step → Reply → Observation
-after told (Actor place act) reply = act_at place act reply told (slice_get told.actors place)
-after told (BeginIn place now staleness) reply =
-    act_at place (begin_at (floor_at told.floors place) now staleness) reply told (slice_get told.actors place)
+after told (Actor number act) reply = act_at number act reply told (slice_get told.actors number)
+after told (BeginIn number now staleness) reply =
+    act_at number (begin_at (floor_at told.floors number) now staleness) reply told (slice_get told.actors number)
 after told (Keeper keep) reply = record told {
   history = keep_in keep reply told.history;
   spare = spare_after keep reply told.spare;
@@ -230,11 +230,11 @@ ReplyExplains next L count observed reply = Unit {0}
 -- a receipt, or the stamp of a commit, is given to nobody but an actor, and explains its answers in the
 -- history
 abbrev pub IsExplainedIn : Next → History → Observation → Step → Reply → Type 0
-IsExplainedIn next L told (Actor place act) reply =
-    MatchOption (slice_get told.actors place) (IsNoCommit reply)
+IsExplainedIn next L told (Actor number act) reply =
+    MatchOption (slice_get told.actors number) (IsNoCommit reply)
     (λ observed. ReplyExplains next L (length told.history) observed reply)
-IsExplainedIn next L told (BeginIn place now staleness) reply =
-    MatchOption (slice_get told.actors place) (IsNoCommit reply)
+IsExplainedIn next L told (BeginIn number now staleness) reply =
+    MatchOption (slice_get told.actors number) (IsNoCommit reply)
     (λ observed. ReplyExplains next L (length told.history) observed reply)
 IsExplainedIn next L told (Keeper keep) reply = IsNoReceipt reply
 
@@ -348,11 +348,11 @@ IsKeepDue nodes spare keep reply = IsDueOr (due_keep nodes spare keep) (IsKeepRe
 
 -- a step of nobody is refused; any other is replied what is due
 abbrev pub IsDue : Observation → Step → Reply → Type 0
-IsDue told (Actor place act) reply =
-    MatchOption (slice_get told.actors place) (reply ≡ Refused NoActor) (λ observed. IsActDue observed act reply)
-IsDue told (BeginIn place now staleness) reply =
-    MatchOption (slice_get told.actors place) (reply ≡ Refused NoActor)
-    (λ observed. IsActDue observed (begin_at (floor_at told.floors place) now staleness) reply)
+IsDue told (Actor number act) reply =
+    MatchOption (slice_get told.actors number) (reply ≡ Refused NoActor) (λ observed. IsActDue observed act reply)
+IsDue told (BeginIn number now staleness) reply =
+    MatchOption (slice_get told.actors number) (reply ≡ Refused NoActor)
+    (λ observed. IsActDue observed (begin_at (floor_at told.floors number) now staleness) reply)
 IsDue told (Keeper keep) reply = IsKeepDue told.settings.nodes told.spare keep reply
 
 -- each step is replied what is due after those before it

@@ -16,29 +16,29 @@ replied (step ∷ steps) (reply ∷ replies) = (step, reply) ∷ replied steps r
 
 -- no read-only transaction of the actor of that number began so
 abbrev pub BeganNone : ℕ → Step → Reply → Type 0
-BeganNone place (Actor at act) Begun = ¬ (at ≡ place)
-BeganNone place (BeginIn at now staleness) Begun = ¬ (at ≡ place)
-BeganNone place step reply = Unit {0}
+BeganNone number (Actor at act) Begun = ¬ (at ≡ number)
+BeganNone number (BeginIn at now staleness) Begun = ¬ (at ≡ number)
+BeganNone number step reply = Unit {0}
 
 abbrev pub HaveBegunNone : ℕ → List (Step × Reply) → Type 0
-HaveBegunNone place happened = AllByRecursion (λ x. BeganNone place x.0 x.1) happened
+HaveBegunNone number happened = AllByRecursion (λ x. BeganNone number x.0 x.1) happened
 
 -- if the actor of that number was told a stamp so, of a receipt or of the commit of a read-write transaction,
 -- that is at most this
 abbrev pub ToldAtMost : ℕ → ℕ → Step → Reply → Type 0
-ToldAtMost place most (Actor at Commit) (Receipt (Some pin)) = at ≡ place → pin.stamp ≤ most
-ToldAtMost place most (Actor at Commit) (At stamp) = at ≡ place → stamp ≤ most
-ToldAtMost place most step reply = Unit {0}
+ToldAtMost number most (Actor at Commit) (Receipt (Some pin)) = at ≡ number → pin.stamp ≤ most
+ToldAtMost number most (Actor at Commit) (At stamp) = at ≡ number → stamp ≤ most
+ToldAtMost number most step reply = Unit {0}
 
 abbrev pub HaveToldAtMost : ℕ → ℕ → List (Step × Reply) → Type 0
-HaveToldAtMost place most happened = AllByRecursion (λ x. ToldAtMost place most x.0 x.1) happened
+HaveToldAtMost number most happened = AllByRecursion (λ x. ToldAtMost number most x.0 x.1) happened
 
 -- Nobody goes back, where an actor began a transaction in its session, and committed it, with no other begun in
 -- between. The stamp of its receipt is not below any that the actor was told before, of a receipt or of
 -- the commit of a read-write transaction, begun in the session or not.
 abbrev pub NoActorGoesBack : List Step → List Reply → Type 0
 NoActorGoesBack steps replies =
-    (place now staleness : ℕ) (pin : Pin) (before between after : List (Step × Reply))
-    → replied steps replies ≡ before ++ ((BeginIn place now staleness, Begun) ∷ (between
-    ++ ((Actor place Commit, Receipt (Some pin)) ∷ after)))
-    → HaveBegunNone place between → HaveToldAtMost place pin.stamp (before ++ between)
+    (number now staleness : ℕ) (pin : Pin) (before between after : List (Step × Reply))
+    → replied steps replies ≡ before ++ ((BeginIn number now staleness, Begun) ∷ (between
+    ++ ((Actor number Commit, Receipt (Some pin)) ∷ after)))
+    → HaveBegunNone number between → HaveToldAtMost number pin.stamp (before ++ between)

@@ -38,8 +38,8 @@ in_hand_kept (keeps.Unpin stamp) replies.Unpinned in_hand = record in_hand { owe
 in_hand_kept keep reply in_hand = in_hand
 
 abbrev pub in_hand_after : Step → Reply → InHand → InHand
-in_hand_after (Actor place act) reply in_hand = in_hand
-in_hand_after (BeginIn place now staleness) reply in_hand = in_hand
+in_hand_after (Actor number act) reply in_hand = in_hand
+in_hand_after (BeginIn number now staleness) reply in_hand = in_hand
 in_hand_after (Keeper keep) reply in_hand = in_hand_kept keep reply in_hand
 
 -- what a list of steps and their replies make of it, one after another
@@ -57,8 +57,8 @@ IsTidyKeep (keeps.Unpin stamp) replies.Unpinned in_hand = Contains in_hand.owed 
 IsTidyKeep keep reply in_hand = Unit {0}
 
 abbrev pub IsTidy : Step → Reply → InHand → Type 0
-IsTidy (Actor place act) reply in_hand = Unit {0}
-IsTidy (BeginIn place now staleness) reply in_hand = Unit {0}
+IsTidy (Actor number act) reply in_hand = Unit {0}
+IsTidy (BeginIn number now staleness) reply in_hand = Unit {0}
 IsTidy (Keeper keep) reply in_hand = IsTidyKeep keep reply in_hand
 
 -- each step is tidy after those before it
@@ -76,8 +76,8 @@ LosesNothing reply = IfReplyLost reply ⊥
 
 -- nor is it one of an actor; the keeper may ask for what is gone
 abbrev pub LosesNoSnapshot : Step → Reply → Type 0
-LosesNoSnapshot (Actor place act) reply = LosesNothing reply
-LosesNoSnapshot (BeginIn place now staleness) reply = LosesNothing reply
+LosesNoSnapshot (Actor number act) reply = LosesNothing reply
+LosesNoSnapshot (BeginIn number now staleness) reply = LosesNothing reply
 LosesNoSnapshot (Keeper keep) reply = Unit {0}
 
 abbrev pub LoseNoSnapshot : List Step → List Reply → Type 0

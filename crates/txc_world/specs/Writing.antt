@@ -19,25 +19,25 @@ use Rattle.txc_ports.specs.Refusals.{refused_request}
 use Rattle.txc_rw.specs.declared.given.Given.{Given}
 use Rattle.txc_rw.specs.declared.given.Given.TheVariants as given
 use Rattle.txc_rw.specs.Core.{queried_after, tags_read, IsBegun, QueryTurn, RwValue}
-use Rattle.txc_rw.specs.Leading.{standing_of, RwCallLeads}
+use Rattle.txc_rw.specs.Transitions.{standing_of, RwCallTransition}
 use Rattle.txc_world.specs.declared.did.Did.{Did}
 use Rattle.txc_world.specs.declared.reply.Reply.{Reply}
 use Rattle.txc_world.specs.declared.reply.Reply.TheVariants.{Asked, At, Based, Ended, Kept, Refused}
 use Rattle.txc_world.specs.declared.reply.Refusal.TheVariants.{Database}
 use Rattle.txc_world.specs.Ports.{PortsValue}
-use Rattle.txc_world.specs.Asks.{DoesTellFound, HoldLeads, QueryLeads}
-use Rattle.txc_world.specs.Keeping.{CommitLeads}
+use Rattle.txc_world.specs.Asks.{DoesTellFound, HoldTransition, QueryTransition}
+use Rattle.txc_world.specs.Keeping.{CommitTransition}
 use Rattle.txc_world.specs.ActorValues.{call_at_turn, ActorValue, CallValue, WritingValue, resting, writes}
 use Rattle.txc_world.specs.Actors.{IsGivenUp, IsNoted, IsToldQuery}
 
 -- a transaction began at the newest stamp, which is held, with the functions as they are; or the database
 -- refused that, and nothing is open, as before
-abbrev pub BeginRwLeads : PortsValue → PortsValue → Objects → ActorValue → Reply → Type 0
-BeginRwLeads old new objects (writes w) reply = (base : ℕ) × HoldLeads old new (Ok base)
+abbrev pub BeginRwTransition : PortsValue → PortsValue → Objects → ActorValue → Reply → Type 0
+BeginRwTransition old new objects (writes w) reply = (base : ℕ) × HoldTransition old new (Ok base)
     × IsBegun base w.core × (w.objects ≡ objects) × (w.call ≡ None) × (reply ≡ Based base)
-BeginRwLeads old new objects (resting left) reply = (e : DbError) × HoldLeads old new (Err e)
+BeginRwTransition old new objects (resting left) reply = (e : DbError) × HoldTransition old new (Err e)
     × (left ≡ objects) × (reply ≡ Refused (Database e))
-BeginRwLeads old new objects actor reply = ⊥
+BeginRwTransition old new objects actor reply = ⊥
 
 -- a call is open, with the turn that its start came to, before any query; a function that is not there is
 -- refused
@@ -47,7 +47,7 @@ pub record HasStartedRw (next : Next) (key : Call) (before : WritingValue) (acto
   pub turn : QueryTurn
   pub actor_is : actor ≡ writes (record { core = core; objects = objects; call = Some (call_at_turn key turn) })
   pub leads : IsSome (activity_of before.objects key.function)
-      → (s : State) → RwCallLeads next s (standing_of (started key) before.objects) [] core objects turn
+      → (s : State) → RwCallTransition next s (standing_of (started key) before.objects) [] core objects turn
   pub missing : IsNone (activity_of before.objects key.function)
       → turn ≡ turns.Ended (Err (CallRefused (NoFunction key.function)))
   pub same : core ≡ record before.core { answers = core.answers; call = core.call; reading = core.reading }
@@ -57,11 +57,11 @@ pub record HasStartedRw (next : Next) (key : Call) (before : WritingValue) (acto
 pub record HasAskedRw (next : Next) (query : Query) (p : PortsValue) (before after : RwValue)
     (was is : Objects) (did : Did) (turn : QueryTurn) : Type 0 where
   pub found : Result Found DbError
-  pub answer : QueryLeads query before.base p found
+  pub answer : QueryTransition query before.base p found
   pub tells : DoesTellFound found did
   pub queried : after.queried ≡ queried_after before.queried (Some query) found
   pub leads : (f : Found) → found ≡ Ok f
-      → RwCallLeads next (state_at p.database.history before.base) (standing_of before.call was) (query ∷ [])
+      → RwCallTransition next (state_at p.database.history before.base) (standing_of before.call was) (query ∷ [])
       after is turn
   pub refused : (e : DbError) → found ≡ Err e → turn ≡ turns.Ended (Err (refused_request e))
   pub same : after ≡ record before {
@@ -87,18 +87,18 @@ pub record HasRequestedRw (next : Next) (key : Call) (query : Query) (p : PortsV
 
 -- a request at a turn of the open call: its query is asked; or the call had ended, which is told, and nothing else
 -- has changed
-abbrev pub RequestLeadsRw : Next → Call → QueryTurn → PortsValue → WritingValue → ActorValue → Reply → Type 0
-RequestLeadsRw next key (turns.Ask query) p before actor reply = HasRequestedRw next key query p before actor reply
-RequestLeadsRw next key (turns.Ended result) p before actor reply = (actor ≡ writes (record before { call = None }))
+abbrev pub RequestTransitionRw : Next → Call → QueryTurn → PortsValue → WritingValue → ActorValue → Reply → Type 0
+RequestTransitionRw next key (turns.Ask query) p before actor reply = HasRequestedRw next key query p before actor reply
+RequestTransitionRw next key (turns.Ended result) p before actor reply = (actor ≡ writes (record before { call = None }))
     × (reply ≡ Ended result)
 
 -- a query of its own: its rows are those that were found at the base; or it is refused as the database
 -- refused, or as out of memory
-abbrev pub FindLeadsRw : Query → ℕ → PortsValue → Result (Vec RowValue Global) TxnError → Type 0
-FindLeadsRw query base p (Ok rows) = (found : Found) × QueryLeads query base p (Ok found)
+abbrev pub FindTransitionRw : Query → ℕ → PortsValue → Result (Vec RowValue Global) TxnError → Type 0
+FindTransitionRw query base p (Ok rows) = (found : Found) × QueryTransition query base p (Ok found)
     × (rows.items ≡ found.rows.items)
-FindLeadsRw query base p (Err e) = (e ≡ Memory)
-    ⊎ ((cause : DbError) × QueryLeads query base p (Err cause) × (e ≡ refused_request cause))
+FindTransitionRw query base p (Err e) = (e ≡ Memory)
+    ⊎ ((cause : DbError) × QueryTransition query base p (Err cause) × (e ≡ refused_request cause))
 
 -- a query whose rows were answered was read, beside those before it; one that is refused may have been
 abbrev pub IsRead : Query → List Query → List Query → Result (Vec RowValue Global) TxnError → Type 0
@@ -116,25 +116,25 @@ pub record HasFoundRw (query : Query) (p : PortsValue) (before : WritingValue) (
   pub core : RwValue
   pub result : Result (Vec RowValue Global) TxnError
   pub told : IsToldQuery result reply
-  pub found : FindLeadsRw query before.core.base p result
+  pub found : FindTransitionRw query before.core.base p result
   pub actor_is : actor ≡ writes (record { core = core; objects = before.objects; call = None })
   pub read : IsRead query before.core.queried core.queried result
   pub same : core ≡ record before.core { queried = core.queried; answers = core.answers }
 
 -- the change stands after those before it; or nothing has changed
-abbrev pub WriteLeadsRw : Change → WritingValue → ActorValue → Reply → Type 0
-WriteLeadsRw change before actor Kept = actor ≡ writes (record before {
+abbrev pub WriteTransitionRw : Change → WritingValue → ActorValue → Reply → Type 0
+WriteTransitionRw change before actor Kept = actor ≡ writes (record before {
   core = record before.core { changes = before.core.changes ++ change ∷ [] };
 })
-WriteLeadsRw change before actor reply = actor ≡ writes before
+WriteTransitionRw change before actor reply = actor ≡ writes before
 
 -- a commit: the changes were committed at the base with the tags of all that was read, and the hold of the
 -- base is left; or the database refused, and the transaction is as it was
-abbrev pub CommitLeadsRw : PortsValue → PortsValue → WritingValue → ActorValue → Reply → Type 0
-CommitLeadsRw old new before actor (At stamp) =
-    CommitLeads before.core.base (tags_read before.core) before.core.changes old new (Ok stamp)
+abbrev pub CommitTransitionRw : PortsValue → PortsValue → WritingValue → ActorValue → Reply → Type 0
+CommitTransitionRw old new before actor (At stamp) =
+    CommitTransition before.core.base (tags_read before.core) before.core.changes old new (Ok stamp)
     × IsGivenUp (Some before.core.base) before.objects actor
-CommitLeadsRw old new before actor (Refused (Database e)) =
-    CommitLeads before.core.base (tags_read before.core) before.core.changes old new (Err e)
+CommitTransitionRw old new before actor (Refused (Database e)) =
+    CommitTransition before.core.base (tags_read before.core) before.core.changes old new (Err e)
     × (actor ≡ writes before)
-CommitLeadsRw old new before actor reply = ⊥
+CommitTransitionRw old new before actor reply = ⊥

@@ -7,7 +7,7 @@ ghost use Rattle.txc_ports.specs.Asking.{AddsSuch};
 ghost use Rattle.txc_ports.specs.Turns.{IsAsk};
 ghost use Rattle.txc_world.specs.Acted.{ActsAt, ActsThere, IsActed};
 ghost use Rattle.txc_world.specs.Actors.{counted, holds_any, AddsPart, CoreHasBegun, DropsNone, HasAsked, HasBegunWithin, IsActor, IsActorThere, IsNoted, IsOpenTxn};
-ghost use Rattle.txc_world.specs.Acts.{ActLeads, LeavingLeads, ReadingLeads, RestingLeads};
+ghost use Rattle.txc_world.specs.Acts.{ActTransition, LeavingTransition, ReadingTransition, RestingTransition};
 ghost use Rattle.txc_world.specs.ActorValues.{actor_value, opened, reading_value, reads};
 ghost use Rattle.txc_world.specs.Holdings.{account_of_core, nothing, HasLost, IsFair};
 ghost use Rattle.txc_world.specs.Losing.{IfDidLose, IfTurnLost};
@@ -75,7 +75,7 @@ fn begin_ro<A: App, C: Cacheable>(
     requires idle { AllIdle registry }
     requires nodes { 1 ≤ length ports.old.nodes }
     ensures acted { IsActed A.next (Act.BeginRo bounds) ports.old ports.new (Actor.Idle registry) result.0 result.1 }
-    ensures leads { RestingLeads renew_after (Act.BeginRo bounds) ports.old ports.new registry
+    ensures leads { RestingTransition renew_after (Act.BeginRo bounds) ports.old ports.new registry
         (actor_value result.0) result.1 }
 {
     match begun(alloc, ports, renew_after, bounds) {
@@ -97,7 +97,7 @@ fn start<A: App, C: Cacheable>(
     requires fits { IsOpenTxn (whole_of whole.now) (length whole.now.nodes) current.old }
     ensures acted { IsActed A.next (Act.Start key.now) whole.now whole.now
         (Actor.Reading current.old) (Actor.Reading current.new) result }
-    ensures leads { (next : Next) (pass : ℕ) → ReadingLeads next pass (Act.Start key.now) whole.now whole.now
+    ensures leads { (next : Next) (pass : ℕ) → ReadingTransition next pass (Act.Start key.now) whole.now whole.now
         (reading_value current.old) (reads (reading_value current.new)) result }
 {
     if current.call.is_some() {
@@ -195,7 +195,7 @@ fn request_call<A: App, C: Cacheable>(
     requires fits { IsOpenTxn (whole_of ports.old) (length ports.old.nodes) current.old }
     ensures acted { IsActed A.next Act.Request ports.old ports.new
         (Actor.Reading current.old) (Actor.Reading current.new) result }
-    ensures leads { ReadingLeads A.next pass Act.Request ports.old ports.new
+    ensures leads { ReadingTransition A.next pass Act.Request ports.old ports.new
         (reading_value current.old) (reads (reading_value current.new)) result }
 {
     let Some(OpenCall { key, turn }) = current.call.take() else {
@@ -220,7 +220,7 @@ fn leave<A: App, C: Cacheable>(
 ) -> (Actor<A, C>, Reply)
     requires { AllIdle registry }
     ensures acted { IsActed A.next Act.Request ports.old ports.new (Actor.Leaving registry stamp) result.0 result.1 }
-    ensures leads { LeavingLeads Act.Request ports.old ports.new registry stamp (actor_value result.0) result.1 }
+    ensures leads { LeavingTransition Act.Request ports.old ports.new registry stamp (actor_value result.0) result.1 }
 {
     ports.count_right();
     match ports.unpin(stamp) {
@@ -240,7 +240,7 @@ fn commit<A: App, C: Cacheable>(
     requires fits { IsOpenTxn (whole_of ports.old) (length ports.old.nodes) current }
     requires no_call { current.call ≡ None }
     ensures acted { IsActed A.next Act.Commit ports.old ports.new (Actor.Reading current) result.0 result.1 }
-    ensures leads { (next : Next) (pass : ℕ) → ReadingLeads next pass Act.Commit ports.old ports.new
+    ensures leads { (next : Next) (pass : ℕ) → ReadingTransition next pass Act.Commit ports.old ports.new
         (reading_value current) (actor_value result.0) result.1 }
 {
     let OpenTxn { txn, call: _ } = current;
@@ -252,7 +252,7 @@ fn commit<A: App, C: Cacheable>(
 // Gives the transaction up, in the middle of a call too, and its pins back.
 fn abort<A: App, C: Cacheable>(ports: &mut Ports<A>, current: OpenTxn<A, C>) -> (Actor<A, C>, Reply)
     ensures acted { IsActed A.next Act.Abort ports.old ports.new (Actor.Reading current) result.0 result.1 }
-    ensures leads { (next : Next) (pass : ℕ) → ReadingLeads next pass Act.Abort ports.old ports.new
+    ensures leads { (next : Next) (pass : ℕ) → ReadingTransition next pass Act.Abort ports.old ports.new
         (reading_value current) (actor_value result.0) result.1 }
 {
     let (left, registry) = current.txn.cancel();
@@ -274,7 +274,7 @@ fn act_idle<A: App, C: Cacheable>(
     requires idle { AllIdle registry }
     requires nodes { 1 ≤ length ports.old.nodes }
     ensures acted { IsActed A.next act.now ports.old ports.new (Actor.Idle registry) result.0 result.1 }
-    ensures leads { RestingLeads renew_after act.now ports.old ports.new registry (actor_value result.0) result.1 }
+    ensures leads { RestingTransition renew_after act.now ports.old ports.new registry (actor_value result.0) result.1 }
 {
     match act {
         Act::BeginRo(bounds) => begin_ro(alloc, ports, renew_after, registry, *bounds),
@@ -294,7 +294,7 @@ fn act_open<A: App, C: Cacheable>(
     requires own { pass < ports.old.actors }
     requires fits { IsOpenTxn (whole_of ports.old) (length ports.old.nodes) current }
     ensures acted { IsActed A.next act.now ports.old ports.new (Actor.Reading current) result.0 result.1 }
-    ensures leads { ReadingLeads A.next pass act.now ports.old ports.new (reading_value current)
+    ensures leads { ReadingTransition A.next pass act.now ports.old ports.new (reading_value current)
         (actor_value result.0) result.1 }
 {
     match act {
@@ -330,7 +330,7 @@ fn act_leaving<A: App, C: Cacheable>(
 ) -> (Actor<A, C>, Reply)
     requires { AllIdle registry }
     ensures acted { IsActed A.next act.now ports.old ports.new (Actor.Leaving registry stamp) result.0 result.1 }
-    ensures leads { LeavingLeads act.now ports.old ports.new registry stamp (actor_value result.0) result.1 }
+    ensures leads { LeavingTransition act.now ports.old ports.new registry stamp (actor_value result.0) result.1 }
 {
     match act {
         Act::Request => leave(ports, registry, stamp),
@@ -358,7 +358,7 @@ fn act_whole<A: App, C: Cacheable>(
     requires nodes { 1 ≤ length ports.old.nodes }
     requires fits { IsActor A.next (whole_of ports.old) (length ports.old.nodes) actor }
     ensures acted { IsActed A.next act.now ports.old ports.new actor result.0 result.1 }
-    ensures leads { ActLeads A.next renew_after pass act.now ports.old ports.new (actor_value actor)
+    ensures leads { ActTransition A.next renew_after pass act.now ports.old ports.new (actor_value actor)
         (actor_value result.0) result.1 }
 {
     match actor {
@@ -369,26 +369,26 @@ fn act_whole<A: App, C: Cacheable>(
     }
 }
 
-// One step of the actor at a place, which is taken out of it and put back.
+// One step of the actor of a number, which is taken out and put back.
 fn act_moved<A: App, C: Cacheable>(
     alloc: Global,
     ports: &mut Ports<A>,
     renew_after: u64,
-    place: usize,
+    number: usize,
     actors: &mut Vec<Option<Actor<A, C>>>,
     act: &Act,
 ) -> Reply
-    requires own { place < ports.old.actors }
+    requires own { number < ports.old.actors }
     requires nodes { 1 ≤ length ports.old.nodes }
-    requires place { place < vec_len actors.old }
+    requires number { number < vec_len actors.old }
     requires fits { All (IsActorThere A.next (whole_of ports.old) (length ports.old.nodes)) actors.old.items }
-    ensures { ActsAt A.next renew_after place act.now ports.old ports.new actors.old.items actors.new.items result }
+    ensures { ActsAt A.next renew_after number act.now ports.old ports.new actors.old.items actors.new.items result }
 {
-    let Some(actor) = take_out(actors, place) else {
+    let Some(actor) = take_out(actors, number) else {
         unreachable!();
     };
-    let (actor, reply) = act_whole(alloc, ports, renew_after, place, actor, act);
-    put_back(actors, place, actor);
+    let (actor, reply) = act_whole(alloc, ports, renew_after, number, actor, act);
+    put_back(actors, number, actor);
     reply
 }
 
@@ -396,18 +396,18 @@ fn act_moved<A: App, C: Cacheable>(
 fn call_there<A: App, C: Cacheable>(
     alloc: Global,
     ports: &mut Ports<A>,
-    place: usize,
+    number: usize,
     slot: &mut Option<Actor<A, C>>,
     act: &Act,
 ) -> Option<Reply>
-    requires own { place < ports.old.actors }
+    requires own { number < ports.old.actors }
     requires fits { IsActorThere A.next (whole_of ports.old) (length ports.old.nodes) slot.old }
-    ensures acts { (renew_after : ℕ) → IfSome result (ActsThere A.next renew_after place act.now ports.old ports.new slot.old slot.new) }
+    ensures acts { (renew_after : ℕ) → IfSome result (ActsThere A.next renew_after number act.now ports.old ports.new slot.old slot.new) }
     ensures unchanged { IfNone result ((ports.new ≡ ports.old) × (slot.new ≡ slot.old)) }
 {
     match slot {
         Some(Actor::Reading(current)) => match act {
-            Act::Request => Some(request_call(alloc, ports, place, current)),
+            Act::Request => Some(request_call(alloc, ports, number, current)),
             Act::Start(key) => Some(start(alloc, ports, current, key)),
             _ => None,
         },
@@ -415,23 +415,23 @@ fn call_there<A: App, C: Cacheable>(
     }
 }
 
-/// One step of the actor at a place.
+/// One step of the actor of a number.
 pub(crate) fn act_at<A: App, C: Cacheable>(
     alloc: Global,
     ports: &mut Ports<A>,
     renew_after: u64,
-    place: usize,
+    number: usize,
     actors: &mut Vec<Option<Actor<A, C>>>,
     act: &Act,
 ) -> Reply
-    requires own { place < ports.old.actors }
+    requires own { number < ports.old.actors }
     requires nodes { 1 ≤ length ports.old.nodes }
-    requires place { place < vec_len actors.old }
+    requires number { number < vec_len actors.old }
     requires fits { All (IsActorThere A.next (whole_of ports.old) (length ports.old.nodes)) actors.old.items }
-    ensures { ActsAt A.next renew_after place act.now ports.old ports.new actors.old.items actors.new.items result }
+    ensures { ActsAt A.next renew_after number act.now ports.old ports.new actors.old.items actors.new.items result }
 {
-    if let Some(reply) = call_there(alloc, ports, place, &mut actors[place], act) {
+    if let Some(reply) = call_there(alloc, ports, number, &mut actors[number], act) {
         return reply;
     }
-    act_moved(alloc, ports, renew_after, place, actors, act)
+    act_moved(alloc, ports, renew_after, number, actors, act)
 }

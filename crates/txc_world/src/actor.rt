@@ -46,28 +46,28 @@ pub(crate) enum Actor<A: App, C: Cacheable> {
     Leaving(Registry<A, C>, Stamp),
 }
 
-/// Takes an actor out of its place, which is empty until it is put back.
+/// Takes the actor of the number out. Where it stood is empty until it is put back.
 pub(crate) fn take_out<A: App, C: Cacheable>(
     actors: &mut Vec<Option<Actor<A, C>>>,
-    place: usize,
+    number: usize,
 ) -> Option<Actor<A, C>>
-    requires { place < vec_len actors.old }
-    ensures actor { slice_get actors.old.items place ≡ Some result }
-    ensures after { actors.new.items ≡ slice_set actors.old.items place None }
+    requires { number < vec_len actors.old }
+    ensures actor { slice_get actors.old.items number ≡ Some result }
+    ensures after { actors.new.items ≡ slice_set actors.old.items number None }
 {
-    mem::replace(&mut actors[place], None)
+    mem::replace(&mut actors[number], None)
 }
 
-/// Puts an actor at its place.
+/// Puts the actor of the number back.
 pub(crate) fn put_back<A: App, C: Cacheable>(
     actors: &mut Vec<Option<Actor<A, C>>>,
-    place: usize,
+    number: usize,
     actor: Actor<A, C>,
 )
-    requires { place < vec_len actors.old }
-    ensures { actors.new.items ≡ slice_set actors.old.items place (Some actor) }
+    requires { number < vec_len actors.old }
+    ensures { actors.new.items ≡ slice_set actors.old.items number (Some actor) }
 {
-    actors[place] = Some(actor);
+    actors[number] = Some(actor);
 }
 
 /// Actors with nothing open, one for each registry.

@@ -46,10 +46,10 @@ fn told_refusal(refusal: &DbError) -> (Did, Result<Found, DbError>)
 
 impl<A: App> Ports<A> {
     ghost use Rattle.txc_db.specs.Calls.{IsAnswerable, IsQueryRefused};
-    ghost use Rattle.txc_world.specs.Asks.{DoesTellFound, IsAnswerOf, IsToldOf, QueryLeads};
-    ghost use Rattle.txc_world.specs.Keeping.{AddSpareLeads, CommitLeads, GiveBackLeads, IsToldAnswer, PinSpareLeads};
-    ghost use Rattle.txc_world.specs.Keeping.{RetireLeads, VacuumLeads, WriteLeads};
-    ghost use Rattle.txc_world.specs.NodeSteps.{AdvanceLeads, SweepLeads};
+    ghost use Rattle.txc_world.specs.Asks.{DoesTellFound, IsAnswerOf, IsToldOf, QueryTransition};
+    ghost use Rattle.txc_world.specs.Keeping.{AddSpareTransition, CommitTransition, GiveBackTransition, IsToldAnswer, PinSpareTransition};
+    ghost use Rattle.txc_world.specs.Keeping.{RetireTransition, VacuumTransition, WriteTransition};
+    ghost use Rattle.txc_world.specs.NodeSteps.{AdvanceTransition, SweepTransition};
     ghost use Rattle.txc_world.specs.Ports.{whole_of, HasLedNode, KeepsRow};
 
     /// Commits the changes, where no event after the base matches what was read.
@@ -60,7 +60,7 @@ impl<A: App> Ports<A> {
         read: &TagSet,
         changes: &[Change],
     ) -> Result<Stamp, DbError>
-        ensures leads { CommitLeads base read.now changes.now self.old self.new result }
+        ensures leads { CommitTransition base read.now changes.now self.old self.new result }
         ensures keeps { KeepsRow self.old self.new }
     {
         let stamp = self.database.commit(alloc, base, read, changes)?;
@@ -70,7 +70,7 @@ impl<A: App> Ports<A> {
 
     /// Commits the change at the newest stamp, with nothing read.
     pub(crate) fn write(&mut self, alloc: Global, change: &Change) -> Result<Stamp, DbError>
-        ensures leads { WriteLeads change.now self.old self.new result }
+        ensures leads { WriteTransition change.now self.old self.new result }
         ensures keeps { KeepsRow self.old self.new }
     {
         let read = TagSet::new(alloc);
@@ -81,7 +81,7 @@ impl<A: App> Ports<A> {
 
     /// Pins the present, and has its pin to add.
     pub(crate) fn pin_spare(&mut self, alloc: Global, now: u64) -> Result<Stamp, DbError>
-        ensures leads { PinSpareLeads now self.old self.new result }
+        ensures leads { PinSpareTransition now self.old self.new result }
         ensures keeps { KeepsRow self.old self.new }
     {
         self.spare.reserve(1)?;
@@ -94,7 +94,7 @@ impl<A: App> Ports<A> {
 
     /// Adds the pin of the stamp that it has, and has it no more. None where it has none.
     pub(crate) fn add_spare(&mut self, stamp: Stamp) -> Option<Result<(), AddError>>
-        ensures leads { AddSpareLeads stamp self.old self.new result }
+        ensures leads { AddSpareTransition stamp self.old self.new result }
         ensures keeps { KeepsRow self.old self.new }
     {
         let at = place_of(&self.spare, stamp)?;
@@ -104,7 +104,7 @@ impl<A: App> Ports<A> {
 
     /// Gives one user of each stamp back to the pincushion.
     pub(crate) fn give_back(&mut self, stamps: &[Stamp]) -> Result<(), UnknownPin>
-        ensures leads { GiveBackLeads stamps.now self.old self.new result }
+        ensures leads { GiveBackTransition stamps.now self.old self.new result }
         ensures keeps { KeepsRow self.old self.new }
         ensures same { self.new ≡ record self.old { cushion = self.new.cushion } }
     {
@@ -118,7 +118,7 @@ impl<A: App> Ports<A> {
         now: u64,
         age: u64,
     ) -> Result<Vec<Stamp>, AllocError>
-        ensures leads { RetireLeads now age self.old self.new result }
+        ensures leads { RetireTransition now age self.old self.new result }
         ensures keeps { KeepsRow self.old self.new }
     {
         let stamps = self.cushion.retire(alloc, now, age)?;
@@ -127,7 +127,7 @@ impl<A: App> Ports<A> {
 
     /// Drops the versions that no held stamp shows, and returns the horizon.
     pub(crate) fn vacuum(&mut self) -> Result<Stamp, DbError>
-        ensures leads { VacuumLeads self.old self.new result }
+        ensures leads { VacuumTransition self.old self.new result }
         ensures keeps { KeepsRow self.old self.new }
     {
         let horizon = self.database.vacuum()?;
@@ -142,7 +142,7 @@ impl<A: App> Ports<A> {
         stamp: Stamp,
     ) -> Result<Found, DbError>
         ensures same { self.new ≡ self.old }
-        ensures leads { QueryLeads query.now stamp self.old result }
+        ensures leads { QueryTransition query.now stamp self.old result }
     {
         self.database.query(alloc, query, stamp)
     }
@@ -155,7 +155,7 @@ impl<A: App> Ports<A> {
         stamp: Stamp,
     ) -> (Did, Result<Found, DbError>)
         ensures same { self.new ≡ self.old }
-        ensures leads { QueryLeads query.now stamp self.old result.1 }
+        ensures leads { QueryTransition query.now stamp self.old result.1 }
         ensures tells { DoesTellFound result.1 result.0 }
     {
         match self.found_told(alloc, query, stamp) {
@@ -201,7 +201,7 @@ impl<A: App> Ports<A> {
     pub(crate) fn advance(&mut self, alloc: Global, at: usize) -> Result<Advanced, NodeError>
         requires { at < length self.old.nodes }
         ensures leads { HasLedNode at (λ was is.
-            AdvanceLeads self.old.actors (whole_of self.old) was is result) self.old self.new }
+            AdvanceTransition self.old.actors (whole_of self.old) was is result) self.old self.new }
         ensures keeps { KeepsRow self.old self.new }
     {
         let keeper = self.actors;
@@ -217,7 +217,7 @@ impl<A: App> Ports<A> {
         horizon: Stamp,
     ) -> Result<usize, NodeError>
         requires { at < length self.old.nodes }
-        ensures leads { HasLedNode at (λ was is. SweepLeads self.old.actors horizon was is result)
+        ensures leads { HasLedNode at (λ was is. SweepTransition self.old.actors horizon was is result)
             self.old self.new }
         ensures keeps { KeepsRow self.old self.new }
     {

@@ -1,7 +1,7 @@
 //! The keeper's steps, each with its reply.
 ghost use Rattle.std.specs.Prelude.{◌≡◌, length};
 ghost use Rattle.txc_world.specs.Keeping.{stamps_of_pins};
-ghost use Rattle.txc_world.specs.Kept.{told_addition, IsKeeperStep, KeepLeads};
+ghost use Rattle.txc_world.specs.Kept.{told_addition, IsKeeperStep, KeepTransition};
 ghost use Rattle.txc_world.specs.Ports.{KeepsRow};
 ghost use Rattle.txc_world.specs.Tidy.{KeepsBalance};
 ghost use Rattle.txc_world.specs.Observation.{keep_in, spare_after, IsKeepDue, IsNoReceipt};
@@ -140,7 +140,7 @@ fn make<A: App>(alloc: Global, ports: &mut Ports<A>, keep: &Keep) -> Reply
 
 /// Makes a step of the keeper.
 pub(crate) fn keep<A: App>(alloc: Global, ports: &mut Ports<A>, keep: &Keep) -> Reply
-    ensures leads { KeepLeads keep.now ports.old ports.new result }
+    ensures leads { KeepTransition keep.now ports.old ports.new result }
     ensures history { ports.new.database.history ≡ keep_in keep.now result ports.old.database.history }
     ensures spare { stamps_of_pins ports.new.spare ≡ spare_after keep.now result (stamps_of_pins ports.old.spare) }
     ensures due { IsKeepDue (length ports.old.nodes) (stamps_of_pins ports.old.spare) keep.now result }

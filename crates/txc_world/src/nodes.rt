@@ -4,7 +4,7 @@ ghost use Rattle.txc_stream.specs.Names.{HasRow};
 ghost use Rattle.txc_node.specs.Counts.{AreCountsOf};
 ghost use Rattle.txc_db.specs.DatabaseValue.{front_of};
 ghost use Rattle.txc_app.specs.Claims.{IsTrueIn};
-ghost use Rattle.txc_world.specs.NodeSteps.{AdvanceLeads, InsertLeads, SweepLeads};
+ghost use Rattle.txc_world.specs.NodeSteps.{AdvanceTransition, InsertTransition, SweepTransition};
 ghost use Rattle.txc_world.specs.Parts.{IsPartOf};
 
 use std::alloc::Global;
@@ -25,7 +25,7 @@ pub(crate) fn insert<A: App>(
     requires own { pass < node.old.passes }
     requires row { seen.now.events ≡ node.old.seen.events }
     requires is_true { IsTrueIn A.next seen.now.history entry }
-    ensures { InsertLeads pass seen.now entry node.old node.new result }
+    ensures { InsertTransition pass seen.now entry node.old node.new result }
 {
     match node.insert(alloc, pass, entry, seen) {
         Ok(insertion) => Some(insertion),
@@ -43,7 +43,7 @@ pub(crate) fn advance<A: App>(
     requires own { pass < node.old.passes }
     requires row { node.old.seen.events ≡ database.now.events }
     requires part { node.old.broken ≡ false → IsPartOf (front_of database.now) node.old.seen }
-    ensures { AdvanceLeads pass (front_of database.now) node.old node.new result }
+    ensures { AdvanceTransition pass (front_of database.now) node.old node.new result }
 {
     if node.is_broken() {
         return Err(NodeError::Broken);
@@ -63,7 +63,7 @@ pub(crate) fn sweep<A: App>(
     horizon: Stamp,
 ) -> Result<usize, NodeError>
     requires { pass < node.old.passes }
-    ensures { SweepLeads pass horizon node.old node.new result }
+    ensures { SweepTransition pass horizon node.old node.new result }
 {
     node.sweep(alloc, pass, horizon)
 }

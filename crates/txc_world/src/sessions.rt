@@ -20,22 +20,22 @@ pub(crate) fn new_sessions<A: App, C: Cacheable>(
 }
 
 /// The floor of the session of the actor of that number; the first stamp where there is no such actor.
-pub(crate) fn floor_at(sessions: &[Session], place: usize) -> Stamp
-    ensures { result ≡ floor_at sessions.now place }
+pub(crate) fn floor_at(sessions: &[Session], number: usize) -> Stamp
+    ensures { result ≡ floor_at sessions.now number }
 {
-    match sessions.get(place) {
+    match sessions.get(number) {
         Some(session) => session.floor(),
         None => Stamp::ZERO,
     }
 }
 
 /// The session of the actor of that number notes the stamp that the actor was told, if it was told one.
-pub(crate) fn note(sessions: &mut Vec<Session>, place: usize, reply: &Reply)
-    requires { place < vec_len sessions.old }
+pub(crate) fn note(sessions: &mut Vec<Session>, number: usize, reply: &Reply)
+    requires { number < vec_len sessions.old }
     ensures { sessions.new.items
-        ≡ slice_set sessions.old.items place (floor_by reply.now (floor_at sessions.old.items place)) }
+        ≡ slice_set sessions.old.items number (floor_by reply.now (floor_at sessions.old.items number)) }
 {
-    let session = &mut sessions[place];
+    let session = &mut sessions[number];
     match reply {
         Reply::Receipt(pin) => session.note_pin(*pin),
         Reply::At(stamp) => session.note_commit(*stamp),

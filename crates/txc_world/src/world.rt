@@ -130,17 +130,17 @@ impl<A: App, C: Cacheable> World<A, C> {
     }
 
     /// The members of the actor's read-only transaction, and whether the present is there.
-    pub fn pins(&self, place: usize) -> Result<Members<'_>, Refusal>
-        ensures due { MatchOption (due_of_pins (slice_get self.now.told.actors place)) (IsOk result)
+    pub fn pins(&self, number: usize) -> Result<Members<'_>, Refusal>
+        ensures due { MatchOption (due_of_pins (slice_get self.now.told.actors number)) (IsOk result)
             (λ refusal. result ≡ Err refusal) }
         ensures members { IfOk result (λ members. (r : Reading)
-            → slice_get self.now.told.actors place ≡ Some (reading r)
+            → slice_get self.now.told.actors number ≡ Some (reading r)
             → AreMembersOf A.next self.now.told.history r members.has_present members.pins.now) }
         ensures pin_set { IfOk result (λ members. (r : ReadingValue)
-            → slice_get self.now.actors place ≡ Some (reads r)
+            → slice_get self.now.actors number ≡ Some (reads r)
             → r.txn.core.pins ≡ record { members = members.pins.now; has_present = members.has_present }) }
     {
-        let Some(Some(actor)) = self.actors.get(place) else {
+        let Some(Some(actor)) = self.actors.get(number) else {
             return Err(Refusal::NoActor);
         };
         let Actor::Reading(current) = actor else {
@@ -195,10 +195,10 @@ impl<A: App, C: Cacheable> World<A, C> {
     }
 
     // One step of an actor.
-    fn act(&mut self, alloc: Global, place: usize, doing: &Act) -> Reply
-        ensures { IsWholeStep A.next self.old (Step.Actor place doing.now) result self.new }
+    fn act(&mut self, alloc: Global, number: usize, doing: &Act) -> Reply
+        ensures { IsWholeStep A.next self.old (Step.Actor number doing.now) result self.new }
     {
-        if place >= self.actors.len() {
+        if number >= self.actors.len() {
             self.ports.are_true();
             return Reply::Refused(Refusal::NoActor);
         }
@@ -208,26 +208,26 @@ impl<A: App, C: Cacheable> World<A, C> {
             alloc,
             &mut self.ports,
             renew_after,
-            place,
+            number,
             &mut self.actors,
             doing,
         );
-        note(&mut self.sessions, place, &reply);
+        note(&mut self.sessions, number, &reply);
         self.ports.are_true();
         reply
     }
 
     // The actor begins a transaction in its session.
-    fn begin_in(&mut self, alloc: Global, place: usize, now: u64, staleness: u64) -> Reply
-        ensures { IsWholeStep A.next self.old (Step.BeginIn place now staleness) result self.new }
+    fn begin_in(&mut self, alloc: Global, number: usize, now: u64, staleness: u64) -> Reply
+        ensures { IsWholeStep A.next self.old (Step.BeginIn number now staleness) result self.new }
     {
-        let at_least = floor_at(&self.sessions, place);
+        let at_least = floor_at(&self.sessions, number);
         let bounds = Bounds {
             now,
             staleness,
             at_least,
         };
-        self.act(alloc, place, &Act::BeginRo(bounds))
+        self.act(alloc, number, &Act::BeginRo(bounds))
     }
 
     /// Takes one step, as `run` does, and returns what it was replied.
@@ -235,7 +235,7 @@ impl<A: App, C: Cacheable> World<A, C> {
         ensures { IsWholeStep A.next self.old step.now result self.new }
     {
         match step {
-            Step::Actor(place, doing) => self.act(alloc, *place, doing),
+            Step::Actor(number, doing) => self.act(alloc, *number, doing),
             Step::BeginIn {
                 actor,
                 now,

@@ -10,9 +10,9 @@ ghost use Rattle.txc_world.specs.Acted.{IsActed};
 ghost use Rattle.txc_world.specs.Actors.{IsOpenRw};
 ghost use Rattle.txc_world.specs.Holdings.{HasLost};
 ghost use Rattle.txc_world.specs.Losing.{IfDidLose, IfResultLost};
-ghost use Rattle.txc_world.specs.Acts.{RestingLeads, WritingLeads};
+ghost use Rattle.txc_world.specs.Acts.{RestingTransition, WritingTransition};
 ghost use Rattle.txc_world.specs.ActorValues.{actor_value, writing_value};
-ghost use Rattle.txc_world.specs.Writing.{with_rows, FindLeadsRw, HasAskedRw, IsRead};
+ghost use Rattle.txc_world.specs.Writing.{with_rows, FindTransitionRw, HasAskedRw, IsRead};
 
 use crate::acting::note;
 use crate::actor::{Actor, OpenCall, OpenRw};
@@ -37,7 +37,7 @@ pub(crate) fn begin_rw<A: App, C: Cacheable>(
 ) -> (Actor<A, C>, Reply)
     requires { AllIdle registry }
     ensures acted { IsActed A.next Act.BeginRw ports.old ports.new (Actor.Idle registry) result.0 result.1 }
-    ensures leads { (renew_after : ℕ) → RestingLeads renew_after Act.BeginRw ports.old ports.new registry
+    ensures leads { (renew_after : ℕ) → RestingTransition renew_after Act.BeginRw ports.old ports.new registry
         (actor_value result.0) result.1 }
 {
     match ports.hold(alloc) {
@@ -67,7 +67,7 @@ fn start<A: App, C: Cacheable>(
     requires fits { IsOpenRw A.next whole.now.database.history current }
     requires no_call { current.call ≡ None }
     ensures acted { IsActed A.next (Act.Start key.now) whole.now whole.now (Actor.Writing current) result.0 result.1 }
-    ensures leads { WritingLeads A.next (Act.Start key.now) whole.now whole.now (writing_value current)
+    ensures leads { WritingTransition A.next (Act.Start key.now) whole.now whole.now (writing_value current)
         (actor_value result.0) result.1 }
 {
     let mut current = current;
@@ -135,7 +135,7 @@ fn request<A: App, C: Cacheable>(
 ) -> (Actor<A, C>, Reply)
     requires { IsOpenRw A.next ports.old.database.history current }
     ensures acted { IsActed A.next Act.Request ports.old ports.new (Actor.Writing current) result.0 result.1 }
-    ensures leads { WritingLeads A.next Act.Request ports.old ports.new (writing_value current)
+    ensures leads { WritingTransition A.next Act.Request ports.old ports.new (writing_value current)
         (actor_value result.0) result.1 }
 {
     let OpenRw {
@@ -178,7 +178,7 @@ fn find<A: App>(
     ensures same_ports { ports.new ≡ ports.old }
     ensures holds { (next : Next) (objects : Objects) → RwHolds next ports.old.database.history objects core.old
         → RwHolds next ports.old.database.history objects core.new }
-    ensures leads { FindLeadsRw query.now core.old.base ports.old result }
+    ensures leads { FindTransitionRw query.now core.old.base ports.old result }
     ensures answers { core.new.answers ≡ with_rows query.now core.old.answers result }
     ensures read { IsRead query.now core.old.queried core.new.queried result }
     ensures same { core.new ≡ record core.old { queried = core.new.queried; answers = core.new.answers } }
@@ -201,7 +201,7 @@ fn ask<A: App, C: Cacheable>(
     requires fits { IsOpenRw A.next ports.old.database.history current }
     requires no_call { current.call ≡ None }
     ensures acted { IsActed A.next (Act.Ask query.now) ports.old ports.new (Actor.Writing current) result.0 result.1 }
-    ensures leads { WritingLeads A.next (Act.Ask query.now) ports.old ports.new (writing_value current)
+    ensures leads { WritingTransition A.next (Act.Ask query.now) ports.old ports.new (writing_value current)
         (actor_value result.0) result.1 }
 {
     let mut current = current;
@@ -239,7 +239,7 @@ fn write<A: App, C: Cacheable>(
     requires fits { IsOpenRw A.next whole.now.database.history current }
     requires no_call { current.call ≡ None }
     ensures acted { IsActed A.next (Act.Write change.now) whole.now whole.now (Actor.Writing current) result.0 result.1 }
-    ensures leads { WritingLeads A.next (Act.Write change.now) whole.now whole.now (writing_value current)
+    ensures leads { WritingTransition A.next (Act.Write change.now) whole.now whole.now (writing_value current)
         (actor_value result.0) result.1 }
 {
     let mut current = current;
@@ -262,7 +262,7 @@ fn commit<A: App, C: Cacheable>(
     requires fits { IsOpenRw A.next ports.old.database.history current }
     requires no_call { current.call ≡ None }
     ensures acted { IsActed A.next Act.Commit ports.old ports.new (Actor.Writing current) result.0 result.1 }
-    ensures leads { WritingLeads A.next Act.Commit ports.old ports.new (writing_value current)
+    ensures leads { WritingTransition A.next Act.Commit ports.old ports.new (writing_value current)
         (actor_value result.0) result.1 }
 {
     ports.count_right();
@@ -286,7 +286,7 @@ fn commit<A: App, C: Cacheable>(
 fn abort<A: App, C: Cacheable>(whole: &Ports<A>, current: OpenRw<A, C>) -> (Actor<A, C>, Reply)
     requires { IsOpenRw A.next whole.now.database.history current }
     ensures acted { IsActed A.next Act.Abort whole.now whole.now (Actor.Writing current) result.0 result.1 }
-    ensures leads { WritingLeads A.next Act.Abort whole.now whole.now (writing_value current)
+    ensures leads { WritingTransition A.next Act.Abort whole.now whole.now (writing_value current)
         (actor_value result.0) result.1 }
 {
     let mut current = current;
@@ -307,7 +307,7 @@ pub(crate) fn act_writing<A: App, C: Cacheable>(
 ) -> (Actor<A, C>, Reply)
     requires { IsOpenRw A.next ports.old.database.history current }
     ensures acted { IsActed A.next act.now ports.old ports.new (Actor.Writing current) result.0 result.1 }
-    ensures leads { WritingLeads A.next act.now ports.old ports.new (writing_value current)
+    ensures leads { WritingTransition A.next act.now ports.old ports.new (writing_value current)
         (actor_value result.0) result.1 }
 {
     match act {

@@ -1,7 +1,7 @@
 use Rattle.std.proofs.Common.{ℕ, List, Some, subst}
 use Rattle.txc_call.specs.declared.frame.Frame.{Frame}
 use Rattle.txc_call.specs.Turns.{turn_of, AfterAsk}
-use Rattle.txc_call.proofs.Leading.{given_place, rows_onward}
+use Rattle.txc_call.proofs.Transitions.{given_place, rows_onward}
 use Rattle.txc_call.proofs.machine.find.Goals as goal
 
 pub settle-requires-clause-some : goal.settle-requires-clause-some

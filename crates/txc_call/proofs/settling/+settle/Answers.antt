@@ -6,7 +6,7 @@ use Rattle.txc_app.specs.declared.ask.Ask.{Ask}
 use Rattle.txc_app.specs.declared.ask.Ask.TheVariants.{Call, Done}
 use Rattle.txc_call.specs.declared.frame.Frame.{Frame}
 use Rattle.txc_call.specs.Turns.{turn_of, unreached, count_refusal, value_refusal, AfterAsk, AfterValue}
-use Rattle.txc_call.proofs.Leading.{unasked, done_onward, value_onward, given_place, short_by, turn_err}
+use Rattle.txc_call.proofs.Transitions.{unasked, done_onward, value_onward, given_place, short_by, turn_err}
 use Rattle.txc_call.proofs.OpenFrames.{few_rest}
 use Rattle.txc_call.proofs.settling.+settle.Goals as goal
 

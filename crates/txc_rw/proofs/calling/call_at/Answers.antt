@@ -10,7 +10,7 @@ use Rattle.txc_call.specs.Calling.{started}
 use Rattle.txc_ports.specs.declared.turn.Turn.TheVariants.{Ask}
 use Rattle.txc_ports.specs.Turns.{IsAsk}
 use Rattle.txc_rw.specs.Core.{QueryTurn, RwValue, answers_after, IsFoundAt, IsRwTurn}
-use Rattle.txc_rw.specs.Leading.{standing_of}
+use Rattle.txc_rw.specs.Transitions.{standing_of}
 use Rattle.txc_rw.proofs.Running.{IsRunSo, run_begins, run_goes_on, run_over}
 use Rattle.txc_rw.proofs.Turns.{answers_on, fewer_turns, right_reply}
 use Rattle.txc_rw.proofs.calling.call_at.Goals as goal

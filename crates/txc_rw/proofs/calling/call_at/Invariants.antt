@@ -7,7 +7,7 @@ use Rattle.txc_ports.specs.declared.error.TxnError.TheVariants as errors
 use Rattle.txc_ports.specs.declared.turn.Turn.TheVariants.{Ended}
 use Rattle.txc_rw.specs.Core.{answers_after, IsRw, IsRwTurn, RwHolds}
 use Rattle.txc_ports.specs.Turns.{IsAsk}
-use Rattle.txc_rw.specs.Leading.{standing_of}
+use Rattle.txc_rw.specs.Transitions.{standing_of}
 use Rattle.txc_rw.proofs.Running.{IsRunSo}
 use Rattle.txc_rw.proofs.Turns.{turns_left}
 use Rattle.txc_rw.proofs.calling.call_at.Given as goal

@@ -2,7 +2,7 @@ use Rattle.std.proofs.Common.{Option, Err, sym, subst, ◌∙◌, refl}
 use Rattle.std.proofs.lemmas.Result.{err_from_is_err_and}
 use Rattle.txc_stamp.specs.Interval.{Interval}
 use Rattle.txc_call.specs.Reaches.{InReach}
-use Rattle.txc_rw.specs.Leading.{standing_of}
+use Rattle.txc_rw.specs.Transitions.{standing_of}
 use Rattle.txc_rw.proofs.Counting.{counted_first, counted_next}
 use Rattle.txc_rw.proofs.Holding.{nothing_handed_in}
 use Rattle.txc_rw.proofs.Running.{led_by_none, not_led}

@@ -4,7 +4,7 @@ use Rattle.txc_db.specs.History.{History}
 use Rattle.txc_registry.specs.Objects.{numbers_of}
 use Rattle.txc_call.specs.Calling.{CallHolds, InCall, IsCalling}
 use Rattle.txc_rw.specs.Core.{HasCounted}
-use Rattle.txc_rw.specs.Leading.{standing_of, IsLedTo}
+use Rattle.txc_rw.specs.Transitions.{standing_of, IsLedTo}
 use Rattle.txc_rw.proofs.Counting.{left}
 use Rattle.txc_rw.proofs.uncached.go_on_uncached.Given as goal
 

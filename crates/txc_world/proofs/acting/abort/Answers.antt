@@ -1,7 +1,7 @@
 use Rattle.std.proofs.Common.{◌≡◌, ◌∙◌, ℕ, List, Some, None, [], ◌∷◌, arith, refl, sym, subst, rules}
 use Rattle.txc_txn.specs.Core.{left_pin}
 use Rattle.txc_world.proofs.Fairness.{fair_ended}
-use Rattle.txc_world.specs.Keeping.{GiveBackLeads}
+use Rattle.txc_world.specs.Keeping.{GiveBackTransition}
 use Rattle.txc_cushion.proofs.Counts.{give_back_counts}
 use Rattle.txc_world.proofs.acting.abort.Goals as goal
 
@@ -11,7 +11,7 @@ returns-in-Some-clause-leads g c = λ next pass.
     rw is (
       (
         c.give_back.result,
-        subst (λ (l : List ℕ). GiveBackLeads l c.args.ports.now c.give_back.new.self c.give_back.result)
+        subst (λ (l : List ℕ). GiveBackTransition l c.args.ports.now c.give_back.new.self c.give_back.result)
             (c.deref.ensures.value ∙ c.cancel-left.ensures.give_back) c.give_back.ensures.leads,
       ),
       (c.cancel-left.ensures.idle, c.cancel-left.ensures.functions, refl),
@@ -24,7 +24,7 @@ returns-clause-leads g c = λ next pass.
     rw is (
       (
         c.give_back.result,
-        subst (λ (l : List ℕ). GiveBackLeads l c.args.ports.now c.give_back.new.self c.give_back.result)
+        subst (λ (l : List ℕ). GiveBackTransition l c.args.ports.now c.give_back.new.self c.give_back.result)
             (c.deref.ensures.value ∙ c.cancel-left.ensures.give_back) c.give_back.ensures.leads,
       ),
       (c.cancel-left.ensures.idle, c.cancel-left.ensures.functions),

@@ -9,9 +9,9 @@ returns-in-Some g c =
     record {
       was = acts.was;
       is = acts.is;
-      there = slice_get_read c.args.actors.now.items _ c.args.place c.index_mut.result.now refl (omega (arith, c.requires.place, c.args.actors.now.ok.0)) c.index_mut.ensures.value
+      there = slice_get_read c.args.actors.now.items _ c.args.number c.index_mut.result.now refl (omega (arith, c.requires.number, c.args.actors.now.ok.0)) c.index_mut.ensures.value
           ∙ ap Some acts.there;
-      others = ap (λ (a : Option (Actor g.row.A.Denot g.row.C.Denot)). slice_set c.args.actors.now.items c.args.place a) acts.left;
+      others = ap (λ (a : Option (Actor g.row.A.Denot g.row.C.Denot)). slice_set c.args.actors.now.items c.args.number a) acts.left;
       acted = acts.acted;
       leads = acts.leads;
     }

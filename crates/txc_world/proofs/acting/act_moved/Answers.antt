@@ -9,8 +9,8 @@ returns g c = record {
   is = c.act_whole-actor.result.0;
   there = c.take_out.ensures.actor ∙ ap Some c.in-Some.is;
   others = c.put_back.ensures
-      ∙ ap (λ (l : List (Option (Actor g.row.A.Denot g.row.C.Denot))). slice_set l c.args.place (Some c.act_whole-actor.result.0)) c.take_out.ensures.after
-      ∙ set_twice c.args.actors.now.items c.args.place None (Some c.act_whole-actor.result.0);
+      ∙ ap (λ (l : List (Option (Actor g.row.A.Denot g.row.C.Denot))). slice_set l c.args.number (Some c.act_whole-actor.result.0)) c.take_out.ensures.after
+      ∙ set_twice c.args.actors.now.items c.args.number None (Some c.act_whole-actor.result.0);
   acted = c.act_whole-actor.ensures.acted;
   leads = c.act_whole-actor.ensures.leads;
 }

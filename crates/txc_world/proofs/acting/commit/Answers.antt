@@ -5,7 +5,7 @@ use Rattle.txc_world.proofs.Explaining.{explained_later}
 use Rattle.txc_world.proofs.Fairness.{fair_ended}
 use Rattle.txc_world.specs.declared.reply.Reply.TheVariants.{Receipt}
 use Rattle.txc_world.specs.ActorValues.{resting}
-use Rattle.txc_world.specs.Keeping.{GiveBackLeads}
+use Rattle.txc_world.specs.Keeping.{GiveBackTransition}
 use Rattle.txc_cushion.proofs.Counts.{give_back_counts}
 use Rattle.txc_world.proofs.acting.commit.Goals as goal
 
@@ -13,7 +13,7 @@ pub returns-clause-leads : goal.returns-clause-leads
 returns-clause-leads g c = λ next pass. rw c.requires.no_call (
   (
     c.give_back.result,
-    subst (λ (l : List ℕ). GiveBackLeads l c.args.ports.now c.give_back.new.self c.give_back.result)
+    subst (λ (l : List ℕ). GiveBackTransition l c.args.ports.now c.give_back.new.self c.give_back.result)
         (c.deref.ensures.value ∙ c.finish-receipt.ensures.give_back) c.give_back.ensures.leads,
   ),
   ap resting c.finish-receipt.ensures.registry,

@@ -6,7 +6,7 @@ use Rattle.txc_ports.specs.declared.turn.Turn.TheVariants.{Ask}
 use Rattle.txc_txn.proofs.Offered.{adds_next, adds_weaker, is_answered, is_right, may_ask}
 use Rattle.txc_world.proofs.AskLemmas.{still_asked, told_history}
 use Rattle.txc_world.proofs.Turning.{asked_at, counted_in, seen_next}
-use Rattle.txc_world.specs.Asks.{PortRequestLeads}
+use Rattle.txc_world.specs.Asks.{PortRequestTransition}
 use Rattle.txc_world.specs.Parts.{IsPartOf}
 use Rattle.txc_world.specs.Ports.{whole_of}
 use Rattle.txc_world.specs.Holdings.{account_of_core, HasLost}
@@ -45,7 +45,7 @@ returns-clause-asks g c =
       port = c.told-did.result.0;
       right = asked.to;
       tells = c.told-did.ensures.tells;
-      leads = subst (λ (f : FrontValue). PortRequestLeads c.args.pass f c.args.request c.args.ports.now c.ask-reply.new.self c.told-did.result.1) seen asked.leads;
+      leads = subst (λ (f : FrontValue). PortRequestTransition c.args.pass f c.args.request c.args.ports.now c.ask-reply.new.self c.told-did.result.1) seen asked.leads;
       counts = search rules;
       went = c.next-turn.ensures;
     }

@@ -9,7 +9,7 @@ use Rattle.txc_world.specs.ActorValues.{call_value, opened}
 use Rattle.txc_world.specs.Losing.{IfTurnLost}
 use Rattle.txc_world.specs.Ports.{whole_of}
 use Rattle.txc_world.proofs.Fairness.{counts_itself}
-use Rattle.txc_world.proofs.Leading.{noted_seen}
+use Rattle.txc_world.proofs.Transitions.{noted_seen}
 use Rattle.txc_world.proofs.Losing.{never_lost}
 use Rattle.txc_world.proofs.PortsLemmas.{keeps_itself}
 use Rattle.txc_world.proofs.Turning.{ended_observed}

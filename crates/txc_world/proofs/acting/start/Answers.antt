@@ -1,6 +1,6 @@
 use Rattle.std.proofs.Common.{inl, Some, refl, ap, sym, subst, ◌∙◌, rules}
 use Rattle.txc_tags.specs.Keys.{Call}
-use Rattle.txc_txn.specs.Leading.{StartLeads}
+use Rattle.txc_txn.specs.Transitions.{StartTransition}
 use Rattle.txc_world.specs.declared.actor.Actor.TheVariants.{Reading}
 use Rattle.txc_world.specs.declared.reply.Refusal.TheVariants.{MidCall}
 use Rattle.txc_world.specs.declared.step.Act.TheVariants.{Start}
@@ -34,7 +34,7 @@ returns-clause-leads g c = λ next pass.
         txn = c.start-turn.new.self;
         turn = c.start-turn.result;
         actor_is = ap (λ (k : Call). reads (record { txn = c.start-turn.new.self; call = Some (call_at_turn k c.start-turn.result) })) c.copy-2.ensures;
-        leads = subst (λ (k : Call). StartLeads c.args.current.now.txn.core c.args.current.now.txn.objects k c.start-turn.new.self.core c.start-turn.new.self.objects c.start-turn.result) c.copy.ensures c.start-turn.ensures.leads;
+        leads = subst (λ (k : Call). StartTransition c.args.current.now.txn.core c.args.current.now.txn.objects k c.start-turn.new.self.core c.start-turn.new.self.objects c.start-turn.result) c.copy.ensures c.start-turn.ensures.leads;
         same = c.start-turn.ensures.same;
       },
     )

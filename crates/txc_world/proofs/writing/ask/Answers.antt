@@ -9,7 +9,7 @@ use Rattle.txc_world.specs.declared.reply.Reply.TheVariants.{Answered, Refused}
 use Rattle.txc_world.specs.declared.reply.Refusal.TheVariants.{Transaction}
 use Rattle.txc_world.specs.Holdings.{HasLost}
 use Rattle.txc_world.specs.Losing.{IfResultLost}
-use Rattle.txc_world.specs.Writing.{with_rows, FindLeadsRw, IsRead}
+use Rattle.txc_world.specs.Writing.{with_rows, FindTransitionRw, IsRead}
 use Rattle.txc_world.proofs.WritingCounts.{based, counts_based}
 use Rattle.txc_world.proofs.WritingLemmas.{fits_queried, still_idle}
 use Rattle.txc_world.proofs.PortsLemmas.{keeps_same}
@@ -22,7 +22,7 @@ returns-in-Ok-clause-leads g c = rw c.requires.no_call (
     core = c.find.new.core;
     result = Ok c.in-Ok.rows;
     told = refl;
-    found = subst (FindLeadsRw c.args.query.now c.args.current.core.base c.args.ports.now) c.in-Ok.is c.find.ensures.leads;
+    found = subst (FindTransitionRw c.args.query.now c.args.current.core.base c.args.ports.now) c.in-Ok.is c.find.ensures.leads;
     actor_is = refl;
     read = subst (IsRead c.args.query.now c.args.current.core.queried c.find.new.core.queried) c.in-Ok.is c.find.ensures.read;
     same = c.find.ensures.same;
@@ -36,7 +36,7 @@ returns-in-Err-clause-leads g c = rw c.requires.no_call (
     core = c.find.new.core;
     result = Err c.in-Err.error;
     told = refl;
-    found = subst (FindLeadsRw c.args.query.now c.args.current.core.base c.args.ports.now) c.in-Err.is c.find.ensures.leads;
+    found = subst (FindTransitionRw c.args.query.now c.args.current.core.base c.args.ports.now) c.in-Err.is c.find.ensures.leads;
     actor_is = refl;
     read = subst (IsRead c.args.query.now c.args.current.core.queried c.find.new.core.queried) c.in-Err.is c.find.ensures.read;
     same = c.find.ensures.same;

@@ -6,7 +6,7 @@ use Rattle.txc_call.specs.Calling.{started}
 use Rattle.txc_call.specs.declared.error.CallError.TheVariants.{NoFunction}
 use Rattle.txc_ports.specs.declared.error.TxnError.TheVariants.{Call as CallRefused}
 use Rattle.txc_ports.specs.declared.turn.Turn.TheVariants as turns
-use Rattle.txc_rw.specs.Leading.{standing_of, RwCallLeads}
+use Rattle.txc_rw.specs.Transitions.{standing_of, RwCallTransition}
 use Rattle.txc_world.specs.ActorValues.{call_at_turn, opened, writes}
 use Rattle.txc_rw.specs.Core.{RwValue}
 use Rattle.txc_world.specs.declared.reply.Reply.TheVariants.{Started}
@@ -26,7 +26,7 @@ returns-clause-leads g c = rw c.requires.no_call (
     turn = c.start-turn.result;
     actor_is = ap (λ (k : Call). writes (record { core = c.start-turn.new.self; objects = c.start-turn.new.registry; call = Some (call_at_turn k c.start-turn.result) })) c.copy-2.ensures;
     leads = λ there s.
-        subst (λ (k : Call). RwCallLeads g.A.App.next s (standing_of (started k) c.args.current.registry) [] c.start-turn.new.self c.start-turn.new.registry c.start-turn.result)
+        subst (λ (k : Call). RwCallTransition g.A.App.next s (standing_of (started k) c.args.current.registry) [] c.start-turn.new.self c.start-turn.new.registry c.start-turn.result)
         c.copy.ensures
         (c.start-turn.ensures.leads (subst (λ (k : Call). IsSome (activity_of c.args.current.registry k.function)) (sym c.copy.ensures) there) s);
     missing = λ gone.

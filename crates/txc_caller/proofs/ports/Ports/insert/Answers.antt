@@ -1,5 +1,5 @@
 use Rattle.std.proofs.Common.{◌∙◌, ap, subst, sym}
-use Rattle.txc_caller.specs.Ports.{CallerPorts, CallerInsertLeads}
+use Rattle.txc_caller.specs.Ports.{CallerPorts, CallerInsertTransition}
 use Rattle.txc_caller.proofs.Asked.{node_inserted, ports_with_node}
 use Rattle.txc_caller.proofs.ports.Ports.insert.Goals as goal
 
@@ -13,4 +13,4 @@ invariant_of-self g c =
 
 pub returns-clause-leads : goal.returns-clause-leads
 returns-clause-leads g c =
-    subst (λ (p : CallerPorts). CallerInsertLeads c.args.seen.now c.args.entry p.node c.insert.new.node c.insert.result) c.self.view_is c.insert.ensures
+    subst (λ (p : CallerPorts). CallerInsertTransition c.args.seen.now c.args.entry p.node c.insert.new.node c.insert.result) c.self.view_is c.insert.ensures

@@ -2,10 +2,10 @@ use Rattle.std.proofs.Common.{◌≡◌, ℕ, Option, Some, None, refl, ap, inl,
 use Rattle.std.specs.Prelude.{Result, Ok, Err}
 use Rattle.txc_db.specs.DatabaseValue.{DatabaseValue}
 use Rattle.txc_db.specs.declared.error.DbError.{DbError}
-use Rattle.txc_caller.specs.Ports.{CallerPorts, CallerUnpinLeads, IsLetGo}
+use Rattle.txc_caller.specs.Ports.{CallerPorts, CallerUnpinTransition, IsLetGo}
 use Rattle.txc_caller.proofs.ports.Ports.let_go.Goals as goal
 
-unpinned_by : {A : Type 0} (stamp : ℕ) (old new : CallerPorts) (result : Result A DbError) → CallerUnpinLeads stamp old new result
+unpinned_by : {A : Type 0} (stamp : ℕ) (old new : CallerPorts) (result : Result A DbError) → CallerUnpinTransition stamp old new result
     → IsLetGo (Some stamp) old.database new.database
 unpinned_by stamp old new (Ok it) h = inl (ap (λ (p : CallerPorts). p.database) h.0)
 unpinned_by stamp old new (Err e) h = inr (ap (λ (p : CallerPorts). p.database) h.0, (e, h.1))

@@ -4,7 +4,7 @@ use Rattle.txc_db.specs.DatabaseValue.{DatabaseValue}
 use Rattle.txc_db.specs.Room.{AreTagsKept}
 use Rattle.txc_db.specs.Calls.{IsLeft, IsCommitRefused}
 use Rattle.txc_db.proofs.Rooms.{pen_keeps}
-use Rattle.txc_db.proofs.Refusing.{passed_up, base_left, base_refused}
+use Rattle.txc_db.proofs.Refusing.{passed_up, base_left, base_refused, base_taken}
 use Rattle.txc_db.proofs.db_core.DbCore.commit.Goals as goal
 
 pub returns-in_err-newest-clause-refused : goal.returns-in_err-newest-clause-refused
@@ -26,3 +26,7 @@ first_conflict-requires c = λ none.
     let late = pen_keeps c.self.inside.told.events c.self.inside.horizon c.args.base kept none in
     let first : c.self.inside.told.first ≤ c.self.inside.horizon = c.self.invariant.0 in
     omega (arith, base, late, first)
+
+pub returns-in_err-newest-clause-taken : goal.returns-in_err-newest-clause-taken
+returns-in_err-newest-clause-taken c =
+    base_taken c.from_residual.result c.args.self.now c.args.base c.in_err-newest.field-0.0 c.from_residual.ensures.1 c.in_err-newest.ensures.refused

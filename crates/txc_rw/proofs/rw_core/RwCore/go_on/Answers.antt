@@ -1,7 +1,7 @@
 use Rattle.std.proofs.Common.{◌≤◌, Option, Err, ap, sym, subst}
 use Rattle.txc_rows.specs.declared.query.Query.{Query}
 use Rattle.txc_ports.specs.declared.turn.Turn.TheVariants.{Ended}
-use Rattle.txc_rw.specs.Leading.{standing_of}
+use Rattle.txc_rw.specs.Transitions.{standing_of}
 use Rattle.txc_rw.proofs.Counting.{counted_query}
 use Rattle.txc_rw.specs.Core.{IsDone, NeedsOnly, query_of_reading, RwHolds, RwValue}
 use Rattle.txc_rw.proofs.Holding.{given_up, holds_moved}

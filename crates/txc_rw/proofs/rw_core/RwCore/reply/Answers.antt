@@ -10,7 +10,7 @@ use Rattle.txc_call.specs.Calling.{Calling, InCall}
 use Rattle.txc_rw.specs.declared.reading.Reading.{Reading}
 use Rattle.txc_rw.specs.Answers.{committed}
 use Rattle.txc_rw.specs.Core.{IsFoundAt, IsRightReply, query_of_reading, RwHolds, RwValue}
-use Rattle.txc_rw.specs.Leading.{standing_of}
+use Rattle.txc_rw.specs.Transitions.{standing_of}
 use Rattle.txc_rw.proofs.Running.{led_both, led_by_found, same_found}
 use Rattle.txc_rw.proofs.Counting.{counted_ask}
 use Rattle.txc_rw.proofs.Holding.{at_rest_holds, found_at_one, given_up, holds_queried, kept_more, need_of_asked, reply_found}

@@ -1,7 +1,7 @@
 use Rattle.std.proofs.Common.{[], sym, subst}
 use Rattle.txc_call.specs.Calling.{Calling, CallHolds}
 use Rattle.txc_rw.specs.Core.{query_of_reading, RwHolds, RwValue}
-use Rattle.txc_rw.specs.Leading.{standing_of, RwCallLeads}
+use Rattle.txc_rw.specs.Transitions.{standing_of, RwCallTransition}
 use Rattle.txc_rw.proofs.Holding.{holds_moved}
 use Rattle.txc_rw.proofs.rw_core.RwCore.start.Goals as goal
 
@@ -15,5 +15,5 @@ returns-in-Ok-clause-holds g c = λ L h.
 
 pub returns-in-Ok-clause-leads : goal.returns-in-Ok-clause-leads
 returns-in-Ok-clause-leads g c = λ there s.
-    subst (λ (w : Calling). RwCallLeads g.A.App.next s (standing_of w c.args.registry.now) [] c.go_on.new.self c.go_on.new.registry c.go_on.result) c.in-Ok.ensures.after
+    subst (λ (w : Calling). RwCallTransition g.A.App.next s (standing_of w c.args.registry.now) [] c.go_on.new.self c.go_on.new.registry c.go_on.result) c.in-Ok.ensures.after
     (c.go_on.ensures.leads s)

@@ -1,6 +1,6 @@
 use Rattle.txc_world.proofs.Tellings.{length_more, loop_due, loop_explained, loop_told, loop_whole}
 use Rattle.txc_world.proofs.Balancing.{loop_tidy, loop_tidy_end}
-use Rattle.txc_world.proofs.Leading.{loop_led, loop_led_end}
+use Rattle.txc_world.proofs.Transitions.{loop_led, loop_led_end}
 use Rattle.txc_world.proofs.Forward.{loop_back}
 use Rattle.txc_world.proofs.world.World.run.Goals as goal
 

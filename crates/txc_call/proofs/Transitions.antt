@@ -23,7 +23,7 @@ use Rattle.txc_call.specs.declared.frame.Frame.{Frame}
 use Rattle.txc_call.specs.declared.need.Need.{Need}
 use Rattle.txc_call.specs.declared.need.Outcome.{Outcome}
 use Rattle.txc_call.specs.Frames.{given, AreFew}
-use Rattle.txc_call.specs.Turns.{Turn, Onward, count_refusal, value_refusal, ask_refusal, error_of, next_ask, turn_of, unreached, with_answer, AfterAsk, AfterRows, AfterValue, AllowedLeads, AskLeads, DoneLeads, IsBeginRefusal, IsOutOfMemory, UnlessRefused}
+use Rattle.txc_call.specs.Turns.{Turn, Onward, count_refusal, value_refusal, ask_refusal, error_of, next_ask, turn_of, unreached, with_answer, AfterAsk, AfterRows, AfterValue, AllowedTransition, AskTransition, DoneTransition, IsBeginRefusal, IsOutOfMemory, UnlessRefused}
 
 -- ---- refusals
 
@@ -35,26 +35,26 @@ allowed_for o turn rest is holds = subst (λ (p : Option CallError). UnlessRefus
 
 module _ (outer : List Frame) (asked : ℕ) (frame : Frame) (ask : Ask) (objects : Objects) (goes_on : Onward) where
   -- an ask that is one too many
-  pub uncounted : (error : CallError) → Some error ≡ count_refusal frame.answers asked → AskLeads outer asked frame ask objects goes_on (Err error)
+  pub uncounted : (error : CallError) → Some error ≡ count_refusal frame.answers asked → AskTransition outer asked frame ask objects goes_on (Err error)
   uncounted error is =
       refused_for (count_refusal frame.answers asked) error
-      (UnlessRefused (ask_refusal objects frame.key.function ask) (Err error) (AllowedLeads outer (asked + 1) frame ask objects goes_on (Err error))) is
+      (UnlessRefused (ask_refusal objects frame.key.function ask) (Err error) (AllowedTransition outer (asked + 1) frame ask objects goes_on (Err error))) is
 
   -- an ask that may not be made
   pub unasked : (error : CallError) → None ≡ count_refusal frame.answers asked → Some error ≡ ask_refusal objects frame.key.function ask
-      → AskLeads outer asked frame ask objects goes_on (Err error)
+      → AskTransition outer asked frame ask objects goes_on (Err error)
   unasked error counted is =
       allowed_for (count_refusal frame.answers asked) (Err error)
-      (UnlessRefused (ask_refusal objects frame.key.function ask) (Err error) (AllowedLeads outer (asked + 1) frame ask objects goes_on (Err error))) counted
-      (refused_for (ask_refusal objects frame.key.function ask) error (AllowedLeads outer (asked + 1) frame ask objects goes_on (Err error)) is)
+      (UnlessRefused (ask_refusal objects frame.key.function ask) (Err error) (AllowedTransition outer (asked + 1) frame ask objects goes_on (Err error))) counted
+      (refused_for (ask_refusal objects frame.key.function ask) error (AllowedTransition outer (asked + 1) frame ask objects goes_on (Err error)) is)
 
   -- an ask that is made
   pub asked_for : (turn : Turn) → None ≡ count_refusal frame.answers asked → None ≡ ask_refusal objects frame.key.function ask
-      → AllowedLeads outer (asked + 1) frame ask objects goes_on turn → AskLeads outer asked frame ask objects goes_on turn
+      → AllowedTransition outer (asked + 1) frame ask objects goes_on turn → AskTransition outer asked frame ask objects goes_on turn
   asked_for turn counted may leads =
       allowed_for (count_refusal frame.answers asked) turn
-      (UnlessRefused (ask_refusal objects frame.key.function ask) turn (AllowedLeads outer (asked + 1) frame ask objects goes_on turn)) counted
-      (allowed_for (ask_refusal objects frame.key.function ask) turn (AllowedLeads outer (asked + 1) frame ask objects goes_on turn) may leads)
+      (UnlessRefused (ask_refusal objects frame.key.function ask) turn (AllowedTransition outer (asked + 1) frame ask objects goes_on turn)) counted
+      (allowed_for (ask_refusal objects frame.key.function ask) turn (AllowedTransition outer (asked + 1) frame ask objects goes_on turn) may leads)
 
 -- an ask that is counted was not one too many
 pub few_by : (own all : ℕ) → None ≡ count_refusal own all → own < MAX_ASKS
@@ -91,7 +91,7 @@ module _ (next : Next) (asked : ℕ) where
   done_onward outer frame bytes objects turn counted short none value =
       let goes_on : Onward = λ after more. AfterValue next outer (asked + 1) (unreached frame more) after turn in
       asked_for outer asked frame (asks.Done bytes) objects goes_on turn counted short
-      (subst (λ (reach : Option Interval). DoneLeads outer (asked + 1) frame reach bytes (with_activity objects frame.key.function idle) goes_on turn) (sym none) value)
+      (subst (λ (reach : Option Interval). DoneTransition outer (asked + 1) frame reach bytes (with_activity objects frame.key.function idle) goes_on turn) (sym none) value)
 
   -- a value that comes to a frame
   pub value_onward : (frames frames' : List Frame) (o : Outcome) (ask : Ask) (objects objects' : Objects) (turn : Turn) → frames ≢ []

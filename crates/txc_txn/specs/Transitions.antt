@@ -43,27 +43,27 @@ IsWanting need c error = (error ≡ errors.Memory)
 
 -- what the core does once its call stands so: it asks for what the call needs, and the call stands so still;
 -- or the call's value is that of the turn
-abbrev pub NeedLeads : CoreValue → Objects → CoreValue → Objects → PortTurn → Type 0
-NeedLeads old objects new objects' (Ask request) = (new.call ≡ old.call) × (objects' ≡ objects)
-NeedLeads old objects new objects' (Ended (Ok value)) = (o : Outcome) × (old.call.need ≡ Some (needs.Value o))
+abbrev pub NeedTransition : CoreValue → Objects → CoreValue → Objects → PortTurn → Type 0
+NeedTransition old objects new objects' (Ask request) = (new.call ≡ old.call) × (objects' ≡ objects)
+NeedTransition old objects new objects' (Ended (Ok value)) = (o : Outcome) × (old.call.need ≡ Some (needs.Value o))
     × (value ≡ o.value)
-NeedLeads old objects new objects' (Ended (Err error)) = IsWanting old.call.need new error
+NeedTransition old objects new objects' (Ended (Err error)) = IsWanting old.call.need new error
 
 -- what the core does once its call stands so after a step of the machine, or was refused
-abbrev pub StandingLeads : CallTurn → CoreValue → Objects → PortTurn → Type 0
-StandingLeads (Ok standing) new objects (Ask request) =
+abbrev pub StandingTransition : CallTurn → CoreValue → Objects → PortTurn → Type 0
+StandingTransition (Ok standing) new objects (Ask request) =
     (new.call.frames ≡ standing.frames) × (new.call.asked ≡ standing.asked) × (new.call.need ≡ standing.need)
     × (objects ≡ standing.objects)
-StandingLeads (Ok standing) new objects (Ended (Ok value)) = (o : Outcome) × (standing.need ≡ Some (needs.Value o))
+StandingTransition (Ok standing) new objects (Ended (Ok value)) = (o : Outcome) × (standing.need ≡ Some (needs.Value o))
     × (value ≡ o.value)
-StandingLeads (Ok standing) new objects (Ended (Err error)) = IsWanting standing.need new error
-StandingLeads (Err error) new objects turn = turn ≡ Ended (Err (refused_call error))
+StandingTransition (Ok standing) new objects (Ended (Err error)) = IsWanting standing.need new error
+StandingTransition (Err error) new objects turn = turn ≡ Ended (Err (refused_call error))
 
 -- what comes of a reply to this need of the call
-abbrev pub CallLeads : Next → CoreValue → Objects → Need → Reply → CoreValue → Objects → PortTurn → Type 0
-CallLeads next old objects need reply new objects' turn =
+abbrev pub CallTransition : Next → CoreValue → Objects → Need → Reply → CoreValue → Objects → PortTurn → Type 0
+CallTransition next old objects need reply new objects' turn =
     (stands : CallTurn) × AfterReply next old.call.frames old.call.asked objects need reply stands
-    × StandingLeads stands new objects' turn
+    × StandingTransition stands new objects' turn
 
 -- ---- a call begins
 
@@ -91,7 +91,7 @@ pub record StandsAtStart (objects : Objects) (k : Call) (new : CoreValue) (objec
 
 -- where its function is there, the call stands at its start, and is looked up first; where there is none, it is
 -- refused, and all stands still
-pub record BeginLeads (old : CoreValue) (objects : Objects) (k : Call) (new : CoreValue) (objects' : Objects)
+pub record BeginTransition (old : CoreValue) (objects : Objects) (k : Call) (new : CoreValue) (objects' : Objects)
     (turn : PortTurn) : Type 0 where
   pub there : IsSome (activity_of objects k.function) → StandsAtStart objects k new objects' × AsksLookup k turn
   pub absent : IsNone (activity_of objects k.function) → StandsStill old objects new objects'
@@ -99,46 +99,46 @@ pub record BeginLeads (old : CoreValue) (objects : Objects) (k : Call) (new : Co
 
 -- what comes of the pin of the present: the call that waited for it begins; or the open one stands as it did,
 -- and asks its query
-abbrev pub PresentPinLeads : Option Call → CoreValue → Objects → CoreValue → Objects → PortTurn → Type 0
-PresentPinLeads (Some k) old objects new objects' turn = BeginLeads old objects k new objects' turn
-PresentPinLeads None old objects new objects' turn = StandsStill old objects new objects' × IsAsk turn
+abbrev pub PresentPinTransition : Option Call → CoreValue → Objects → CoreValue → Objects → PortTurn → Type 0
+PresentPinTransition (Some k) old objects new objects' turn = BeginTransition old objects k new objects' turn
+PresentPinTransition None old objects new objects' turn = StandsStill old objects new objects' × IsAsk turn
 
 -- ---- replies
 
 -- what a node has counts where a member lies in its reach; anything else is a miss
-pub record HitLeads (next : Next) (old : CoreValue) (objects : Objects) (k : Call) (hit : Shown)
+pub record HitTransition (next : Next) (old : CoreValue) (objects : Objects) (k : Call) (hit : Shown)
     (new : CoreValue) (objects' : Objects) (turn : PortTurn) : Type 0 where
   pub held : kept hit.reach old.pins.members ≢ []
-      → CallLeads next old objects (needs.Lookup k) (replies.Hit hit) new objects' turn
+      → CallTransition next old objects (needs.Lookup k) (replies.Hit hit) new objects' turn
   pub none : kept hit.reach old.pins.members ≡ []
-      → CallLeads next old objects (needs.Lookup k) replies.Miss new objects' turn
+      → CallTransition next old objects (needs.Lookup k) replies.Miss new objects' turn
 
 -- What comes of a reply. A pin is to be added, and one that is not added has its hold taken away, after which
 -- the call is refused for the reason. What a node or the database has goes to the call. What the database
 -- refuses, the call is refused for.
-abbrev pub ReplyLeads : Next → CoreValue → Objects → PortReply → CoreValue → Objects → PortTurn → Type 0
-ReplyLeads next old objects (ports.Pin (Ok pinned)) new objects' turn = turn ≡ Ask (requests.AddPin pinned)
-ReplyLeads next old objects (ports.Pin (Err error)) new objects' turn = turn ≡ Ended (Err (refused_request error))
-ReplyLeads next old objects (ports.AddPin pinned (Ok added)) new objects' turn =
-    PresentPinLeads (first_call old.pinning) old objects new objects' turn
-ReplyLeads next old objects (ports.AddPin pinned (Err error)) new objects' turn =
+abbrev pub ReplyTransition : Next → CoreValue → Objects → PortReply → CoreValue → Objects → PortTurn → Type 0
+ReplyTransition next old objects (ports.Pin (Ok pinned)) new objects' turn = turn ≡ Ask (requests.AddPin pinned)
+ReplyTransition next old objects (ports.Pin (Err error)) new objects' turn = turn ≡ Ended (Err (refused_request error))
+ReplyTransition next old objects (ports.AddPin pinned (Ok added)) new objects' turn =
+    PresentPinTransition (first_call old.pinning) old objects new objects' turn
+ReplyTransition next old objects (ports.AddPin pinned (Err error)) new objects' turn =
     (turn ≡ Ask (requests.Unpin pinned.stamp)) × IsPinningAt new (Dropping pinned.stamp (refused_pin error))
-ReplyLeads next old objects (ports.Unpin unpinned) new objects' turn =
+ReplyTransition next old objects (ports.Unpin unpinned) new objects' turn =
     (stamp : ℕ) (error : TxnError) → IsPinningAt old (Dropping stamp error) → turn ≡ Ended (Err error)
-ReplyLeads next old objects (ports.Lookup None) new objects' turn =
+ReplyTransition next old objects (ports.Lookup None) new objects' turn =
     (k : Call) → old.call.need ≡ Some (needs.Lookup k)
-    → CallLeads next old objects (needs.Lookup k) replies.Miss new objects' turn
-ReplyLeads next old objects (ports.Lookup (Some hit)) new objects' turn =
+    → CallTransition next old objects (needs.Lookup k) replies.Miss new objects' turn
+ReplyTransition next old objects (ports.Lookup (Some hit)) new objects' turn =
     (k : Call) → old.call.need ≡ Some (needs.Lookup k)
-    → HitLeads next old objects k hit.answer new objects' turn
-ReplyLeads next old objects (ports.Query (Ok found)) new objects' turn =
+    → HitTransition next old objects k hit.answer new objects' turn
+ReplyTransition next old objects (ports.Query (Ok found)) new objects' turn =
     (query : Query) → old.call.need ≡ Some (needs.Query query)
-    → CallLeads next old objects (needs.Query query) (replies.Found found.answer) new objects' turn
-ReplyLeads next old objects (ports.Query (Err error)) new objects' turn = turn
+    → CallTransition next old objects (needs.Query query) (replies.Found found.answer) new objects' turn
+ReplyTransition next old objects (ports.Query (Err error)) new objects' turn = turn
     ≡ Ended (Err (refused_request error))
-ReplyLeads next old objects (ports.Insert kept) new objects' turn =
+ReplyTransition next old objects (ports.Insert kept) new objects' turn =
     (entry : Entry) → old.call.need ≡ Some (needs.Insert entry)
-    → CallLeads next old objects (needs.Insert entry) replies.Inserted new objects' turn
+    → CallTransition next old objects (needs.Insert entry) replies.Inserted new objects' turn
 
 -- a pin of the present is asked for, after which the call is to begin; the machine and the objects stand as they
 -- were
@@ -150,7 +150,7 @@ pub record WaitsForPresent (old : CoreValue) (objects : Objects) (k : Call) (new
   pub same_objects : objects' ≡ objects
 
 -- what comes of a call that is to begin: where there is no member, a pin of the present is asked for first
-pub record StartLeads (old : CoreValue) (objects : Objects) (k : Call) (new : CoreValue) (objects' : Objects)
+pub record StartTransition (old : CoreValue) (objects : Objects) (k : Call) (new : CoreValue) (objects' : Objects)
     (turn : PortTurn) : Type 0 where
   pub pins : old.pins.members ≡ [] → WaitsForPresent old objects k new objects' turn
-  pub begins : old.pins.members ≢ [] → BeginLeads old objects k new objects' turn
+  pub begins : old.pins.members ≢ [] → BeginTransition old objects k new objects' turn

@@ -82,30 +82,30 @@ standing_of call objects =
 
 -- What the core does once its call stands so. It asks what the call needs, and the call stands so still; or
 -- the call's value is that of the turn; or it is refused, as the call is, or as out of memory.
-abbrev pub RwStandingLeads : CallTurn → RwValue → Objects → QueryTurn → Type 0
-RwStandingLeads (Ok standing) new objects (Ask query) = standing_of new.call objects ≡ Ok standing
-RwStandingLeads (Ok standing) new objects (Ended (Ok value)) = (o : Outcome)
+abbrev pub RwStandingTransition : CallTurn → RwValue → Objects → QueryTurn → Type 0
+RwStandingTransition (Ok standing) new objects (Ask query) = standing_of new.call objects ≡ Ok standing
+RwStandingTransition (Ok standing) new objects (Ended (Ok value)) = (o : Outcome)
     × (standing.need ≡ Some (needs.Value o)) × (value ≡ o.value) × (objects ≡ standing.objects)
-RwStandingLeads (Ok standing) new objects (Ended (Err error)) = error ≡ Memory
-RwStandingLeads (Err error) new objects turn = turn ≡ Ended (Err (refused_call error))
+RwStandingTransition (Ok standing) new objects (Ended (Err error)) = error ≡ Memory
+RwStandingTransition (Err error) new objects turn = turn ≡ Ended (Err (refused_call error))
 
 -- where these queries are answered on the way, the call comes to stand so that the core does this
-abbrev pub RwCallLeads : Next → State → CallTurn → List Query → RwValue → Objects → QueryTurn → Type 0
-RwCallLeads next s from queries new objects turn =
-    (stands : CallTurn) × IsLedTo next s from queries stands × RwStandingLeads stands new objects turn
+abbrev pub RwCallTransition : Next → State → CallTurn → List Query → RwValue → Objects → QueryTurn → Type 0
+RwCallTransition next s from queries new objects turn =
+    (stands : CallTurn) × IsLedTo next s from queries stands × RwStandingTransition stands new objects turn
 
 -- What comes of the database's answer to the transaction's own query. It counts as read, and its rows are one
 -- answer more; or it counts as read, and is refused as out of memory; or it is refused as the database refuses it.
-abbrev pub RowsLead : RwValue → Query → Result Found DbError → RwValue → Result (Vec RowValue Global) TxnError
+abbrev pub RowsTransition : RwValue → Query → Result Found DbError → RwValue → Result (Vec RowValue Global) TxnError
     → Type 0
-RowsLead old q (Ok found) new (Ok rows) = (rows.items ≡ found.rows.items) × (new ≡ record old {
+RowsTransition old q (Ok found) new (Ok rows) = (rows.items ≡ found.rows.items) × (new ≡ record old {
   queried = old.queried ++ q ∷ [];
   answers = old.answers ++ given.Rows q rows.items ∷ [];
   reading = None;
 })
-RowsLead old q (Ok found) new (Err error) = (error ≡ Memory)
+RowsTransition old q (Ok found) new (Err error) = (error ≡ Memory)
     × (new ≡ record old { queried = old.queried ++ q ∷ []; reading = None })
-RowsLead old q (Err cause) new result = (result ≡ Err (refused_request cause))
+RowsTransition old q (Err cause) new result = (result ≡ Err (refused_request cause))
     × (new ≡ record old { reading = None })
 
 -- ---- the transaction

@@ -20,7 +20,7 @@ use Rattle.txc_world.specs.declared.step.Step.TheVariants as steps
 use Rattle.txc_world.specs.Ports.{PortsValue}
 use Rattle.txc_world.specs.ActorValues.{actor_at, actor_value, reading_value, reads, ReadingValue}
 use Rattle.txc_world.specs.Actors.{IsNoted}
-use Rattle.txc_world.specs.Acts.{ActLeads, AreLed, HasStepped, StepLeads}
+use Rattle.txc_world.specs.Acts.{ActTransition, AreLed, HasStepped, StepTransition}
 use Rattle.txc_world.specs.Worlds.{value_of_world, WorldValue}
 use Rattle.txc_world.proofs.Paired.{paired}
 
@@ -37,30 +37,30 @@ noted_seen see opened (turns.Ended result) call end h = (ap (option_map see) h.0
 
 -- ---- a step of an actor
 
-module _ {A C : Type 0} (next : Next) (settings : WorldSettings) (old new : PortsValue) (floors floors' : List ℕ) (actors : List (Option (Actor A C))) (place : ℕ) (actor actor' : Actor A C)
-    (is : slice_get actors place ≡ Some (Some actor)) where
-  actor_there : slice_get (map actor_at actors) place ≡ Some (actor_value actor)
-  actor_there = slice_get-map actor_at actors place ∙ ap (λ (o : Option (Option (Actor A C))). option_map actor_at o) is
+module _ {A C : Type 0} (next : Next) (settings : WorldSettings) (old new : PortsValue) (floors floors' : List ℕ) (actors : List (Option (Actor A C))) (number : ℕ) (actor actor' : Actor A C)
+    (is : slice_get actors number ≡ Some (Some actor)) where
+  actor_there : slice_get (map actor_at actors) number ≡ Some (actor_value actor)
+  actor_there = slice_get-map actor_at actors number ∙ ap (λ (o : Option (Option (Actor A C))). option_map actor_at o) is
 
   pub world_led : (actors' : List (Option (Actor A C))) (was now : WorldValue) (act : Act) (reply : Reply)
-      → actors' ≡ slice_set actors place (Some actor')
-      → ActLeads next settings.renew_after place act old new (actor_value actor) (actor_value actor') reply
-      → value_of_world settings old floors actors ≡ was → value_of_world settings new floors' actors' ≡ now → StepLeads next was (steps.Actor place act) reply now
+      → actors' ≡ slice_set actors number (Some actor')
+      → ActTransition next settings.renew_after number act old new (actor_value actor) (actor_value actor') reply
+      → value_of_world settings old floors actors ≡ was → value_of_world settings new floors' actors' ≡ now → StepTransition next was (steps.Actor number act) reply now
   world_led actors' was now act reply put leads shows shows' =
-      let led : StepLeads next (value_of_world settings old floors actors) (steps.Actor place act) reply (value_of_world settings new floors' actors') = rw actor_there (record {
+      let led : StepTransition next (value_of_world settings old floors actors) (steps.Actor number act) reply (value_of_world settings new floors' actors') = rw actor_there (record {
         actor = actor_value actor';
-        others = rw put (map-set actor_at actors place (Some actor'));
+        others = rw put (map-set actor_at actors number (Some actor'));
         leads = leads;
       })
-      in subst (λ (w : WorldValue). StepLeads next was (steps.Actor place act) reply w) shows'
-      (subst (λ (w : WorldValue). StepLeads next w (steps.Actor place act) reply (value_of_world settings new floors' actors')) shows led)
+      in subst (λ (w : WorldValue). StepTransition next was (steps.Actor number act) reply w) shows'
+      (subst (λ (w : WorldValue). StepTransition next w (steps.Actor number act) reply (value_of_world settings new floors' actors')) shows led)
 
 -- what is seen of an actor with a read-only transaction open
-pub seen_there : {A C : Type 0} → (actors : List (Option (Actor A C))) (place : ℕ) (o : OpenTxn A C) (r : ReadingValue) → slice_get actors place ≡ Some (Some (Reading o))
-    → slice_get (map actor_at actors) place ≡ Some (reads r) → r ≡ reading_value o
-seen_there actors place o r is at =
+pub seen_there : {A C : Type 0} → (actors : List (Option (Actor A C))) (number : ℕ) (o : OpenTxn A C) (r : ReadingValue) → slice_get actors number ≡ Some (Some (Reading o))
+    → slice_get (map actor_at actors) number ≡ Some (reads r) → r ≡ reading_value o
+seen_there actors number o r is at =
     let both : Some (reads r) ≡ Some (reads (reading_value o)) =
-    sym at ∙ slice_get-map actor_at actors place ∙ ap (λ slot. option_map actor_at slot) is in
+    sym at ∙ slice_get-map actor_at actors number ∙ ap (λ slot. option_map actor_at slot) is in
     cc both
 
 -- ---- one more step and its reply
