@@ -29,7 +29,7 @@ pub returns-in-Refused-clause-acted : goal.returns-in-Refused-clause-acted
 returns-in-Refused-clause-acted g c =
     let it = subst (λ (s : Stand). IsStanding g.A.App.next c.args.txn.now.core.recorded c.args.frames.now.top c.feed.new.txn s) c.in-Refused.is (c.feed.ensures.stands c.args.frames.now.top c.requires.top) in
     record {
-      acted = c.ended.ensures.acted g.A.App.next c.args.txn.now.core.recorded c.args.frames.now.top c.feed.new.txn it.0 it.1;
+      acted = c.ended-in-Refused.ensures.acted g.A.App.next c.args.txn.now.core.recorded c.args.frames.now.top c.feed.new.txn it.0 it.1;
       keeps = c.feed.ensures.keeps;
       events = c.feed.ensures.events;
     }
