@@ -1,5 +1,5 @@
 //! The node for one thread, which its lock holds too.
-ghost use Rattle.std.specs.Prelude.{◌≡◌, ◌+◌, ◌<◌, ◌≤◌, ◌⊎◌, ◌↔◌, ◌++◌, ◌∷◌, [], true, false, length, Some, None, Ok, Err, IsOk, IfOk, OnOk, OnErr, IfErr, IfSome, IfNone, IsTrue, MatchOption};
+ghost use Rattle.std.specs.Prelude.{◌≡◌, ◌+◌, ◌<◌, ◌≤◌, ◌⊎◌, ◌↔◌, ◌++◌, ◌∷◌, [], true, false, length, Some, None, Ok, Err, IsOk, IfOk, OnOk, OnErr, IfErr, IfSome, IfNone, IsSome, IsTrue, MatchOption};
 ghost use Rattle.txc_stream.specs.Names.{stored, unstored, HasRow};
 ghost use Rattle.std.specs.Option.{option_map};
 ghost use Rattle.txc_node.specs.Cache.{lookup_answer, outcome, swept_count};
@@ -429,6 +429,7 @@ impl<A: App> StoredNode<A> {
         ensures tags { IfOk result (λ tags. IfSome tags (λ tags.
             HasTags self.now.seen.history number tags ⊎ HasTags front.now.history number tags)) }
         ensures none { IfOk result (λ tags. IfNone tags (¬ (HasRow self.now.seen.events))) }
+        ensures posted { IfSome posted.entry (λ _. IfOk result (λ tags. IsSome tags)) }
     {
         if let Some(tags) = posted {
             return Ok(Some(tags.copy(alloc)?));
@@ -476,6 +477,7 @@ impl<A: App> StoredNode<A> {
         ensures only_if { OnOk result (self.old.broken ≡ false) }
         ensures left { IfErr result (IsNodeLeft self.old self.new) }
         ensures refused { IfErr result (IsTakingRefused self.old) }
+        ensures posted { IfSome posted.entry (λ _. IfErr result (IsStepRefused self.old)) }
         ensures idle { self.old.broken ≡ false → HasTakenAll self.old front.now.history
             → result ≡ Ok Advanced.Idle }
     {

@@ -1,5 +1,5 @@
 //! A site that goes on: one generation after the other.
-ghost use Rattle.std.specs.Prelude.{◌≡◌, ◌⊎◌, [], All, Err, IfErr, IfOk, IfSome, length};
+ghost use Rattle.std.specs.Prelude.{◌≡◌, ◌<◌, ◌⊎◌, [], All, Err, IfErr, IfOk, IfSome, length};
 ghost use mathlib.Core.List.{IsPrefix};
 ghost use Rattle.txc_carry.specs.Rooms.{IsHistoryFor};
 ghost use Rattle.txc_db.specs.DatabaseValue.{front_of};
@@ -55,7 +55,8 @@ fn whole_front(core: &DbCore, seen: &HistoryFront) -> Result<HistoryFront, DbErr
     requires { core.now.events ≡ seen.now.events }
     ensures whole { IfOk result (λ front. front ≡ front_of core.now) }
     ensures goes_on { IfOk result (λ front. IsPrefix seen.now.history front.history) }
-    ensures refused { IfErr result (λ error. (error ≡ DbError.Memory) ⊎ (error ≡ DbError.Broken)) }
+    ensures refused { IfErr result (λ error. (error ≡ DbError.Memory)
+        ⊎ ((error ≡ DbError.Broken) × (length core.now.history < length seen.now.history))) }
 {
     let whole = core.front()?;
     if whole.len() < seen.len() {
