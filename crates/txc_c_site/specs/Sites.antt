@@ -18,11 +18,11 @@ abbrev pub HaveAllFunctions : List ℕ → Type 0
 HaveAllFunctions numbers = (f : ℕ) → f ≤ LAST_FUNCTION → Contains numbers f
 
 -- nothing has happened, and there is an object for each function
-pub record IsNewCaller (settings : NodeSettings) (renew_after : ℕ) (c : CallerValue) : Type 0 where
+pub record IsNewCaller (settings : NodeSettings) (age : ℕ) (c : CallerValue) : Type 0 where
   pub history : c.ports.database.history ≡ []
   pub cushion : c.ports.cushion.entries ≡ []
   pub node : c.ports.node.cache ≡ start_of settings 0
-  pub renew_after : c.renew_after ≡ renew_after
+  pub renew_after : c.renew_after ≡ age
   pub functions : HaveAllFunctions (numbers_of c.objects)
 
 -- the site is at rest, and nothing has happened

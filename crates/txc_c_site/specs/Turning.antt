@@ -32,10 +32,10 @@ database_number error = REFUSED
 -- ---- beginnings
 
 -- it has the newest of the pins that its bounds allow, and the present; no call is open, and none was answered
-pub record IsReadBegun (bounds : Bounds) (c : CallerValue) (r : CallerReading) : Type 0 where
-  pub bounds : r.txn.core.bounds ≡ bounds
+pub record IsReadBegun (asked : Bounds) (c : CallerValue) (r : CallerReading) : Type 0 where
+  pub bounds : r.txn.core.bounds ≡ asked
   pub recorded : r.txn.core.recorded ≡ []
-  pub members : r.txn.core.pins.members ≡ handed_out c.ports.cushion bounds.now bounds.staleness bounds.at_least
+  pub members : r.txn.core.pins.members ≡ handed_out c.ports.cushion asked.now asked.staleness asked.at_least
   pub present : r.txn.core.pins.has_present ≡ true
   pub none : r.doing ≡ None
   pub caller : caller_of r ≡ record c { ports = record c.ports { cushion = r.ports.cushion } }

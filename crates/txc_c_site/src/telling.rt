@@ -1,6 +1,6 @@
 //! What is told of a step, and written for the caller.
 ghost use Rattle.std.specs.Prelude.{◌≡◌, MatchOption, None, Some, length};
-ghost use Rattle.txc_c_site.specs.Telling.{answer_bytes, answer_len, answer_number, computed_number, given_bytes, given_len, given_number, last_bytes, last_given, last_len, last_number, last_recorded, step_bytes, step_len, step_number, value_bytes, value_len, value_number};
+ghost use Rattle.txc_c_site.specs.Telling.{answer_bytes, answer_len, answer_number, computed_number, error_number, given_bytes, given_len, given_number, last_bytes, last_given, last_len, last_number, last_recorded, step_bytes, step_len, step_number, value_bytes, value_len, value_number};
 ghost use Rattle.txc_crossing.specs.Numbers.{bytes_number};
 ghost use Rattle.txc_crossing.specs.Crossing.{written_in};
 
