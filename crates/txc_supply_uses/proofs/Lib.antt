@@ -1,2 +1,1 @@
 pub mod Afterwards
-pub mod Asking
