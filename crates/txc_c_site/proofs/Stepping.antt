@@ -1,5 +1,6 @@
 -- What comes of a step of a call, once it was told and written.
-use Rattle.std.proofs.Common.{◌≡◌, ◌∙◌, ℕ, List, [], ◌∷◌, ◌++◌, length, drop, nat_le, Option, Some, None, Bool, true, false, refl, ap, sym, arith, nat_tests}
+use Rattle.std.proofs.Common.{◌≡◌, ◌∙◌, ℕ, List, [], ◌∷◌, ◌++◌, length, drop, nat_le, Option, Some, None, Bool, true, false, refl, ap, sym, arith}
+use Rattle.std.proofs.lemmas.Bool.Decides.{nat_tests}
 use Rattle.std.specs.Prelude.{Result, Ok, Err, IsSome, IsTrue, ◌↔◌, if◌then◌else◌}
 use Rattle.txc_app.specs.declared.ask.Answer.{Answer}
 use Rattle.txc_app.specs.declared.ask.Answer.TheVariants as answers

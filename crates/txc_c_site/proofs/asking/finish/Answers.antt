@@ -8,7 +8,7 @@ pub returns-in_default : goal.returns-in_default
 returns-in_default c = inr (refl, refl, refl)
 
 pub finish_with-requires : goal.finish_with-requires
-finish_with-requires c = subst (λ (bytes : List ℕ). AsksNext opaque_next c.args.txn.now (asks.Done bytes)) (sym c.in-Ok.ensures) c.requires
+finish_with-requires c = subst (λ (bytes : List ℕ). AsksNext opaque_next c.args.txn.now (asks.Done bytes)) (sym (c.in-Ok.ensures.items_if_clones_equal (λ x y same. same))) c.requires
 
 pub returns : goal.returns
 returns c = inl c.finish_with.ensures

@@ -15,7 +15,7 @@ returns-in-Ok c =
       refl,
       record {
         told = c.of.ensures ∙ (ap (λ (p : Option Pin). crossing_receipt p c.len.result) c.in-Ok.ensures.pin
-            ∙ ap (λ (n : ℕ). crossing_receipt (receipt_pin core.recorded core.pins.members) n) (c.len.ensures ∙ ap length c.in-Ok.ensures.answers));
+            ∙ ap (λ (n : ℕ). crossing_receipt (receipt_pin core.recorded core.pins.members) n) (c.len.ensures ∙ (given.answers.ok.0 ∙ ap length c.in-Ok.ensures.answers)));
         explained = subst (λ (f : FrontValue). Explains opaque_next f.history core.bounds (receipt_pin core.recorded core.pins.members) core.recorded) c.in-Ok.ensures.seen
             (subst (λ (p : Option Pin). Explains opaque_next given.seen.history core.bounds p core.recorded) c.in-Ok.ensures.pin
             (subst (λ (rs : List Recorded). Explains opaque_next given.seen.history core.bounds given.pin rs) c.in-Ok.ensures.answers c.in-Ok.ensures.explained));
