@@ -1,1 +1,2 @@
 pub mod Afterwards
+pub mod Asking

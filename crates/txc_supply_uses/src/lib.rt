@@ -2,8 +2,10 @@
 //! Nothing runs them.
 #![tactic(auto)]
 
+mod calling;
 mod handing;
 mod one_row;
 
+pub use calling::page;
 pub use handing::{registry, supplied};
 pub use one_row::OneRow;
