@@ -3,7 +3,7 @@
 # make test: the tests, with no proof.
 # make prove: the gate: every proof, every test, and the wrong bodies that break a cache.
 # make library: the library for callers in C, proved and built where it has to be; it says where it lies.
-# make try-library: the same with no proof, in a minute.
+# make try-library: the same with no proof, in some four minutes of one core.
 # make edits [CRATE=NAME]: all wrong bodies, also those that `make prove` leaves out for its time.
 # make refusals [TEST=NAME]: every allocation of the tests and of the program, refused in its turn.
 # make soak: 3,000,000 lookups through one node that stores no records, in a process of a fixed size.

@@ -4,10 +4,10 @@
 usage: scripts/boundary.py [--proved] [--rows FOLDER] [COUNT]
   --proved   of the proved library, by `make library`; else of one that is compiled for it with no proof
   FOLDER     plays also NAME.in of it for each NAME.mode that is node or report, whose replies are NAME.out
-  COUNT      how many random scripts are played, by default 2000
+  COUNT      how many random scripts of a node are played, and how many of a site (scripts/worlds.py), by default 2000
   SEED       (of the environment) what they are made of, by default 1
   TXCACHE    (of the environment) the program that they are compared with; else the proved one, where it stands, and else one that is
-             compiled for it with no proof, of the modes node and report alone
+             compiled for it with no proof
 
 Of each compiler of C that the machine has: the header's sizes, places and numbers are those of the sources; the examples, and the
 random scripts, are answered byte for byte as `txcache` does; the same with every allocation refused in its turn; odd uses;
@@ -28,21 +28,12 @@ import exports
 import library
 import run
 import unproved
+import worlds
 
 ROOT = os.path.dirname(os.path.dirname(os.path.abspath(__file__)))
 C = f"{ROOT}/bindings/c"
 SANITIZERS = ["-fsanitize=address,undefined", "-fno-sanitize-recover=all", "-g", "-O1"]
 WARNINGS = ["-std=c11", "-Wall", "-Wextra", "-Werror"]
-# `txcache` with the modes of a node alone: the other crates are not compiled.
-MODES = """
-fn run<N, R: io::Read, W: io::Write>(_rt: &N, alloc: std::alloc::Global, script: txc_settings::Script, settings: Settings, reader: &mut R,
-    writer: &mut W) -> Result<Status, RunFault> {
-    match script {
-        txc_settings::Script::Node(mode) => txc_run::run(alloc, mode, settings, reader, writer),
-        _ => Err(RunFault::Memory),
-    }
-}
-"""
 
 
 class Trial:
@@ -145,18 +136,13 @@ def reference(room):
         return os.environ["TXCACHE"]
     if run.is_fresh():
         return run.PROGRAM
-    lines = {**run.crates("txc_run"), **run.crates("txc_arguments"), "txcache": "txcache: txc_settings txc_run txc_arguments clap\n"}
+    lines = run.crates()
     os.makedirs(f"{room}/program")
     with open(f"{room}/program/crates.txt", "w", encoding="utf-8") as it:
         it.writelines(lines.values())
     shutil.copy(f"{ROOT}/HANDLES", f"{room}/program")
     for name in lines:
         shutil.copytree(f"{ROOT}/crates/{name}", f"{room}/program/crates/{name}", ignore=shutil.ignore_patterns("out", "must-fail", "more-edits"))
-    main = f"{room}/program/crates/txcache/src/main.rt"
-    with open(main, encoding="utf-8") as it:
-        text = it.read().replace("use txc_modes::{RunFault, Status, exit_of, run};", "use txc_run::{RunFault, Status, exit_of};")
-    with open(main, "w", encoding="utf-8") as it:
-        it.write(text + MODES)
     said = unproved.build(f"{room}/program/crates/txcache", f"{room}/txcache", ["--steps", "1"])
     if said:
         sys.exit(f"{said[-3000:]}boundary: `txcache` does not compile")
@@ -185,8 +171,22 @@ def libraries(is_proved, room):
     return [library.make([plain], f"{room}/library")[0], library.make([watched], f"{room}/watched", is_shared=False)[0]]
 
 
-def try_c(trial, room, compiler, archives, played, wanted):
-    """All that is tried of the library by a compiler, once plain and once under the sanitizers, each over an archive."""
+def try_worlds(trial, what, room, said_before, program, played):
+    """Plays a site's scripts, and compares what it says with what `txcache` replies. Where a site said the same before, it is not asked again."""
+    ran = subprocess.run([f"{room}/play_site", f"{room}/worlds"], stdout=subprocess.PIPE, stderr=subprocess.PIPE, text=True)
+    got = dict(re.findall(r"^== (\S+)\n(.*?)(?=^== |\Z)", ran.stdout, re.M | re.S))
+    for it in played:
+        if said_before.get(it[-1], ("",))[0] != got.get(it[-1], ""):
+            said_before[it[-1]] = got.get(it[-1], ""), worlds.unlike(program, it, got.get(it[-1], ""))
+    other = [f"{file}: {said_before[file][1]}" for *_, file in played if file not in said_before or said_before[file][1]]
+    lines = sum(it.count("\n") for it in got.values())
+    trial.note(f"{what}: {len(played)} scripts of a site, {lines} lines, {len(other)} with other replies", not ran.returncode and lines > 0 and not other,
+               ran.stderr + "\n".join(other[:3]))
+
+
+def try_c(trial, room, compiler, archives, played, wanted, of_sites):
+    """All that is tried of the library by a compiler, once plain and once under the sanitizers, each over an archive. Of sites it is what
+    `try_worlds` plays."""
     with open(f"{room}/asserts.c", "w", encoding="utf-8") as it:
         it.write(exports.asserts())
     count = exports.asserts().count("_Static_assert")
@@ -195,19 +195,22 @@ def try_c(trial, room, compiler, archives, played, wanted):
         it.writelines(f"{capacity} {recent} {mode} {file}\n" for capacity, recent, mode, file, _ in played)
     for name, flags, archive in ("", ["-O2"], archives[0]), (" under sanitizers", SANITIZERS, archives[1]):
         built = True
-        for file in ("tests/play.c", "tests/odd.c", "example.c"):
-            wrap = ["-Wl,--wrap=malloc", "-Wl,--wrap=realloc"] if "play" in file else []
+        for file in ("tests/play.c", "tests/play_site.c", "tests/odd.c", "tests/odd_site.c", "example.c", "page.c"):
+            wrap = ["-Wl,--wrap=malloc", "-Wl,--wrap=realloc"] if file in ("tests/play.c", "tests/odd_site.c") else []
             words = [compiler, *WARNINGS, *flags, "-I", C, f"{C}/{file}", archive, *wrap, "-o", f"{room}/{os.path.basename(file)[:-2]}"]
             built = built and trial.ran(f"{compiler}: {file}{name}", words).returncode == 0
         if not built:
             continue
         trial.ran(f"{compiler}{name}", [f"{room}/odd"])
+        trial.ran(f"{compiler}{name}", [f"{room}/odd_site"])
         trial.ran(f"{compiler}: the example{name}", [f"{room}/example"])
+        trial.ran(f"{compiler}: the page{name}", [f"{room}/page"])
         ran = subprocess.run([f"{room}/play", f"{room}/list"], stdout=subprocess.PIPE, stderr=subprocess.PIPE, text=True, errors="replace")
         got = dict(re.findall(r"^== (\w+ \S+)\n(.*?)(?=^== |\Z)", ran.stdout, re.M | re.S))
         other = [it for *_, mode, file, _ in played if got.get(it := f"{mode} {file}") != wanted[it]]
         trial.note(f"{compiler}{name}: {len(played)} scripts, {len(other)} with other replies", not ran.returncode and not other,
                    ran.stderr + "".join(f"{it}: {got.get(it)!r}, wanted {wanted[it]!r}\n" for it in other[:3]))
+        try_worlds(trial, f"{compiler}{name}", room, *of_sites)
         # under the sanitizers a tenth of them: each script is played as often as it allocates
         with open(f"{room}/refused", "w", encoding="utf-8") as it:
             it.writelines(f"{capacity} {recent} {mode} {file}\n" for capacity, recent, mode, file, _ in played[::10 if name else 1]
@@ -224,13 +227,15 @@ def try_bindings(trial, folder):
         with tempfile.TemporaryDirectory(prefix="cargo-") as target:
             words = ["cargo", "--quiet", "test", "--offline", "--target-dir", target]
             trial.ran("Rust: tests", words, cwd=f"{ROOT}/bindings/rust", env=where)
-            words = ["cargo", "--quiet", "run", "--offline", "--example", "page", "--target-dir", target]
-            trial.ran("Rust: the example", words, cwd=f"{ROOT}/bindings/rust", env=where)
+            for example in ("page", "transaction"):
+                words = ["cargo", "--quiet", "run", "--offline", "--example", example, "--target-dir", target]
+                trial.ran(f"Rust: the example {example}", words, cwd=f"{ROOT}/bindings/rust", env=where)
     else:
         print("skipped: Rust, since there is no cargo")
     if os.path.exists(f"{folder}/libtxc_c.so"):
         trial.ran("Python: tests", [sys.executable, "-m", "unittest", "-q", "tests"], cwd=f"{ROOT}/bindings/python", env=where)
-        trial.ran("Python: the example", [sys.executable, "example.py"], cwd=f"{ROOT}/bindings/python", env=where)
+        for example in ("example.py", "page.py"):
+            trial.ran(f"Python: {example}", [sys.executable, example], cwd=f"{ROOT}/bindings/python", env=where)
     else:
         print("skipped: Python, since there is no libtxc_c.so")
 
@@ -249,9 +254,13 @@ def main():
         wanted = {f"{mode} {file}": replies(program, capacity, recent, mode, file) for capacity, recent, mode, file, _ in played}
         unlike = [f"{mode} {file}" for *_, mode, file, text in played if text is not None and not wanted[f"{mode} {file}"].startswith(text)]
         trial.note(f"txcache: the {sum(text is not None for *_, text in played)} examples and rows", not unlike, "\n".join(unlike))
+        sites = worlds.plays(room, count, random.Random(int(os.environ.get("SEED", 1))))
+        with open(f"{room}/worlds", "w", encoding="utf-8") as it:
+            it.writelines(f"{capacity} {recent} {renew} {file}\n" for capacity, recent, renew, file in sites)
+        of_sites = {}, program, sites
         for compiler in ("gcc", "clang"):
             if shutil.which(compiler):
-                try_c(trial, room, compiler, archives, played, wanted)
+                try_c(trial, room, compiler, archives, played, wanted, of_sites)
             else:
                 print(f"skipped: {compiler}, which is not there")
         try_bindings(trial, f"{room}/library")

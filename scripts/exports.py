@@ -1,11 +1,13 @@
-"""What crosses to C, by the sources of crates/txc_c: exports, structs and numbers; and the same by the header."""
+"""What crosses to C, by the sources: the exports of crates/txc_c, and the structs and numbers of the crates that it is a thin layer over;
+and the same by the header."""
 
 import glob
 import os
 import re
 
 ROOT = os.path.dirname(os.path.dirname(os.path.abspath(__file__)))
-SOURCES = f"{ROOT}/crates/txc_c/src"
+# The crates that declare what crosses.
+CRATES = ("txc_crossing", "txc_c_site", "txc_c")
 HEADER = f"{ROOT}/bindings/c/txc.h"
 
 EXPORT = re.compile(r'^#\[unsafe\(no_mangle\)\]\npub extern "C" fn (\w+)\(([^)]*)\) -> (\w+)', re.M)
@@ -35,12 +37,13 @@ def exports():
 
 def structs():
     """Each struct that may cross, with its fields, each a name and a type."""
-    return {name: FIELD.findall(text) for it in texts("txc_c") for name, text in STRUCT.findall(it)}
+    return {name: FIELD.findall(text) for crate in CRATES for it in texts(crate) for name, text in STRUCT.findall(it)}
 
 
 def numbers():
     """The numbers that calls return, and the limits."""
-    found = {name: int(value) for name, value in CONST.findall(open(f"{SOURCES}/numbers.rt", encoding="utf-8").read())}
+    with open(f"{ROOT}/crates/txc_crossing/src/numbers.rt", encoding="utf-8") as it:
+        found = {name: int(value) for name, value in CONST.findall(it.read())}
     for name, crate in LIMITS.items():
         found[name] = next(int(value) for it in texts(crate) for const, value in CONST.findall(it) if const == name)
     return found
@@ -119,7 +122,7 @@ def asserts():
     lines += [f"_Static_assert(TXC_{name} == {value}, \"{name}\");" for name, value in numbers().items()]
     all_structs = structs()
     for name in all_structs:
-        if name == "Slot":
+        if name in ("Slot", "SiteSlot"):
             continue
         places, size, _ = fields(name, all_structs)
         lines.append(f'_Static_assert(sizeof({c_name(name)}) == {size}, "{name}");')

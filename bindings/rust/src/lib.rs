@@ -16,6 +16,7 @@
 //! # Ok::<(), txcache_node::Error>(())
 //! ```
 mod ffi;
+pub mod site;
 
 use std::fmt;
 

@@ -1,3 +1,3 @@
 pub mod AsBox
+pub mod SiteAsBox
 pub mod Made
-pub mod Tagged

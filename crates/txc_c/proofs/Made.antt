@@ -11,7 +11,7 @@ use Rattle.txc_node.specs.Cache.{Cache, after_insert, outcome}
 use Rattle.txc_node.specs.Steps.{entry_refusal, reply_by, reply_to, cache_by, after_op}
 use Rattle.txc_c.specs.Counted.{Counted, TotalsAfter, LeavesCounted}
 use Rattle.txc_c.specs.Told.{StoredTold}
-use Rattle.txc_c.specs.declared.crossing.TxcStored.{TxcStored}
+use Rattle.txc_crossing.specs.declared.crossing.TxcStored.{TxcStored}
 
 made_reply : (c : Cache) (e : Entry) → entry_refusal e ≡ None → reply_to c (Insert e) ≡ replies.Inserted (outcome c e)
 made_reply c e made = ap (λ (r : Option Refusal). reply_by r (replies.Inserted (outcome c e))) made

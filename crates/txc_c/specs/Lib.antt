@@ -1,7 +1,8 @@
 pub mod Owned
-pub mod Crossing
 pub mod Counted
 pub mod Numbers
 pub mod Told
 pub mod Held
 pub mod Life
+pub mod SiteHeld
+pub mod Exports

@@ -1,28 +1,19 @@
 -- The numbers that calls return.
-use Rattle.std.specs.Prelude.{ℕ, nat_le, length, if◌then◌else◌, Option, Some, None}
+use Rattle.std.specs.Prelude.{ℕ, Option, Some, None}
 use Rattle.txc_node.specs.declared.hit.Shown.{Shown}
 use Rattle.txc_node.specs.declared.node.Inserted.{Inserted}
 use Rattle.txc_node.specs.declared.node.Inserted.TheVariants.{Stored, Kept}
 use Rattle.txc_node.specs.declared.op.Op.{Op}
-use Rattle.txc_node.specs.declared.refusal.Refusal.{Refusal}
-use Rattle.txc_node.specs.declared.refusal.Refusal.TheVariants as refusals
+use Rattle.txc_crossing.specs.Numbers.{bytes_number, refusal_number}
 use Rattle.txc_node.specs.declared.reply.Reply.{Reply}
 use Rattle.txc_node.specs.declared.reply.Reply.TheVariants as replies
 use Rattle.txc_node.specs.Steps.{reply_to}
 use Rattle.txc_c.specs.Counted.{Counted}
-use Rattle.txc_c.specs.declared.numbers.TheConstants.{DONE, MISS, KEPT, NO_ROOM, CLOSED, BAD_ARGUMENT, EMPTY_RANGE, BAD_REACH, OUT_OF_ORDER, VALUE_TOO_LONG, NO_MEMORY}
-
--- the number of a refusal
-abbrev pub refusal_number : Refusal → ℕ
-refusal_number refusals.EmptyRange = EMPTY_RANGE
-refusal_number refusals.BadReach = BAD_REACH
-refusal_number (refusals.OutOfOrder processed) = OUT_OF_ORDER
-refusal_number refusals.ValueTooLong = VALUE_TOO_LONG
-refusal_number refusals.Memory = NO_MEMORY
+use Rattle.txc_crossing.specs.declared.numbers.TheConstants.{DONE, MISS, KEPT, CLOSED, BAD_ARGUMENT}
 
 -- the number of a hit, by the room of the buffer
 abbrev pub hit_number : ℕ → Shown → ℕ
-hit_number room shown = if nat_le (length shown.value) room then DONE else NO_ROOM
+hit_number room shown = bytes_number DONE room shown.value
 
 -- the number of what an insertion did
 abbrev pub inserted_number : Inserted → ℕ

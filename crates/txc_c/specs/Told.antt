@@ -1,5 +1,5 @@
 -- What a call writes for its caller, by the reply.
-use Rattle.std.specs.Prelude.{◌≡◌, ℕ, List, ◌++◌, drop, length, nat_le, if◌then◌else◌, Option, Some, None}
+use Rattle.std.specs.Prelude.{◌≡◌, ℕ, List, length, Option, Some, None}
 use Rattle.txc_node.specs.declared.hit.Shown.{Shown}
 use Rattle.txc_node.specs.declared.node.Inserted.TheVariants.{Stored}
 use Rattle.txc_node.specs.declared.op.Op.{Op}
@@ -7,9 +7,9 @@ use Rattle.txc_node.specs.declared.reply.Reply.{Reply}
 use Rattle.txc_node.specs.declared.reply.Reply.TheVariants as replies
 use Rattle.txc_node.specs.Steps.{reply_to}
 use Rattle.txc_c.specs.Counted.{Counted}
-use Rattle.txc_c.specs.Crossing.{crossing_reach, TellsStored}
-use Rattle.txc_c.specs.declared.crossing.TxcReach.{TxcReach}
-use Rattle.txc_c.specs.declared.crossing.TxcStored.{TxcStored}
+use Rattle.txc_crossing.specs.Crossing.{crossing_reach, written_in, TellsStored}
+use Rattle.txc_crossing.specs.declared.crossing.TxcReach.{TxcReach}
+use Rattle.txc_crossing.specs.declared.crossing.TxcStored.{TxcStored}
 
 -- the reply to a call of a handle, where the call makes a step
 abbrev pub call_reply : Option Counted → Option Op → Option (Reply Shown)
@@ -28,11 +28,6 @@ reach_told _ old = old
 abbrev pub len_told : Option (Reply Shown) → ℕ → ℕ
 len_told (Some (replies.Hit shown)) old = length shown.value
 len_told _ old = old
-
--- the value, and after it what stood there, where the buffer has room for it
-abbrev pub written_in : List ℕ → List ℕ → List ℕ
-written_in value buffer =
-    if nat_le (length value) (length buffer) then value ++ drop (length value) buffer else buffer
 
 -- its value
 abbrev pub bytes_told : Option (Reply Shown) → List ℕ → List ℕ

@@ -8,14 +8,15 @@ ghost use Rattle.txc_node.specs.Counts.{counts_of, AreCountsOf};
 ghost use Rattle.txc_node.specs.Hit.{seen};
 ghost use Rattle.txc_node.specs.Steps.{entry_refusal, reply_to, seen_reply};
 ghost use Rattle.txc_c.specs.Counted.{IsOpened, LeavesCounted, TotalsAfter};
-ghost use Rattle.txc_c.specs.Crossing.{crossing_reach};
+ghost use Rattle.txc_crossing.specs.Crossing.{crossing_reach, written_in};
 ghost use Rattle.txc_c.specs.Numbers.{hit_number, inserted_number, reply_number};
-ghost use Rattle.txc_c.specs.Told.{written_in, reach_told, len_told, bytes_told, StoredTold, closed_told, swept_told};
+ghost use Rattle.txc_c.specs.Told.{reach_told, len_told, bytes_told, StoredTold, closed_told, swept_told};
 
-use crate::crossing::{TxcReach, TxcStored};
-use crate::numbers::{DONE, EMPTY_RANGE, KEPT, MISS, NO_MEMORY, NO_ROOM, OUT_OF_ORDER};
 use std::alloc::{AllocError, Global};
 use std::marker::Model;
+use txc_crossing::{
+    DONE, EMPTY_RANGE, KEPT, MISS, NO_MEMORY, OUT_OF_ORDER, TxcReach, TxcStored, tell,
+};
 use txc_node::{Counts, Entry, FunctionCounts, Hit, Inserted, NodeCore, Reply};
 use txc_stamp::Stamp;
 use txc_tags::{Key, TagSet};
@@ -84,20 +85,14 @@ impl Model for CountedNode {
 }
 
 /// Writes what a hit shows, and the value where there is room for it.
-fn tell(hit: &Hit<'_>, reach: &mut TxcReach, value: &mut [u8], len: &mut usize) -> u32
+fn tell_hit(hit: &Hit<'_>, reach: &mut TxcReach, value: &mut [u8], len: &mut usize) -> u32
     ensures number { result ≡ hit_number (length value.old) (seen hit.now) }
     ensures reach { reach.new ≡ crossing_reach (seen hit.now).reach }
     ensures len { len.new ≡ length (seen hit.now).value }
     ensures bytes { value.new ≡ written_in (seen hit.now).value value.old }
 {
     *reach = TxcReach::of(hit.reach());
-    let bytes = hit.value.bytes();
-    *len = bytes.len();
-    if bytes.len() > value.len() {
-        return NO_ROOM;
-    }
-    value[..bytes.len()].copy_from_slice(bytes);
-    DONE
+    tell(DONE, hit.value.bytes(), value, len)
 }
 
 /// Writes what an insertion stored.
@@ -173,7 +168,7 @@ impl CountedNode {
                 MISS
             }
             Ok(Some(hit)) => {
-                let number = tell(&hit, reach, value, len);
+                let number = tell_hit(&hit, reach, value, len);
                 self.tally.note(function, &Reply::Hit(hit));
                 number
             }

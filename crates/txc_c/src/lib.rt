@@ -1,25 +1,30 @@
-//! The versioned cache of one node, for callers in C: a static library.
+//! The versioned cache of one node, and a database with its pins and a node, for callers in C: a static library.
 //!
-//! Each export is a call of [`txc_node::NodeCore`] over what can cross: numbers, structs of numbers, and
-//! slices as a pointer and a length. Its contract says the same of the cache, which number is returned, and
-//! what is written where. The header is `bindings/c/txc.h`.
+//! Each export is a call of a node or of a site over what can cross: numbers, structs of numbers, and slices as a pointer
+//! and a length. Its contract says the same of what stands behind the handle, which number is returned, and what is written
+//! where. The header is `bindings/c/txc.h`.
 #![tactic(auto)]
 
 mod counted;
-mod crossing;
 mod handle;
 mod node;
-mod numbers;
 mod parts;
+mod site_handle;
+mod site_room;
+mod site_taking;
 mod taking;
+mod txn;
 
-pub use crossing::{TxcCounts, TxcKey, TxcReach, TxcStored, TxcTag};
 pub use handle::{TxcNode, handle_crosses};
 pub use node::{
     txc_node_close, txc_node_count, txc_node_event, txc_node_insert, txc_node_lookup,
     txc_node_open, txc_node_sweep,
 };
-pub use numbers::{
-    ALREADY_OPEN, BAD_ARGUMENT, BAD_REACH, CLOSED, DONE, EMPTY_RANGE, KEPT, MISS, NO_MEMORY,
-    NO_ROOM, OUT_OF_ORDER, VALUE_TOO_LONG,
+pub use site_handle::{TxcSite, site_crosses};
+pub use txc_c_site::{TxcKept, TxcQuery, TxcReceipt, TxcRow};
+pub use txc_crossing::{TxcCounts, TxcKey, TxcReach, TxcStored, TxcTag};
+pub use txn::{
+    txc_abort, txc_answer, txc_begin, txc_begin_write, txc_call, txc_commit, txc_commit_write,
+    txc_finish, txc_give_up, txc_keep, txc_put, txc_query_rows, txc_remove, txc_row_at,
+    txc_site_close, txc_site_open,
 };

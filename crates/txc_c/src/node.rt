@@ -3,31 +3,22 @@ ghost use Rattle.std.specs.Prelude.{◌≡◌, ◌≢◌, Some, None, length, if
 ghost use Rattle.txc_node.specs.declared.op.Op.TheVariants as steps;
 ghost use Rattle.txc_node.specs.Steps.{entry_refusal};
 ghost use Rattle.txc_c.specs.Counted.{CallLeaves, HasOpened};
-ghost use Rattle.txc_c.specs.Crossing.{asked_entry, event_asked, insert_asked, lookup_asked, sweep_asked};
+ghost use Rattle.txc_crossing.specs.Crossing.{asked_entry, event_asked, insert_asked, lookup_asked, sweep_asked};
 ghost use Rattle.txc_c.specs.Held.{held};
-ghost use Rattle.txc_c.specs.Life.{are_sizes, close_number, count_number, counts_told, open_number};
+ghost use Rattle.txc_c.specs.Life.{close_number, count_number, counts_told, open_number};
 ghost use Rattle.txc_c.specs.Numbers.{call_number};
 ghost use Rattle.txc_c.specs.Told.{call_reply, reach_told, len_told, bytes_told, StoredTold, closed_told, swept_told, processed_told};
 
 use crate::counted::CountedNode;
-use crate::crossing::{
-    TxcCounts, TxcKey, TxcReach, TxcStored, TxcTag, are_tags, is_insertion, tags_of,
-};
 use crate::handle::TxcNode;
-use crate::numbers::{
-    ALREADY_OPEN, BAD_ARGUMENT, BAD_REACH, CLOSED, DONE, NO_MEMORY, VALUE_TOO_LONG,
-};
 use std::alloc::{AllocError, Global};
-use txc_node::{Entry, MAX_CAPACITY, MAX_RECENT, MAX_VALUE_LEN};
+use txc_crossing::{
+    ALREADY_OPEN, BAD_ARGUMENT, BAD_REACH, CLOSED, DONE, NO_MEMORY, TxcCounts, TxcKey, TxcReach,
+    TxcStored, TxcTag, VALUE_TOO_LONG, are_sizes, are_tags, is_insertion, tags_of,
+};
+use txc_node::{Entry, MAX_VALUE_LEN};
 use txc_stamp::Stamp;
 use txc_tags::LAST_FUNCTION;
-
-/// Whether a node may be made for so many entries, and for the tags of so many events.
-fn are_sizes(capacity: usize, recent: usize) -> bool
-    ensures { result ≡ are_sizes capacity recent }
-{
-    (1 <= capacity && capacity <= MAX_CAPACITY) && (1 <= recent && recent <= MAX_RECENT)
-}
 
 /// Makes a node for at most `capacity` entries, that keeps the tags of the last `recent` events.
 #[unsafe(no_mangle)]

@@ -1,0 +1,216 @@
+/* Odd uses of a site, each with what must come of it; and a page with every allocation refused in its turn. Prints how many there
+ * are.
+ *
+ * Linked with --wrap=malloc and --wrap=realloc. */
+#include "txc.h"
+#include <stdio.h>
+#include <stdlib.h>
+#include <string.h>
+
+static int uses, wrong;
+
+static void check(bool is_so, const char *use, int line) {
+    uses++;
+    if (!is_so) {
+        wrong++;
+        printf("odd_site.c:%d: %s\n", line, use);
+    }
+}
+
+#define CHECK(use) check((use), #use, __LINE__)
+
+/* ---- allocations that are refused */
+
+static long until_refusal = -1; /* how many allocations are granted first; -1: all are */
+static long refusals;
+
+void *__real_malloc(size_t size);
+void *__real_realloc(void *at, size_t size);
+
+static bool is_refused(void) {
+    if (until_refusal < 0 || until_refusal-- > 0)
+        return false;
+    refusals++;
+    return true;
+}
+
+void *__wrap_malloc(size_t size) { return is_refused() ? NULL : __real_malloc(size); }
+void *__wrap_realloc(void *at, size_t size) { return is_refused() ? NULL : __real_realloc(at, size); }
+
+/* ---- odd uses */
+
+static const txc_key HIGHEST = {0, 1, {7}};
+static const txc_key BIDS = {1, 1, {7}};
+static const txc_query GROUP = {1, TXC_GROUP, 7, 0};
+
+static uint8_t value[TXC_MAX_VALUE_LEN + 1];
+static uint8_t body[256];
+static size_t len, count;
+static txc_row row;
+static txc_receipt receipt;
+static uint32_t stamp;
+static txc_kept kept;
+
+static uint32_t call(txc_site *site, const txc_key *key, size_t room) { return txc_call(site, key, value, room, &len); }
+static uint32_t rows(txc_site *site) { return txc_query_rows(site, &GROUP, &count); }
+static uint32_t row_at(txc_site *site, size_t at, size_t room) { return txc_row_at(site, at, &row, body, room, &len); }
+static uint32_t put(txc_site *site, const char *text) { return txc_put(site, 1, 1, 7, (const uint8_t *)text, strlen(text)); }
+static uint32_t finish(txc_site *site, const char *text) {
+    return txc_finish(site, (const uint8_t *)text, strlen(text), value, sizeof value, &len);
+}
+
+/* Each call on a handle that has no site. */
+static void try_closed(txc_site *site) {
+    len = count = stamp = 77;
+    receipt.answers = 77;
+    CHECK(txc_begin(site, 0, 0, 0) == TXC_CLOSED && txc_begin_write(site) == TXC_CLOSED);
+    CHECK(call(site, &HIGHEST, 8) == TXC_CLOSED && len == 77);
+    CHECK(rows(site) == TXC_CLOSED && count == 77);
+    CHECK(row_at(site, 0, 8) == TXC_CLOSED && len == 77);
+    CHECK(txc_answer(site, value, 8, &len) == TXC_CLOSED && len == 77);
+    CHECK(finish(site, "1") == TXC_CLOSED && len == 77);
+    CHECK(txc_give_up(site) == TXC_CLOSED);
+    CHECK(txc_commit(site, &receipt) == TXC_CLOSED && receipt.answers == 77);
+    CHECK(txc_abort(site) == TXC_CLOSED);
+    CHECK(put(site, "110") == TXC_CLOSED && txc_remove(site, 1, 1) == TXC_CLOSED);
+    CHECK(txc_commit_write(site, &stamp) == TXC_CLOSED && stamp == 77);
+    kept.retired = kept.swept = kept.horizon = 77;
+    CHECK(txc_keep(site, 0, 0, &kept) == TXC_CLOSED && kept.retired == 77 && kept.horizon == 77 && kept.swept == 77);
+    CHECK(txc_site_close(site) == TXC_CLOSED && !site->is_open);
+}
+
+static void try_opening(txc_site *site) {
+    CHECK(txc_site_open(site, 0, 8, 8, 1000) == TXC_BAD_ARGUMENT && !site->is_open);
+    CHECK(txc_site_open(site, SIZE_MAX, 8, 8, 1000) == TXC_BAD_ARGUMENT);
+    CHECK(txc_site_open(site, 64, 0, 8, 1000) == TXC_BAD_ARGUMENT);
+    CHECK(txc_site_open(site, 64, 8, TXC_MAX_RECENT + 1, 1000) == TXC_BAD_ARGUMENT && !site->is_open);
+    CHECK(txc_site_open(site, 64, 8, 8, 30000) == TXC_DONE && site->is_open);
+    void *slot = site->slot;
+    CHECK(txc_site_open(site, 64, 8, 8, 1000) == TXC_ALREADY_OPEN && site->slot == slot);
+}
+
+/* What needs a transaction that is not open. */
+static void try_at_rest(txc_site *site) {
+    len = count = stamp = 77;
+    CHECK(call(site, &HIGHEST, 8) == TXC_NOT_OPEN && len == 77);
+    CHECK(rows(site) == TXC_NOT_OPEN && count == 77);
+    CHECK(row_at(site, 0, 8) == TXC_MISS && len == 77);
+    CHECK(txc_answer(site, value, 8, &len) == TXC_NOT_OPEN);
+    CHECK(finish(site, "1") == TXC_NOT_OPEN && txc_give_up(site) == TXC_NOT_OPEN);
+    CHECK(txc_commit(site, &receipt) == TXC_NOT_OPEN && txc_abort(site) == TXC_NOT_OPEN);
+    CHECK(put(site, "110") == TXC_NOT_OPEN && txc_remove(site, 1, 1) == TXC_NOT_OPEN);
+    CHECK(txc_commit_write(site, &stamp) == TXC_NOT_OPEN && stamp == 77);
+    CHECK(txc_begin(site, 0, 0, TXC_LAST_STAMP + 1) == TXC_BAD_ARGUMENT);
+}
+
+static void try_writing(txc_site *site) {
+    CHECK(txc_begin_write(site) == TXC_DONE);
+    CHECK(txc_begin_write(site) == TXC_ALREADY_OPEN && txc_begin(site, 0, 0, 0) == TXC_ALREADY_OPEN);
+    kept.retired = 77;
+    CHECK(txc_keep(site, 0, 0, &kept) == TXC_ALREADY_OPEN && kept.retired == 77);
+    CHECK(put(site, "") == TXC_BAD_ARGUMENT && put(site, "two words") == TXC_BAD_ARGUMENT);
+    CHECK(txc_put(site, TXC_LAST_TABLE + 1, 1, 7, (const uint8_t *)"1", 1) == TXC_BAD_ARGUMENT);
+    CHECK(txc_put(site, 1, 1, 7, NULL, 0) == TXC_BAD_ARGUMENT);
+    CHECK(txc_remove(site, TXC_LAST_TABLE + 1, 1) == TXC_BAD_ARGUMENT);
+    CHECK(put(site, "110") == TXC_DONE);
+    CHECK(rows(site) == TXC_ANSWERED && count == 0 && row_at(site, 0, 8) == TXC_MISS);
+    CHECK(call(site, &HIGHEST, 8) == TXC_NOT_OPEN && txc_commit(site, &receipt) == TXC_NOT_OPEN);
+    CHECK(txc_abort(site) == TXC_DONE && txc_begin_write(site) == TXC_DONE);
+    CHECK(put(site, "110") == TXC_DONE && txc_commit_write(site, &stamp) == TXC_DONE && stamp == 1);
+    CHECK(txc_begin_write(site) == TXC_DONE && rows(site) == TXC_ANSWERED && count == 1);
+    CHECK(row_at(site, 0, 2) == TXC_NO_ROOM && len == 3 && row_at(site, 0, 3) == TXC_DONE && !memcmp(body, "110", 3));
+    CHECK(row.table == 1 && row.id == 1 && row.group == 7 && row_at(site, 1, 8) == TXC_MISS);
+    CHECK(txc_abort(site) == TXC_DONE);
+}
+
+static void try_reading(txc_site *site) {
+    txc_key bad = HIGHEST;
+    bad.function = TXC_LAST_FUNCTION + 1;
+    txc_query none = GROUP;
+    none.kind = 4;
+    CHECK(txc_begin(site, 1000, 30000, 0) == TXC_DONE && txc_begin(site, 0, 0, 0) == TXC_ALREADY_OPEN);
+    CHECK(put(site, "110") == TXC_NOT_OPEN && txc_commit_write(site, &stamp) == TXC_NOT_OPEN);
+    CHECK(call(site, &bad, 8) == TXC_BAD_ARGUMENT && txc_query_rows(site, &none, &count) == TXC_BAD_ARGUMENT);
+    CHECK(rows(site) == TXC_NOT_OPEN && finish(site, "1") == TXC_NOT_OPEN && txc_give_up(site) == TXC_MISS);
+    CHECK(txc_answer(site, value, 8, &len) == TXC_MISS);
+    CHECK(call(site, &HIGHEST, 8) == TXC_COMPUTE && txc_answer(site, value, 8, &len) == TXC_MISS);
+    CHECK(txc_commit(site, &receipt) == TXC_MID_CALL);
+    CHECK(rows(site) == TXC_ANSWERED && count == 1 && row_at(site, 0, 8) == TXC_DONE && row_at(site, 1, 8) == TXC_MISS);
+    CHECK(txc_give_up(site) == TXC_DONE && txc_give_up(site) == TXC_MISS);
+    CHECK(call(site, &HIGHEST, 8) == TXC_COMPUTE && rows(site) == TXC_ANSWERED && finish(site, "110") == TXC_DONE && len == 3);
+    CHECK(call(site, &HIGHEST, 2) == TXC_NO_ROOM && len == 3);
+    CHECK(txc_answer(site, value, 3, &len) == TXC_DONE && !memcmp(value, "110", 3));
+    CHECK(txc_call(site, &HIGHEST, NULL, 0, &len) == TXC_NO_ROOM && len == 3);
+    CHECK(call(site, &BIDS, 8) == TXC_COMPUTE && call(site, &HIGHEST, 8) == TXC_ANSWERED && len == 3);
+    CHECK(txc_answer(site, value, 8, &len) == TXC_ANSWERED && txc_abort(site) == TXC_DONE);
+    CHECK(txc_begin(site, 1000, 30000, 0) == TXC_DONE && txc_commit(site, &receipt) == TXC_DONE);
+    CHECK(receipt.answers == 0 && !receipt.has_pin);
+}
+
+/* Another value of a function for the same arguments. */
+static void try_other_ask(txc_site *site) {
+    static const txc_key PLAIN = {2, 0, {0}}, OUTER = {3, 0, {0}};
+    CHECK(txc_begin(site, 1000, 30000, 0) == TXC_DONE);
+    CHECK(call(site, &OUTER, 8) == TXC_COMPUTE && call(site, &PLAIN, 8) == TXC_COMPUTE);
+    CHECK(finish(site, "a") == TXC_ANSWERED && txc_give_up(site) == TXC_DONE);
+    CHECK(call(site, &PLAIN, 8) == TXC_COMPUTE && finish(site, "b") == TXC_OTHER_ASK && finish(site, "a") == TXC_DONE);
+    CHECK(txc_commit(site, &receipt) == TXC_DONE && receipt.answers == 1 && receipt.has_pin);
+}
+
+/* Pins stay for their age, and then go with what only they showed. */
+static void try_keeping(txc_site *site) {
+    CHECK(txc_begin(site, 1000, 30000, 0) == TXC_DONE && txc_keep(site, 0, 0, &kept) == TXC_ALREADY_OPEN && txc_abort(site) == TXC_DONE);
+    CHECK(txc_keep(site, 1000, 30000, &kept) == TXC_DONE && kept.retired == 0);
+    uint32_t held = kept.horizon;
+    CHECK(txc_begin_write(site) == TXC_DONE && put(site, "130") == TXC_DONE && txc_commit_write(site, &stamp) == TXC_DONE && stamp > held);
+    CHECK(txc_keep(site, 31000, 30000, &kept) == TXC_DONE && kept.retired == 0 && kept.horizon == held);
+    CHECK(txc_keep(site, 31001, 30000, &kept) == TXC_DONE && kept.retired == 1 && kept.horizon == stamp && kept.swept > 0);
+    CHECK(txc_keep(site, 31001, 30000, &kept) == TXC_DONE && kept.retired == 0 && kept.horizon == stamp && kept.swept == 0);
+    CHECK(txc_begin(site, 31001, 30000, 0) == TXC_DONE && call(site, &HIGHEST, 8) == TXC_COMPUTE && rows(site) == TXC_ANSWERED);
+    CHECK(row_at(site, 0, 8) == TXC_DONE && !memcmp(body, "130", 3) && txc_abort(site) == TXC_DONE);
+}
+
+/* ---- a page */
+
+/* The page, as far as memory is at hand; and then all is given up. */
+static bool is_page(void) {
+    txc_site site = TXC_SITE_CLOSED;
+    bool is_whole = txc_site_open(&site, 64, 8, 8, 30000) == TXC_DONE && txc_begin_write(&site) == TXC_DONE && put(&site, "110") == TXC_DONE
+        && txc_commit_write(&site, &stamp) == TXC_DONE && txc_begin(&site, 1000, 30000, 0) == TXC_DONE
+        && call(&site, &HIGHEST, 8) == TXC_COMPUTE && rows(&site) == TXC_ANSWERED && finish(&site, "110") == TXC_DONE
+        && call(&site, &BIDS, 8) == TXC_COMPUTE && call(&site, &HIGHEST, 8) == TXC_ANSWERED && rows(&site) == TXC_ANSWERED
+        && finish(&site, "110,110") == TXC_DONE && txc_commit(&site, &receipt) == TXC_DONE && receipt.answers == 2
+        && txc_keep(&site, 100000, 1, &kept) == TXC_DONE && kept.retired == 1;
+    txc_site_close(&site);
+    return is_whole && !site.is_open;
+}
+
+static long refuse_each(void) {
+    long refused = 0;
+    for (long granted = 0;; granted++) {
+        until_refusal = granted;
+        refusals = 0;
+        bool is_whole = is_page();
+        until_refusal = -1;
+        if (!refusals)
+            return is_whole ? refused : -1;
+        refused++;
+    }
+}
+
+int main(void) {
+    txc_site site = TXC_SITE_CLOSED;
+    try_closed(&site);
+    try_opening(&site);
+    try_at_rest(&site);
+    try_writing(&site);
+    try_reading(&site);
+    try_other_ask(&site);
+    try_keeping(&site);
+    CHECK(txc_site_close(&site) == TXC_DONE && !site.is_open);
+    try_closed(&site);
+    long refused = refuse_each();
+    CHECK(refused > 0);
+    printf("%d odd uses of a site, %d wrong; %ld allocations of a page, each refused in its turn\n", uses, wrong, refused);
+    return wrong != 0;
+}

@@ -1,0 +1,64 @@
+//! The site of a handle, taken out for a call and put in again.
+ghost use Rattle.std.specs.Prelude.{◌≡◌, Some, None};
+ghost use Rattle.std.specs.Option.{option_and_then, option_map};
+ghost use Rattle.txc_c.specs.SiteHeld.{site_held};
+
+use crate::parts::Parts;
+use crate::site_handle::{SiteSlot, TxcSite};
+use crate::site_room::SiteRoom;
+use std::alloc::Global;
+use std::mem;
+use txc_c_site::Site;
+
+impl TxcSite {
+    /// Whether it has a site.
+    pub(crate) fn is_open(&self) -> bool
+        ensures { result ≡ self.now.is_open }
+    {
+        self.is_open
+    }
+
+    pub(crate) fn closed(alloc: Global) -> TxcSite
+        ensures { site_held result ≡ None }
+    {
+        TxcSite {
+            slot: SiteSlot::empty(alloc),
+            is_open: false,
+        }
+    }
+
+    // Takes the room of its site out, if there is one.
+    fn take_room(&mut self, alloc: Global) -> Option<Box<SiteRoom, Global>>
+        ensures site { option_and_then (λ room. room.value.site) result ≡ site_held self.old }
+        ensures after { site_held self.new ≡ None }
+    {
+        let TxcSite { slot, is_open } = mem::replace(self, TxcSite::closed(alloc));
+        if is_open {
+            Some(slot.into_parts().into_box())
+        } else {
+            None
+        }
+    }
+
+    /// Takes the site out, if there is one, with the room in which it stands.
+    pub(crate) fn take(&mut self, alloc: Global) -> Option<(Site, Box<SiteRoom, Global>)>
+        ensures site { option_map (λ it. it.0) result ≡ site_held self.old }
+        ensures after { site_held self.new ≡ None }
+    {
+        let mut room = self.take_room(alloc)?;
+        let site = room.site.take()?;
+        Some((site, room))
+    }
+
+    /// Puts a site in where there is none, into its room.
+    pub(crate) fn put(&mut self, site: Site, mut room: Box<SiteRoom, Global>)
+        requires { site_held self.old ≡ None }
+        ensures { site_held self.new ≡ Some site }
+    {
+        room.site = Some(site);
+        *self = TxcSite {
+            slot: SiteSlot::of_parts(Parts::of(room)),
+            is_open: true,
+        };
+    }
+}

@@ -1,0 +1,313 @@
+//! The exports of a site and its transactions.
+ghost use Rattle.std.specs.Prelude.{◌≡◌, ◌≢◌, None, IsTrue, ◌↔◌};
+ghost use Rattle.txc_app.specs.declared.ask.Ask.TheVariants as asks;
+ghost use Rattle.txc_crossing.specs.Crossing.{named_call};
+ghost use Rattle.txc_c_site.specs.Keeping.{KeepComesTo};
+ghost use Rattle.txc_c_site.specs.Receipts.{query_of};
+ghost use Rattle.txc_c.specs.Exports.{open_site_number, ComesTo, HasNewSite, HeldAsksNext};
+ghost use Rattle.txc_c.specs.SiteHeld.{site_held};
+ghost use Rattle.txc_c.specs.Life.{close_number};
+ghost use Rattle.txc_c_site.specs.Turning.{AbortComesTo, BeginComesTo, BeginWriteComesTo, CommitComesTo, CommitWriteComesTo};
+ghost use Rattle.txc_c_site.specs.Asking.{buffer, CallComesTo, FinishComesTo, GiveUpComesTo, LastComesTo, PutComesTo, QueryComesTo, RemoveComesTo, RowComesTo};
+
+use crate::site_handle::TxcSite;
+use crate::site_room::SiteRoom;
+use std::alloc::Global;
+use txc_c_site::{Site, TxcKept, TxcQuery, TxcReceipt, TxcRow, is_room};
+use txc_crossing::{ALREADY_OPEN, BAD_ARGUMENT, CLOSED, DONE, NO_MEMORY, TxcKey, are_sizes};
+use txc_shared::NodeSettings;
+
+/// Makes a database with room for so many events, a pincushion and a node. The newest pin is renewed after so many
+/// milliseconds.
+#[unsafe(no_mangle)]
+pub extern "C" fn txc_site_open(
+    alloc: Global,
+    handle: &mut TxcSite,
+    events: usize,
+    capacity: usize,
+    recent: usize,
+    renew_after: u64,
+) -> u32
+    ensures number { result ≢ NO_MEMORY
+        → result ≡ open_site_number (site_held handle.old) events capacity recent }
+    ensures no_memory { result ≡ NO_MEMORY
+        → open_site_number (site_held handle.old) events capacity recent ≡ DONE }
+    ensures opened { result ≡ DONE
+        → HasNewSite (record { number = 0; capacity = capacity; recent = recent }) renew_after (site_held handle.new) }
+    ensures unchanged { result ≢ DONE → site_held handle.new ≡ site_held handle.old }
+{
+    if handle.is_open() {
+        return ALREADY_OPEN;
+    }
+    if !is_room(events) || !are_sizes(capacity, recent) {
+        return BAD_ARGUMENT;
+    }
+    let settings = NodeSettings {
+        number: 0,
+        capacity,
+        recent,
+    };
+    let Ok(room) = Box::new(alloc, SiteRoom { site: None }) else {
+        return NO_MEMORY;
+    };
+    let Ok(site) = Site::new(alloc, events, settings, renew_after) else {
+        return NO_MEMORY;
+    };
+    handle.put(site, room);
+    DONE
+}
+
+/// Gives all of it up.
+#[unsafe(no_mangle)]
+pub extern "C" fn txc_site_close(alloc: Global, handle: &mut TxcSite) -> u32
+    ensures number { result ≡ close_number (site_held handle.old) }
+    ensures after { site_held handle.new ≡ None }
+{
+    match handle.take(alloc) {
+        None => CLOSED,
+        Some(_held) => DONE,
+    }
+}
+
+/// Begins a transaction that only reads.
+#[unsafe(no_mangle)]
+pub extern "C" fn txc_begin(
+    alloc: Global,
+    handle: &mut TxcSite,
+    now: u64,
+    staleness: u64,
+    at_least: u32,
+) -> u32
+    ensures { ComesTo (BeginComesTo now staleness at_least) (site_held handle.old) result (site_held handle.new) }
+{
+    let Some((site, room)) = handle.take(alloc) else {
+        return CLOSED;
+    };
+    let (number, site) = site.begin(alloc, now, staleness, at_least);
+    handle.put(site, room);
+    number
+}
+
+/// Asks for the value of a call.
+#[unsafe(no_mangle)]
+pub extern "C" fn txc_call(
+    alloc: Global,
+    handle: &mut TxcSite,
+    key: &TxcKey,
+    value: &mut [u8],
+    len: &mut usize,
+) -> u32
+    requires { HeldAsksNext (asks.Call (named_call key.now)) (site_held handle.old) }
+    ensures leads { ComesTo (CallComesTo key.now (buffer value.old len.old) (buffer value.new len.new)) (site_held handle.old) result (site_held handle.new) }
+    ensures closed { site_held handle.old ≡ None → (value.new ≡ value.old) × (len.new ≡ len.old) }
+{
+    let Some((mut site, room)) = handle.take(alloc) else {
+        return CLOSED;
+    };
+    let number = site.call(alloc, key, value, len);
+    handle.put(site, room);
+    number
+}
+
+/// Asks for the rows of a query, and writes how many they are.
+#[unsafe(no_mangle)]
+pub extern "C" fn txc_query_rows(
+    alloc: Global,
+    handle: &mut TxcSite,
+    query: &TxcQuery,
+    count: &mut usize,
+) -> u32
+    requires { HeldAsksNext (asks.Query (query_of query.now)) (site_held handle.old) }
+    ensures leads { ComesTo (QueryComesTo query.now count.old count.new) (site_held handle.old) result (site_held handle.new) }
+    ensures closed { site_held handle.old ≡ None → count.new ≡ count.old }
+{
+    let Some((mut site, room)) = handle.take(alloc) else {
+        return CLOSED;
+    };
+    let number = site.query(alloc, query, count);
+    handle.put(site, room);
+    number
+}
+
+/// Writes one of the rows that were found last.
+#[unsafe(no_mangle)]
+pub extern "C" fn txc_row_at(
+    alloc: Global,
+    handle: &mut TxcSite,
+    at: usize,
+    row: &mut TxcRow,
+    body: &mut [u8],
+    len: &mut usize,
+) -> u32
+    ensures leads { ComesTo (RowComesTo at row.old row.new (buffer body.old len.old) (buffer body.new len.new)) (site_held handle.old) result (site_held handle.new) }
+    ensures closed { site_held handle.old ≡ None
+        → (row.new ≡ row.old) × (body.new ≡ body.old) × (len.new ≡ len.old) }
+{
+    let Some((site, room)) = handle.take(alloc) else {
+        return CLOSED;
+    };
+    let number = site.tell_row(at, row, body, len);
+    handle.put(site, room);
+    number
+}
+
+/// Writes what was answered last once more.
+#[unsafe(no_mangle)]
+pub extern "C" fn txc_answer(
+    alloc: Global,
+    handle: &mut TxcSite,
+    value: &mut [u8],
+    len: &mut usize,
+) -> u32
+    ensures leads { ComesTo (LastComesTo (buffer value.old len.old) (buffer value.new len.new)) (site_held handle.old) result (site_held handle.new) }
+    ensures closed { site_held handle.old ≡ None → (value.new ≡ value.old) × (len.new ≡ len.old) }
+{
+    let Some((site, room)) = handle.take(alloc) else {
+        return CLOSED;
+    };
+    let number = site.tell_last(value, len);
+    handle.put(site, room);
+    number
+}
+
+/// The function that is computed gives these bytes.
+#[unsafe(no_mangle)]
+pub extern "C" fn txc_finish(
+    alloc: Global,
+    handle: &mut TxcSite,
+    bytes: &[u8],
+    value: &mut [u8],
+    len: &mut usize,
+) -> u32
+    requires { HeldAsksNext (asks.Done bytes.now) (site_held handle.old) }
+    ensures leads { ComesTo (FinishComesTo (buffer value.old len.old) (buffer value.new len.new)) (site_held handle.old) result (site_held handle.new) }
+    ensures closed { site_held handle.old ≡ None → (value.new ≡ value.old) × (len.new ≡ len.old) }
+{
+    let Some((mut site, room)) = handle.take(alloc) else {
+        return CLOSED;
+    };
+    let number = site.finish(alloc, bytes, value, len);
+    handle.put(site, room);
+    number
+}
+
+/// Gives the open call up.
+#[unsafe(no_mangle)]
+pub extern "C" fn txc_give_up(alloc: Global, handle: &mut TxcSite) -> u32
+    ensures { ComesTo GiveUpComesTo (site_held handle.old) result (site_held handle.new) }
+{
+    let Some((mut site, room)) = handle.take(alloc) else {
+        return CLOSED;
+    };
+    let number = site.give_up();
+    handle.put(site, room);
+    number
+}
+
+/// Ends the transaction that only reads, and writes its receipt.
+#[unsafe(no_mangle)]
+pub extern "C" fn txc_commit(alloc: Global, handle: &mut TxcSite, receipt: &mut TxcReceipt) -> u32
+    ensures leads { ComesTo (CommitComesTo receipt.old receipt.new) (site_held handle.old) result (site_held handle.new) }
+    ensures closed { site_held handle.old ≡ None → receipt.new ≡ receipt.old }
+{
+    let Some((site, room)) = handle.take(alloc) else {
+        return CLOSED;
+    };
+    let (number, site) = site.commit(receipt);
+    handle.put(site, room);
+    number
+}
+
+/// Gives the open transaction up.
+#[unsafe(no_mangle)]
+pub extern "C" fn txc_abort(alloc: Global, handle: &mut TxcSite) -> u32
+    ensures { ComesTo AbortComesTo (site_held handle.old) result (site_held handle.new) }
+{
+    let Some((site, room)) = handle.take(alloc) else {
+        return CLOSED;
+    };
+    let (number, site) = site.abort();
+    handle.put(site, room);
+    number
+}
+
+/// Begins a transaction that writes.
+#[unsafe(no_mangle)]
+pub extern "C" fn txc_begin_write(alloc: Global, handle: &mut TxcSite) -> u32
+    ensures { ComesTo BeginWriteComesTo (site_held handle.old) result (site_held handle.new) }
+{
+    let Some((site, room)) = handle.take(alloc) else {
+        return CLOSED;
+    };
+    let (number, site) = site.begin_write(alloc);
+    handle.put(site, room);
+    number
+}
+
+/// A row is to stand once the transaction is committed.
+#[unsafe(no_mangle)]
+pub extern "C" fn txc_put(
+    alloc: Global,
+    handle: &mut TxcSite,
+    table: u8,
+    id: u32,
+    group: u32,
+    body: &[u8],
+) -> u32
+    ensures { ComesTo (PutComesTo (record { table = table; id = id; group = group; body = body.now })) (site_held handle.old) result (site_held handle.new) }
+{
+    let Some((mut site, room)) = handle.take(alloc) else {
+        return CLOSED;
+    };
+    let number = site.put(alloc, table, id, group, body);
+    handle.put(site, room);
+    number
+}
+
+/// No row is to stand at the table and id once the transaction is committed.
+#[unsafe(no_mangle)]
+pub extern "C" fn txc_remove(alloc: Global, handle: &mut TxcSite, table: u8, id: u32) -> u32
+    ensures { ComesTo (RemoveComesTo table id) (site_held handle.old) result (site_held handle.new) }
+{
+    let Some((mut site, room)) = handle.take(alloc) else {
+        return CLOSED;
+    };
+    let number = site.remove(table, id);
+    handle.put(site, room);
+    number
+}
+
+/// Commits the changes, and writes the newest stamp.
+#[unsafe(no_mangle)]
+pub extern "C" fn txc_commit_write(alloc: Global, handle: &mut TxcSite, stamp: &mut u32) -> u32
+    ensures leads { ComesTo (CommitWriteComesTo stamp.old stamp.new) (site_held handle.old) result (site_held handle.new) }
+    ensures closed { site_held handle.old ≡ None → stamp.new ≡ stamp.old }
+{
+    let Some((site, room)) = handle.take(alloc) else {
+        return CLOSED;
+    };
+    let (number, site) = site.commit_write(alloc, stamp);
+    handle.put(site, room);
+    number
+}
+
+/// Retires the pins that are more than `age` before `now`, both in milliseconds, and drops what no transaction can read any
+/// more, and writes what that came to.
+#[unsafe(no_mangle)]
+pub extern "C" fn txc_keep(
+    alloc: Global,
+    handle: &mut TxcSite,
+    now: u64,
+    age: u64,
+    kept: &mut TxcKept,
+) -> u32
+    ensures leads { ComesTo (KeepComesTo now age kept.old kept.new) (site_held handle.old) result (site_held handle.new) }
+    ensures closed { site_held handle.old ≡ None → kept.new ≡ kept.old }
+{
+    let Some((mut site, room)) = handle.take(alloc) else {
+        return CLOSED;
+    };
+    let number = site.keep(alloc, now, age, kept);
+    handle.put(site, room);
+    number
+}

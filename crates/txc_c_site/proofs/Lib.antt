@@ -1,0 +1,5 @@
+pub mod Stepping
+pub mod Changes
+pub mod LastAnswers
+pub mod Kept
+pub mod Functions

@@ -1,0 +1,13 @@
+use Rattle.std.proofs.Common.{sym, subst}
+use Rattle.txc_registry.specs.Objects.{numbers_of, Objects}
+use Rattle.txc_c_site.specs.Sites.{HaveAllFunctions}
+use Rattle.txc_c_site.proofs.site.Site.new.Goals as goal
+
+pub returns-clause-made : goal.returns-clause-made
+returns-clause-made c = record {
+  history = c.in_ok-caller.ensures.history;
+  cushion = c.in_ok-caller.ensures.cushion;
+  node = c.in_ok-caller.ensures.node;
+  renew_after = c.in_ok-caller.ensures.renew_after;
+  functions = subst (λ (o : Objects). HaveAllFunctions (numbers_of o)) (sym c.in_ok-caller.ensures.functions) c.in_ok-registry.ensures.functions;
+}

@@ -1,0 +1,217 @@
+-- What comes of what is asked in a transaction.
+use Rattle.std.specs.Prelude.{◌≡◌, ◌⊎◌, ℕ, ◌++◌, ◌∷◌, [], nat_le, List, length, slice_get, Option, Some, None, Result, Ok, Err}
+use Rattle.std.specs.Bool.{MatchBool}
+use Rattle.txc_tags.specs.Keys.{Call}
+use Rattle.txc_tags.specs.declared.tag.TheConstants.{LAST_TABLE}
+use Rattle.txc_rows.specs.declared.query.Query.{Query}
+use Rattle.txc_rows.specs.declared.query.Change.{Change}
+use Rattle.txc_rows.specs.declared.query.Change.TheVariants.{Put, Remove}
+use Rattle.txc_rows.specs.States.{answer}
+use Rattle.txc_rows.specs.Values.{RowValue, IsBody}
+use Rattle.txc_db.specs.Calls.{IsQueryRefused}
+use Rattle.txc_db.specs.DatabaseValue.{newest_state}
+use Rattle.txc_db.specs.declared.error.DbError.{DbError}
+use Rattle.txc_app.specs.declared.ask.Ask.{Ask}
+use Rattle.txc_app.specs.declared.ask.Answer.{Answer}
+use Rattle.txc_app.specs.declared.ask.Answer.TheVariants.{Rows}
+use Rattle.txc_ports.specs.declared.error.TxnError.{TxnError}
+use Rattle.txc_ports.specs.declared.error.TxnError.TheVariants.{Memory}
+use Rattle.txc_txn.specs.Kept.{IsTxn}
+use Rattle.txc_caller.specs.Acting.{IsComputedOnMiss, IsStepOf}
+use Rattle.txc_caller.specs.Reading.{top_or, AsksNext, CallerReading, KeepsReading}
+use Rattle.txc_caller.specs.Writing.{CallerWriting, IsChangeRefused}
+use Rattle.txc_caller.specs.declared.frames.OpenCall.{OpenCall}
+use Rattle.txc_caller.specs.declared.step.CallerError.{CallerError}
+use Rattle.txc_caller.specs.declared.step.Step.{Step}
+use Rattle.txc_crossing.specs.Crossing.{is_call, named_call}
+use Rattle.txc_c_site.specs.Opaque.{opaque_next}
+use Rattle.txc_c_site.specs.Receipts.{crossing_row, is_query, query_of}
+use Rattle.txc_c_site.specs.Sites.{Stays}
+use Rattle.txc_c_site.specs.Telling.{last_given, last_bytes, last_len, last_number, step_bytes, step_len, step_number}
+use Rattle.txc_crossing.specs.Numbers.{bytes_number}
+use Rattle.txc_crossing.specs.Crossing.{written_in}
+use Rattle.txc_c_site.specs.Turning.{database_number}
+use Rattle.txc_crossing.specs.declared.crossing.TxcKey.{TxcKey}
+use Rattle.txc_c_site.specs.declared.receipts.TxcQuery.{TxcQuery}
+use Rattle.txc_c_site.specs.declared.receipts.TxcRow.{TxcRow}
+use Rattle.txc_crossing.specs.declared.numbers.TheConstants.{DONE, MISS, BAD_ARGUMENT, NO_MEMORY, NOT_OPEN, ANSWERED, REFUSED}
+use Rattle.txc_c_site.specs.declared.site.Site.{Site}
+use Rattle.txc_c_site.specs.declared.site.Site.TheVariants.{Resting, Reading, Writing}
+
+-- ---- what the caller owes
+
+-- the function that is computed asks this next, if one is
+abbrev pub SiteAsksNext : Ask → Site → Type 0
+SiteAsksNext ask (Reading r) = AsksNext opaque_next r ask
+SiteAsksNext ask site = Unit {0}
+
+-- ---- steps
+
+-- a buffer of the caller, and the length that is written beside it
+pub record Buffer : Type 0 where
+  pub bytes : List ℕ
+  pub len : ℕ
+
+abbrev pub buffer : List ℕ → ℕ → Buffer
+buffer bytes len = record { bytes = bytes; len = len }
+
+-- The step of that call has come to this, and is told by this number and in the buffer: what the caller is to compute
+-- the node has not. The transaction explains its answers as before.
+pub record HasCallStepped (k : Call) (old new : CallerReading) (number : ℕ) (was is : Buffer) : Type 0 where
+  pub step : Result Step CallerError
+  pub is_step : IsStepOf old.txn.core.recorded k new.txn.core.recorded new.doing step
+  pub on_miss : IsComputedOnMiss new.txn.core old.ports.node new.ports.node step
+  pub keeps : KeepsReading old new
+  pub meant : IsTxn opaque_next new.txn
+  pub number_is : number ≡ step_number (length was.bytes) (last_given new) step
+  pub len_is : is.len ≡ step_len (last_given new) step was.len
+  pub bytes_are : is.bytes ≡ step_bytes (last_given new) step was.bytes
+
+-- the step of the open call; without one it is refused, and all is as it was
+abbrev pub HasOpenCallStepped : Option OpenCall → CallerReading → CallerReading → ℕ → Buffer → Buffer → Type 0
+HasOpenCallStepped (Some o) old new number was is = HasCallStepped o.frames.top old new number was is
+HasOpenCallStepped None old new number was is = (number ≡ NOT_OPEN) × (new ≡ old) × (is ≡ was)
+
+-- ---- a call
+
+abbrev pub CallSiteComesTo : Call → Buffer → Buffer → Site → ℕ → Site → Type 0
+CallSiteComesTo k was is (Reading old) number (Reading new) = HasCallStepped (top_or old.doing k) old new number was is
+CallSiteComesTo k was is (Reading old) number new = ⊥
+CallSiteComesTo k was is old number new = Stays NOT_OPEN old number new × (is ≡ was)
+
+abbrev pub CallComesTo : TxcKey → Buffer → Buffer → Site → ℕ → Site → Type 0
+CallComesTo key was is old number new =
+    MatchBool (is_call key) (CallSiteComesTo (named_call key) was is old number new)
+    (Stays BAD_ARGUMENT old number new × (is ≡ was))
+
+-- ---- the value of a function
+
+-- such a step; or there was no memory for the bytes, and all is as it was
+abbrev pub HasFinished : CallerReading → CallerReading → ℕ → Buffer → Buffer → Type 0
+HasFinished old new number was is =
+    HasOpenCallStepped old.doing old new number was is ⊎ ((number ≡ NO_MEMORY) × (new ≡ old) × (is ≡ was))
+
+abbrev pub FinishComesTo : Buffer → Buffer → Site → ℕ → Site → Type 0
+FinishComesTo was is (Reading old) number (Reading new) = HasFinished old new number was is
+FinishComesTo was is (Reading old) number new = ⊥
+FinishComesTo was is old number new = Stays NOT_OPEN old number new × (is ≡ was)
+
+-- ---- a query
+
+-- the transaction that writes finds the rows in the newest state
+pub record HasFoundRows (query : Query) (old : CallerWriting) (number count count' : ℕ) (rows : List RowValue) : Type 0 where
+  pub number_is : number ≡ ANSWERED
+  pub rows_are : rows ≡ answer query (newest_state old.caller.ports.database)
+  pub count_is : count' ≡ length rows
+
+-- or the database refuses, and what it found last stays
+pub record HasRefusedRows (query : Query) (old : CallerWriting) (number count count' : ℕ) (found rows : List RowValue) : Type 0 where
+  pub error : DbError
+  pub number_is : number ≡ database_number error
+  pub refused : IsQueryRefused old.caller.ports.database query old.base error
+  pub count_is : count' ≡ count
+  pub rows_are : rows ≡ found
+
+abbrev pub HasAskedRows : Query → CallerWriting → ℕ → ℕ → ℕ → List RowValue → List RowValue → Type 0
+HasAskedRows query old number count count' found rows =
+    HasFoundRows query old number count count' rows ⊎ HasRefusedRows query old number count count' found rows
+
+abbrev pub QuerySiteComesTo : Query → ℕ → ℕ → Site → ℕ → Site → Type 0
+QuerySiteComesTo query count count' (Reading old) number (Reading new) =
+    HasOpenCallStepped old.doing old new number (buffer [] count) (buffer [] count')
+QuerySiteComesTo query count count' (Reading old) number new = ⊥
+QuerySiteComesTo query count count' (Writing old found) number (Writing new rows) =
+    (new ≡ old) × HasAskedRows query old number count count' found.items rows.items
+QuerySiteComesTo query count count' (Writing old found) number new = ⊥
+QuerySiteComesTo query count count' (Resting c) number new = Stays NOT_OPEN (Resting c) number new × (count' ≡ count)
+
+abbrev pub QueryComesTo : TxcQuery → ℕ → ℕ → Site → ℕ → Site → Type 0
+QueryComesTo query count count' old number new =
+    MatchBool (is_query query) (QuerySiteComesTo (query_of query) count count' old number new)
+    (Stays BAD_ARGUMENT old number new × (count' ≡ count))
+
+-- the rows that were found last
+abbrev pub given_rows : Option Answer → List RowValue
+given_rows (Some (Rows rows)) = rows
+given_rows given = []
+
+abbrev pub rows_found : Site → List RowValue
+rows_found (Reading r) = given_rows (last_given r)
+rows_found (Writing w rows) = rows.items
+rows_found (Resting c) = []
+
+-- ---- giving up
+
+abbrev pub given_up_number : Option OpenCall → ℕ
+given_up_number (Some o) = DONE
+given_up_number None = MISS
+
+-- no call is open, and the answers are as before
+pub record HasGivenCallUp (old : CallerReading) (number : ℕ) (new : CallerReading) : Type 0 where
+  pub number_is : number ≡ given_up_number old.doing
+  pub none : new.doing ≡ None
+  pub recorded : new.txn.core.recorded ≡ old.txn.core.recorded
+  pub keeps : KeepsReading old new
+  pub meant : IsTxn opaque_next new.txn
+
+abbrev pub GiveUpComesTo : Site → ℕ → Site → Type 0
+GiveUpComesTo (Reading old) number (Reading new) = HasGivenCallUp old number new
+GiveUpComesTo (Reading old) number new = ⊥
+GiveUpComesTo old number new = Stays NOT_OPEN old number new
+
+-- ---- changes
+
+-- the number of a change that is kept, or why it is not
+abbrev pub change_number : {A : Type 0} → Result A TxnError → ℕ
+change_number (Ok kept) = DONE
+change_number (Err Memory) = NO_MEMORY
+change_number (Err error) = REFUSED
+
+-- the change is kept; or there are as many as may be, or memory is wanting
+abbrev pub ChangeLeaves : Change → CallerWriting → CallerWriting → Result (Unit {0}) TxnError → Type 0
+ChangeLeaves change old new (Ok kept) = new ≡ record old { changes = old.changes ++ change ∷ [] }
+ChangeLeaves change old new (Err error) = (new ≡ old) × IsChangeRefused (length old.changes) error
+
+abbrev pub ChangeKept : Change → CallerWriting → ℕ → CallerWriting → Type 0
+ChangeKept change old number new = (kept : Result (Unit {0}) TxnError) × (number ≡ change_number kept)
+    × ChangeLeaves change old new kept
+
+abbrev pub ChangeComesTo : Change → Site → ℕ → Site → Type 0
+ChangeComesTo change (Writing old found) number (Writing new rows) = ChangeKept change old number new × (rows ≡ found)
+ChangeComesTo change (Writing old found) number new = ⊥
+ChangeComesTo change old number new = Stays NOT_OPEN old number new
+
+-- a put of that row: there is no such table; or its body is none, or memory is wanting; or it is kept as a change
+abbrev pub PutRowComesTo : RowValue → Site → ℕ → Site → Type 0
+PutRowComesTo row old number new = (Stays BAD_ARGUMENT old number new × ¬ IsBody row.body)
+    ⊎ (Stays NO_MEMORY old number new ⊎ (IsBody row.body × ChangeComesTo (Put row) old number new))
+
+abbrev pub PutComesTo : RowValue → Site → ℕ → Site → Type 0
+PutComesTo row old number new =
+    MatchBool (nat_le row.table LAST_TABLE) (PutRowComesTo row old number new) (Stays BAD_ARGUMENT old number new)
+
+-- a removal
+abbrev pub RemoveComesTo : ℕ → ℕ → Site → ℕ → Site → Type 0
+RemoveComesTo table id old number new =
+    MatchBool (nat_le table LAST_TABLE) (ChangeComesTo (Remove table id) old number new) (Stays BAD_ARGUMENT old number new)
+
+-- ---- what is written once more
+
+-- a row, but for its body, and its body, if there is such a row
+abbrev pub RowTold : Option RowValue → ℕ → TxcRow → TxcRow → Buffer → Buffer → Type 0
+RowTold None number row row' was is = (number ≡ MISS) × (row' ≡ row) × (is ≡ was)
+RowTold (Some r) number row row' was is = (number ≡ bytes_number DONE (length was.bytes) r.body)
+    × (row' ≡ crossing_row r) × (is.len ≡ length r.body) × (is.bytes ≡ written_in r.body was.bytes)
+
+abbrev pub RowComesTo : ℕ → TxcRow → TxcRow → Buffer → Buffer → Site → ℕ → Site → Type 0
+RowComesTo at row row' was is old number new =
+    (new ≡ old) × RowTold (slice_get (rows_found old) at) number row row' was is
+
+-- what was answered last
+abbrev pub LastTold : Buffer → Buffer → Site → ℕ → Type 0
+LastTold was is (Reading r) number = (number ≡ last_number (length was.bytes) r)
+    × (is.len ≡ last_len r was.len) × (is.bytes ≡ last_bytes r was.bytes)
+LastTold was is site number = (number ≡ NOT_OPEN) × (is ≡ was)
+
+abbrev pub LastComesTo : Buffer → Buffer → Site → ℕ → Site → Type 0
+LastComesTo was is old number new = (new ≡ old) × LastTold was is old number

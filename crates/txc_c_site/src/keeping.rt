@@ -1,0 +1,92 @@
+//! What keeps a site small, while no transaction is open.
+ghost use Rattle.std.specs.Prelude.{◌≡◌};
+ghost use Rattle.txc_c_site.specs.Keeping.{node_number, HasKept, HasSweptNode, HasVacuumed, KeepComesTo};
+
+use crate::opaque::Opaque;
+use crate::site::{Object, Site};
+use crate::turning::database_number;
+use std::alloc::Global;
+use txc_caller::Caller;
+use txc_crossing::{ALREADY_OPEN, DONE, NO_MEMORY, REFUSED};
+use txc_shared::NodeError;
+use txc_stamp::Stamp;
+
+/// What a keep did: how many pins it retired, the horizon that it left, and how many entries the node dropped.
+#[repr(C)]
+#[derive(Clone, Copy)]
+pub struct TxcKept {
+    pub retired: usize,
+    pub horizon: u32,
+    pub swept: usize,
+}
+
+// The number of a refusal of the node.
+fn node_number(error: NodeError) -> u32
+    ensures { result ≡ node_number error }
+{
+    match error {
+        NodeError::Memory => NO_MEMORY,
+        _ => REFUSED,
+    }
+}
+
+// The node drops what ends at the horizon or before it.
+fn sweep(
+    alloc: Global,
+    caller: &mut Caller<Opaque, Object>,
+    horizon: Stamp,
+    kept: &mut TxcKept,
+) -> u32
+    ensures { HasSweptNode horizon caller.old result kept.old kept.new caller.new }
+{
+    match caller.sweep(alloc, horizon) {
+        Ok(count) => {
+            kept.swept = count;
+            DONE
+        }
+        Err(error) => node_number(error),
+    }
+}
+
+// The database drops the versions that no stamp from the horizon on shows, and then the node what ends there.
+fn vacuum(alloc: Global, caller: &mut Caller<Opaque, Object>, kept: &mut TxcKept) -> u32
+    ensures { HasVacuumed caller.old result kept.old kept.new caller.new }
+{
+    match caller.vacuum() {
+        Ok(horizon) => {
+            kept.horizon = horizon.number();
+            sweep(alloc, caller, horizon, kept)
+        }
+        Err(error) => database_number(error),
+    }
+}
+
+// Retires pins, and then does the rest.
+fn keep(
+    alloc: Global,
+    caller: &mut Caller<Opaque, Object>,
+    now: u64,
+    age: u64,
+    kept: &mut TxcKept,
+) -> u32
+    ensures { HasKept now age caller.old result kept.old kept.new caller.new }
+{
+    let Ok(retired) = caller.retire(alloc, now, age) else {
+        return NO_MEMORY;
+    };
+    kept.retired = retired;
+    vacuum(alloc, caller, kept)
+}
+
+impl Site {
+    /// Retires the pins that are more than `age` before `now`, both in milliseconds, and drops what no transaction can read any more.
+    pub fn keep(&mut self, alloc: Global, now: u64, age: u64, kept: &mut TxcKept) -> u32
+        ensures { KeepComesTo now age kept.old kept.new self.old result self.new }
+    {
+        match self {
+            Site::Resting(caller) => keep(alloc, caller, now, age, kept),
+            Site::Reading(_) => ALREADY_OPEN,
+            Site::Writing(_, _) => ALREADY_OPEN,
+        }
+    }
+}

@@ -1,0 +1,58 @@
+//! The numbers that calls return.
+ghost use Rattle.std.specs.Prelude.{◌≡◌};
+ghost use Rattle.txc_crossing.specs.Numbers.{refusal_number};
+
+use txc_node::Refusal;
+
+/// It was done: a hit, an entry that was stored, an event that was taken.
+pub const DONE: u32 = 0;
+/// No entry of the key holds at a stamp of the range.
+pub const MISS: u32 = 1;
+/// The entry that is there ends no earlier, and stays.
+pub const KEPT: u32 = 2;
+/// A hit whose value is longer than the buffer: its length is given.
+pub const NO_ROOM: u32 = 3;
+/// The handle has no node, or no site.
+pub const CLOSED: u32 = 4;
+/// The handle has a node or a site already, or the site a transaction.
+pub const ALREADY_OPEN: u32 = 5;
+/// A number is none of its kind: of a function, a table, a stamp, a size.
+pub const BAD_ARGUMENT: u32 = 6;
+/// The stamps of a lookup end before they begin.
+pub const EMPTY_RANGE: u32 = 7;
+/// An entry is known up to a stamp below its first.
+pub const BAD_REACH: u32 = 8;
+/// The event is not the one after the last that was taken.
+pub const OUT_OF_ORDER: u32 = 9;
+/// A value is longer than a node takes.
+pub const VALUE_TOO_LONG: u32 = 10;
+/// Memory was refused.
+pub const NO_MEMORY: u32 = 11;
+
+/// The caller is to compute the function of the call that he asked for.
+pub const COMPUTE: u32 = 12;
+/// The function that is computed has its answer, and goes on.
+pub const ANSWERED: u32 = 13;
+/// No transaction is open of which this can be asked, or no function is computed.
+pub const NOT_OPEN: u32 = 14;
+/// A call is open.
+pub const MID_CALL: u32 = 15;
+/// The call, or what was asked, was refused.
+pub const REFUSED: u32 = 16;
+/// Another ask was supplied for the same answers.
+pub const OTHER_ASK: u32 = 17;
+/// What was read has changed.
+pub const CONFLICT: u32 = 18;
+
+/// The number of a refusal.
+pub fn number_of(refusal: Refusal) -> u32
+    ensures { result ≡ refusal_number refusal }
+{
+    match refusal {
+        Refusal::EmptyRange => EMPTY_RANGE,
+        Refusal::BadReach => BAD_REACH,
+        Refusal::OutOfOrder(_) => OUT_OF_ORDER,
+        Refusal::ValueTooLong => VALUE_TOO_LONG,
+        Refusal::Memory => NO_MEMORY,
+    }
+}
