@@ -1,18 +1,23 @@
 //! A lock that is tried for a while before the thread sleeps.
 use std::hint::spin_loop;
 use std::sync::{Mutex, MutexGuard, Wait};
+use std::thread::yield_now;
+
+/// How often the lock is tried before other threads are let run between two tries.
+const PAUSES: u32 = 20;
 
 /// How often the lock is tried before the thread sleeps.
-const TRIES: u32 = 500;
+const TRIES: u32 = 2_020;
 
-/// How long a thread pauses at most between two tries, in hints to the processor. With these numbers it tries
-/// for some 0.4 milliseconds, in which a database answers several queries.
-const MOST_PAUSES: u32 = 16;
-
-// More pauses after each try, since those who try slow down who holds the lock.
+// Pauses grow, since those who try slow down who holds the lock. Later another thread may need the processor, who
+// holds it perhaps.
 fn pause_after(tried: u32) {
-    for _ in 0..tried.min(MOST_PAUSES) {
-        spin_loop();
+    if tried < PAUSES {
+        for _ in 0..tried {
+            spin_loop();
+        }
+    } else {
+        yield_now();
     }
 }
 
