@@ -4,7 +4,7 @@
 # turn, in one run, as before a change and after it. Compiled so, a thread that waits for a lock does not pause between its first
 # tries, as it does in a proved program.
 #
-# usage: bench/threads.sh [--kinds KIND..] [--counts NUMBER..] [--nodes NUMBER] [--events NUMBER] [--most NUMBER] [--runs NUMBER] [--milliseconds NUMBER] [PROGRAM..]
+# usage: bench/threads.sh [--kinds KIND..] [--counts NUMBER..] [--nodes NUMBER] [--events NUMBER] [--most NUMBER] [--runs NUMBER] [--milliseconds NUMBER] [--figures] [PROGRAM..]
 #
 # It prints tables in markdown, in five minutes where nothing else is said. bench/threads_bench/times.py says what the columns mean.
 set -euo pipefail

@@ -11,7 +11,8 @@ for so many milliseconds. The two run in turn, so many times (seven), and the pr
   sleeps     how often a thread gave its processor away, for 1,000 pages: voluntary context switches of the whole process
   switches   how often it was taken away: involuntary ones
 
-Above each table stands the load of the machine. It fails where a page was torn or refused, or a bid was lost.
+Above each table stands the load of the machine. With --figures it prints one table in place of these, the greatest of each kind, in the
+form of docs/FIGURES.md. It fails where a page was torn or refused, or a bid was lost.
 """
 import argparse
 import os
@@ -28,7 +29,13 @@ import with_tests
 
 ROOT = with_tests.ROOT
 LIBRARIES = "txc_stamp txc_tags txc_node txc_rows txc_db txc_app txc_registry txc_ports txc_txn txc_client txc_rw txc_definition txc_site anyhow"
-KINDS = ["hits", "nested", "misses", "bids 10", "bids 1"]
+KINDS = {
+    "hits": "two hits",
+    "nested": "a call that no node has, which calls a hit",
+    "misses": "two hits; in the place of each tenth page one that asks the database",
+    "bids 10": "two calls, and a bid after each tenth page",
+    "bids 1": "two calls, and a bid after each page",
+}
 # Milliseconds until a site is there.
 AHEAD = 400
 SAID = re.compile(r"(\d+) pages, (\d+) torn, (\d+) refused, (\d+) bids, (-?\d+) lost, (\d+) conflicts\n")
@@ -78,6 +85,15 @@ def speed(runs, given):
     return all_pages[-1], statistics.median(all_pages)
 
 
+def all_runs(given, kind, count):
+    """The runs of so many visitors, on threads and in processes, by the program."""
+    runs = {(program, threads): [] for program in given.programs for threads in (True, False)}
+    for _ in range(given.runs):
+        for (program, threads), done in runs.items():
+            done.append(Run(given, program, kind, count, threads))
+    return runs
+
+
 def table(given, kind):
     print(f"\n{kind}, {given.nodes} nodes, {given.milliseconds} ms, best and median of {given.runs}; load {os.getloadavg()[0]:.1f}\n")
     named = len(given.programs) > 1
@@ -85,10 +101,7 @@ def table(given, kind):
     print("|---" * (8 + named) + "|", flush=True)
     ones = {}
     for count in given.counts:
-        runs = {(program, threads): [] for program in given.programs for threads in (True, False)}
-        for _ in range(given.runs):
-            for (program, threads), done in runs.items():
-                done.append(Run(given, program, kind, count, threads))
+        runs = all_runs(given, kind, count)
         for program in given.programs:
             by_threads, by_processes = runs[program, True], runs[program, False]
             (best, middle), (other, other_middle) = speed(by_threads, given), speed(by_processes, given)
@@ -99,19 +112,36 @@ def table(given, kind):
                   f" | {other:,.0f} ({other_middle:,.0f}) | {other / other_one:.2f} | {best / other:.2f} |", flush=True)
 
 
+def figures(given):
+    """The greatest of each kind, of the first program, as docs/FIGURES.md has them."""
+    load, rows = os.getloadavg()[0], []
+    for kind in given.kinds:
+        runs = [all_runs(given, kind, count) for count in given.counts]
+        best = [speed(it[given.programs[0], threads], given)[0] for threads in (True, False) for it in runs]
+        rows.append(f"| {KINDS.get(kind, kind)} |{''.join(f' {it:,.0f} |' for it in best)}")
+    print(f"Measured on {time.strftime('%Y-%m-%d')} by `bench/threads.sh --figures`, on {os.cpu_count()} cores at 2.5 GHz, load {load:.0f}, "
+          f"not proved; pages a second, the best of {given.runs}.\n")
+    heads = [f"{what}: {it}" if at == 0 else f"{it}" for what in ("Threads", "Processes") for at, it in enumerate(given.counts)]
+    print(f"| Pages of | {' | '.join(heads)} |\n{'|---' * (1 + len(heads))}|")
+    print("\n".join(rows))
+
+
 def main():
     words = argparse.ArgumentParser()
-    words.add_argument("--kinds", nargs="+", default=KINDS)
+    words.add_argument("--kinds", nargs="+", default=[*KINDS])
     words.add_argument("--counts", nargs="+", type=int, default=[1, 2, 4])
     words.add_argument("--nodes", type=int, default=16)
-    words.add_argument("--events", type=int, default=1 << 18)
+    words.add_argument("--events", type=int, default=0)
     words.add_argument("--most", type=int, default=0)
     words.add_argument("--runs", type=int, default=7)
     words.add_argument("--milliseconds", type=int, default=500)
+    words.add_argument("--figures", action="store_true")
     words.add_argument("programs", nargs="*", metavar="PROGRAM")
     given = words.parse_args()
     with tempfile.TemporaryDirectory(prefix="threads-") as room:
         given.programs = given.programs or [built(room)]
+        if given.figures:
+            return figures(given)
         for kind in given.kinds:
             table(given, kind)
 

@@ -181,12 +181,11 @@ impl Visitor<Shop, Turn> for Visitors {
 }
 
 fn main(rt: HostRuntime) -> anyhow::Result<()> {
-    let (alloc, mut plan) = (rt.alloc(), Plan::DEFAULT);
+    let (alloc, plan) = (rt.alloc(), Plan::DEFAULT);
     let words = std::env::args(&rt)?.collect::<Vec<String>>(alloc)?;
     let number = |place: usize| words.get(place).and_then(|word| word.parse::<u32>().ok());
     let (threads, pages) = (number(1).unwrap_or(4) as usize, number(2).unwrap_or(40));
     let (opening, visitors) = (Trade::Opening, Visitors(pages));
-    plan.events = Some(2048);
     let visited = with_site::<Shop, Turn, _, _, _>(&rt, alloc, plan, &opening, threads, &visitors)?;
     let came = visited.outputs.as_slice();
     let torn = came.iter().fold(0u32, |sum, it| sum.saturating_add(it.0));

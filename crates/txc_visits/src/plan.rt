@@ -22,7 +22,7 @@ pub const MAX_NODES: usize = 64;
 /// Each lookup, insertion, event taken and sweep is a record of its node. These exist in the
 /// proofs alone, unless the plan asks for `records`; then, once there are as many, the node has nothing and keeps
 /// nothing, and all calls are computed. So a site of `e` events ends
-/// after `e` commits and pins: at ten a second [`Plan::DEFAULT`] lasts 109 minutes.
+/// after `e` commits and pins: at ten a second [`Plan::DEFAULT`] lasts 13 years.
 /// [`Keeper::keep`](txc_keeper::Keeper::keep) tells what is left.
 ///
 /// `with_generations` (`txc_site`) goes on from there: each generation has this room anew, less the
@@ -64,8 +64,7 @@ fn may_be_stored(room: Option<usize>) -> bool
 }
 
 impl Plan {
-    /// Sixteen nodes of 4,096 entries each, whose records are not stored, and room for 65,536 events. It does not keep
-    /// itself.
+    /// Sixteen nodes of 4,096 entries each. Neither events nor records are stored, and the site does not keep itself.
     pub const DEFAULT: Plan = Plan {
         nodes: 16,
         capacity: 4096,
@@ -73,7 +72,7 @@ impl Plan {
         renew_after: 5000,
         keep_pins: 0,
         permits: 64,
-        events: Some(65_536),
+        events: None,
         records: None,
         keep: None,
     };
