@@ -55,7 +55,7 @@ impl TxcSite {
         requires { site_held self.old ≡ None }
         ensures { site_held self.new ≡ Some site }
     {
-        room.site = Some(site);
+        drop(mem::replace(&mut room.site, Some(site)));
         *self = TxcSite {
             slot: SiteSlot::of_parts(Parts::of(room)),
             is_open: true,

@@ -65,7 +65,11 @@ pub extern "C" fn txc_site_close(alloc: Global, handle: &mut TxcSite) -> u32
 {
     match handle.take(alloc) {
         None => CLOSED,
-        Some(_held) => DONE,
+        Some((site, room)) => {
+            drop(site);
+            drop(room);
+            DONE
+        }
     }
 }
 
