@@ -15,7 +15,7 @@ use Rattle.txc_rw.specs.Core.{RwValue}
 use Rattle.txc_rw.specs.declared.rw_txn.Committed.{Committed}
 use Rattle.txc_site.specs.declared.error.GenerationError.{GenerationError}
 use Rattle.txc_site.specs.declared.error.GenerationError.TheVariants as generations
-use Rattle.txc_site.specs.declared.generations.Opened.{Opened}
+use Rattle.txc_site.specs.declared.generations.OpeningCommit.{OpeningCommit}
 use Rattle.txc_site.specs.declared.generations.Served.{Served}
 use Rattle.txc_visits.specs.declared.plan.Plan.{Plan}
 use Rattle.txc_site.specs.declared.returning.Generation.{Generation}
@@ -95,7 +95,7 @@ pub record HaveServed {T U : Type 0} (plan : Plan) (tells : ℕ → Type 0) (cou
   pub ended : GenerationsHaveEnded goes plan.events numbers generations end
 
 -- the commit of an opening that left this front
-abbrev pub committed_with : {O : Type 0} → Opened O → FrontValue → Committed
+abbrev pub committed_with : {O : Type 0} → OpeningCommit O → FrontValue → Committed
 committed_with opened front = record { stamp = opened.stamp; answers = opened.answers; front = front }
 
 -- Over a database whose history is kept as the plan says, the opening was written in its first run. The generations came after it.

@@ -28,7 +28,7 @@ use txc_visits::{Application, OpenError, Plan, Succession, Visits, Warmth, over_
 /// What the opening of a site in generations gave, with its commit. It has no front, which would keep the row of the first
 /// generation in memory: that generation begins with it.
 #[derive(Drop)]
-pub struct Opened<O> {
+pub struct OpeningCommit<O> {
     pub output: O,
     /// The newest stamp that the commit left.
     pub stamp: Stamp,
@@ -41,7 +41,7 @@ pub struct Opened<O> {
 #[derive(Drop)]
 pub struct Served<O, T> {
     /// What the opening gave, with its commit.
-    pub opening: Opened<O>,
+    pub opening: OpeningCommit<O>,
     /// What each thread of each generation gave, in the order of the generations and of the threads.
     pub generations: Vec<Vec<T>>,
     /// Whether the visitors wanted no other generation, or why there was none.
@@ -195,7 +195,7 @@ fn next<A: App>(
 }
 
 /// What the opening gave, and the front of its commit.
-fn parts<O>(written: Written<O>) -> (Opened<O>, HistoryFront)
+fn parts<O>(written: Written<O>) -> (OpeningCommit<O>, HistoryFront)
     ensures output { result.0.output ≡ written.output }
     ensures committed { committed_with result.0 result.1 ≡ written.committed }
     ensures conflicts { result.0.conflicts ≡ written.conflicts }
@@ -210,7 +210,7 @@ fn parts<O>(written: Written<O>) -> (Opened<O>, HistoryFront)
         answers,
         front,
     } = committed;
-    let opened = Opened {
+    let opened = OpeningCommit {
         output,
         stamp,
         answers,
