@@ -12,8 +12,10 @@ use Rattle.txc_db.specs.History.{state_at}
 use Rattle.txc_db.specs.Seen.{FrontValue}
 use Rattle.txc_rows.specs.States.{State}
 use Rattle.txc_rw.specs.Core.{RwValue}
+use Rattle.txc_rw.specs.declared.rw_txn.Committed.{Committed}
 use Rattle.txc_site.specs.declared.error.GenerationError.{GenerationError}
 use Rattle.txc_site.specs.declared.error.GenerationError.TheVariants as generations
+use Rattle.txc_site.specs.declared.generations.OpeningCommit.{OpeningCommit}
 use Rattle.txc_site.specs.declared.generations.Served.{Served}
 use Rattle.txc_visits.specs.declared.plan.Plan.{Plan}
 use Rattle.txc_site.specs.declared.returning.Generation.{Generation}
@@ -92,10 +94,15 @@ pub record HaveServed {T U : Type 0} (plan : Plan) (tells : ℕ → Type 0) (cou
   pub turns : AreInTurn opened generations
   pub ended : GenerationsHaveEnded goes plan.events numbers generations end
 
+-- the commit of an opening that left this front
+abbrev pub committed_with : {O : Type 0} → OpeningCommit O → FrontValue → Committed
+committed_with opened front = record { stamp = opened.stamp; answers = opened.answers; front = front }
+
 -- Over a database whose history is kept as the plan says, the opening was written in its first run. The generations came after it.
 pub record IsServed {O T : Type 0} (next : Next) (plan : Plan) (tells : ℕ → Type 0) (count : ℕ) (numbers : List ℕ) (makes : RwValue → O → Type 0)
     (gives : Plan → Name → ℕ → T → Type 0) (goes : Generation T → Bool → Type 0) (served : Served O T) : Type 0 where
-  pub room : IsHistoryFor plan.events served.opening.committed.front.events
-  pub opened : IsWritten next served.opening.committed.front.events makes served.opening.output served.opening.committed
+  pub front : FrontValue
+  pub room : IsHistoryFor plan.events front.events
+  pub opened : IsWritten next front.events makes served.opening.output (committed_with served.opening front)
   pub once : vec_len served.opening.conflicts ≡ 0
-  pub came : HaveServed plan tells count numbers gives goes served.opening.committed.front served.generations.items served.end
+  pub came : HaveServed plan tells count numbers gives goes front served.generations.items served.end

@@ -3,7 +3,7 @@ ghost use Rattle.std.specs.Prelude.{◌≡◌, ◌<◌, ◌⊎◌, [], All, Err,
 ghost use mathlib.Core.List.{IsPrefix};
 ghost use Rattle.txc_carry.specs.Rooms.{IsHistoryFor};
 ghost use Rattle.txc_db.specs.DatabaseValue.{front_of};
-ghost use Rattle.txc_site.specs.Generations.{HaveServed, IsGeneration, IsGenerationRefused, IsNextRefused, IsServed, last_state};
+ghost use Rattle.txc_site.specs.Generations.{HaveServed, IsGeneration, IsGenerationRefused, IsNextRefused, IsServed, committed_with, last_state};
 ghost use Rattle.txc_site.specs.Opened.{IsOpenRefused};
 ghost use Rattle.txc_visits.specs.Plans.{IsPlan};
 ghost use Rattle.txc_visits.specs.Warming.{EndInOneState};
@@ -16,18 +16,32 @@ use std::sync::Wait;
 use std::thread::Threads;
 use txc_app::App;
 use txc_carry::carry;
-use txc_db::{DbCore, DbError, HistoryFront};
+use txc_db::{Answered, DbCore, DbError, HistoryFront};
 use txc_definition::Definition;
 use txc_keeper::{Clock, CountedClock, SiteError};
 use txc_ledger::{Change, Written};
+use txc_rw::{Committed, Given};
 use txc_shared::LeftNode;
+use txc_stamp::Stamp;
 use txc_visits::{Application, OpenError, Plan, Succession, Visits, Warmth, over_new_histories};
+
+/// What the opening of a site in generations gave, with its commit. It has no front, which would keep the row of the first
+/// generation in memory: that generation begins with it.
+#[derive(Drop)]
+pub struct OpeningCommit<O> {
+    pub output: O,
+    /// The newest stamp that the commit left.
+    pub stamp: Stamp,
+    /// What its transaction was answered, in order.
+    pub answers: Vec<Given>,
+    pub conflicts: Vec<Answered<Stamp>>,
+}
 
 /// What a site gave in all its generations.
 #[derive(Drop)]
 pub struct Served<O, T> {
     /// What the opening gave, with its commit.
-    pub opening: Written<O>,
+    pub opening: OpeningCommit<O>,
     /// What each thread of each generation gave, in the order of the generations and of the threads.
     pub generations: Vec<Vec<T>>,
     /// Whether the visitors wanted no other generation, or why there was none.
@@ -180,6 +194,31 @@ fn next<A: App>(
     })
 }
 
+/// What the opening gave, and the front of its commit.
+fn parts<O>(written: Written<O>) -> (OpeningCommit<O>, HistoryFront)
+    ensures output { result.0.output ≡ written.output }
+    ensures committed { committed_with result.0 result.1 ≡ written.committed }
+    ensures conflicts { result.0.conflicts ≡ written.conflicts }
+{
+    let Written {
+        output,
+        committed,
+        conflicts,
+    } = written;
+    let Committed {
+        stamp,
+        answers,
+        front,
+    } = committed;
+    let opened = OpeningCommit {
+        output,
+        stamp,
+        answers,
+        conflicts,
+    };
+    (opened, front)
+}
+
 /// Goes on as [`with_generations_at`] does, at a clock that counts how often it was looked at.
 pub fn with_generations<A, D, O, V, R>(
     rt: &R,
@@ -239,8 +278,8 @@ where
     if !plan.is_sound() {
         return Err(OpenError::Site(SiteError::Plan));
     }
-    let (opening, core) = opened::<A, D, O, R>(rt, alloc, plan, opening)?;
-    let front = opening.committed.front.again()?;
+    let (written, core) = opened::<A, D, O, R>(rt, alloc, plan, opening)?;
+    let (opening, front) = parts(written);
     let mut generations = Vec::new(alloc);
     let end = go_on::<A, D, V, C, R>(
         rt,

@@ -20,7 +20,7 @@ mod opening;
 mod returning;
 
 pub use error::GenerationError;
-pub use generations::{Served, with_generations, with_generations_at};
+pub use generations::{OpeningCommit, Served, with_generations, with_generations_at};
 pub use opening::{Visited, with_clock, with_site};
 pub use returning::{Generation, Returning};
 pub use txc_app::{Answer, App, Ask, Bytes};
