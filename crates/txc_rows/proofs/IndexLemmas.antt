@@ -1,6 +1,7 @@
 -- The spots of replaced versions, and what is picked by them.
-use Rattle.std.proofs.Common.{◌≡◌, ◌≢◌, ℕ, ◌+◌, ◌-◌, ◌^◌, ◌<◌, ◌≤◌, zero, suc, get_or, List, [], ◌∷◌, ◌++◌, map, filter, length, Bool, true, false, cond, not, ◌&&◌, ◌==◌, nat_le, Some, Ok, Err, Result, OnOk, refl, sym, ap, subst, ◌∙◌, append_assoc, append-nil, length-append, arith}
+use Rattle.std.proofs.Common.{◌≡◌, ◌≢◌, ℕ, ◌+◌, ◌-◌, ◌^◌, ◌<◌, ◌≤◌, zero, suc, get_or, List, [], ◌∷◌, ◌++◌, map, filter, drop, length, length-drop, option_to_list, Bool, true, false, cond, not, ◌&&◌, ◌==◌, nat_le, Some, None, Ok, Err, Result, OnOk, refl, sym, ap, subst, ◌∙◌, append_assoc, append-nil, length-append, arith}
 use Rattle.std.proofs.lemmas.Bool.Decides.{nat_tests}
+use borrow.Author.Tests.{leb-true, le-leb, lt-leb}
 use Rattle.std.specs.declared.cmp.Ordering.{Ordering}
 use Rattle.std.specs.declared.cmp.Ordering.TheVariants.{Less, Equal, Greater}
 use Rattle.std.specs.Ordering.{nat_cmp, ordering_then, is_eq, is_le, is_lt, match_ordering}
@@ -12,7 +13,7 @@ use Rattle.std.specs.BTreeMap.Range.{range_contains}
 use Rattle.std.specs.declared.ops.Bound.TheVariants.{Included, Excluded}
 use Rattle.std.proofs.lemmas.List.Sorted.{IsPermutation-refl, IsPermutation-sym, IsPermutation-trans, IsPermutation-cons, IsPermutation-middle, IsPermutation-map, length_permutation}
 use Rattle.std.proofs.lemmas.List.{length-map}
-use Rattle.sqlite_trees.proofs.ListLemmas.{filter-map, all_of, all_weaker, all-filter, all-permutation, filter_none, filter_same, IsPermutation-flat_map, IsPermutation-filter}
+use Rattle.sqlite_trees.proofs.ListLemmas.{filter-map, all_of, all_both, all_weaker, all-filter, all-permutation, filter_all, filter_none, filter_same, IsPermutation-flat_map, IsPermutation-filter}
 use Rattle.txc_rows.specs.declared.placed.Placed.{Placed}
 use Rattle.txc_rows.specs.declared.replaced.Spot.{Spot}
 use Rattle.txc_rows.specs.declared.query.Query.{Query}
@@ -22,7 +23,7 @@ use Rattle.txc_rows.specs.declared.store_error.TheConstants.{MAX_MATCHING}
 use Rattle.txc_rows.specs.Versions.{suits}
 use Rattle.txc_rows.specs.Holdable.{IsStorable}
 use Rattle.txc_rows.specs.Placed.{version_of, is_left, placed_left}
-use Rattle.txc_rows.specs.Indexed.{version_id, version_group, spot_of, spots_from, FitsSpot, AreIndexed, is_between, spot_suits, spots_asked, picked}
+use Rattle.txc_rows.specs.Indexed.{version_id, version_group, spot_of, spots_from, FitsSpot, AreIndexed, is_from, is_between, spot_suits, spots_asked, picked}
 use Rattle.txc_rows.specs.Kept.{IsFinding}
 use Rattle.txc_rows.proofs.FindLemmas.{asked}
 use Rattle.txc_rows.proofs.Members.{filters_turned}
@@ -185,16 +186,64 @@ module _ (first : ℕ) (x : Placed) (xs : List Placed) (ids groups ids_then grou
     by_group = group (spots_from version_group first xs) (spots_before version_group first (first + length xs) xs (omega arith)) (IsPermutation-trans _ _ _ (spots_last version_group first xs x) h.by_group);
   }
 
+-- ---- those from a number on
+
+pub all_from : (n : ℕ) (ss : List Spot) → AllByRecursion (λ s. n ≤ s.number) (filter (is_from n) ss)
+all_from n [] = tt
+all_from n (s ∷ ss) = go (is_from n s) refl (all_from n ss)
+  where
+    go : (b : Bool) → is_from n s ≡ b → AllByRecursion (λ t. n ≤ t.number) (filter (is_from n) ss) → AllByRecursion (λ t. n ≤ t.number) (cond b (s ∷ filter (is_from n) ss) (filter (is_from n) ss))
+    go true e more = (leb-true n s.number e, more)
+    go false e more = more
+
+later_spots : (key : Placed → ℕ) (n m gone : ℕ) (xs : List Placed) → m ≡ n + gone → filter (is_from m) (spots_from key n xs) ≡ spots_from key m (drop gone xs)
+later_spots key n m zero xs e =
+    let same : m ≡ n = omega (arith, e) in
+    subst (λ k. filter (is_from m) (spots_from key k xs) ≡ spots_from key m xs) same (filter_all (is_from m) _ (all_weaker (λ s. m ≤ s.number) _ (λ s low. le-leb m s.number low) _ (spots_high key m m xs (omega arith))))
+later_spots key n m (suc gone) [] e = refl
+later_spots key n m (suc gone) (x ∷ xs) e = rw (lt-leb m n (omega (arith, e))) (later_spots key (n + 1) m gone xs (omega (arith, e)))
+
+later_get : {X : Type 0} (xs : List X) (j gone i : ℕ) → j ≡ gone + i → slice_get xs j ≡ slice_get (drop gone xs) i
+later_get xs j zero i e = ap (slice_get xs) (omega (arith, e))
+later_get [] j (suc gone) i e = refl
+later_get (x ∷ xs) zero (suc gone) i e = absurd (omega (arith, e))
+later_get (x ∷ xs) (suc j) (suc gone) i e = later_get xs j gone i (omega (arith, e))
+
+picked_later : (first gone n : ℕ) (xs : List Placed) (ss : List Spot) → n ≡ first + gone → AllByRecursion (λ s. n ≤ s.number) ss → picked first xs ss ≡ picked n (drop gone xs) ss
+picked_later first gone n xs [] e low = refl
+picked_later first gone n xs (s ∷ ss) e low =
+    rw (later_get xs (s.number - first) gone (s.number - n) (omega (arith, e, low.0)))
+    (ap (λ ys. option_to_list (slice_get (drop gone xs) (s.number - n)) ++ ys) (picked_later first gone n xs ss e low.1))
+
+-- what is picked by them is picked of the versions without the first ones
+pub picked_shown : (first gone : ℕ) (xs : List Placed) (ss there : List Spot) → filter (is_from (first + gone)) ss ≡ there → picked first xs (filter (is_from (first + gone)) ss) ≡ picked (first + gone) (drop gone xs) there
+picked_shown first gone xs ss there same =
+    picked_later first gone (first + gone) xs (filter (is_from (first + gone)) ss) refl (all_from (first + gone) ss) ∙ ap (picked (first + gone) (drop gone xs)) same
+
+-- those are spots of the versions without the first ones
+pub shown_indexed : (first gone : ℕ) (xs : List Placed) (ids groups : List Spot) → gone ≤ length xs → AreIndexed first xs ids groups → AreIndexed (first + gone) (drop gone xs) (filter (is_from (first + gone)) ids) (filter (is_from (first + gone)) groups)
+shown_indexed first gone xs ids groups low h = record {
+  fits = omega (arith, low, h.fits, length-drop gone xs);
+  by_id = later version_id ids h.by_id;
+  by_group = later version_group groups h.by_group;
+}
+  where
+    later : (key : Placed → ℕ) (spots : List Spot) → IsPermutation (spots_from key first xs) spots → IsPermutation (spots_from key (first + gone) (drop gone xs)) (filter (is_from (first + gone)) spots)
+    later key spots same = subst (λ ss. IsPermutation ss (filter (is_from (first + gone)) spots)) (later_spots key first (first + gone) gone xs refl) (IsPermutation-filter (is_from (first + gone)) _ _ same)
+
 -- ---- spots between two
 
-between_grind : (t a b table key number : ℕ) → number < 18446744073709551616
-    → (is_le (ordering_then (nat_cmp t table) (ordering_then (nat_cmp a key) (nat_cmp 0 number))) && not (is_lt (ordering_then (nat_cmp t table) (ordering_then (nat_cmp b key) (nat_cmp 18446744073709551615 number)))))
+between_grind : (t a b n table key number : ℕ) → n ≤ number → number < 18446744073709551616
+    → (is_le (ordering_then (nat_cmp t table) (ordering_then (nat_cmp a key) (nat_cmp n number))) && not (is_lt (ordering_then (nat_cmp t table) (ordering_then (nat_cmp b key) (nat_cmp 18446744073709551615 number)))))
     ≡ ((table == t) && (nat_le a key && nat_le key b))
-between_grind t a b table key number low = grind (arith, nat_tests)
+between_grind t a b n table key number from low = grind (arith, nat_tests)
 
-pub between_spots : (t a b : ℕ) (ss : List Spot) → AllByRecursion FitsSpot ss
-    → filter (range_contains spot_cmp (Included (record { table = t; key = a; number = 0 })) (Included (record { table = t; key = b; number = 18446744073709551615 }))) ss ≡ filter (is_between t a b) ss
-between_spots t a b ss fit = filter_same _ _ ss (all_weaker FitsSpot _ (λ s fits. between_grind t a b s.table s.key s.number fits.1) ss fit)
+-- from a number on
+pub between_spots : (t a b n : ℕ) (ss : List Spot) → AllByRecursion FitsSpot (filter (is_from n) ss)
+    → filter (is_from n) (filter (range_contains spot_cmp (Included (record { table = t; key = a; number = n })) (Included (record { table = t; key = b; number = 18446744073709551615 }))) ss) ≡ filter (is_between t a b) (filter (is_from n) ss)
+between_spots t a b n ss fit =
+    filters_turned (is_from n) _ ss
+    ∙ filter_same _ _ (filter (is_from n) ss) (all_both (λ s. n ≤ s.number) FitsSpot _ (λ s from fits. between_grind t a b n s.table s.key s.number from fits.1) (filter (is_from n) ss) (all_from n ss) fit)
 
 none_grind : (t a b table key number : ℕ) → b < a → ((table == t) && (nat_le a key && nat_le key b)) ≡ false
 none_grind t a b table key number low = grind (arith, nat_tests)
@@ -203,8 +252,10 @@ both_off : (b : Bool) → b && not b ≡ false
 both_off true = refl
 both_off false = refl
 
-pub none_between : (t a b : ℕ) (s : Spot) (ss : List Spot) → b < a → filter (range_contains spot_cmp (Included s) (Excluded s)) ss ≡ filter (is_between t a b) ss
-none_between t a b s ss low = filter_same _ _ ss (all_of _ (λ x. both_off (is_le (spot_cmp s x)) ∙ sym (none_grind t a b x.table x.key x.number low)) ss)
+pub none_between : (t a b n : ℕ) (s : Spot) (ss : List Spot) → b < a → filter (is_from n) (filter (range_contains spot_cmp (Included s) (Excluded s)) ss) ≡ filter (is_between t a b) (filter (is_from n) ss)
+none_between t a b n s ss low =
+    filters_turned (is_from n) _ ss
+    ∙ filter_same _ _ (filter (is_from n) ss) (all_of _ (λ x. both_off (is_le (spot_cmp s x)) ∙ sym (none_grind t a b x.table x.key x.number low)) (filter (is_from n) ss))
 
 -- ---- what a query looks up
 
@@ -275,6 +326,31 @@ module _ (first : ℕ) (xs : List Placed) (ids groups : List Spot) (h : AreIndex
   pub groups_fit : AllByRecursion FitsSpot groups
   groups_fit = fit version_group groups h.by_group (λ x is. is.row.group)
 
+-- ---- without the first ones
+
+module _ (first gone : ℕ) (xs : List Placed) (ids groups : List Spot) (low : gone ≤ length xs) (h : AreIndexed first xs ids groups) where
+  abbrev pub from_there : List Spot → List Spot
+  from_there = filter (is_from (first + gone))
+
+  pub shown_ids_fit : AllByRecursion (λ x. IsStorable x.version) (drop gone xs) → AllByRecursion FitsSpot (from_there ids)
+  shown_ids_fit = ids_fit (first + gone) (drop gone xs) (from_there ids) (from_there groups) (shown_indexed first gone xs ids groups low h)
+
+  pub shown_groups_fit : AllByRecursion (λ x. IsStorable x.version) (drop gone xs) → AllByRecursion FitsSpot (from_there groups)
+  shown_groups_fit = groups_fit (first + gone) (drop gone xs) (from_there ids) (from_there groups) (shown_indexed first gone xs ids groups low h)
+
+  module _ (q : Query) (from : ℕ) (ss : List Spot) (are : from_there ss ≡ filter (spot_suits q) (spots_asked q (from_there ids) (from_there groups))) where
+    abbrev pub found_shown : List Placed
+    found_shown = placed_left from (picked first xs (from_there ss))
+
+    same_found : found_shown ≡ found_there q from (first + gone) (drop gone xs) (from_there ids) (from_there groups) (shown_indexed first gone xs ids groups low h)
+    same_found = ap (placed_left from) (picked_shown first gone xs ss _ are)
+
+    pub shown_finds : (old new : List Versioned) → new ≡ old ++ map version_of found_shown → length new ≤ MAX_MATCHING → IsFinding q from (drop gone xs) old new
+    shown_finds old new is = index_finds q from (first + gone) (drop gone xs) (from_there ids) (from_there groups) (shown_indexed first gone xs ids groups low h) old new (is ∙ ap (λ ys. old ++ map version_of ys) same_found)
+
+    pub shown_many : (n : ℕ) → MAX_MATCHING < n + length found_shown → MAX_MATCHING < n + length (asked q from (drop gone xs))
+    shown_many n many = index_many q from (first + gone) (drop gone xs) (from_there ids) (from_there groups) (shown_indexed first gone xs ids groups low h) n (subst (λ ys. MAX_MATCHING < n + length ys) same_found many)
+
 -- ---- one spot after another
 
 pub got : {X : Type 0} (xs : List X) (i : ℕ) (x : X) → i < length xs → x ≡ get_or xs i x → slice_get xs i ≡ Some x
@@ -282,12 +358,21 @@ got [] i x low is = absurd (omega (arith, low))
 got (y ∷ ys) zero x low is = ap (λ z. Some z) (sym is)
 got (y ∷ ys) (suc i) x low is = got ys i x (omega (arith, low)) is
 
-module _ (from first : ℕ) (xs : List Placed) (s : Spot) (ss : List Spot) where
+module _ (from first n : ℕ) (xs : List Placed) (s : Spot) (ss : List Spot) where
   abbrev pub taken : List Spot → List Versioned
-  taken ts = map version_of (placed_left from (picked first xs ts))
+  taken ts = map version_of (placed_left from (picked first xs (filter (is_from n) ts)))
 
-  pub taken_left : (x : Placed) → slice_get xs (s.number - first) ≡ Some x → is_left from x.version ≡ true → taken (s ∷ ss) ≡ x.version ∷ taken ss
-  taken_left x e f = rw (e, f) refl
+  pub taken_early : s.number < n → taken (s ∷ ss) ≡ taken ss
+  taken_early low = rw (lt-leb n s.number low) refl
+
+  pub taken_past : n ≤ s.number → slice_get xs (s.number - first) ≡ None → taken (s ∷ ss) ≡ taken ss
+  taken_past high e = rw (le-leb n s.number high, e) refl
+
+  pub taken_dead : n ≤ s.number → (x : Placed) → slice_get xs (s.number - first) ≡ Some x → is_left from x.version ≡ false → taken (s ∷ ss) ≡ taken ss
+  taken_dead high x e f = rw (le-leb n s.number high, e, f) refl
+
+  pub taken_left : n ≤ s.number → (x : Placed) → slice_get xs (s.number - first) ≡ Some x → is_left from x.version ≡ true → taken (s ∷ ss) ≡ x.version ∷ taken ss
+  taken_left high x e f = rw (le-leb n s.number high, e, f) refl
 
 -- two that a success gives give a third
 pub both_ok : {X E A B C : Type 0} (r : Result X E) → OnOk r A → OnOk r B → (A → B → C) → OnOk r C

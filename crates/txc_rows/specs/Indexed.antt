@@ -34,6 +34,10 @@ pub record AreIndexed (first : ℕ) (versions : List Placed) (ids groups : List 
   pub by_id : IsPermutation (spots_from version_id first versions) ids
   pub by_group : IsPermutation (spots_from version_group first versions) groups
 
+-- the number is that one or a later one
+abbrev pub is_from : ℕ → Spot → Bool
+is_from number s = nat_le number s.number
+
 -- of the table, and with a key from the first to the last
 abbrev pub is_between : ℕ → ℕ → ℕ → Spot → Bool
 is_between table first last s = (s.table == table) && (nat_le first s.key && nat_le s.key last)
