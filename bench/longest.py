@@ -5,8 +5,8 @@ usage: bench/longest.py [--beside COMMIT] [ROWS]      by default 100000 rows
 
 The program is that of bench/store_bench; it is compiled with no proof, and with --beside once more over the store of another
 commit, whose times come first. Most calls are made where half as many versions have died as there are rows, and wait to be dropped.
-There are fewer vacuums, each after so many commits. A hot row is one that all commits before the last vacuum have put. Last a store
-alone is purged after each of many puts: the program fails where that makes the process grow.
+There are fewer vacuums, each after so many commits. A hot row was put 1,000 times before the last vacuum. Last a store alone is purged
+after each of many puts: the program fails where that makes the process grow.
 """
 
 import os
@@ -56,8 +56,9 @@ def built(room, commit=None):
 
 
 def repeat(bench, operation, many):
-    for _ in range(0, many, AT_ONCE):
-        bench.run(f"{operation} {AT_ONCE}", AT_ONCE)
+    for done in range(0, many, AT_ONCE):
+        count = min(AT_ONCE, many - done)
+        bench.run(f"{operation} {count}", count)
 
 
 def vacuum(bench, after, operation="commit_1"):
@@ -93,11 +94,13 @@ def measured(bench, rows):
     yield f"a vacuum after {rows // 2:,} commits", shown(vacuum(bench, rows // 2))
     for name, kind in KINDS.items():
         yield name, longest(bench, kind)
-    yield f"a vacuum after {rows:,} commits", shown(vacuum(bench, rows))
-    vacuum(bench, rows // 2, "hot")
-    bench.run("ids 1", 1)
+    vacuum(bench, rows // 2)
+    vacuum(bench, 1_000, "hot")
+    # the hot row is one of two that are asked, and the last of its group and range
+    bench.run("ids 2", 2)
     for name in ("a query by id", "a query of a group of ten", "a query of a range of ten"):
         yield f"{name}, one row hot", longest(bench, KINDS[name])
+    yield f"a vacuum after {rows:,} commits", shown(vacuum(bench, rows))
 
 
 def check_memory(bench):
