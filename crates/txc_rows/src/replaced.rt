@@ -21,7 +21,7 @@ use std::marker::Model;
 use txc_stamp::Stamp;
 use txc_tags::Table;
 
-/// A purge drops at most so many: it takes less than a millisecond.
+/// A purge drops at most so many, in about a millisecond.
 const MOST_DROPPED: usize = 500;
 
 /// So many are dropped for each that is added: fewer and fewer wait.
