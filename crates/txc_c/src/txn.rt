@@ -27,25 +27,14 @@ fn may_open(events: usize, capacity: usize, recent: usize) -> bool
     is_room(events) && are_sizes(capacity, recent)
 }
 
-// A new site, and the room for it; None if memory is wanting.
-fn new_site(
-    alloc: Global,
-    events: usize,
-    settings: NodeSettings,
-    renew_after: u64,
-) -> Option<(Site, Box<SiteRoom, Global>)>
+// A new site; None if memory is wanting.
+fn new_site(alloc: Global, events: usize, settings: NodeSettings, renew_after: u64) -> Option<Site>
     requires events { (1 ≤ events) × (events ≤ MAX_EVENTS) }
     requires node { (1 ≤ settings.capacity) × (settings.capacity ≤ MAX_CAPACITY) }
     requires recent { (1 ≤ settings.recent) × (settings.recent ≤ MAX_RECENT) }
-    ensures { IfSome result (λ it. IsNewSite settings renew_after it.0) }
+    ensures { IfSome result (IsNewSite settings renew_after) }
 {
-    let Ok(room) = Box::new(alloc, SiteRoom { site: None }) else {
-        return None;
-    };
-    let Ok(site) = Site::new(alloc, events, settings, renew_after) else {
-        return None;
-    };
-    Some((site, room))
+    Site::new(alloc, events, settings, renew_after).ok()
 }
 
 // Puts a new site into a handle that has none.
@@ -67,7 +56,10 @@ fn open(
     if !may_open(events, settings.capacity, settings.recent) {
         return BAD_ARGUMENT;
     }
-    let Some((site, room)) = new_site(alloc, events, settings, renew_after) else {
+    let Some(room) = Box::new(alloc, SiteRoom { site: None }).ok() else {
+        return NO_MEMORY;
+    };
+    let Some(site) = new_site(alloc, events, settings, renew_after) else {
         return NO_MEMORY;
     };
     handle.put(site, room);
