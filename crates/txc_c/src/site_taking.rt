@@ -11,13 +11,6 @@ use std::mem;
 use txc_c_site::Site;
 
 impl TxcSite {
-    /// Whether it has a site.
-    pub(crate) fn is_open(&self) -> bool
-        ensures { result ≡ self.now.is_open }
-    {
-        self.is_open
-    }
-
     pub(crate) fn closed(alloc: Global) -> TxcSite
         ensures { site_held result ≡ None }
     {

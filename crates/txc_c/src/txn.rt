@@ -1,9 +1,12 @@
 //! The exports of a site and its transactions.
-ghost use Rattle.std.specs.Prelude.{◌≡◌, ◌≢◌, None, IsTrue, ◌↔◌};
+ghost use Rattle.std.specs.Prelude.{◌≡◌, ◌≢◌, ◌≤◌, ◌&&◌, IfSome, None};
 ghost use Rattle.txc_app.specs.declared.ask.Ask.TheVariants as asks;
-ghost use Rattle.txc_crossing.specs.Crossing.{named_call};
+ghost use Rattle.txc_crossing.specs.Crossing.{are_sizes, named_call};
 ghost use Rattle.txc_c_site.specs.Keeping.{KeepComesTo};
 ghost use Rattle.txc_c_site.specs.Receipts.{query_of};
+ghost use Rattle.txc_c_site.specs.Sites.{is_room, IsNewSite};
+ghost use Rattle.txc_node.specs.declared.node.TheConstants.{MAX_CAPACITY, MAX_RECENT};
+ghost use Rattle.txc_stream.specs.declared.row.TheConstants.{MAX_CAPACITY as MAX_EVENTS};
 ghost use Rattle.txc_c.specs.Exports.{open_site_number, ComesTo, HasNewSite, HeldAsksNext};
 ghost use Rattle.txc_c.specs.SiteHeld.{site_held};
 ghost use Rattle.txc_c.specs.Life.{close_number};
@@ -16,6 +19,52 @@ use std::alloc::Global;
 use txc_c_site::{Site, TxcKept, TxcQuery, TxcReceipt, TxcRow, is_room};
 use txc_crossing::{ALREADY_OPEN, BAD_ARGUMENT, CLOSED, DONE, NO_MEMORY, TxcKey, are_sizes};
 use txc_shared::NodeSettings;
+
+// Whether a site may be opened so.
+fn may_open(events: usize, capacity: usize, recent: usize) -> bool
+    ensures { result ≡ (is_room events && are_sizes capacity recent) }
+{
+    is_room(events) && are_sizes(capacity, recent)
+}
+
+// A new site; None if memory is wanting.
+fn new_site(alloc: Global, events: usize, settings: NodeSettings, renew_after: u64) -> Option<Site>
+    requires events { (1 ≤ events) × (events ≤ MAX_EVENTS) }
+    requires node { (1 ≤ settings.capacity) × (settings.capacity ≤ MAX_CAPACITY) }
+    requires recent { (1 ≤ settings.recent) × (settings.recent ≤ MAX_RECENT) }
+    ensures { IfSome result (IsNewSite settings renew_after) }
+{
+    Site::new(alloc, events, settings, renew_after).ok()
+}
+
+// Puts a new site into a handle that has none.
+fn open(
+    alloc: Global,
+    handle: &mut TxcSite,
+    events: usize,
+    settings: NodeSettings,
+    renew_after: u64,
+) -> u32
+    requires none { site_held handle.old ≡ None }
+    ensures number { result ≢ NO_MEMORY
+        → result ≡ open_site_number None events settings.capacity settings.recent }
+    ensures no_memory { result ≡ NO_MEMORY
+        → open_site_number None events settings.capacity settings.recent ≡ DONE }
+    ensures opened { result ≡ DONE → HasNewSite settings renew_after (site_held handle.new) }
+    ensures unchanged { result ≢ DONE → site_held handle.new ≡ None }
+{
+    if !may_open(events, settings.capacity, settings.recent) {
+        return BAD_ARGUMENT;
+    }
+    let Some(room) = Box::new(alloc, SiteRoom { site: None }).ok() else {
+        return NO_MEMORY;
+    };
+    let Some(site) = new_site(alloc, events, settings, renew_after) else {
+        return NO_MEMORY;
+    };
+    handle.put(site, room);
+    DONE
+}
 
 /// Makes a database with room for so many events, a pincushion and a node. The newest pin is renewed after so many
 /// milliseconds.
@@ -36,25 +85,16 @@ pub extern "C" fn txc_site_open(
         → HasNewSite (record { number = 0; capacity = capacity; recent = recent }) renew_after (site_held handle.new) }
     ensures unchanged { result ≢ DONE → site_held handle.new ≡ site_held handle.old }
 {
-    if handle.is_open() {
-        return ALREADY_OPEN;
-    }
-    if !is_room(events) || !are_sizes(capacity, recent) {
-        return BAD_ARGUMENT;
-    }
-    let settings = NodeSettings {
-        number: 0,
-        capacity,
-        recent,
-    };
-    let Ok(room) = Box::new(alloc, SiteRoom { site: None }) else {
-        return NO_MEMORY;
-    };
-    let Ok(site) = Site::new(alloc, events, settings, renew_after) else {
-        return NO_MEMORY;
+    let Some((site, room)) = handle.take(alloc) else {
+        let settings = NodeSettings {
+            number: 0,
+            capacity,
+            recent,
+        };
+        return open(alloc, handle, events, settings, renew_after);
     };
     handle.put(site, room);
-    DONE
+    ALREADY_OPEN
 }
 
 /// Gives all of it up.
