@@ -218,8 +218,9 @@ def readme(text):
         both = [pages[f"{name}, {age}"] for name in ("a plain cache", "the cache")]
         rows += f"| {age} | {' | '.join(f'{it[1]} | {it[2]} | {cost(it) / none:.2f}' for it in both)} |\n"
     start, _, after = text.partition(BUYS)
-    threads = {row[0]: row[1] for row in table_of(shown, "| At once | Threads of one process | Processes of one thread |")}
-    speed = f"The auction makes {threads['1']} pages a second on one thread, each with a bid after it, and {threads['4']} on four."
+    threads = {row[0]: row for row in table_of(shown, "| Pages of | Threads: 1 | 2 | 4 | Processes: 1 | 2 | 4 |")}
+    speeds = [[threads[f"{kind}; pins kept for 50 ms"][at] for at in (1, 3)] for kind in ("two hits", "two calls, and a bid after each page")]
+    speed = "A site reads {} pages of two hits a second on one thread, and {} on four. With a bid after each page it makes {} and {}.".format(*sum(speeds, []))
     text = start + BUYS + rows + re.sub(r"\A(?:\|.*\n)*\n.*\n", f"\n{speed}\n", after)
     taken = {tuple(line.split("\t")[:2]): line.split("\t")[2:] for line in (ROOT / "docs/gate.tsv").read_text().splitlines()}
     text = re.sub(r"the proved program: \d+ minutes of one core", f"the proved program: {run.minutes()} minutes of one core", text)

@@ -39,7 +39,7 @@ KINDS = {
 # For less than how many milliseconds pins are kept in the table of docs/FIGURES.md.
 KEPT = 50
 # Milliseconds until a site is there.
-AHEAD = 400
+AHEAD = 800
 SAID = re.compile(r"(\d+) pages, (\d+) torn, (\d+) refused, (\d+) bids, (-?\d+) lost, (\d+) conflicts\n")
 
 
@@ -116,17 +116,15 @@ def table(given, kind):
 
 def figures(given):
     """The greatest of each kind, of the first program, as docs/FIGURES.md has them: without pins that are kept, and with them."""
-    load, rows = os.getloadavg()[0], []
+    print(f"Measured on {time.strftime('%Y-%m-%d')} by `bench/threads.sh --figures`, on {os.cpu_count()} cores at 2.5 GHz, load {os.getloadavg()[0]:.0f}, "
+          f"not proved; pages a second, the best of {given.runs}.\n")
+    heads = [f"{what}: {it}" if at == 0 else f"{it}" for what in ("Threads", "Processes") for at, it in enumerate(given.counts)]
+    print(f"| Pages of | {' | '.join(heads)} |\n{'|---' * (1 + len(heads))}|", flush=True)
     for given.most, how in ((0, ""), (KEPT, f"; pins kept for {KEPT} ms")):
         for kind in given.kinds:
             runs = [all_runs(given, kind, count) for count in given.counts]
             best = [speed(it[given.programs[0], threads], given)[0] for threads in (True, False) for it in runs]
-            rows.append(f"| {KINDS.get(kind, kind)}{how} |{''.join(f' {it:,.0f} |' for it in best)}")
-    print(f"Measured on {time.strftime('%Y-%m-%d')} by `bench/threads.sh --figures`, on {os.cpu_count()} cores at 2.5 GHz, load {load:.0f}, "
-          f"not proved; pages a second, the best of {given.runs}.\n")
-    heads = [f"{what}: {it}" if at == 0 else f"{it}" for what in ("Threads", "Processes") for at, it in enumerate(given.counts)]
-    print(f"| Pages of | {' | '.join(heads)} |\n{'|---' * (1 + len(heads))}|")
-    print("\n".join(rows))
+            print(f"| {KINDS.get(kind, kind)}{how} |{''.join(f' {it:,.0f} |' for it in best)}", flush=True)
 
 
 def main():
