@@ -101,7 +101,7 @@ all_first P zero xs all = tt
 all_first P (suc n) [] all = tt
 all_first P (suc n) (x ∷ xs) all = (all.0, all_first P n xs all.1)
 
-pub listing : (q : Query) (from : ℕ) (placed : List Placed) (rows : List Row) → AllByRecursion (λ x. IsStorable x.version) placed → Lists (is_asked q from) MOST_READ (map version_of placed) rows
+pub listing : (q : Query) (from : ℕ) (placed : List Placed) (rows : List Row) → AllByRecursion (λ x. IsStorable (version_of x)) placed → Lists (is_asked q from) MOST_READ (map version_of placed) rows
     → IsListing q (left_from from (map version_of placed)) rows
 listing q from placed rows each h =
     let t = query_table q in

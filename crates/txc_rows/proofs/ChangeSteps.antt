@@ -11,12 +11,12 @@ use Rattle.sqlite.proofs.Callers.{one_permutation}
 use Rattle.sqlite_trees.specs.declared.memory.MemStore.{MemStore}
 use Rattle.sqlite.specs.Tree.{IsAscending}
 use Rattle.sqlite_trees.proofs.ListLemmas.{all-append, ascending-map, IsPermutation-filter}
-use Rattle.txc_stamp.specs.declared.stamp.TheConstants.{LAST_STAMP}
+use Rattle.txc_rows.specs.declared.moment.TheConstants.{LAST_MOMENT}
 use Rattle.txc_rows.specs.Values.{RowValue, IsRow}
 use Rattle.txc_rows.specs.States.{is_at}
 use Rattle.txc_rows.specs.Versions.{is_current, removed, put}
 use Rattle.txc_rows.specs.declared.placed.Placed.{Placed}
-use Rattle.txc_rows.specs.Placed.{versions_by_place, in_group, is_touched, has_key, closed_placed, new_placed, renewed, put_latest, put_replaced, HaveOwnKeys, IsOneCurrent, AreBelow, AreWellPlaced, AreAll, AreAmong, KeepsOthers, AddsAtEnd}
+use Rattle.txc_rows.specs.Placed.{version_of, versions_by_place, in_group, is_touched, has_key, closed_placed, new_placed, renewed, put_latest, put_replaced, HaveOwnKeys, IsOneCurrent, AreBelow, AreWellPlaced, AreAll, AreAmong, KeepsOthers, AddsAtEnd}
 use Rattle.txc_rows.specs.Kept.{latest_in, versions_of, HasLatest, HasWritten, IsStep}
 use Rattle.txc_rows.proofs.Members.{both_true, and_true, IsIn, is_in, contains_it, in_left}
 use Rattle.txc_rows.proofs.StoredVersions.{hit_is}
@@ -25,11 +25,11 @@ use Rattle.txc_rows.proofs.PutLemmas.{none_of, empty_of, key_is, key_turned, one
 
 -- ---- one change
 
-module _ (t i s place : ℕ) (low : s ≤ LAST_STAMP) (latest replaced : List Placed) (apart : AreWellPlaced latest replaced) (below : AreBelow place (latest ++ replaced)) where
+module _ (t i s place : ℕ) (low : s ≤ LAST_MOMENT) (latest replaced : List Placed) (apart : AreWellPlaced latest replaced) (below : AreBelow place (latest ++ replaced)) where
   pub removed_all : AreAll (removed t i s (versions_by_place (latest ++ replaced))) (place + 1) replaced (map (closed_placed t i s) latest)
   removed_all = record { apart = ended_apart t i s low latest replaced apart; written = removed_written t i s place low latest replaced apart below }
 
-pub put_all : (row : RowValue) (s place : ℕ) → s ≤ LAST_STAMP → IsRow row → (latest replaced : List Placed) → AreWellPlaced latest replaced → AreBelow place (latest ++ replaced)
+pub put_all : (row : RowValue) (s place : ℕ) → s ≤ LAST_MOMENT → IsRow row → (latest replaced : List Placed) → AreWellPlaced latest replaced → AreBelow place (latest ++ replaced)
     → AreAll (put row s (versions_by_place (latest ++ replaced))) (place + 1) (put_replaced row (map (closed_placed row.table row.id s) latest) replaced) (put_latest place row s (map (closed_placed row.table row.id s) latest))
 put_all row s place low is latest replaced apart below =
     let ended = map (closed_placed row.table row.id s) latest in
@@ -39,7 +39,7 @@ put_all row s place low is latest replaced apart below =
     record {
       apart = put_apart place s row ended replaced still under (ended_none row.table row.id s latest) is low;
       written = record {
-        versions_are = written.versions_are ∙ ap (λ vs. vs ++ (new_placed place row s).version ∷ []) (ended_versions row.table row.id s latest replaced apart.ended);
+        versions_are = written.versions_are ∙ ap (λ vs. vs ++ version_of (new_placed place row s) ∷ []) (ended_versions row.table row.id s latest replaced apart.ended);
         below = written.below;
       };
     }
@@ -68,16 +68,16 @@ all_pass p (x ∷ xs) e = go (p x) refl e (all_pass p xs)
     go false is e more = absurd (omega (arith, e, few_left p xs))
 
 -- where the last version of a put's group is current, it is all that the put touches
-module _ (t i g : ℕ) (one : Placed) (key : has_key t i g one ≡ true) (dead : one.version.died ≡ None) where
-  untouched : (y : Placed) → has_key one.version.row.table one.version.row.id one.version.row.group y ≡ false → IsOneCurrent one y → is_touched t i g y ≡ false
-  untouched y off alone = go (is_at t i y.version.row) refl (is_current y.version) refl (in_group g y) refl
+module _ (t i g : ℕ) (one : Placed) (key : has_key t i g one ≡ true) (dead : one.died ≡ None) where
+  untouched : (y : Placed) → has_key one.row.table one.row.id one.row.group y ≡ false → IsOneCurrent one y → is_touched t i g y ≡ false
+  untouched y off alone = go (is_at t i y.row) refl (is_current (version_of y)) refl (in_group g y) refl
     where
-      same : (one.version.row.table ≡ t) × (one.version.row.id ≡ i) × (one.version.row.group ≡ g)
+      same : (one.row.table ≡ t) × (one.row.id ≡ i) × (one.row.group ≡ g)
       same = key_is t i g one key
 
-      go : (a : Bool) → is_at t i y.version.row ≡ a → (b : Bool) → is_current y.version ≡ b → (c : Bool) → in_group g y ≡ c → is_touched t i g y ≡ false
+      go : (a : Bool) → is_at t i y.row ≡ a → (b : Bool) → is_current (version_of y) ≡ b → (c : Bool) → in_group g y ≡ c → is_touched t i g y ≡ false
       go false e b f c h = rw e refl
-      go true e true f c h = absurd (rw (same.0, same.1) at alone e dead (hit_is t i y.version (and_true _ _ e f)).2)
+      go true e true f c h = absurd (rw (same.0, same.1) at alone e dead (hit_is t i (version_of y) (and_true _ _ e f)).2)
       go true e false f true h = absurd (let on = and_true _ _ e h in let no = rw (same.0, same.1, same.2) at off in cc)
       go true e false f false h = rw (e, f, h) refl
 
@@ -87,19 +87,19 @@ module _ (t i g : ℕ) (one : Placed) (key : has_key t i g one ≡ true) (dead :
       rw (← same) (rw touched (ap (λ rest. one ∷ rest) (none xs (rw (← same) at own.0) (rw (← same) at alone.0))))
     where
       touched : is_touched t i g one ≡ true
-      touched = let two = both_true (is_at t i one.version.row) (in_group g one) key in rw (two.0, dead) refl
+      touched = let two = both_true (is_at t i one.row) (in_group g one) key in rw (two.0, dead) refl
 
-      none : (ys : List Placed) → AllByRecursion (λ y. has_key one.version.row.table one.version.row.id one.version.row.group y ≡ false) ys → AllByRecursion (IsOneCurrent one) ys → filter (is_touched t i g) ys ≡ []
+      none : (ys : List Placed) → AllByRecursion (λ y. has_key one.row.table one.row.id one.row.group y ≡ false) ys → AllByRecursion (IsOneCurrent one) ys → filter (is_touched t i g) ys ≡ []
       none [] off only = refl
       none (y ∷ ys) off only = rw (untouched y off.0 only.0) (none ys off.1 only.1)
   one_touched (x ∷ xs) (inr later) own alone =
       let off = there xs later own.0 alone.0 in
-      let turned : has_key one.version.row.table one.version.row.id one.version.row.group x ≡ false
-      = key_turned x.version.row.table x.version.row.id x.version.row.group one.version.row.table one.version.row.id one.version.row.group ∙ off.0 in
+      let turned : has_key one.row.table one.row.id one.row.group x ≡ false
+      = key_turned x.row.table x.row.id x.row.group one.row.table one.row.id one.row.group ∙ off.0 in
       rw (untouched x turned (one_turned x one off.1)) (one_touched xs later own.1 alone.1)
     where
-      there : (ys : List Placed) → IsIn one ys → AllByRecursion (λ y. has_key x.version.row.table x.version.row.id x.version.row.group y ≡ false) ys → AllByRecursion (IsOneCurrent x) ys
-          → (has_key x.version.row.table x.version.row.id x.version.row.group one ≡ false) × IsOneCurrent x one
+      there : (ys : List Placed) → IsIn one ys → AllByRecursion (λ y. has_key x.row.table x.row.id x.row.group y ≡ false) ys → AllByRecursion (IsOneCurrent x) ys
+          → (has_key x.row.table x.row.id x.row.group one ≡ false) × IsOneCurrent x one
       there [] h off only = absurd h
       there (y ∷ ys) (inl same) off only = rw same (off.0, only.0)
       there (y ∷ ys) (inr more) off only = there ys more off.1 only.1
@@ -135,21 +135,21 @@ among_more latest old more true before added = all-append (λ x. Contains latest
 among_more latest old more false before added = before
 
 -- what is known of others is known still
-pub known_still : (t i : ℕ) (old new known : List Placed) → KeepsOthers t i old new → AreAmong old known → AreAmong new (filter (λ x. not (is_at t i x.version.row)) known)
+pub known_still : (t i : ℕ) (old new known : List Placed) → KeepsOthers t i old new → AreAmong old known → AreAmong new (filter (λ x. not (is_at t i x.row)) known)
 known_still t i old new [] others among = tt
-known_still t i old new (x ∷ xs) others among = go (is_at t i x.version.row) refl (known_still t i old new xs others among.1)
+known_still t i old new (x ∷ xs) others among = go (is_at t i x.row) refl (known_still t i old new xs others among.1)
   where
-    go : (b : Bool) → is_at t i x.version.row ≡ b → AreAmong new (filter (λ y. not (is_at t i y.version.row)) xs)
-        → AreAmong new (cond (not b) (x ∷ filter (λ y. not (is_at t i y.version.row)) xs) (filter (λ y. not (is_at t i y.version.row)) xs))
+    go : (b : Bool) → is_at t i x.row ≡ b → AreAmong new (filter (λ y. not (is_at t i y.row)) xs)
+        → AreAmong new (cond (not b) (x ∷ filter (λ y. not (is_at t i y.row)) xs) (filter (λ y. not (is_at t i y.row)) xs))
     go true e more = more
     go false e more = (others x among.0 e, more)
 
 module _ (t i g s : ℕ) where
   of_group : (xs : List Placed) → filter (in_group g) (filter (is_touched t i g) xs) ≡ filter (has_key t i g) xs
   of_group [] = refl
-  of_group (x ∷ xs) = go (is_at t i x.version.row) refl (x.version.row.group == g) refl (is_current x.version) refl (of_group xs)
+  of_group (x ∷ xs) = go (is_at t i x.row) refl (x.row.group == g) refl (is_current (version_of x)) refl (of_group xs)
     where
-      go : (a : Bool) → is_at t i x.version.row ≡ a → (b : Bool) → (x.version.row.group == g) ≡ b → (c : Bool) → is_current x.version ≡ c
+      go : (a : Bool) → is_at t i x.row ≡ a → (b : Bool) → (x.row.group == g) ≡ b → (c : Bool) → is_current (version_of x) ≡ c
           → filter (in_group g) (filter (is_touched t i g) xs) ≡ filter (has_key t i g) xs → filter (in_group g) (filter (is_touched t i g) (x ∷ xs)) ≡ filter (has_key t i g) (x ∷ xs)
       go true e true f true h more = rw (e, f, h, f) (ap (λ rest. x ∷ rest) more)
       go true e true f false h more = rw (e, f, h, f) (ap (λ rest. x ∷ rest) more)
@@ -164,17 +164,17 @@ module _ (t i g s : ℕ) where
 
   -- none of another group is current
   abbrev pub Stays : List Placed → Type 0
-  Stays = AllByRecursion (λ x. is_at t i x.version.row && is_current x.version ≡ true → has_key t i g x ≡ true)
+  Stays = AllByRecursion (λ x. is_at t i x.row && is_current (version_of x) ≡ true → has_key t i g x ≡ true)
 
   grouped : (xs : List Placed) → AllByRecursion (λ x. in_group g x ≡ true) (filter (is_touched t i g) xs) → Stays xs
   grouped [] all = tt
   grouped (x ∷ xs) all = go (is_touched t i g x) refl all (grouped xs)
     where
-      touched : is_at t i x.version.row && is_current x.version ≡ true → is_touched t i g x ≡ true
-      touched hit = let two = both_true (is_at t i x.version.row) (is_current x.version) hit in rw (two.0, two.1) refl
+      touched : is_at t i x.row && is_current (version_of x) ≡ true → is_touched t i g x ≡ true
+      touched hit = let two = both_true (is_at t i x.row) (is_current (version_of x)) hit in rw (two.0, two.1) refl
 
       go : (b : Bool) → is_touched t i g x ≡ b → AllByRecursion (λ y. in_group g y ≡ true) (cond b (x ∷ filter (is_touched t i g) xs) (filter (is_touched t i g) xs)) → (AllByRecursion (λ y. in_group g y ≡ true) (filter (is_touched t i g) xs) → Stays xs) → Stays (x ∷ xs)
-      go true e all more = (λ hit. and_true _ _ (both_true (is_at t i x.version.row) (is_current x.version) hit).0 all.0, more all.1)
+      go true e all more = (λ hit. and_true _ _ (both_true (is_at t i x.row) (is_current (version_of x)) hit).0 all.0, more all.1)
       go false e all more = (λ hit. absurd (let f = touched hit in let h = e in cc), more all)
 
   pub stays : (latest xs : List Placed) → IsPermutation (filter (is_touched t i g) latest) xs → length (filter (in_group g) xs) ≡ length xs → Stays latest
@@ -186,15 +186,15 @@ module _ (t i g s : ℕ) where
   ended = map (closed_placed t i s)
 
   -- a put replaces the last of its key, ended
-  pub ended_hits : (latest : List Placed) → map (λ x. closed_placed x.version.row.table x.version.row.id s x) (filter (has_key t i g) latest) ≡ filter (has_key t i g) (ended latest)
+  pub ended_hits : (latest : List Placed) → map (λ x. closed_placed x.row.table x.row.id s x) (filter (has_key t i g) latest) ≡ filter (has_key t i g) (ended latest)
   ended_hits [] = refl
   ended_hits (x ∷ xs) = go (has_key t i g x) refl (ended_hits xs)
     where
-      go : (b : Bool) → has_key t i g x ≡ b → map (λ y. closed_placed y.version.row.table y.version.row.id s y) (filter (has_key t i g) xs) ≡ filter (has_key t i g) (ended xs)
-          → map (λ y. closed_placed y.version.row.table y.version.row.id s y) (cond b (x ∷ filter (has_key t i g) xs) (filter (has_key t i g) xs)) ≡ cond b (closed_placed t i s x ∷ filter (has_key t i g) (ended xs)) (filter (has_key t i g) (ended xs))
+      go : (b : Bool) → has_key t i g x ≡ b → map (λ y. closed_placed y.row.table y.row.id s y) (filter (has_key t i g) xs) ≡ filter (has_key t i g) (ended xs)
+          → map (λ y. closed_placed y.row.table y.row.id s y) (cond b (x ∷ filter (has_key t i g) xs) (filter (has_key t i g) xs)) ≡ cond b (closed_placed t i s x ∷ filter (has_key t i g) (ended xs)) (filter (has_key t i g) (ended xs))
       go true e more =
           let key = key_is t i g x e in
-          let here : closed_placed x.version.row.table x.version.row.id s x ≡ closed_placed t i s x = ap (λ n. closed_placed n x.version.row.id s x) key.0 ∙ ap (λ n. closed_placed t n s x) key.1 in
+          let here : closed_placed x.row.table x.row.id s x ≡ closed_placed t i s x = ap (λ n. closed_placed n x.row.id s x) key.0 ∙ ap (λ n. closed_placed t n s x) key.1 in
           rw (here, more) refl
       go false e more = more
 
@@ -209,9 +209,9 @@ module _ (t i g s : ℕ) where
 
   unended : (xs : List Placed) → Stays xs → AllByRecursion (λ x. has_key t i g x ≡ false) xs → ended xs ≡ xs
   unended [] stay off = refl
-  unended (x ∷ xs) stay off = go (is_at t i x.version.row && is_current x.version) refl (unended xs stay.1 off.1)
+  unended (x ∷ xs) stay off = go (is_at t i x.row && is_current (version_of x)) refl (unended xs stay.1 off.1)
     where
-      go : (b : Bool) → is_at t i x.version.row && is_current x.version ≡ b → ended xs ≡ xs → ended (x ∷ xs) ≡ x ∷ xs
+      go : (b : Bool) → is_at t i x.row && is_current (version_of x) ≡ b → ended xs ≡ xs → ended (x ∷ xs) ≡ x ∷ xs
       go true e more = absurd (let f = stay.0 e in let h = off.0 in cc)
       go false e more = rw (e, more) refl
 
@@ -227,9 +227,9 @@ put_unmoved row s place latest stay = go (length (filter (has_key row.table row.
 
     renewed_same : (xs : List Placed) → Stays row.table row.id row.group s xs → map (renewed place row s) xs ≡ map (renewed place row s) (map (closed_placed row.table row.id s) xs)
     renewed_same [] stay = refl
-    renewed_same (x ∷ xs) stay = go (here x) refl (is_at row.table row.id x.version.row && is_current x.version) refl (renewed_same xs stay.1)
+    renewed_same (x ∷ xs) stay = go (here x) refl (is_at row.table row.id x.row && is_current (version_of x)) refl (renewed_same xs stay.1)
       where
-        go : (a : Bool) → here x ≡ a → (b : Bool) → is_at row.table row.id x.version.row && is_current x.version ≡ b → map (renewed place row s) xs ≡ map (renewed place row s) (map (closed_placed row.table row.id s) xs)
+        go : (a : Bool) → here x ≡ a → (b : Bool) → is_at row.table row.id x.row && is_current (version_of x) ≡ b → map (renewed place row s) xs ≡ map (renewed place row s) (map (closed_placed row.table row.id s) xs)
             → map (renewed place row s) (x ∷ xs) ≡ map (renewed place row s) (map (closed_placed row.table row.id s) (x ∷ xs))
         go true e b f more = rw (e, more) refl
         go false e true f more = absurd (let h = stay.0 f in cc)
@@ -298,11 +298,11 @@ module _ (row : RowValue) (s place : ℕ) (old first mid : Held MemStore) (repla
       go true = others_ended row.table row.id s (latest_in old) x h off
       go false = h
 
-  pub put_step : s ≤ LAST_STAMP → IsRow row → (end : Held MemStore) → HasLatest (put_latest place row s (latest_in mid)) end
-      → HasWritten (put row s (versions_of replaced old)) (place + 1) (replaced ++ map (λ x. closed_placed x.version.row.table x.version.row.id s x) (option_to_list o)) end
+  pub put_step : s ≤ LAST_MOMENT → IsRow row → (end : Held MemStore) → HasLatest (put_latest place row s (latest_in mid)) end
+      → HasWritten (put row s (versions_of replaced old)) (place + 1) (replaced ++ map (λ x. closed_placed x.row.table x.row.id s x) (option_to_list o)) end
   put_step low is end puts =
-      let went : map (λ x. closed_placed x.version.row.table x.version.row.id s x) (option_to_list o) ≡ filter (has_key row.table row.id row.group) (map (closed_placed row.table row.id s) (latest_in old))
-      = ap (map (λ x. closed_placed x.version.row.table x.version.row.id s x)) hits ∙ ended_hits row.table row.id row.group s (latest_in old) in
+      let went : map (λ x. closed_placed x.row.table x.row.id s x) (option_to_list o) ≡ filter (has_key row.table row.id row.group) (map (closed_placed row.table row.id s) (latest_in old))
+      = ap (map (λ x. closed_placed x.row.table x.row.id s x)) hits ∙ ended_hits row.table row.id row.group s (latest_in old) in
       record { table = puts.table; all = rw (puts.latest_are ∙ lands, went) (put_all row s place low is (latest_in old) replaced apart below) }
 
 -- ---- one step after another

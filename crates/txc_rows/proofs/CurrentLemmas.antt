@@ -50,15 +50,15 @@ both_current q vs found same = subst (λ xs. IsPermutation xs (current found)) (
 -- ---- the last versions alone
 
 module _ (q : Query) (from : ℕ) where
-  none_current : (xs : List Placed) → AllByRecursion (λ x. x.version.died ≢ None) xs → current (asked q from xs) ≡ []
+  none_current : (xs : List Placed) → AllByRecursion (λ x. x.died ≢ None) xs → current (asked q from xs) ≡ []
   none_current [] all = refl
-  none_current (x ∷ xs) all = go (is_left from x.version) (suits q x.version) x.version.died refl refl (none_current xs all.1)
+  none_current (x ∷ xs) all = go (is_left from (version_of x)) (suits q (version_of x)) x.died refl refl (none_current xs all.1)
     where
       rest : List Versioned
       rest = left_from from (map version_of xs)
 
-      go : (b c : Bool) (d : Option ℕ) → suits q x.version ≡ c → x.version.died ≡ d → current (filter (suits q) rest) ≡ []
-          → current (filter (suits q) (cond b (x.version ∷ rest) rest)) ≡ []
+      go : (b c : Bool) (d : Option ℕ) → suits q (version_of x) ≡ c → x.died ≡ d → current (filter (suits q) rest) ≡ []
+          → current (filter (suits q) (cond b ((version_of x) ∷ rest) rest)) ≡ []
       go b c None f e none = absurd (all.0 e)
       go false c (Some d) f e none = none
       go true false (Some d) f e none = rw f none
@@ -71,7 +71,7 @@ module _ (q : Query) (from : ℕ) where
     all_of : IsPermutation (of_all q from replaced h) (found ++ asked q from replaced)
     all_of = found_latest q from replaced h old found none finding
 
-    pub last_current : AllByRecursion (λ x. x.version.died ≢ None) replaced → IsPermutation (filter (suits q) (current (left_from from (versions_of replaced h)))) (current found)
+    pub last_current : AllByRecursion (λ x. x.died ≢ None) replaced → IsPermutation (filter (suits q) (current (left_from from (versions_of replaced h)))) (current found)
     last_current ended =
         let are : current (found ++ asked q from replaced) ≡ current found
         = filter-append is_current found (asked q from replaced) ∙ ap (λ xs. current found ++ xs) (none_current replaced ended) ∙ append-nil (current found) in

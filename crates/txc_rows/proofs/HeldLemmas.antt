@@ -20,7 +20,7 @@ use Rattle.txc_rows.specs.declared.query.Query.{Query}
 use Rattle.txc_rows.specs.declared.texts.TheConstants.{MOST_READ, READ_LAST, READ_PLACED, READ_LEFT}
 use Rattle.txc_rows.specs.Holdable.{IsStorable}
 use Rattle.txc_rows.specs.declared.placed.Placed.{Placed}
-use Rattle.txc_rows.specs.Placed.{is_left, placed_left, is_row_left, is_touched}
+use Rattle.txc_rows.specs.Placed.{version_of, is_left, placed_left, is_row_left, is_touched}
 use Rattle.txc_rows.specs.Stored.{stored, cells_of, number, placed_all, AreVersionRows}
 use Rattle.txc_rows.specs.Kept.{latest_in, HasTable, HasLatest, IsKept, IsStep, IsCall, IsSame, IsReading, IsLeaving, ArePassing}
 use Rattle.txc_rows.proofs.Members.{both_true}
@@ -36,7 +36,7 @@ use Rattle.sqlite.specs.Tree.{Trees}
 
 -- each can be held
 abbrev pub AreStorable : List Placed → Type 0
-AreStorable = AllByRecursion (λ x. IsStorable x.version)
+AreStorable = AllByRecursion (λ x. IsStorable (version_of x))
 
 -- ---- one statement of a transaction
 
@@ -129,7 +129,7 @@ read_same text params plain old new kept r ok err = go r ok err
     go (Err e) shown fails = refused_same old new kept (query_refused text params (state over_memory old) (state over_memory new) e here fails)
 
 module _ (q : Query) (from : ℕ) (fs : List Term) (text : List ℕ) (is : IsListingOf fs text) (params : Row)
-    (test : (id : ℤ) (x : Placed) → list_all (holds (params ∷ stored id x ∷ [])) fs ≡ is_asked q from x.version) (limit : as_count (eval most_shown (params ∷ [])) ≡ Some MOST_READ) (old new : Held MemStore) (kept : IsKept old) where
+    (test : (id : ℤ) (x : Placed) → list_all (holds (params ∷ stored id x ∷ [])) fs ≡ is_asked q from (version_of x)) (limit : as_count (eval most_shown (params ∷ [])) ≡ Some MOST_READ) (old new : Held MemStore) (kept : IsKept old) where
   pub lists : (r : Result (Vec Row Global) Error) → IfOk r (λ rows. Shown text params (state over_memory old) (state over_memory new) rows.items)
       → IfErr r (FailsToQuery text params (state over_memory old) (state over_memory new)) → IsReading q from old new r
   lists (Ok rows) ok err =
@@ -140,7 +140,7 @@ module _ (q : Query) (from : ℕ) (fs : List Term) (text : List ℕ) (is : IsLis
 left_rows : (from : ℕ) (old new : Held MemStore) → IsKept old → (rows : List Row) → Shown READ_LEFT.now (number from ∷ []) (state over_memory old) (state over_memory new) rows
     → IsPermutation (map cells_of (placed_left from (latest_in old))) rows
 left_rows from old new kept rows shown =
-    cells_read left_filter READ_LEFT.now left_is (number from ∷ []) (λ x. is_left from x.version) (left_test_is from) (state over_memory old) (state over_memory new) rows kept.table.schema kept.table.latest shown
+    cells_read left_filter READ_LEFT.now left_is (number from ∷ []) (λ x. is_left from (version_of x)) (left_test_is from) (state over_memory old) (state over_memory new) rows kept.table.schema kept.table.latest shown
 
 pub leaves : (from : ℕ) (old new : Held MemStore) → IsKept old → (r : Result (Vec Row Global) Error)
     → IfOk r (λ rows. Shown READ_LEFT.now (number from ∷ []) (state over_memory old) (state over_memory new) rows.items)
@@ -151,13 +151,13 @@ leaves from old new kept (Ok rows) ok err =
 leaves from old new kept (Err e) ok err = record { same = read_same READ_LEFT.now (number from ∷ []) left_is.plain old new kept (Err e) ok err; cells = tt; left = tt }
 
 -- the versions of a table that pass
-module _ (t : ℕ) (P : Placed → Bool) (of : (x : Placed) → P x ≡ true → x.version.row.table ≡ t) (fs : List Term) (text : List ℕ) (is : AreCellsOf fs text) (params : Row)
+module _ (t : ℕ) (P : Placed → Bool) (of : (x : Placed) → P x ≡ true → x.row.table ≡ t) (fs : List Term) (text : List ℕ) (is : AreCellsOf fs text) (params : Row)
     (test : (id : ℤ) (x : Placed) → list_all (holds (params ∷ stored id x ∷ [])) fs ≡ P x) where
-  of_table : (xs : List Placed) → AreStorable xs → AllByRecursion (λ x. (x.version.row.table ≡ t) × IsStorable x.version) (filter P xs)
+  of_table : (xs : List Placed) → AreStorable xs → AllByRecursion (λ x. (x.row.table ≡ t) × IsStorable (version_of x)) (filter P xs)
   of_table [] all = tt
   of_table (x ∷ xs) all = go (P x) refl (of_table xs all.1)
     where
-      go : (b : Bool) → P x ≡ b → AllByRecursion (λ y. (y.version.row.table ≡ t) × IsStorable y.version) (filter P xs) → AllByRecursion (λ y. (y.version.row.table ≡ t) × IsStorable y.version) (cond b (x ∷ filter P xs) (filter P xs))
+      go : (b : Bool) → P x ≡ b → AllByRecursion (λ y. (y.row.table ≡ t) × IsStorable (version_of y)) (filter P xs) → AllByRecursion (λ y. (y.row.table ≡ t) × IsStorable (version_of y)) (cond b (x ∷ filter P xs) (filter P xs))
       go true e more = ((of x e, all.0), more)
       go false e more = more
 
@@ -168,7 +168,7 @@ module _ (t : ℕ) (P : Placed → Bool) (of : (x : Placed) → P x ≡ true →
       record { each = placed_rows t _ rows.items read (of_table (latest_in old) each); same = cells_are _ rows.items read }
   passing old new table each (Err e) ok = tt
 
-at_table : (t i : ℕ) (x : Placed) (b : Bool) → is_at t i x.version.row && b ≡ true → x.version.row.table ≡ t
+at_table : (t i : ℕ) (x : Placed) (b : Bool) → is_at t i x.row && b ≡ true → x.row.table ≡ t
 at_table t i x b e = eqb-true _ _ (both_true _ _ (both_true _ _ e).0).0
 
 pub row_passing : (t i from : ℕ) (old new : Held MemStore) → IsKept old → (r : Result (Vec Row Global) Error) → IfOk r (λ rows. Shown READ_PLACED.now (number t ∷ number i ∷ number from ∷ []) (state over_memory old) (state over_memory new) rows.items)

@@ -232,7 +232,7 @@ between_all t ss fit = filter_same _ _ ss (each ss fit)
     each (x ∷ xs) all = (whole x.table t x.key all.0.0, each xs all.1)
 
 asked_spots : (q : Query) (first : ℕ) (xs : List Placed) (ids groups : List Spot) → AreIndexed first xs ids groups
-    → IsPermutation (filter (λ x. suits q x.version) xs) (picked first xs (filter (spot_suits q) (spots_asked q ids groups)))
+    → IsPermutation (filter (λ x. suits q (version_of x)) xs) (picked first xs (filter (spot_suits q) (spots_asked q ids groups)))
 asked_spots q first xs ids groups h = go q
   where
     by : (key : Placed → ℕ) (p : Spot → Bool) (P : Placed → Bool) (spots : List Spot) → IsPermutation (spots_from key first xs) spots → ((n : ℕ) (x : Placed) → p (spot_of key n x) ≡ P x)
@@ -241,19 +241,19 @@ asked_spots q first xs ids groups h = go q
         let all : picked first xs (filter p (spots_from key first xs)) ≡ filter P xs = subst (λ n. picked first xs (filter p (spots_from key n xs)) ≡ filter P xs) (omega arith) (picked_all key first p P [] xs suit) in
         subst (λ ys. IsPermutation ys (picked first xs (filter p spots))) all (IsPermutation-flat_map _ _ _ (IsPermutation-filter p _ _ same))
 
-    go : (r : Query) → IsPermutation (filter (λ x. suits r x.version) xs) (picked first xs (filter (spot_suits r) (spots_asked r ids groups)))
-    go (ById t i) = by version_id _ _ ids h.by_id (λ n x. between_one t i x.version.row.table x.version.row.id)
-    go (ByGroup t g) = by version_group _ _ groups h.by_group (λ n x. between_one t g x.version.row.table x.version.row.group)
+    go : (r : Query) → IsPermutation (filter (λ x. suits r (version_of x)) xs) (picked first xs (filter (spot_suits r) (spots_asked r ids groups)))
+    go (ById t i) = by version_id _ _ ids h.by_id (λ n x. between_one t i x.row.table x.row.id)
+    go (ByGroup t g) = by version_group _ _ groups h.by_group (λ n x. between_one t g x.row.table x.row.group)
     go (All t) = by version_id _ _ ids h.by_id (λ n x. refl)
     go (Range t a b) = by version_id _ _ ids h.by_id (λ n x. refl)
 
-left_asked : (q : Query) (from : ℕ) (xs : List Placed) → map version_of (placed_left from (filter (λ x. suits q x.version) xs)) ≡ asked q from xs
+left_asked : (q : Query) (from : ℕ) (xs : List Placed) → map version_of (placed_left from (filter (λ x. suits q (version_of x)) xs)) ≡ asked q from xs
 left_asked q from [] = refl
-left_asked q from (x ∷ xs) = go (suits q x.version) refl (is_left from x.version) refl (left_asked q from xs)
+left_asked q from (x ∷ xs) = go (suits q (version_of x)) refl (is_left from (version_of x)) refl (left_asked q from xs)
   where
-    go : (b : Bool) → suits q x.version ≡ b → (c : Bool) → is_left from x.version ≡ c → map version_of (placed_left from (filter (λ y. suits q y.version) xs)) ≡ asked q from xs
-        → map version_of (placed_left from (filter (λ y. suits q y.version) (x ∷ xs))) ≡ asked q from (x ∷ xs)
-    go true e true f more = rw (e, f, e) (ap (λ vs. x.version ∷ vs) more)
+    go : (b : Bool) → suits q (version_of x) ≡ b → (c : Bool) → is_left from (version_of x) ≡ c → map version_of (placed_left from (filter (λ y. suits q (version_of y)) xs)) ≡ asked q from xs
+        → map version_of (placed_left from (filter (λ y. suits q (version_of y)) (x ∷ xs))) ≡ asked q from (x ∷ xs)
+    go true e true f more = rw (e, f, e) (ap (λ vs. (version_of x) ∷ vs) more)
     go true e false f more = rw (e, f) more
     go false e true f more = rw (e, f, e) more
     go false e false f more = rw (e, f) more
@@ -264,7 +264,7 @@ module _ (q : Query) (from first : ℕ) (xs : List Placed) (ids groups : List Sp
 
   found_same : IsPermutation (asked q from xs) (map version_of found_there)
   found_same = subst (λ vs. IsPermutation vs (map version_of found_there)) (left_asked q from xs)
-      (IsPermutation-map version_of _ _ (IsPermutation-filter (λ x. is_left from x.version) _ _ (asked_spots q first xs ids groups h)))
+      (IsPermutation-map version_of _ _ (IsPermutation-filter (λ x. is_left from (version_of x)) _ _ (asked_spots q first xs ids groups h)))
 
   pub index_finds : (old new : List Versioned) → new ≡ old ++ map version_of found_there → length new ≤ MAX_MATCHING → IsFinding q from xs old new
   index_finds old new are few = record { more = map version_of found_there; same = found_same; are = are; few = few }
@@ -285,17 +285,17 @@ module _ (q : Query) (from first : ℕ) (xs : List Placed) (ids groups : List Sp
       go (Range t a b) = high version_id ids h.by_id
 
 -- the ids and the groups are numbers of a machine
-pub ids_fit : (first : ℕ) (xs : List Placed) (ids groups : List Spot) → AreIndexed first xs ids groups → AllByRecursion (λ x. IsStorable x.version) xs → AllByRecursion FitsSpot ids
+pub ids_fit : (first : ℕ) (xs : List Placed) (ids groups : List Spot) → AreIndexed first xs ids groups → AllByRecursion (λ x. IsStorable (version_of x)) xs → AllByRecursion FitsSpot ids
 ids_fit first xs ids groups h each = all-permutation FitsSpot _ ids h.by_id (spots_fit version_id first xs (low xs each) h.fits)
   where
-    low : (ys : List Placed) → AllByRecursion (λ x. IsStorable x.version) ys → AllByRecursion (λ x. version_id x ≤ 4294967295) ys
+    low : (ys : List Placed) → AllByRecursion (λ x. IsStorable (version_of x)) ys → AllByRecursion (λ x. version_id x ≤ 4294967295) ys
     low [] all = tt
     low (y ∷ ys) all = (all.0.row.id, low ys all.1)
 
-pub groups_fit : (first : ℕ) (xs : List Placed) (ids groups : List Spot) → AreIndexed first xs ids groups → AllByRecursion (λ x. IsStorable x.version) xs → AllByRecursion FitsSpot groups
+pub groups_fit : (first : ℕ) (xs : List Placed) (ids groups : List Spot) → AreIndexed first xs ids groups → AllByRecursion (λ x. IsStorable (version_of x)) xs → AllByRecursion FitsSpot groups
 groups_fit first xs ids groups h each = all-permutation FitsSpot _ groups h.by_group (spots_fit version_group first xs (low xs each) h.fits)
   where
-    low : (ys : List Placed) → AllByRecursion (λ x. IsStorable x.version) ys → AllByRecursion (λ x. version_group x ≤ 4294967295) ys
+    low : (ys : List Placed) → AllByRecursion (λ x. IsStorable (version_of x)) ys → AllByRecursion (λ x. version_group x ≤ 4294967295) ys
     low [] all = tt
     low (y ∷ ys) all = (all.0.row.group, low ys all.1)
 
@@ -310,7 +310,7 @@ module _ (from first : ℕ) (xs : List Placed) (s : Spot) (ss : List Spot) where
   abbrev pub taken : List Spot → List Versioned
   taken ts = map version_of (placed_left from (picked first xs ts))
 
-  pub taken_left : (x : Placed) → slice_get xs (s.number - first) ≡ Some x → is_left from x.version ≡ true → taken (s ∷ ss) ≡ x.version ∷ taken ss
+  pub taken_left : (x : Placed) → slice_get xs (s.number - first) ≡ Some x → is_left from (version_of x) ≡ true → taken (s ∷ ss) ≡ (version_of x) ∷ taken ss
   taken_left x e f = rw (e, f) refl
 
 pub not_false : (b : Bool) → not b ≡ false → b ≡ true

@@ -9,7 +9,7 @@ use Rattle.txc_rows.specs.States.{State, IsState}
 use Rattle.txc_rows.specs.Net.{IsNet}
 use Rattle.txc_rows.specs.Versions.{suits, after_net, purged, has_died_by}
 use Rattle.txc_rows.specs.Found.{Finds}
-use Rattle.txc_rows.specs.Holdable.{IsStorable}
+use Rattle.txc_rows.specs.Holdable.{IsShowable}
 use Rattle.std.specs.List.{AllByRecursion}
 use Rattle.txc_rows.specs.Keeping.{KeepsStates, KeepsWritten, KeepsPurged, AnswersStates}
 use Rattle.txc_rows.proofs.Members.{is_in, contains_it, bool_cases, in_filter, from_filter}
@@ -74,7 +74,7 @@ keeps_to states horizon newest last vs later stays keeps =
 
 -- ---- a write
 
-keeps_next : (states : ℕ → State) (horizon newest : ℕ) (net : List Change) (vs : List Versioned) → IsNet (states newest) net (states (suc newest)) → AllByRecursion IsStorable (after_net (suc newest) net vs)
+keeps_next : (states : ℕ → State) (horizon newest : ℕ) (net : List Change) (vs : List Versioned) → IsNet (states newest) net (states (suc newest)) → AllByRecursion IsShowable (after_net (suc newest) net vs)
     → KeepsStates states horizon newest vs → KeepsStates states horizon (suc newest) (after_net (suc newest) net vs)
 keeps_next states horizon newest net vs is held keeps = record {
   kept = let k = keeps.kept in omega arith;
@@ -84,7 +84,7 @@ keeps_next states horizon newest net vs is held keeps = record {
   versions = written_versions (suc newest) net vs keeps.versions (net_is_writable states horizon newest net vs (states (suc newest)) keeps.kept keeps.says is) held;
 }
 
-pub keeps_written : (net : List Change) (stamp : ℕ) (vs : List Versioned) → AllByRecursion IsStorable (after_net stamp net vs) → KeepsWritten net stamp vs (after_net stamp net vs)
+pub keeps_written : (net : List Change) (stamp : ℕ) (vs : List Versioned) → AllByRecursion IsShowable (after_net stamp net vs) → KeepsWritten net stamp vs (after_net stamp net vs)
 keeps_written net zero vs held states horizon newest keeps leads = absurd (let late = leads.later in omega arith)
 keeps_written net (suc last) vs held states horizon newest keeps leads =
     let late = leads.later in

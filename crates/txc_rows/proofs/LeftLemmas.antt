@@ -13,6 +13,7 @@ use Rattle.sqlite.specs.Edit.{id_in}
 use Rattle.sqlite.specs.State.{State, Shown}
 use Rattle.sqlite.proofs.Callers.{reads_as}
 use Rattle.sqlite_trees.proofs.ListLemmas.{map-map, filter-map, all-permutation}
+use Rattle.txc_rows.specs.Placed.{version_of}
 use Rattle.txc_rows.specs.Holdable.{IsStorable}
 use Rattle.txc_rows.specs.declared.placed.Placed.{Placed}
 use Rattle.txc_rows.specs.Texts.{latest_schema}
@@ -68,11 +69,11 @@ cells_are xs rows same = subst (λ ys. IsPermutation ys (map placed_from rows)) 
 pub cells_each : (xs : List Placed) (rows : List Row) → IsPermutation (map cells_of xs) rows → AllByRecursion AreCells rows
 cells_each xs rows same = all-permutation AreCells _ rows same (all_cells xs)
 
-pub placed_rows : (t : ℕ) (xs : List Placed) (rows : List Row) → IsPermutation (map cells_of xs) rows → AllByRecursion (λ x. (x.version.row.table ≡ t) × IsStorable x.version) xs → AllByRecursion (IsPlacedRow t) rows
+pub placed_rows : (t : ℕ) (xs : List Placed) (rows : List Row) → IsPermutation (map cells_of xs) rows → AllByRecursion (λ x. (x.row.table ≡ t) × IsStorable (version_of x)) xs → AllByRecursion (IsPlacedRow t) rows
 placed_rows t xs rows same each = all-permutation (IsPlacedRow t) _ rows same (go xs each)
   where
-    go : (ys : List Placed) → AllByRecursion (λ x. (x.version.row.table ≡ t) × IsStorable x.version) ys → AllByRecursion (IsPlacedRow t) (map cells_of ys)
+    go : (ys : List Placed) → AllByRecursion (λ x. (x.row.table ≡ t) × IsStorable (version_of x)) ys → AllByRecursion (IsPlacedRow t) (map cells_of ys)
     go [] all = tt
     go (y ∷ ys) all =
         let again = cells_again y in
-        (record { is = ap cells_of (sym again); table_is = subst (λ x. x.version.row.table ≡ t) (sym again) all.0.0; version = subst (λ x. IsStorable x.version) (sym again) all.0.1 }, go ys all.1)
+        (record { is = ap cells_of (sym again); table_is = subst (λ x. x.row.table ≡ t) (sym again) all.0.0; version = subst (λ x. IsStorable (version_of x)) (sym again) all.0.1 }, go ys all.1)

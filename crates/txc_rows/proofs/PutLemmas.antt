@@ -8,7 +8,7 @@ use Rattle.std.specs.List.Sorted.{IsPermutation}
 use Rattle.std.proofs.lemmas.List.Sorted.{IsPermutation-refl, IsPermutation-trans, IsPermutation-sym, IsPermutation-cons, IsPermutation-append_left, IsPermutation-append_right, IsPermutation-append_comm}
 use Rattle.sqlite.specs.Tree.{IsAscending}
 use Rattle.sqlite_trees.proofs.ListLemmas.{map-map, all-append, all-map, all-permutation, ascending-append, ascending-map, ascending_weaker, IsPermutation-same, filter_none}
-use Rattle.txc_stamp.specs.declared.stamp.TheConstants.{LAST_STAMP}
+use Rattle.txc_rows.specs.declared.moment.TheConstants.{LAST_MOMENT}
 use Rattle.txc_rows.specs.Values.{RowValue, IsRow}
 use Rattle.txc_rows.specs.States.{is_at}
 use Rattle.txc_rows.specs.Versions.{is_current, closed, removed}
@@ -47,20 +47,20 @@ empty_of (x ∷ xs) e = absurd (let f = eqb-true _ _ e in omega (arith, f))
 
 -- ---- a version ends
 
-dead_stays : (t i s : ℕ) (x : Placed) → x.version.died ≢ None → closed_placed t i s x ≡ x
-dead_stays t i s x dead = elim (bool_cases (is_at t i x.version.row && is_current x.version)) [
-  | inl hit ↦ absurd (dead (hit_is t i x.version hit).2)
+dead_stays : (t i s : ℕ) (x : Placed) → x.died ≢ None → closed_placed t i s x ≡ x
+dead_stays t i s x dead = elim (bool_cases (is_at t i x.row && is_current (version_of x))) [
+  | inl hit ↦ absurd (dead (hit_is t i (version_of x) hit).2)
   | inr off ↦ rw off refl
 ]
 
-pub dead_stay : (t i s : ℕ) (xs : List Placed) → AllByRecursion (λ x. x.version.died ≢ None) xs → map (closed_placed t i s) xs ≡ xs
+pub dead_stay : (t i s : ℕ) (xs : List Placed) → AllByRecursion (λ x. x.died ≢ None) xs → map (closed_placed t i s) xs ≡ xs
 dead_stay t i s [] dead = refl
 dead_stay t i s (x ∷ xs) dead = rw (dead_stays t i s x dead.0, dead_stay t i s xs dead.1) refl
 
-ended_all : (t i s : ℕ) (latest earlier : List Placed) → AllByRecursion (λ x. x.version.died ≢ None) earlier → map (closed_placed t i s) latest ++ earlier ≡ map (closed_placed t i s) (latest ++ earlier)
+ended_all : (t i s : ℕ) (latest earlier : List Placed) → AllByRecursion (λ x. x.died ≢ None) earlier → map (closed_placed t i s) latest ++ earlier ≡ map (closed_placed t i s) (latest ++ earlier)
 ended_all t i s latest earlier dead = ap (λ ys. map (closed_placed t i s) latest ++ ys) (sym (dead_stay t i s earlier dead)) ∙ sym (map-append (closed_placed t i s) latest earlier)
 
-pub ended_versions : (t i s : ℕ) (latest earlier : List Placed) → AllByRecursion (λ x. x.version.died ≢ None) earlier
+pub ended_versions : (t i s : ℕ) (latest earlier : List Placed) → AllByRecursion (λ x. x.died ≢ None) earlier
     → versions_by_place (map (closed_placed t i s) latest ++ earlier) ≡ removed t i s (versions_by_place (latest ++ earlier))
 ended_versions t i s latest earlier dead =
     ap versions_by_place (ended_all t i s latest earlier dead)
@@ -69,17 +69,17 @@ ended_versions t i s latest earlier dead =
     ∙ sym (map-map (closed t i s) version_of (by_place (latest ++ earlier)))
 
 still_one : (t i s : ℕ) (x y : Placed) → IsOneCurrent x y → IsOneCurrent (closed_placed t i s x) (closed_placed t i s y)
-still_one t i s x y h at current = closed_dead t i s y.version (h at (alive (is_at t i x.version.row && is_current x.version) refl current))
+still_one t i s x y h at current = closed_dead t i s (version_of y) (h at (alive (is_at t i x.row && is_current (version_of x)) refl current))
   where
-    alive : (b : Bool) → is_at t i x.version.row && is_current x.version ≡ b → cond b (Some s) x.version.died ≡ None → x.version.died ≡ None
+    alive : (b : Bool) → is_at t i x.row && is_current (version_of x) ≡ b → cond b (Some s) x.died ≡ None → x.died ≡ None
     alive true e f = absurd (let g = f in cc)
     alive false e f = f
 
-all_holdable : (t i s : ℕ) → s ≤ LAST_STAMP → (xs : List Placed) → AllByRecursion (λ x. IsStorable x.version) xs → AllByRecursion (λ x. IsStorable x.version) (map (closed_placed t i s) xs)
+all_holdable : (t i s : ℕ) → s ≤ LAST_MOMENT → (xs : List Placed) → AllByRecursion (λ x. IsStorable (version_of x)) xs → AllByRecursion (λ x. IsStorable (version_of x)) (map (closed_placed t i s) xs)
 all_holdable t i s low [] all = tt
-all_holdable t i s low (x ∷ xs) all = (holdable_closed t i s low x.version all.0, all_holdable t i s low xs all.1)
+all_holdable t i s low (x ∷ xs) all = (holdable_closed LAST_MOMENT t i s low (version_of x) all.0, all_holdable t i s low xs all.1)
 
-pub ended_apart : (t i s : ℕ) → s ≤ LAST_STAMP → (latest earlier : List Placed) → AreWellPlaced latest earlier → AreWellPlaced (map (closed_placed t i s) latest) earlier
+pub ended_apart : (t i s : ℕ) → s ≤ LAST_MOMENT → (latest earlier : List Placed) → AreWellPlaced latest earlier → AreWellPlaced (map (closed_placed t i s) latest) earlier
 ended_apart t i s low latest earlier h =
     let all = ended_all t i s latest earlier h.ended in
     record {
@@ -90,53 +90,53 @@ ended_apart t i s low latest earlier h =
       each = rw all (all_holdable t i s low (latest ++ earlier) h.each);
     }
 
-pub ended_below : (t i s next : ℕ) (latest earlier : List Placed) → AllByRecursion (λ x. x.version.died ≢ None) earlier → AreBelow next (latest ++ earlier) → AreBelow next (map (closed_placed t i s) latest ++ earlier)
+pub ended_below : (t i s next : ℕ) (latest earlier : List Placed) → AllByRecursion (λ x. x.died ≢ None) earlier → AreBelow next (latest ++ earlier) → AreBelow next (map (closed_placed t i s) latest ++ earlier)
 ended_below t i s next latest earlier dead low = rw (ended_all t i s latest earlier dead) (all-map (λ x. x.place < next) (closed_placed t i s) (latest ++ earlier) low)
 
 -- none of the table and id is current
 abbrev pub HasNoCurrent : ℕ → ℕ → List Placed → Type 0
-HasNoCurrent t i = AllByRecursion (λ x. is_at t i x.version.row ≡ true → x.version.died ≢ None)
+HasNoCurrent t i = AllByRecursion (λ x. is_at t i x.row ≡ true → x.died ≢ None)
 
 pub ended_none : (t i s : ℕ) (xs : List Placed) → HasNoCurrent t i (map (closed_placed t i s) xs)
 ended_none t i s [] = tt
-ended_none t i s (x ∷ xs) = (λ at dead. go (is_at t i x.version.row && is_current x.version) refl at dead, ended_none t i s xs)
+ended_none t i s (x ∷ xs) = (λ at dead. go (is_at t i x.row && is_current (version_of x)) refl at dead, ended_none t i s xs)
   where
-    go : (b : Bool) → is_at t i x.version.row && is_current x.version ≡ b → is_at t i x.version.row ≡ true → cond b (Some s) x.version.died ≡ None → ⊥
+    go : (b : Bool) → is_at t i x.row && is_current (version_of x) ≡ b → is_at t i x.row ≡ true → cond b (Some s) x.died ≡ None → ⊥
     go true e at f = let g = f in cc
-    go false e at f = let current : is_current x.version ≡ true = rw f refl in let hit = and_true _ _ at current in cc
+    go false e at f = let current : is_current (version_of x) ≡ true = rw f refl in let hit = and_true _ _ at current in cc
 
 at_turned : (a b c d : ℕ) → (c == a) && (d == b) ≡ true → (a == c) && (b == d) ≡ true
 at_turned a b c d e = grind (arith, nat_tests)
 
 pub one_turned : (x y : Placed) → IsOneCurrent x y → IsOneCurrent y x
-one_turned x y one at current dead = one (at_turned y.version.row.table y.version.row.id x.version.row.table x.version.row.id at) dead current
+one_turned x y one at current dead = one (at_turned y.row.table y.row.id x.row.table x.row.id at) dead current
 
 -- at most one of a table and id is current
-pub few_current : (t i : ℕ) (xs : List Placed) → IsAscending IsOneCurrent xs → length (filter (λ x. is_at t i x.version.row && is_current x.version) xs) ≤ 1
+pub few_current : (t i : ℕ) (xs : List Placed) → IsAscending IsOneCurrent xs → length (filter (λ x. is_at t i x.row && is_current (version_of x)) xs) ≤ 1
 few_current t i [] h = omega arith
-few_current t i (x ∷ xs) h = go (is_at t i x.version.row && is_current x.version) refl (few_current t i xs h.1)
+few_current t i (x ∷ xs) h = go (is_at t i x.row && is_current (version_of x)) refl (few_current t i xs h.1)
   where
     same_at : (a b c d : ℕ) → a ≡ t → b ≡ i → c ≡ t → d ≡ i → (c == a) && (d == b) ≡ true
     same_at a b c d e f g k = rw (e, f, g, k) (and_true _ _ (eq-eqb t t refl) (eq-eqb i i refl))
 
-    none : is_at t i x.version.row && is_current x.version ≡ true → (ys : List Placed) → AllByRecursion (IsOneCurrent x) ys → filter (λ y. is_at t i y.version.row && is_current y.version) ys ≡ []
+    none : is_at t i x.row && is_current (version_of x) ≡ true → (ys : List Placed) → AllByRecursion (IsOneCurrent x) ys → filter (λ y. is_at t i y.row && is_current (version_of y)) ys ≡ []
     none hit [] all = refl
-    none hit (y ∷ ys) all = elim (bool_cases (is_at t i y.version.row && is_current y.version)) [
-      | inl hits ↦ let a = hit_is t i x.version hit in let b = hit_is t i y.version hits in absurd (all.0 (same_at _ _ _ _ a.0 a.1 b.0 b.1) a.2 b.2)
+    none hit (y ∷ ys) all = elim (bool_cases (is_at t i y.row && is_current (version_of y))) [
+      | inl hits ↦ let a = hit_is t i (version_of x) hit in let b = hit_is t i (version_of y) hits in absurd (all.0 (same_at _ _ _ _ a.0 a.1 b.0 b.1) a.2 b.2)
       | inr off ↦ rw off (none hit ys all.1)
     ]
 
-    go : (b : Bool) → is_at t i x.version.row && is_current x.version ≡ b → length (filter (λ y. is_at t i y.version.row && is_current y.version) xs) ≤ 1
-        → length (filter (λ y. is_at t i y.version.row && is_current y.version) (x ∷ xs)) ≤ 1
+    go : (b : Bool) → is_at t i x.row && is_current (version_of x) ≡ b → length (filter (λ y. is_at t i y.row && is_current (version_of y)) xs) ≤ 1
+        → length (filter (λ y. is_at t i y.row && is_current (version_of y)) (x ∷ xs)) ≤ 1
     go true e more = let rest = none e xs h.0 in rw (e, rest) (omega arith)
     go false e more = rw e more
 
 -- ---- keys
 
-pub key_is : (t i g : ℕ) (x : Placed) → has_key t i g x ≡ true → (x.version.row.table ≡ t) × (x.version.row.id ≡ i) × (x.version.row.group ≡ g)
+pub key_is : (t i g : ℕ) (x : Placed) → has_key t i g x ≡ true → (x.row.table ≡ t) × (x.row.id ≡ i) × (x.row.group ≡ g)
 key_is t i g x e =
-    let two = both_true (is_at t i x.version.row) (x.version.row.group == g) e in
-    let at = both_true (x.version.row.table == t) (x.version.row.id == i) two.0 in
+    let two = both_true (is_at t i x.row) (x.row.group == g) e in
+    let at = both_true (x.row.table == t) (x.row.id == i) two.0 in
     (eqb-true _ _ at.0, eqb-true _ _ at.1, eqb-true _ _ two.1)
 
 pub key_turned : (t i g u j k : ℕ) → (((t == u) && (i == j)) && (g == k)) ≡ (((u == t) && (j == i)) && (k == g))
@@ -146,7 +146,7 @@ key_turned t i g u j k = rw (turn t u, turn i j, turn g k) refl
     turn a b = grind (arith, nat_tests)
 
 -- those after one with the key do not have it
-others_off : (t i g : ℕ) (x : Placed) → has_key t i g x ≡ true → (ys : List Placed) → AllByRecursion (λ y. has_key x.version.row.table x.version.row.id x.version.row.group y ≡ false) ys → AllByRecursion (λ y. has_key t i g y ≡ false) ys
+others_off : (t i g : ℕ) (x : Placed) → has_key t i g x ≡ true → (ys : List Placed) → AllByRecursion (λ y. has_key x.row.table x.row.id x.row.group y ≡ false) ys → AllByRecursion (λ y. has_key t i g y ≡ false) ys
 others_off t i g x e ys all = let same = key_is t i g x e in rw (same.0, same.1, same.2) at all
 
 pub few_keys : (t i g : ℕ) (xs : List Placed) → HaveOwnKeys xs → length (filter (has_key t i g) xs) ≤ 1
@@ -212,7 +212,7 @@ module _ (place s : ℕ) (row : RowValue) where
     permutes : IsPermutation (put_latest place row s latest ++ put_replaced row latest earlier) ((latest ++ earlier) ++ new ∷ [])
     permutes = put_permutes latest earlier h.keys
 
-    pub put_versions : versions_by_place (put_latest place row s latest ++ put_replaced row latest earlier) ≡ versions_by_place (latest ++ earlier) ++ new.version ∷ []
+    pub put_versions : versions_by_place (put_latest place row s latest ++ put_replaced row latest earlier) ≡ versions_by_place (latest ++ earlier) ++ (version_of new) ∷ []
     put_versions =
         ap (map version_of) (sym (by_place_same _ _ (IsPermutation-sym _ _ permutes) own_then) ∙ by_place_last new (latest ++ earlier) low)
         ∙ map-append version_of (by_place (latest ++ earlier)) (new ∷ [])
@@ -226,23 +226,23 @@ module _ (place s : ℕ) (row : RowValue) where
         all-permutation (λ x. x.place < place + 1) _ _ (IsPermutation-sym _ _ permutes)
         (all-append (λ x. x.place < place + 1) (latest ++ earlier) (new ∷ []) (higher (latest ++ earlier) low) (omega arith, tt))
 
-    module _ (none : HasNoCurrent row.table row.id latest) (is : IsRow row) (stamp : s ≤ LAST_STAMP) where
+    module _ (none : HasNoCurrent row.table row.id latest) (is : IsRow row) (stamp : s ≤ LAST_MOMENT) where
       own_key : (xs : List Placed) → HaveOwnKeys xs → HaveOwnKeys (map (renewed place row s) xs)
       own_key xs own = ascending-map _ (renewed place row s) xs (ascending_weaker _ _ still xs own)
         where
-          key_kept : (x : Placed) → ((renewed place row s x).version.row.table ≡ x.version.row.table) × ((renewed place row s x).version.row.id ≡ x.version.row.id) × ((renewed place row s x).version.row.group ≡ x.version.row.group)
+          key_kept : (x : Placed) → ((renewed place row s x).row.table ≡ x.row.table) × ((renewed place row s x).row.id ≡ x.row.id) × ((renewed place row s x).row.group ≡ x.row.group)
           key_kept x = elim (bool_cases (here x)) [
             | inl e ↦ let same = key_is row.table row.id row.group x e in rw e (sym same.0, sym same.1, sym same.2)
             | inr e ↦ rw e (refl, refl, refl)
           ]
 
-          still : (x y : Placed) → has_key x.version.row.table x.version.row.id x.version.row.group y ≡ false
-              → has_key (renewed place row s x).version.row.table (renewed place row s x).version.row.id (renewed place row s x).version.row.group (renewed place row s y) ≡ false
+          still : (x y : Placed) → has_key x.row.table x.row.id x.row.group y ≡ false
+              → has_key (renewed place row s x).row.table (renewed place row s x).row.id (renewed place row s x).row.group (renewed place row s y) ≡ false
           still x y off = let a = key_kept x in let b = key_kept y in rw (a.0, a.1, a.2, b.0, b.1, b.2) off
 
-      new_key : (xs : List Placed) → AllByRecursion (λ x. here x ≡ false) xs → AllByRecursion (λ x. AllByRecursion (λ y. has_key x.version.row.table x.version.row.id x.version.row.group y ≡ false) (new ∷ [])) xs
+      new_key : (xs : List Placed) → AllByRecursion (λ x. here x ≡ false) xs → AllByRecursion (λ x. AllByRecursion (λ y. has_key x.row.table x.row.id x.row.group y ≡ false) (new ∷ [])) xs
       new_key [] off = tt
-      new_key (x ∷ xs) off = ((key_turned row.table row.id row.group x.version.row.table x.version.row.id x.version.row.group ∙ off.0, tt), new_key xs off.1)
+      new_key (x ∷ xs) off = ((key_turned row.table row.id row.group x.row.table x.row.id x.row.group ∙ off.0, tt), new_key xs off.1)
 
       keys_then : HaveOwnKeys (put_latest place row s latest)
       keys_then = go (length (filter here latest) == 0) refl
@@ -253,7 +253,7 @@ module _ (place s : ℕ) (row : RowValue) where
 
       new_one : (xs : List Placed) → HasNoCurrent row.table row.id xs → AllByRecursion (λ x. AllByRecursion (IsOneCurrent x) (new ∷ [])) xs
       new_one [] off = tt
-      new_one (x ∷ xs) off = ((λ at current. absurd (off.0 (at_turned x.version.row.table x.version.row.id row.table row.id at) current), tt), new_one xs off.1)
+      new_one (x ∷ xs) off = ((λ at current. absurd (off.0 (at_turned x.row.table x.row.id row.table row.id at) current), tt), new_one xs off.1)
 
       swapped : IsPermutation (put_latest place row s latest ++ filter here latest) (latest ++ new ∷ [])
       swapped = go (length (filter here latest) == 0) refl
@@ -267,15 +267,15 @@ module _ (place s : ℕ) (row : RowValue) where
           let pushed = ascending-append IsOneCurrent latest (new ∷ []) h.current (tt, tt) (new_one latest none) in
           pairs_front IsOneCurrent _ (filter here latest) ((pairs_permuted IsOneCurrent one_turned _ _ (IsPermutation-sym _ _ swapped)).1 pushed)
 
-      dead_there : (xs : List Placed) → HasNoCurrent row.table row.id xs → AllByRecursion (λ x. x.version.died ≢ None) (filter here xs)
+      dead_there : (xs : List Placed) → HasNoCurrent row.table row.id xs → AllByRecursion (λ x. x.died ≢ None) (filter here xs)
       dead_there [] off = tt
       dead_there (x ∷ xs) off = go (here x) refl (dead_there xs off.1)
         where
-          go : (b : Bool) → here x ≡ b → AllByRecursion (λ y. y.version.died ≢ None) (filter here xs) → AllByRecursion (λ y. y.version.died ≢ None) (cond b (x ∷ filter here xs) (filter here xs))
+          go : (b : Bool) → here x ≡ b → AllByRecursion (λ y. y.died ≢ None) (filter here xs) → AllByRecursion (λ y. y.died ≢ None) (cond b (x ∷ filter here xs) (filter here xs))
           go true e more = (off.0 (both_true _ _ e).0, more)
           go false e more = more
 
-      holdable : IsStorable new.version
+      holdable : IsStorable (version_of new)
       holdable = record { row = is; born = stamp; died = λ d e. absurd (let f = e in cc) }
 
       pub put_apart : AreWellPlaced (put_latest place row s latest) (put_replaced row latest earlier)
@@ -283,14 +283,14 @@ module _ (place s : ℕ) (row : RowValue) where
         places = own_places_permuted _ _ (IsPermutation-sym _ _ permutes) own_then;
         keys = keys_then;
         current = one_then;
-        ended = all-append (λ x. x.version.died ≢ None) earlier (filter here latest) h.ended (dead_there latest none);
-        each = all-permutation (λ x. IsStorable x.version) _ _ (IsPermutation-sym _ _ permutes)
-            (all-append (λ x. IsStorable x.version) (latest ++ earlier) (new ∷ []) h.each (holdable, tt));
+        ended = all-append (λ x. x.died ≢ None) earlier (filter here latest) h.ended (dead_there latest none);
+        each = all-permutation (λ x. IsStorable (version_of x)) _ _ (IsPermutation-sym _ _ permutes)
+            (all-append (λ x. IsStorable (version_of x)) (latest ++ earlier) (new ∷ []) h.each (holdable, tt));
       }
 
 -- ---- one change
 
-pub removed_written : (t i s place : ℕ) → s ≤ LAST_STAMP → (latest earlier : List Placed) → AreWellPlaced latest earlier → AreBelow place (latest ++ earlier)
+pub removed_written : (t i s place : ℕ) → s ≤ LAST_MOMENT → (latest earlier : List Placed) → AreWellPlaced latest earlier → AreBelow place (latest ++ earlier)
     → AreWritten (removed t i s (versions_by_place (latest ++ earlier))) (place + 1) (map (closed_placed t i s) latest ++ earlier)
 removed_written t i s place low latest earlier h below = record {
   versions_are = ended_versions t i s latest earlier h.ended;

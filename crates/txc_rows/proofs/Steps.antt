@@ -113,8 +113,8 @@ module _ (limit : Option ℕ) (mode : Mode) (params : Row) (db : Trees) where
 
   -- one row is added at the end
   pub one_more : (x : Placed) → edited db (edit_of db latest_table [] Chosen 0 ((Null ∷ cells_of x) ∷ [])) ≡ put_row (stored (next_rowid (db 0)) x) (db 0)
-  one_more x = go x.version.died refl
+  one_more x = go x.died refl
     where
-      go : (d : Option ℕ) → x.version.died ≡ d → edited db (edit_of db latest_table [] Chosen 0 ((Null ∷ cells_of x) ∷ [])) ≡ put_row (stored (next_rowid (db 0)) x) (db 0)
-      go None e = rw (e, cast_null, cast_int (pos x.place), cast_int (pos x.version.row.table), cast_int (pos x.version.row.id), cast_int (pos x.version.born), cast_int (pos x.version.row.group)) refl
-      go (Some d) e = rw (e, cast_null, cast_int (pos d), cast_int (pos x.place), cast_int (pos x.version.row.table), cast_int (pos x.version.row.id), cast_int (pos x.version.born), cast_int (pos x.version.row.group)) refl
+      go : (d : Option ℕ) → x.died ≡ d → edited db (edit_of db latest_table [] Chosen 0 ((Null ∷ cells_of x) ∷ [])) ≡ put_row (stored (next_rowid (db 0)) x) (db 0)
+      go None e = rw (e, cast_null, cast_int (pos x.place), cast_int (pos x.row.table), cast_int (pos x.row.id), cast_int (pos x.born), cast_int (pos x.row.group)) refl
+      go (Some d) e = rw (e, cast_null, cast_int (pos d), cast_int (pos x.place), cast_int (pos x.row.table), cast_int (pos x.row.id), cast_int (pos x.born), cast_int (pos x.row.group)) refl

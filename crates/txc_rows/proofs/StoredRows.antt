@@ -22,7 +22,7 @@ use Rattle.txc_rows.specs.declared.version.Versioned.{Versioned}
 use Rattle.txc_rows.specs.States.{is_at}
 use Rattle.txc_rows.specs.Versions.{suits, is_current}
 use Rattle.txc_rows.specs.declared.placed.Placed.{Placed}
-use Rattle.txc_rows.specs.Placed.{lasts_to, is_left, is_row_left, is_touched, has_key}
+use Rattle.txc_rows.specs.Placed.{version_of, lasts_to, is_left, is_row_left, is_touched, has_key}
 use Rattle.txc_rows.specs.declared.query.Query.{Query}
 use Rattle.txc_rows.specs.declared.query.Query.TheVariants.{ById, ByGroup, All, Range}
 use Rattle.txc_rows.specs.Stored.{stored, cells_of, number, death, IsStored, death_in, placed_in, placed_from, queried_columns, version_shown}
@@ -82,12 +82,12 @@ one A true p = rw p refl
 one A false p = rw p refl
 
 -- the tests of WHERE, at a stored row
-pub close_test : (t i s : ℕ) (id : ℤ) (x : Placed) → list_all (holds ((number t ∷ number i ∷ number s ∷ []) ∷ stored id x ∷ [])) close_filter ≡ (is_at t i x.version.row && is_current x.version)
-close_test t i s id x = all_three _ _ _ _ _ _ (eq_test x.version.row.table t) (eq_test x.version.row.id i) (null_test x.version.died)
+pub close_test : (t i s : ℕ) (id : ℤ) (x : Placed) → list_all (holds ((number t ∷ number i ∷ number s ∷ []) ∷ stored id x ∷ [])) close_filter ≡ (is_at t i x.row && is_current (version_of x))
+close_test t i s id x = all_three _ _ _ _ _ _ (eq_test x.row.table t) (eq_test x.row.id i) (null_test x.died)
 
 pub renew_test : (t i g place s : ℕ) (body : List ℕ) (id : ℤ) (x : Placed)
     → list_all (holds ((number t ∷ number i ∷ number g ∷ number place ∷ number s ∷ Blob body ∷ []) ∷ stored id x ∷ [])) key_filter ≡ has_key t i g x
-renew_test t i g place s body id x = all_three _ _ _ _ _ _ (eq_test x.version.row.table t) (eq_test x.version.row.id i) (eq_test x.version.row.group g)
+renew_test t i g place s body id x = all_three _ _ _ _ _ _ (eq_test x.row.table t) (eq_test x.row.id i) (eq_test x.row.group g)
 
 touched_is : (a : Option ℕ) (g h : ℕ) → is_true (binary Or (binary (Is Binary) (death a) Null) (binary (Compare Eq Binary) (number g) (number h))) ≡ is_none a || (g == h)
 unfolding binary
@@ -95,13 +95,13 @@ touched_is None g h = rw (value_cmp-Null Null) refl
 touched_is (Some a) g h = rw (value_cmp-apart (number a) Null (λ e. omega (arith, e)), number_cmp g h) (or_of false (is_eq (nat_cmp g h)) ∙ ap (λ b. false || b) (is_eq-nat_cmp g h))
 
 pub touched_test : (t i g : ℕ) (id : ℤ) (x : Placed) → list_all (holds ((number t ∷ number i ∷ number g ∷ []) ∷ stored id x ∷ [])) touched_filter ≡ is_touched t i g x
-touched_test t i g id x = all_three _ _ _ _ _ _ (eq_test x.version.row.table t) (eq_test x.version.row.id i) (touched_is x.version.died x.version.row.group g)
+touched_test t i g id x = all_three _ _ _ _ _ _ (eq_test x.row.table t) (eq_test x.row.id i) (touched_is x.died x.row.group g)
 
 pub placed_test : (t i from : ℕ) (id : ℤ) (x : Placed) → list_all (holds ((number t ∷ number i ∷ number from ∷ []) ∷ stored id x ∷ [])) placed_filter ≡ is_row_left t i from x
-placed_test t i from id x = all_three _ _ _ _ _ _ (eq_test x.version.row.table t) (eq_test x.version.row.id i) (left_is x.version.died from)
+placed_test t i from id x = all_three _ _ _ _ _ _ (eq_test x.row.table t) (eq_test x.row.id i) (left_is x.died from)
 
-pub left_test_is : (from : ℕ) (id : ℤ) (x : Placed) → list_all (holds ((number from ∷ []) ∷ stored id x ∷ [])) left_filter ≡ is_left from x.version
-left_test_is from id x = one _ _ (left_is x.version.died from)
+pub left_test_is : (from : ℕ) (id : ℤ) (x : Placed) → list_all (holds ((number from ∷ []) ∷ stored id x ∷ [])) left_filter ≡ is_left from (version_of x)
+left_test_is from id x = one _ _ (left_is x.died from)
 
 -- a version that a query asks for, of those that did not die before a stamp
 abbrev pub is_asked : Query → ℕ → Versioned → Bool
@@ -127,18 +127,18 @@ to_test : (a b : ℕ) → is_true (binary (Compare Le Binary) (number a) (number
 unfolding binary
 to_test a b = true_of _ ∙ ap is_le (number_cmp a b) ∙ is_le-nat_cmp a b
 
-pub table_test : (t n from : ℕ) (id : ℤ) (x : Placed) → list_all (holds ((number t ∷ number n ∷ number from ∷ []) ∷ stored id x ∷ [])) table_filter ≡ is_asked (All t) from x.version
-table_test t n from id x = both _ _ _ _ (eq_test x.version.row.table t) (left_is x.version.died from)
+pub table_test : (t n from : ℕ) (id : ℤ) (x : Placed) → list_all (holds ((number t ∷ number n ∷ number from ∷ []) ∷ stored id x ∷ [])) table_filter ≡ is_asked (All t) from (version_of x)
+table_test t n from id x = both _ _ _ _ (eq_test x.row.table t) (left_is x.died from)
 
-pub row_test : (t n from i : ℕ) (id : ℤ) (x : Placed) → list_all (holds ((number t ∷ number n ∷ number from ∷ number i ∷ []) ∷ stored id x ∷ [])) row_filter ≡ is_asked (ById t i) from x.version
-row_test t n from i id x = all_three _ _ _ _ _ _ (eq_test x.version.row.table t) (eq_test x.version.row.id i) (left_is x.version.died from)
+pub row_test : (t n from i : ℕ) (id : ℤ) (x : Placed) → list_all (holds ((number t ∷ number n ∷ number from ∷ number i ∷ []) ∷ stored id x ∷ [])) row_filter ≡ is_asked (ById t i) from (version_of x)
+row_test t n from i id x = all_three _ _ _ _ _ _ (eq_test x.row.table t) (eq_test x.row.id i) (left_is x.died from)
 
-pub group_test : (t n from g : ℕ) (id : ℤ) (x : Placed) → list_all (holds ((number t ∷ number n ∷ number from ∷ number g ∷ []) ∷ stored id x ∷ [])) group_filter ≡ is_asked (ByGroup t g) from x.version
-group_test t n from g id x = all_three _ _ _ _ _ _ (eq_test x.version.row.table t) (eq_test x.version.row.group g) (left_is x.version.died from)
+pub group_test : (t n from g : ℕ) (id : ℤ) (x : Placed) → list_all (holds ((number t ∷ number n ∷ number from ∷ number g ∷ []) ∷ stored id x ∷ [])) group_filter ≡ is_asked (ByGroup t g) from (version_of x)
+group_test t n from g id x = all_three _ _ _ _ _ _ (eq_test x.row.table t) (eq_test x.row.group g) (left_is x.died from)
 
 pub range_test : (t n from a b : ℕ) (id : ℤ) (x : Placed)
-    → list_all (holds ((number t ∷ number n ∷ number from ∷ number a ∷ number b ∷ []) ∷ stored id x ∷ [])) range_filter ≡ is_asked (Range t a b) from x.version
-range_test t n from a b id x = within _ _ _ _ _ _ _ _ (eq_test x.version.row.table t) (from_test x.version.row.id a) (to_test x.version.row.id b) (left_is x.version.died from)
+    → list_all (holds ((number t ∷ number n ∷ number from ∷ number a ∷ number b ∷ []) ∷ stored id x ∷ [])) range_filter ≡ is_asked (Range t a b) from (version_of x)
+range_test t n from a b id x = within _ _ _ _ _ _ _ _ (eq_test x.row.table t) (from_test x.row.id a) (to_test x.row.id b) (left_is x.died from)
 
 -- ---- rows that are stored versions
 
@@ -155,10 +155,10 @@ death_again (Some t) = refl
 
 -- a version that is stored is read back
 pub placed_again : (id : ℤ) (x : Placed) → placed_in (stored id x) ≡ x
-placed_again id x = ap (λ d. record x { version = record x.version { died = d } }) (death_again x.version.died)
+placed_again id x = ap (λ d. record x { died = d }) (death_again x.died)
 
 pub cells_again : (x : Placed) → placed_from (cells_of x) ≡ x
-cells_again x = ap (λ d. record x { version = record x.version { died = d } }) (death_again x.version.died)
+cells_again x = ap (λ d. record x { died = d }) (death_again x.died)
 
 -- and so is what the query shows of it
 pub shown_again : (v : Versioned) → version_shown v.row.table (queried_columns v) ≡ v

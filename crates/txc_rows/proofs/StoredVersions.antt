@@ -9,7 +9,7 @@ use Rattle.txc_rows.specs.declared.query.Change.TheVariants.{Put, Remove}
 use Rattle.txc_rows.specs.Values.{RowValue, IsRow}
 use Rattle.txc_rows.specs.States.{is_at}
 use Rattle.txc_rows.specs.Versions.{is_current, closed, removed, put, after_write}
-use Rattle.txc_rows.specs.Holdable.{IsStorable, HasEnded, AreHeld, IsWritable}
+use Rattle.txc_rows.specs.Holdable.{IsUpTo, IsShowable, HasEnded, AreHeld, IsWritable}
 use Rattle.txc_rows.proofs.Members.{both_true}
 use Rattle.txc_rows.proofs.Pairs.{all_mapped, pairs_mapped, all_pushed, pairs_pushed, all_left, pairs_left}
 
@@ -27,10 +27,10 @@ hit_is t i v e =
 pub hit_from : (t i : ℕ) (v : Versioned) → v.row.table ≡ t → v.row.id ≡ i → v.died ≡ None → is_at t i v.row && is_current v ≡ true
 hit_from t i v a b c = rw (eq-eqb _ _ a, eq-eqb _ _ b, c) refl
 
-pub holdable_closed : (t i s : ℕ) → s ≤ LAST_STAMP → (v : Versioned) → IsStorable v → IsStorable (closed t i s v)
-holdable_closed t i s low v is = record { row = is.row; born = is.born; died = λ d e. go (is_at t i v.row && is_current v) d e }
+pub holdable_closed : (last t i s : ℕ) → s ≤ last → (v : Versioned) → IsUpTo last v → IsUpTo last (closed t i s v)
+holdable_closed last t i s low v is = record { row = is.row; born = is.born; died = λ d e. go (is_at t i v.row && is_current v) d e }
   where
-    go : (b : Bool) → (d : ℕ) → cond b (Some s) v.died ≡ Some d → d ≤ LAST_STAMP
+    go : (b : Bool) → (d : ℕ) → cond b (Some s) v.died ≡ Some d → d ≤ last
     go true d e = let same : s ≡ d = cc in omega arith
     go false d e = is.died d e
 
@@ -44,7 +44,7 @@ closed_dead t i s v dead = go (is_at t i v.row && is_current v)
 
 held_removed : (t i s : ℕ) → s ≤ LAST_STAMP → (vs : List Versioned) → AreHeld vs → AreHeld (removed t i s vs)
 held_removed t i s low vs h = record {
-  each = all_mapped IsStorable (closed t i s) (holdable_closed t i s low) vs h.each;
+  each = all_mapped IsShowable (closed t i s) (holdable_closed LAST_STAMP t i s low) vs h.each;
   ended = pairs_mapped HasEnded (closed t i s) (λ v w dead a b. closed_dead t i s v (dead a b)) vs h.ended;
 }
 
@@ -62,7 +62,7 @@ held_put s low row is vs h =
     let new : Versioned = record { row = row; born = s; died = None } in
     let before = held_removed row.table row.id s low vs h in
     record {
-      each = all_pushed IsStorable new (record { row = is; born = low; died = λ d e. absurd (let f = e in cc) }) (removed row.table row.id s vs) before.each;
+      each = all_pushed IsShowable new (record { row = is; born = low; died = λ d e. absurd (let f = e in cc) }) (removed row.table row.id s vs) before.each;
       ended = pairs_pushed HasEnded new (removed row.table row.id s vs) (none_current s row vs) before.ended;
     }
 
@@ -71,4 +71,4 @@ held_write s (Put row) vs can h = held_put s can.0 row can.1 vs h
 held_write s (Remove table id) vs can h = held_removed table id s can vs h
 
 pub held_kept : (p : Versioned → Bool) (vs : List Versioned) → AreHeld vs → AreHeld (filter p vs)
-held_kept p vs h = record { each = all_left IsStorable p vs h.each; ended = pairs_left HasEnded p vs h.ended }
+held_kept p vs h = record { each = all_left IsShowable p vs h.each; ended = pairs_left HasEnded p vs h.ended }

@@ -12,7 +12,7 @@ use Rattle.sqlite.specs.Order.{Row, column}
 use Rattle.sqlite.specs.Values.{bound_value}
 use Rattle.txc_rows.specs.Holdable.{IsStorable}
 use Rattle.txc_rows.specs.declared.placed.Placed.{Placed}
-use Rattle.txc_rows.specs.Placed.{is_left, placed_left}
+use Rattle.txc_rows.specs.Placed.{version_of, is_left, placed_left}
 use Rattle.txc_rows.specs.Stored.{AreCells, death, placed_from}
 use Rattle.txc_rows.specs.Kept.{latest_in, HasLatest, IsKept, IsCall, IsSame}
 use Rattle.txc_rows.proofs.HeldLemmas.{AreStorable, latest_by, undone_call, refused_call, committed_kept, ended_call}
@@ -50,7 +50,7 @@ bound_death (Some d) = refl
 pub bound_cells : (r : Row) → AreCells r → map bound_value (column r 0 ∷ column r 1 ∷ column r 2 ∷ column r 3 ∷ column r 4 ∷ column r 5 ∷ column r 6 ∷ []) ≡ r
 bound_cells r is =
     let x = placed_from r in
-    subst (λ (y : Row). map bound_value (column y 0 ∷ column y 1 ∷ column y 2 ∷ column y 3 ∷ column y 4 ∷ column y 5 ∷ column y 6 ∷ []) ≡ y) (sym is) (rw (bound_death x.version.died) refl)
+    subst (λ (y : Row). map bound_value (column y 0 ∷ column y 1 ∷ column y 2 ∷ column y 3 ∷ column y 4 ∷ column y 5 ∷ column y 6 ∷ []) ≡ y) (sym is) (rw (bound_death x.died) refl)
 
 -- ---- the table of a new store
 
@@ -75,5 +75,5 @@ pub rebuilt_call : (from : ℕ) (old first mid end : Held MemStore) (left : List
     → IsCall (IsPermutation (placed_left from (latest_in old))) old end r
 rebuilt_call from old first mid end left r kept same are has base idle ok err inside =
     let L = IsPermutation (placed_left from (latest_in old)) in
-    let each : AreStorable left = all-permutation (λ x. IsStorable x.version) _ left are (all-filter (λ x. IsStorable x.version) (λ x. is_left from x.version) (latest_in old) kept.each) in
+    let each : AreStorable left = all-permutation (λ x. IsStorable (version_of x)) _ left are (all-filter (λ x. IsStorable (version_of x)) (λ x. is_left from (version_of x)) (latest_in old) kept.each) in
     call_since L old first end r same (ended_call L first mid end r same.kept has.table (rw has.latest_are each) (rw has.latest_are are) base idle ok err inside)

@@ -24,73 +24,73 @@ use Rattle.txc_rows.proofs.PutLemmas.{all_front, all_back, key_turned, one_turne
 -- ---- a sweep
 
 placed_as_left : (from : ℕ) (xs : List Placed) → left_from from (versions_by_place xs) ≡ map version_of (by_place (placed_left from xs))
-placed_as_left from xs = filter-map (is_left from) version_of (by_place xs) ∙ ap (map version_of) (by_place_left (λ x. is_left from x.version) xs)
+placed_as_left from xs = filter-map (is_left from) version_of (by_place xs) ∙ ap (map version_of) (by_place_left (λ x. is_left from (version_of x)) xs)
 
 twice : (from : ℕ) (xs : List Placed) → placed_left from (placed_left from xs) ≡ placed_left from xs
-twice from xs = filter-filter (λ x. is_left from x.version) (λ x. is_left from x.version) (λ x e. e) xs
+twice from xs = filter-filter (λ x. is_left from (version_of x)) (λ x. is_left from (version_of x)) (λ x e. e) xs
 
 -- those that are left are the same
 left_same : (from : ℕ) (old new : List Placed) → IsPermutation (placed_left from old) (placed_left from new) → HaveOwnPlaces old → left_from from (versions_by_place new) ≡ left_from from (versions_by_place old)
 left_same from old new left own =
     placed_as_left from new
-    ∙ ap (map version_of) (sym (by_place_same (placed_left from old) (placed_left from new) left (ascending-filter (λ x y. x.place ≢ y.place) (λ x. is_left from x.version) old own)))
+    ∙ ap (map version_of) (sym (by_place_same (placed_left from old) (placed_left from new) left (ascending-filter (λ x y. x.place ≢ y.place) (λ x. is_left from (version_of x)) old own)))
     ∙ sym (placed_as_left from old)
 
-keys_turned : (x y : Placed) → has_key x.version.row.table x.version.row.id x.version.row.group y ≡ false → has_key y.version.row.table y.version.row.id y.version.row.group x ≡ false
+keys_turned : (x y : Placed) → has_key x.row.table x.row.id x.row.group y ≡ false → has_key y.row.table y.row.id y.row.group x ≡ false
 keys_turned x y off =
-    key_turned x.version.row.table x.version.row.id x.version.row.group y.version.row.table y.version.row.id y.version.row.group ∙ off
+    key_turned x.row.table x.row.id x.row.group y.row.table y.row.id y.row.group ∙ off
 
 -- ---- both are left alone
 
 module _ (from : ℕ) (latest earlier last before : List Placed) (one : IsPermutation (placed_left from latest) last) (two : before ≡ placed_left from earlier) where
   together : IsPermutation (placed_left from (latest ++ earlier)) (last ++ before)
-  together = rw (filter-append (λ x. is_left from x.version) latest earlier, two) (IsPermutation-append_left (placed_left from earlier) _ _ one)
+  together = rw (filter-append (λ x. is_left from (version_of x)) latest earlier, two) (IsPermutation-append_left (placed_left from earlier) _ _ one)
 
   pub both_below : (next : ℕ) → AreBelow next (latest ++ earlier) → AreBelow next (last ++ before)
-  both_below next low = all-permutation (λ x. x.place < next) _ (last ++ before) together (all-filter (λ x. x.place < next) (λ x. is_left from x.version) (latest ++ earlier) low)
+  both_below next low = all-permutation (λ x. x.place < next) _ (last ++ before) together (all-filter (λ x. x.place < next) (λ x. is_left from (version_of x)) (latest ++ earlier) low)
 
   pub both_apart : AreWellPlaced latest earlier → AreWellPlaced last before
   both_apart h = record {
-    places = own_places_permuted _ _ together (ascending-filter (λ x y. x.place ≢ y.place) (λ x. is_left from x.version) (latest ++ earlier) h.places);
-    keys = (pairs_permuted (λ x y. has_key x.version.row.table x.version.row.id x.version.row.group y ≡ false) keys_turned _ last one).1 (ascending-filter _ (λ x. is_left from x.version) latest h.keys);
-    current = (pairs_permuted IsOneCurrent one_turned _ last one).1 (ascending-filter IsOneCurrent (λ x. is_left from x.version) latest h.current);
-    ended = rw two (all-filter (λ x. x.version.died ≢ None) (λ x. is_left from x.version) earlier h.ended);
-    each = all-permutation (λ x. IsStorable x.version) _ (last ++ before) together (all-filter (λ x. IsStorable x.version) (λ x. is_left from x.version) (latest ++ earlier) h.each);
+    places = own_places_permuted _ _ together (ascending-filter (λ x y. x.place ≢ y.place) (λ x. is_left from (version_of x)) (latest ++ earlier) h.places);
+    keys = (pairs_permuted (λ x y. has_key x.row.table x.row.id x.row.group y ≡ false) keys_turned _ last one).1 (ascending-filter _ (λ x. is_left from (version_of x)) latest h.keys);
+    current = (pairs_permuted IsOneCurrent one_turned _ last one).1 (ascending-filter IsOneCurrent (λ x. is_left from (version_of x)) latest h.current);
+    ended = rw two (all-filter (λ x. x.died ≢ None) (λ x. is_left from (version_of x)) earlier h.ended);
+    each = all-permutation (λ x. IsStorable (version_of x)) _ (last ++ before) together (all-filter (λ x. IsStorable (version_of x)) (λ x. is_left from (version_of x)) (latest ++ earlier) h.each);
   }
 
   -- only those that were hidden are gone
   pub left_alone : AreWellPlaced latest earlier → versions_by_place (last ++ before) ≡ left_from from (versions_by_place (latest ++ earlier))
   left_alone h =
-      ap (map version_of) (sym (by_place_same (placed_left from (latest ++ earlier)) (last ++ before) together (ascending-filter (λ x y. x.place ≢ y.place) (λ x. is_left from x.version) (latest ++ earlier) h.places)))
+      ap (map version_of) (sym (by_place_same (placed_left from (latest ++ earlier)) (last ++ before) together (ascending-filter (λ x y. x.place ≢ y.place) (λ x. is_left from (version_of x)) (latest ++ earlier) h.places)))
       ∙ sym (placed_as_left from (latest ++ earlier))
 
 -- ---- a sweep of the last versions, and then the front of the replaced ones is dropped
 
 swept_left : (from : ℕ) (old new : List Placed) → AreSwept from old new → IsPermutation (placed_left from old) (placed_left from new)
 swept_left from old new (inl same) = rw same (IsPermutation-refl (placed_left from old))
-swept_left from old new (inr left) = subst (λ xs. IsPermutation xs (placed_left from new)) (twice from old) (IsPermutation-filter (λ x. is_left from x.version) _ _ left)
+swept_left from old new (inr left) = subst (λ xs. IsPermutation xs (placed_left from new)) (twice from old) (IsPermutation-filter (λ x. is_left from (version_of x)) _ _ left)
 
 swept_each : (P : Placed → Type 0) (from : ℕ) (old new : List Placed) → AreSwept from old new → AllByRecursion P old → AllByRecursion P new
 swept_each P from old new (inl same) each = rw same each
-swept_each P from old new (inr left) each = all-permutation P _ new left (all-filter P (λ x. is_left from x.version) old each)
+swept_each P from old new (inr left) each = all-permutation P _ new left (all-filter P (λ x. is_left from (version_of x)) old each)
 
 swept_pairs : (R : Placed → Placed → Type 0) → ((x y : Placed) → R x y → R y x) → (from : ℕ) (old new : List Placed) → AreSwept from old new → IsAscending R old → IsAscending R new
 swept_pairs R turn from old new (inl same) pairs = rw same pairs
-swept_pairs R turn from old new (inr left) pairs = (pairs_permuted R turn _ new left).1 (ascending-filter R (λ x. is_left from x.version) old pairs)
+swept_pairs R turn from old new (inr left) pairs = (pairs_permuted R turn _ new left).1 (ascending-filter R (λ x. is_left from (version_of x)) old pairs)
 
 front_each : (P : Placed → Type 0) (from : ℕ) (xs : List Placed) → AllByRecursion P xs → AllByRecursion P (without_front_dead from xs)
 front_each P from [] each = tt
-front_each P from (x ∷ xs) each = elim (is_left from x.version) as (λ b. AllByRecursion P (cond b (x ∷ xs) (without_front_dead from xs))) [ true ↦ each | false ↦ front_each P from xs each.1 ]
+front_each P from (x ∷ xs) each = elim (is_left from (version_of x)) as (λ b. AllByRecursion P (cond b (x ∷ xs) (without_front_dead from xs))) [ true ↦ each | false ↦ front_each P from xs each.1 ]
 
 front_pairs : (R : Placed → Placed → Type 0) (from : ℕ) (xs : List Placed) → IsAscending R xs → IsAscending R (without_front_dead from xs)
 front_pairs R from [] pairs = tt
-front_pairs R from (x ∷ xs) pairs = elim (is_left from x.version) as (λ b. IsAscending R (cond b (x ∷ xs) (without_front_dead from xs))) [ true ↦ pairs | false ↦ front_pairs R from xs pairs.1 ]
+front_pairs R from (x ∷ xs) pairs = elim (is_left from (version_of x)) as (λ b. IsAscending R (cond b (x ∷ xs) (without_front_dead from xs))) [ true ↦ pairs | false ↦ front_pairs R from xs pairs.1 ]
 
 front_left : (from : ℕ) (xs : List Placed) → placed_left from (without_front_dead from xs) ≡ placed_left from xs
 front_left from [] = refl
-front_left from (x ∷ xs) = go (is_left from x.version) refl (front_left from xs)
+front_left from (x ∷ xs) = go (is_left from (version_of x)) refl (front_left from xs)
   where
-    go : (b : Bool) → is_left from x.version ≡ b → placed_left from (without_front_dead from xs) ≡ placed_left from xs
+    go : (b : Bool) → is_left from (version_of x) ≡ b → placed_left from (without_front_dead from xs) ≡ placed_left from xs
         → placed_left from (cond b (x ∷ xs) (without_front_dead from xs)) ≡ placed_left from (x ∷ xs)
     go true e more = refl
     go false e more = rw e more
@@ -122,15 +122,15 @@ module _ (from : ℕ) (latest earlier last : List Placed) (swept : AreSwept from
             (front_pairs (λ x y. x.place ≢ y.place) from earlier places.1) (across places.2);
         keys = swept_pairs _ keys_turned from latest last swept h.keys;
         current = swept_pairs IsOneCurrent one_turned from latest last swept h.current;
-        ended = front_each (λ x. x.version.died ≢ None) from earlier h.ended;
-        each = dropped_each (λ x. IsStorable x.version) h.each;
+        ended = front_each (λ x. x.died ≢ None) from earlier h.ended;
+        each = dropped_each (λ x. IsStorable (version_of x)) h.each;
       }
 
   pub dropped_same : AreWellPlaced latest earlier → left_from from (versions_by_place (last ++ dropped)) ≡ left_from from (versions_by_place (latest ++ earlier))
   dropped_same h = left_same from (latest ++ earlier) (last ++ dropped) both h.places
     where
       both : IsPermutation (placed_left from (latest ++ earlier)) (placed_left from (last ++ dropped))
-      both = rw (filter-append (λ x. is_left from x.version) latest earlier, filter-append (λ x. is_left from x.version) last dropped, front_left from earlier)
+      both = rw (filter-append (λ x. is_left from (version_of x)) latest earlier, filter-append (λ x. is_left from (version_of x)) last dropped, front_left from earlier)
           (IsPermutation-append_left (placed_left from earlier) _ _ (swept_left from latest last swept))
 
 -- from stamp 0 on none is hidden

@@ -7,7 +7,7 @@ use Rattle.txc_rows.specs.declared.query.Change.TheVariants.{Put, Remove}
 use Rattle.txc_rows.specs.Values.{RowValue}
 use Rattle.txc_rows.specs.States.{is_at}
 use Rattle.txc_rows.specs.Versions.{is_current, closed, removed, put, after_net, IsVersion, Follows, Pairwise, AreVersions, IsPutOver, IsChange, AreChanges}
-use Rattle.txc_rows.specs.Holdable.{IsStorable}
+use Rattle.txc_rows.specs.Holdable.{IsShowable}
 use Rattle.txc_rows.proofs.Members.{bool_cases}
 use Rattle.txc_rows.proofs.Pairs.{pairs_mapped, all_pushed, pairs_pushed, all_left, pairs_left}
 use Rattle.txc_rows.proofs.StoredVersions.{hit_is, hit_from}
@@ -85,12 +85,12 @@ only_lives : (vs : List Versioned) → AllByRecursion IsVersion vs → AllByRecu
 only_lives [] all = tt
 only_lives (v ∷ vs) all = (λ d e. (all.0.life d e).0, only_lives vs all.1)
 
-both_kept : (vs : List Versioned) → AllByRecursion IsStorable vs → AllByRecursion HasLife vs → AllByRecursion IsVersion vs
+both_kept : (vs : List Versioned) → AllByRecursion IsShowable vs → AllByRecursion HasLife vs → AllByRecursion IsVersion vs
 both_kept [] can live = tt
 both_kept (v ∷ vs) can live = (record { row = can.0.row; born = can.0.born; life = λ d e. (live.0 d e, can.0.died d e) }, both_kept vs can.1 live.1)
 
 -- a write of changes, where a store can hold what it leaves
-pub written_versions : (s : ℕ) (net : List Change) (vs : List Versioned) → AreVersions vs → AreChanges s net vs → AllByRecursion IsStorable (after_net s net vs) → AreVersions (after_net s net vs)
+pub written_versions : (s : ℕ) (net : List Change) (vs : List Versioned) → AreVersions vs → AreChanges s net vs → AllByRecursion IsShowable (after_net s net vs) → AreVersions (after_net s net vs)
 written_versions s net vs h are can =
     let lives = written_lives s net vs (record { each = only_lives vs h.each; apart = h.apart }) are in
     record { each = both_kept (after_net s net vs) can lives.each; apart = lives.apart }

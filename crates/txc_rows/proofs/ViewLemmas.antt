@@ -16,7 +16,7 @@ pub written_view : (from s : ℕ) → from ≤ s → (net : List Change) (old ne
 written_view from s low net old new next written = ap (left_from from) written.versions_are ∙ net_left from s low net (versions_by_place old)
 
 -- each can be held
-pub view_each : (from : ℕ) (placed : List Placed) → AllByRecursion (λ x. IsStorable x.version) placed → AllByRecursion IsStorable (left_from from (versions_by_place placed))
+pub view_each : (from : ℕ) (placed : List Placed) → AllByRecursion (λ x. IsStorable (version_of x)) placed → AllByRecursion IsStorable (left_from from (versions_by_place placed))
 view_each from placed each =
     all-filter IsStorable (is_left from) (versions_by_place placed)
-    (all-map IsStorable version_of (by_place placed) (all-permutation (λ x. IsStorable x.version) placed (by_place placed) (by_place_permutes placed) each))
+    (all-map IsStorable version_of (by_place placed) (all-permutation (λ x. IsStorable (version_of x)) placed (by_place placed) (by_place_permutes placed) each))

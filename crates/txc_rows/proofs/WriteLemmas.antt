@@ -27,7 +27,7 @@ use Rattle.txc_rows.specs.Values.{RowValue}
 use Rattle.txc_rows.specs.States.{is_at}
 use Rattle.txc_rows.specs.Versions.{is_current}
 use Rattle.txc_rows.specs.declared.placed.Placed.{Placed}
-use Rattle.txc_rows.specs.Placed.{has_key, closed_placed, renewed}
+use Rattle.txc_rows.specs.Placed.{version_of, has_key, closed_placed, renewed}
 use Rattle.txc_rows.specs.Stored.{stored, cells_of, number, placed_in, placed_all, IsStored, AreVersionRows}
 use Rattle.txc_rows.specs.declared.texts.TheConstants.{ADD_LATEST, END_VERSION, RENEW_LATEST}
 use Rattle.txc_rows.proofs.Commands.{whole, endless, alone, terms, add_latest_is, add_latest_plain, close_filter, close_project, close_is, close_plain, key_filter, renew_project, renew_is, renew_plain}
@@ -166,23 +166,23 @@ module _ (fs project : List Term) (params : Row) (P : Placed → Bool) (test : (
 -- ---- a version ends
 
 abbrev ended_given : ℕ → ℤ → Placed → Row
-ended_given s id x = Int id ∷ Int id ∷ number x.place ∷ number x.version.row.table ∷ number x.version.row.id ∷ number x.version.born ∷ number x.version.row.group ∷ Blob x.version.row.body ∷ number s ∷ []
+ended_given s id x = Int id ∷ Int id ∷ number x.place ∷ number x.row.table ∷ number x.row.id ∷ number x.born ∷ number x.row.group ∷ Blob x.row.body ∷ number s ∷ []
 
-ends_one : (t i s : ℕ) (db : Trees) (id : ℤ) (x : Placed) → is_at t i x.version.row && is_current x.version ≡ true
+ends_one : (t i s : ℕ) (db : Trees) (id : ℤ) (x : Placed) → is_at t i x.row && is_current (version_of x) ≡ true
     → edited db (edit_of db latest_table (ids_of (ended_given s id x ∷ [])) Given 1 (ended_given s id x ∷ [])) ≡ put_row (stored id (closed_placed t i s x)) (without_rowid id (db 0))
-ends_one t i s db id x hit = rw (hit, cast_int id, cast_int (pos x.place), cast_int (pos x.version.row.table), cast_int (pos x.version.row.id), cast_int (pos x.version.born), cast_int (pos x.version.row.group), cast_int (pos s)) refl
+ends_one t i s db id x hit = rw (hit, cast_int id, cast_int (pos x.place), cast_int (pos x.row.table), cast_int (pos x.row.id), cast_int (pos x.born), cast_int (pos x.row.group), cast_int (pos s)) refl
 
 pub closes : (old new : State) (t i s : ℕ) (count : ℕ) → old.now.schema ≡ latest_schema → AreVersionRows (old.now.trees 0)
-    → length (filter (λ x. is_at t i x.version.row && is_current x.version) (placed_all (old.now.trees 0))) ≤ 1
+    → length (filter (λ x. is_at t i x.row && is_current (version_of x)) (placed_all (old.now.trees 0))) ≤ 1
     → Executes END_VERSION.now (number t ∷ number i ∷ number s ∷ []) old new (Ok count)
     → Leaves (map (closed_placed t i s) (placed_all (old.now.trees 0))) new
-closes old new t i s count = updates close_filter close_project (number t ∷ number i ∷ number s ∷ []) (λ x. is_at t i x.version.row && is_current x.version) (close_test t i s)
+closes old new t i s count = updates close_filter close_project (number t ∷ number i ∷ number s ∷ []) (λ x. is_at t i x.row && is_current (version_of x)) (close_test t i s)
     (ended_given s) (λ id x. refl) (closed_placed t i s) (λ x off. rw off refl) (ends_one t i s) END_VERSION.now close_is close_plain old new count
 
 -- ---- a new version in place of the last
 
 abbrev renewed_given : ℕ → ℕ → List ℕ → ℤ → Placed → Row
-renewed_given place s body id x = Int id ∷ Int id ∷ number place ∷ number x.version.row.table ∷ number x.version.row.id ∷ number s ∷ number x.version.row.group ∷ Blob body ∷ Null ∷ []
+renewed_given place s body id x = Int id ∷ Int id ∷ number place ∷ number x.row.table ∷ number x.row.id ∷ number s ∷ number x.row.group ∷ Blob body ∷ Null ∷ []
 
 renews_one : (place s : ℕ) (row : RowValue) (db : Trees) (id : ℤ) (x : Placed) → has_key row.table row.id row.group x ≡ true
     → edited db (edit_of db latest_table (ids_of (renewed_given place s row.body id x ∷ [])) Given 1 (renewed_given place s row.body id x ∷ [])) ≡ put_row (stored id (renewed place row s x)) (without_rowid id (db 0))

@@ -2,17 +2,26 @@
 use Rattle.std.specs.Prelude.{◌≡◌, ◌≢◌, ◌≤◌, ℕ, List, Some, None}
 use Rattle.std.specs.List.{AllByRecursion}
 use Rattle.txc_stamp.specs.declared.stamp.TheConstants.{LAST_STAMP}
+use Rattle.txc_rows.specs.declared.moment.TheConstants.{LAST_MOMENT}
 use Rattle.txc_rows.specs.declared.version.Versioned.{Versioned}
 use Rattle.txc_rows.specs.declared.query.Change.{Change}
 use Rattle.txc_rows.specs.declared.query.Change.TheVariants.{Put, Remove}
 use Rattle.txc_rows.specs.Values.{IsRow}
 use Rattle.txc_rows.specs.Versions.{Pairwise}
 
--- a row, and stamps that can be
-pub record IsStorable (v : Versioned) : Type 0 where
+-- a row, and stamps up to the last
+pub record IsUpTo (last : ℕ) (v : Versioned) : Type 0 where
   pub row : IsRow v.row
-  pub born : v.born ≤ LAST_STAMP
-  pub died : (d : ℕ) → v.died ≡ Some d → d ≤ LAST_STAMP
+  pub born : v.born ≤ last
+  pub died : (d : ℕ) → v.died ≡ Some d → d ≤ last
+
+-- a row, and moments that can be
+abbrev pub IsStorable : Versioned → Type 0
+IsStorable = IsUpTo LAST_MOMENT
+
+-- a row, and stamps that can be
+abbrev pub IsShowable : Versioned → Type 0
+IsShowable = IsUpTo LAST_STAMP
 
 -- of two versions of a table and id the one before has died
 abbrev pub HasEnded : Versioned → Versioned → Type 0
@@ -20,7 +29,7 @@ HasEnded v w = v.row.table ≡ w.row.table → v.row.id ≡ w.row.id → v.died 
 
 -- so no table and id has two versions that have not died
 pub record AreHeld (vs : List Versioned) : Type 0 where
-  pub each : AllByRecursion IsStorable vs
+  pub each : AllByRecursion IsShowable vs
   pub ended : Pairwise HasEnded vs
 
 -- the change writes what can be held

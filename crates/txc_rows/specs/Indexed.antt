@@ -9,15 +9,15 @@ use Rattle.txc_rows.specs.declared.replaced.Spot.{Spot}
 
 -- the id of a version
 abbrev pub version_id : Placed → ℕ
-version_id x = x.version.row.id
+version_id x = x.row.id
 
 -- its group
 abbrev pub version_group : Placed → ℕ
-version_group x = x.version.row.group
+version_group x = x.row.group
 
 -- the spot of a version by its id or its group, and by its number
 abbrev pub spot_of : (Placed → ℕ) → ℕ → Placed → Spot
-spot_of key number x = record { table = x.version.row.table; key = key x; number = number }
+spot_of key number x = record { table = x.row.table; key = key x; number = number }
 
 -- the spots of versions that are numbered from that number on
 abbrev pub spots_from : (Placed → ℕ) → ℕ → List Placed → List Spot

@@ -18,6 +18,8 @@ use Rattle.txc_rows.specs.Holdable.{IsStorable}
 use Rattle.txc_rows.specs.Texts.{no_schema, latest_schema}
 use Rattle.txc_rows.specs.declared.placed.Placed.{Placed}
 use Rattle.txc_rows.specs.Placed.{version_of, versions_by_place, left_from, placed_left, AreBelow, AreWellPlaced, AreAll}
+use Rattle.txc_rows.specs.declared.moment.Shift.{Shift}
+use Rattle.txc_rows.specs.Shifted.{shown_all}
 use Rattle.txc_rows.specs.Stored.{placed_all, placed_from, AreVersionRows, AreCells, queried_columns, version_shown}
 
 -- the last versions of each table, id and group, as the transaction sees them
@@ -47,7 +49,7 @@ pub record IsKept (h : Held MemStore) : Type 0 where
   pub table : HasTable h
   pub idle : h.in_transaction ≡ false
   pub settled : (state over_memory h).committed ≡ (state over_memory h).now
-  pub each : AllByRecursion (λ x. IsStorable x.version) (latest_in h)
+  pub each : AllByRecursion (λ x. IsStorable (version_of x)) (latest_in h)
 
 -- the table is there, and with those that were replaced its versions are these by place
 pub record HasWritten (versions : List Versioned) (next : ℕ) (replaced : List Placed) (h : Held MemStore) : Type 0 where
@@ -103,8 +105,8 @@ pub record IsLeaving (from : ℕ) (old new : Held MemStore) (outcome : Result (V
 -- the row is a version of the table that can be held
 pub record IsPlacedRow (table : ℕ) (r : Row) : Type 0 where
   pub is : AreCells r
-  pub table_is : (placed_from r).version.row.table ≡ table
-  pub version : IsStorable (placed_from r).version
+  pub table_is : (placed_from r).row.table ≡ table
+  pub version : IsStorable (version_of (placed_from r))
 
 -- the rows are those versions of the table that pass, in any order
 pub record ArePassing (table : ℕ) (passes : Placed → Bool) (latest : List Placed) (rows : List Row) : Type 0 where
@@ -112,11 +114,11 @@ pub record ArePassing (table : ℕ) (passes : Placed → Bool) (latest : List Pl
   pub same : IsPermutation (filter passes latest) (map placed_from rows)
 
 -- the versions that a query asks for, of those that did not die before a stamp, came to the found ones, of which there
--- are no more than may match
-pub record IsFinding (q : Query) (from : ℕ) (placed : List Placed) (old new : List Versioned) : Type 0 where
+-- are no more than may match; they have the stamps that are shown
+pub record IsFinding (q : Query) (from : ℕ) (shift : Shift) (placed : List Placed) (old new : List Versioned) : Type 0 where
   pub more : List Versioned
   pub same : IsPermutation (filter (suits q) (left_from from (map version_of placed))) more
-  pub are : new ≡ old ++ more
+  pub are : new ≡ old ++ shown_all shift more
   pub few : length new ≤ MAX_MATCHING
 
 -- ---- a store

@@ -14,4 +14,5 @@ pub mod Stored
 pub mod Indexed
 pub mod Kept
 pub mod Keeping
+pub mod Shifted
 pub mod Uses

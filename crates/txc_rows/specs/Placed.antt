@@ -9,9 +9,9 @@ use Rattle.txc_rows.specs.Versions.{is_current, closed}
 use Rattle.txc_rows.specs.States.{RowValue, is_at}
 use Rattle.txc_rows.specs.Holdable.{IsStorable}
 
--- the version alone
+-- the version alone, with its stamps as they are stored
 abbrev pub version_of : Placed → Versioned
-version_of x = x.version
+version_of x = record { row = x.row; born = x.born; died = x.died }
 
 -- before the first that has a later place
 abbrev pub put_at_place : Placed → List Placed → List Placed
@@ -42,41 +42,41 @@ left_from from = filter (is_left from)
 
 -- the same with their places
 abbrev pub placed_left : ℕ → List Placed → List Placed
-placed_left from = filter (λ x. is_left from x.version)
+placed_left from = filter (λ x. is_left from (version_of x))
 
 -- the first of them died before the stamp
 abbrev pub has_front_died : ℕ → List Placed → Bool
 has_front_died from [] = false
-has_front_died from (x ∷ xs) = not (is_left from x.version)
+has_front_died from (x ∷ xs) = not (is_left from (version_of x))
 
 -- without those at the front that died before the stamp
 abbrev pub without_front_dead : ℕ → List Placed → List Placed
 without_front_dead from [] = []
-without_front_dead from (x ∷ xs) = if is_left from x.version then x ∷ xs else without_front_dead from xs
+without_front_dead from (x ∷ xs) = if is_left from (version_of x) then x ∷ xs else without_front_dead from xs
 
 -- the version is of that table, id and group
 abbrev pub has_key : ℕ → ℕ → ℕ → Placed → Bool
-has_key table id group x = is_at table id x.version.row && (x.version.row.group == group)
+has_key table id group x = is_at table id x.row && (x.row.group == group)
 
 -- the version is of that group
 abbrev pub in_group : ℕ → Placed → Bool
-in_group group x = x.version.row.group == group
+in_group group x = x.row.group == group
 
 -- a put of that table, id and group ends or replaces it: it is of the table and id, and current or of the group
 abbrev pub is_touched : ℕ → ℕ → ℕ → Placed → Bool
-is_touched table id group x = is_at table id x.version.row && (is_current x.version || in_group group x)
+is_touched table id group x = is_at table id x.row && (is_current (version_of x) || in_group group x)
 
 -- it is of that table and id, and did not die before the stamp
 abbrev pub is_row_left : ℕ → ℕ → ℕ → Placed → Bool
-is_row_left table id from x = is_at table id x.version.row && is_left from x.version
+is_row_left table id from x = is_at table id x.row && is_left from (version_of x)
 
 -- the version after a change of the table and id at the stamp, at the same place
 abbrev pub closed_placed : ℕ → ℕ → ℕ → Placed → Placed
-closed_placed table id stamp x = record x { version = closed table id stamp x.version }
+closed_placed table id stamp x = record x { died = (closed table id stamp (version_of x)).died }
 
 -- a new version at its place
 abbrev pub new_placed : ℕ → RowValue → ℕ → Placed
-new_placed place row stamp = record { place = place; version = record { row = row; born = stamp; died = None } }
+new_placed place row stamp = record { place = place; row = row; born = stamp; died = None }
 
 -- the new version in place of the last one of its table, id and group
 abbrev pub renewed : ℕ → RowValue → ℕ → Placed → Placed
@@ -88,7 +88,7 @@ HaveOwnPlaces = IsAscending (λ x y. x.place ≢ y.place)
 
 -- no two are of one table, id and group
 abbrev pub HaveOwnKeys : List Placed → Type 0
-HaveOwnKeys = IsAscending (λ x y. has_key x.version.row.table x.version.row.id x.version.row.group y ≡ false)
+HaveOwnKeys = IsAscending (λ x y. has_key x.row.table x.row.id x.row.group y ≡ false)
 
 -- each place is below the next one
 abbrev pub AreBelow : ℕ → List Placed → Type 0
@@ -96,16 +96,16 @@ AreBelow next = AllByRecursion (λ x. x.place < next)
 
 -- where two are of one table and id, one at most is current
 abbrev pub IsOneCurrent : Placed → Placed → Type 0
-IsOneCurrent x y = is_at x.version.row.table x.version.row.id y.version.row ≡ true → x.version.died ≡ None
-    → y.version.died ≢ None
+IsOneCurrent x y = is_at x.row.table x.row.id y.row ≡ true → x.died ≡ None
+    → y.died ≢ None
 
 -- all versions: the last of each table, id and group, and those that were replaced, which have died
 pub record AreWellPlaced (latest replaced : List Placed) : Type 0 where
   pub places : HaveOwnPlaces (latest ++ replaced)
   pub keys : HaveOwnKeys latest
   pub current : IsAscending IsOneCurrent latest
-  pub ended : AllByRecursion (λ x. x.version.died ≢ None) replaced
-  pub each : AllByRecursion (λ x. IsStorable x.version) (latest ++ replaced)
+  pub ended : AllByRecursion (λ x. x.died ≢ None) replaced
+  pub each : AllByRecursion (λ x. IsStorable (version_of x)) (latest ++ replaced)
 
 -- the last versions after a put: the new one stands in place of the last of its table, id and group, or else at
 -- the end
@@ -137,7 +137,7 @@ AreAmong latest = AllByRecursion (λ x. Contains latest x)
 
 -- the last versions of other tables and ids are there still
 abbrev pub KeepsOthers : ℕ → ℕ → List Placed → List Placed → Type 0
-KeepsOthers table id old new = (x : Placed) → Contains old x → is_at table id x.version.row ≡ false → Contains new x
+KeepsOthers table id old new = (x : Placed) → Contains old x → is_at table id x.row ≡ false → Contains new x
 
 -- more were added at the end
 pub record AddsAtEnd (old new : List Placed) : Type 0 where

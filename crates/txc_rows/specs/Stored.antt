@@ -21,8 +21,8 @@ death = or_null number
 
 -- a version as the columns of a table
 abbrev pub cells_of : Placed → Row
-cells_of x = number x.place ∷ number x.version.row.table ∷ number x.version.row.id ∷ number x.version.born
-    ∷ number x.version.row.group ∷ Blob x.version.row.body ∷ death x.version.died ∷ []
+cells_of x = number x.place ∷ number x.row.table ∷ number x.row.id ∷ number x.born
+    ∷ number x.row.group ∷ Blob x.row.body ∷ death x.died ∷ []
 
 -- the number of the row in its table, and then its columns
 abbrev pub stored : ℤ → Placed → Row
@@ -50,32 +50,28 @@ death_in (Blob b) = None
 abbrev pub placed_from : Row → Placed
 placed_from r = record {
   place = number_in (column r 0);
-  version = record {
-    row = record {
-      table = number_in (column r 1);
-      id = number_in (column r 2);
-      group = number_in (column r 4);
-      body = bytes (column r 5);
-    };
-    born = number_in (column r 3);
-    died = death_in (column r 6);
+  row = record {
+    table = number_in (column r 1);
+    id = number_in (column r 2);
+    group = number_in (column r 4);
+    body = bytes (column r 5);
   };
+  born = number_in (column r 3);
+  died = death_in (column r 6);
 }
 
 -- what a row of a table says
 abbrev pub placed_in : Row → Placed
 placed_in r = record {
   place = number_in (column r 1);
-  version = record {
-    row = record {
-      table = number_in (column r 2);
-      id = number_in (column r 3);
-      group = number_in (column r 5);
-      body = bytes (column r 6);
-    };
-    born = number_in (column r 4);
-    died = death_in (column r 7);
+  row = record {
+    table = number_in (column r 2);
+    id = number_in (column r 3);
+    group = number_in (column r 5);
+    body = bytes (column r 6);
   };
+  born = number_in (column r 4);
+  died = death_in (column r 7);
 }
 
 -- they are the columns of a version

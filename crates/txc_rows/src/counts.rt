@@ -1,5 +1,6 @@
 //! How many rows of the table of last versions have died.
 
+use crate::moment::Moment;
 use crate::writes::Written;
 
 /// The table is made anew where so many of its versions are gone at least.
@@ -12,9 +13,9 @@ pub(crate) struct Counts {
     ended: usize,
     /// So many had died at that stamp.
     ended_before: usize,
-    noted_at: u32,
+    noted_at: Moment,
     /// The last stamp of a write.
-    newest: u32,
+    newest: Moment,
 }
 
 impl Counts {
@@ -22,18 +23,18 @@ impl Counts {
         rows: 0,
         ended: 0,
         ended_before: 0,
-        noted_at: 0,
-        newest: 0,
+        noted_at: Moment::FIRST,
+        newest: Moment::FIRST,
     };
 
     /// Whether as many of the versions are gone before the stamp as are left.
-    pub(crate) fn is_mostly_ended(&self, from: u32) -> bool {
+    pub(crate) fn is_mostly_ended(&self, from: Moment) -> bool {
         let gone = self.ended.min(self.ended_before);
         self.noted_at < from && gone >= LEAST_ENDED.max(self.rows / 2)
     }
 
     /// A commit was written.
-    pub(crate) fn note(&mut self, written: Written, stamp: u32) {
+    pub(crate) fn note(&mut self, written: Written, stamp: Moment) {
         self.newest = self.newest.max(stamp);
         self.rows = self.rows.wrapping_add(written.added);
         let ended = self.ended.wrapping_add(written.ended);
@@ -41,7 +42,7 @@ impl Counts {
     }
 
     /// What died before the stamp is hidden.
-    pub(crate) fn hide(&mut self, from: u32) {
+    pub(crate) fn hide(&mut self, from: Moment) {
         if self.noted_at < from {
             self.ended_before = self.ended;
             self.noted_at = self.newest;

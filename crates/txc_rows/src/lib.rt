@@ -4,6 +4,7 @@
 mod counts;
 mod decode;
 mod laws;
+mod moment;
 mod placed;
 mod query;
 mod reads;

@@ -1,13 +1,19 @@
 ghost use Rattle.std.specs.Prelude.{◌≡◌, IfOk};
+ghost use Rattle.txc_rows.specs.Shifted.{shown};
+ghost use Rattle.txc_rows.specs.Placed.{version_of};
 
+use crate::moment::{Moment, Shift};
+use crate::row::Row;
 use crate::version::Versioned;
 use std::alloc::{AllocError, Global};
 
-/// A version, and where it stands among all in the order in which they were put.
+/// A version with its moments, and where it stands among all in the order in which they were put.
 #[derive(Drop)]
 pub(crate) struct Placed {
     pub place: u32,
-    pub version: Versioned,
+    pub row: Row,
+    pub born: Moment,
+    pub died: Option<Moment>,
 }
 
 impl Placed {
@@ -16,7 +22,20 @@ impl Placed {
     {
         Ok(Placed {
             place: self.place,
-            version: self.version.copy(alloc)?,
+            row: self.row.copy(alloc)?,
+            born: self.born,
+            died: self.died,
+        })
+    }
+
+    /// The version with the stamps that are shown.
+    pub(crate) fn shown(&self, alloc: Global, shift: Shift) -> Result<Versioned, AllocError>
+        ensures { IfOk result (λ v. v ≡ shown shift (version_of self.now)) }
+    {
+        Ok(Versioned {
+            row: self.row.copy(alloc)?,
+            born: shift.birth(self.born),
+            died: shift.death(self.died),
         })
     }
 }

@@ -5,6 +5,7 @@ ghost use Rattle.txc_rows.specs.declared.query.Query.TheVariants.{ById, ByGroup,
 ghost use Rattle.txc_rows.specs.Placed.{is_row_left};
 ghost use Rattle.txc_rows.specs.Kept.{latest_in, ArePassing, IsKept, IsReading, IsSame};
 
+use crate::moment::Moment;
 use crate::query::Query;
 use crate::texts::{MOST_READ, READ_GROUP, READ_PLACED, READ_RANGE, READ_ROW, READ_TABLE};
 use sqlite::{Connection, Error, MemStore, params};
@@ -14,14 +15,14 @@ use txc_tags::Table;
 fn read_table(
     conn: &mut Connection<MemStore>,
     table: Table,
-    from: u32,
+    from: Moment,
 ) -> Result<Vec<sqlite::Row>, Error>
     requires { IsKept conn.old }
     ensures { IsReading (All table) from conn.old conn.new result }
 {
     conn.query_all(
         READ_TABLE,
-        params![u32::from(table.number()), MOST_READ, from],
+        params![u32::from(table.number()), MOST_READ, from.stored()],
     )
 }
 
@@ -29,14 +30,14 @@ fn read_row(
     conn: &mut Connection<MemStore>,
     table: Table,
     id: u32,
-    from: u32,
+    from: Moment,
 ) -> Result<Vec<sqlite::Row>, Error>
     requires { IsKept conn.old }
     ensures { IsReading (ById table id) from conn.old conn.new result }
 {
     conn.query_all(
         READ_ROW,
-        params![u32::from(table.number()), MOST_READ, from, id],
+        params![u32::from(table.number()), MOST_READ, from.stored(), id],
     )
 }
 
@@ -44,14 +45,14 @@ fn read_group(
     conn: &mut Connection<MemStore>,
     table: Table,
     group: u32,
-    from: u32,
+    from: Moment,
 ) -> Result<Vec<sqlite::Row>, Error>
     requires { IsKept conn.old }
     ensures { IsReading (ByGroup table group) from conn.old conn.new result }
 {
     conn.query_all(
         READ_GROUP,
-        params![u32::from(table.number()), MOST_READ, from, group],
+        params![u32::from(table.number()), MOST_READ, from.stored(), group],
     )
 }
 
@@ -60,14 +61,20 @@ fn read_range(
     table: Table,
     first: u32,
     last: u32,
-    from: u32,
+    from: Moment,
 ) -> Result<Vec<sqlite::Row>, Error>
     requires { IsKept conn.old }
     ensures { IsReading (Range table first last) from conn.old conn.new result }
 {
     conn.query_all(
         READ_RANGE,
-        params![u32::from(table.number()), MOST_READ, from, first, last],
+        params![
+            u32::from(table.number()),
+            MOST_READ,
+            from.stored(),
+            first,
+            last
+        ],
     )
 }
 
@@ -76,7 +83,7 @@ fn read_range(
 pub(crate) fn read(
     conn: &mut Connection<MemStore>,
     query: &Query,
-    from: u32,
+    from: Moment,
 ) -> Result<Vec<sqlite::Row>, Error>
     requires { IsKept conn.old }
     ensures { IsReading query.now from conn.old conn.new result }
@@ -94,11 +101,14 @@ pub(crate) fn read_placed(
     conn: &mut Connection<MemStore>,
     table: Table,
     id: u32,
-    from: u32,
+    from: Moment,
 ) -> Result<Vec<sqlite::Row>, Error>
     requires { IsKept conn.old }
     ensures same { IsSame conn.old conn.new }
     ensures versions { IfOk result (λ rows. ArePassing table (is_row_left table id from) (latest_in conn.old) rows.items) }
 {
-    conn.query_all(READ_PLACED, params![u32::from(table.number()), id, from])
+    conn.query_all(
+        READ_PLACED,
+        params![u32::from(table.number()), id, from.stored()],
+    )
 }

@@ -8,8 +8,10 @@ ghost use Rattle.txc_rows.specs.Versions.{suits};
 ghost use Rattle.txc_rows.specs.Holdable.{IsStorable};
 ghost use Rattle.txc_rows.specs.Placed.{version_of, lasts_to, left_from, placed_left, has_front_died, without_front_dead};
 ghost use Rattle.txc_rows.specs.Indexed.{version_id, version_group, spot_of, FitsSpot, picked, is_between, spot_suits, spots_asked};
+ghost use Rattle.txc_rows.specs.Shifted.{shown_all};
 ghost use Rattle.txc_rows.specs.Kept.{IsFinding};
 
+use crate::moment::{Moment, Shift};
 use crate::placed::Placed;
 use crate::query::Query;
 use crate::store_error::{MAX_MATCHING, StoreError};
@@ -18,7 +20,6 @@ use std::alloc::{AllocError, Global};
 use std::collections::btree_set::Range;
 use std::collections::{BTreeSet, VecDeque};
 use std::marker::Model;
-use txc_stamp::Stamp;
 use txc_tags::Table;
 
 /// A version by its table and its id or its group. All versions are numbered in the order in which they were replaced.
@@ -56,7 +57,7 @@ impl Model for Replaced {
 fn spot_by_id(placed: &Placed, number: usize) -> Spot
     ensures { result ≡ spot_of version_id number placed.now }
 {
-    let row = &placed.version.row;
+    let row = &placed.row;
     Spot {
         table: row.table().number(),
         key: row.id(),
@@ -67,7 +68,7 @@ fn spot_by_id(placed: &Placed, number: usize) -> Spot
 fn spot_by_group(placed: &Placed, number: usize) -> Spot
     ensures { result ≡ spot_of version_group number placed.now }
 {
-    let row = &placed.version.row;
+    let row = &placed.row;
     Spot {
         table: row.table().number(),
         key: row.group(),
@@ -133,11 +134,11 @@ fn spots_for<'a>(
     }
 }
 
-fn died_before(died: Option<Stamp>, from: u32) -> bool
+fn died_before(died: Option<Moment>, from: Moment) -> bool
     ensures { result ≡ not (lasts_to from died) }
 {
     match died {
-        Some(died) => died.number() < from,
+        Some(died) => died < from,
         None => false,
     }
 }
@@ -148,13 +149,14 @@ fn take_found(
     first: usize,
     spots: Range<'_, Spot>,
     alloc: Global,
-    from: u32,
+    from: Moment,
+    shift: Shift,
     found: &mut Vec<Versioned>,
 ) -> Result<(), StoreError>
     requires few { length found.old.items ≤ MAX_MATCHING }
     requires from_first { AllByRecursion (λ s. first ≤ s.number) spots }
     ensures found { OnOk result (found.new.items
-        ≡ found.old.items ++ map version_of (placed_left from (picked first versions.now.items spots.entry))) }
+        ≡ found.old.items ++ shown_all shift (map version_of (placed_left from (picked first versions.now.items spots.entry)))) }
     ensures bound { OnOk result (length found.new.items ≤ MAX_MATCHING) }
     ensures refused { result ≡ Err StoreError.TooManyRows
         → MAX_MATCHING < length found.old.items + length (placed_left from (picked first versions.now.items spots.entry)) }
@@ -163,13 +165,13 @@ fn take_found(
         let Some(placed) = versions.get(spot.number - first) else {
             continue;
         };
-        if died_before(placed.version.died, from) {
+        if died_before(placed.died, from) {
             continue;
         }
         if found.len() >= MAX_MATCHING {
             return Err(StoreError::TooManyRows);
         }
-        found.push(placed.version.copy(alloc)?)?;
+        found.push(placed.shown(alloc, shift)?)?;
     }
     Ok(())
 }
@@ -243,18 +245,18 @@ impl Replaced {
         }
     }
 
-    fn has_front_died(&self, from: u32) -> bool
+    fn has_front_died(&self, from: Moment) -> bool
         ensures { result ≡ has_front_died from self.now }
     {
         match self.versions.front() {
-            Some(placed) => died_before(placed.version.died, from),
+            Some(placed) => died_before(placed.died, from),
             None => false,
         }
     }
 
     /// Drops those at the front that died before the stamp. One that was replaced before it and died later keeps
     /// those after it.
-    pub(crate) fn purge(&mut self, from: u32)
+    pub(crate) fn purge(&mut self, from: Moment)
         ensures { self.new ≡ without_front_dead from self.old }
     {
         while self.has_front_died(from) {
@@ -263,13 +265,13 @@ impl Replaced {
     }
 
     /// Those that did not die before the stamp.
-    pub(crate) fn left(&self, alloc: Global, from: u32) -> Result<Replaced, AllocError>
+    pub(crate) fn left(&self, alloc: Global, from: Moment) -> Result<Replaced, AllocError>
         ensures { IfOk result (λ left. left ≡ placed_left from self.now) }
     {
         let mut left = Replaced::new(alloc);
         for i in 0..self.versions.len() {
             let placed = &self.versions[i];
-            if !died_before(placed.version.died, from) {
+            if !died_before(placed.died, from) {
                 left.add(placed.copy(alloc)?)?;
             }
         }
@@ -281,16 +283,17 @@ impl Replaced {
         &self,
         alloc: Global,
         query: &Query,
-        from: u32,
+        from: Moment,
+        shift: Shift,
         found: &mut Vec<Versioned>,
     ) -> Result<(), StoreError>
-        requires each { AllByRecursion (λ x. IsStorable x.version) self.now }
+        requires each { AllByRecursion (λ x. IsStorable (version_of x)) self.now }
         requires few { length found.old.items ≤ MAX_MATCHING }
-        ensures finds { OnOk result (IsFinding query.now from self.now found.old.items found.new.items) }
+        ensures finds { OnOk result (IsFinding query.now from shift self.now found.old.items found.new.items) }
         ensures refused { result ≡ Err StoreError.TooManyRows
             → MAX_MATCHING < length found.old.items + length (filter (suits query.now) (left_from from (map version_of self.now))) }
     {
         let spots = spots_for(&self.ids, &self.groups, query);
-        take_found(&self.versions, self.first, spots, alloc, from, found)
+        take_found(&self.versions, self.first, spots, alloc, from, shift, found)
     }
 }

@@ -9,6 +9,7 @@ ghost use Rattle.txc_rows.specs.Placed.{placed_left};
 ghost use Rattle.txc_rows.specs.Stored.{AreCells, placed_from};
 ghost use Rattle.txc_rows.specs.Kept.{latest_in, HasNoTable, HasTable, HasLatest, IsKept, IsStep, IsCall, IsLeaving};
 
+use crate::moment::Moment;
 use crate::texts::{ADD_LATEST, DROP_LATEST, MAKE_LATEST, READ_LEFT};
 use sqlite::{Connection, Error, MemStore, Transaction, params};
 
@@ -79,11 +80,11 @@ fn fill_latest(tx: &mut Transaction<'_, MemStore>, rows: &[sqlite::Row]) -> Resu
 }
 
 /// The versions that did not die before the stamp.
-fn read_left(conn: &mut Connection<MemStore>, from: u32) -> Result<Vec<sqlite::Row>, Error>
+fn read_left(conn: &mut Connection<MemStore>, from: Moment) -> Result<Vec<sqlite::Row>, Error>
     requires { IsKept conn.old }
     ensures { IsLeaving from conn.old conn.new result }
 {
-    conn.query_all(READ_LEFT, params![from])
+    conn.query_all(READ_LEFT, params![from.stored()])
 }
 
 /// The table is made anew, with these versions.
@@ -100,7 +101,7 @@ fn refill(tx: &mut Transaction<'_, MemStore>, rows: &[sqlite::Row]) -> Result<()
 }
 
 /// Makes the table anew, with what did not die before the stamp. It answers how many versions that are.
-pub(crate) fn rebuild(conn: &mut Connection<MemStore>, from: u32) -> Result<usize, Error>
+pub(crate) fn rebuild(conn: &mut Connection<MemStore>, from: Moment) -> Result<usize, Error>
     requires { IsKept conn.old }
     ensures { IsCall (IsPermutation (placed_left from (latest_in conn.old))) conn.old conn.new result }
 {

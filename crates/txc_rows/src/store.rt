@@ -9,11 +9,13 @@ ghost use Rattle.txc_rows.specs.Kept.{latest_in, versions_of, IsKept, IsCall, Is
 ghost use Rattle.txc_rows.specs.States.{State};
 ghost use Rattle.txc_rows.specs.Found.{Finds};
 ghost use Rattle.txc_rows.specs.Keeping.{KeepsStates, KeepsWritten, KeepsPurged, AnswersStates, AnswersNewest};
+ghost use Rattle.txc_rows.specs.Shifted.{shown_all, carried, KeepsCarried};
 ghost use Rattle.txc_rows.specs.StoreErrors.{IsStoreRefusal};
 ghost use Rattle.txc_rows.specs.declared.store_error.TheConstants.{MAX_MATCHING};
 
 use crate::counts::Counts;
 use crate::decode::{all_placed_from, versions_from};
+use crate::moment::{Moment, Shift};
 use crate::placed::Placed;
 use crate::query::{Change, Query};
 use crate::reads::{read, read_placed};
@@ -28,6 +30,9 @@ use std::marker::Model;
 use txc_stamp::Stamp;
 use txc_tags::Table;
 
+/// A stamp that the columns of the store do not have, or that is before the first of its history.
+const LATE: sqlite::Error = sqlite::Error::SqliteFailure(sqlite::ErrorCode::TooBig);
+
 /// Where so many last versions are known, they are forgotten for others.
 const MOST_KNOWN: usize = 1024;
 
@@ -40,7 +45,9 @@ pub struct VersionRows {
     /// The place of the next version: each that is stored has a lower one.
     next_place: u32,
     /// Versions that died before it are gone, though they may still be stored.
-    kept_from: u32,
+    kept_from: Moment,
+    /// What is between the stamps that are stored and those that are shown.
+    shift: Shift,
     /// Last versions that `current` has read since the last write, so that a put of one does not read it again.
     known: Vec<Placed>,
     counts: Counts,
@@ -50,14 +57,17 @@ pub struct VersionRows {
 impl Model for VersionRows {
     ghost use Rattle.std.specs.Prelude.{List};
     ghost use Rattle.txc_rows.specs.declared.version.Versioned.{Versioned};
+    ghost use Rattle.std.specs.List.{AllByRecursion};
+    ghost use Rattle.txc_rows.specs.Shifted.{shown_all, IsShift, IsWithin};
     ghost use Rattle.txc_rows.specs.Placed.{left_from, AreAmong};
     ghost use Rattle.txc_rows.specs.Kept.{latest_in, versions_of, IsStore};
 
     ghost Value = { List Versioned };
 
-    ghost view = { λ a. left_from a.kept_from (versions_of a.replaced a.conn) };
+    ghost view = { λ a. shown_all a.shift (left_from a.kept_from (versions_of a.replaced a.conn)) };
 
-    ghost invariant = { λ a. IsStore a.next_place a.replaced a.conn × AreAmong (latest_in a.conn) a.known.items };
+    ghost invariant = { λ a. IsStore a.next_place a.replaced a.conn × AreAmong (latest_in a.conn) a.known.items
+        × IsShift a.shift × AllByRecursion (IsWithin a.shift) (left_from a.kept_from (versions_of a.replaced a.conn)) };
 }
 
 /// A connection with the table and no version.
@@ -85,7 +95,7 @@ fn place_after(place: u32, more: usize) -> Result<u32, sqlite::Error>
 fn sweep(
     conn: &mut Connection<MemStore>,
     counts: &mut Counts,
-    from: u32,
+    from: Moment,
 ) -> Result<(), sqlite::Error>
     requires { IsKept conn.old }
     ensures { IsCall (AreSwept from (latest_in conn.old)) conn.old conn.new result }
@@ -104,9 +114,9 @@ fn make_room(
     known: &mut Vec<Placed>,
     alloc: Global,
     counts: &mut Counts,
-    kept_from: u32,
-    stamp: u32,
-) -> Result<u32, sqlite::Error>
+    kept_from: Moment,
+    stamp: Moment,
+) -> Result<Moment, sqlite::Error>
     requires kept { IsKept conn.old }
     requires known { AreAmong (latest_in conn.old) known.old.items }
     ensures room { (next : ℕ) → IsStore next replaced.old conn.old
@@ -123,7 +133,7 @@ fn make_room(
     let rows = rebuild(conn, kept_from)?;
     *replaced = left;
     counts.rebuilt(rows);
-    Ok(0)
+    Ok(Moment::FIRST)
 }
 
 /// The last versions that match, of those that did not die before the stamp, come to the found ones.
@@ -131,13 +141,14 @@ fn find(
     conn: &mut Connection<MemStore>,
     alloc: Global,
     query: &Query,
-    from: u32,
+    from: Moment,
+    shift: Shift,
     found: &mut Vec<Versioned>,
 ) -> Result<(), StoreError>
     requires kept { IsKept conn.old }
     requires few { length found.old.items ≤ MAX_MATCHING }
     ensures same { IsSame conn.old conn.new }
-    ensures finds { OnOk result (IsFinding query.now from (latest_in conn.old) found.old.items found.new.items) }
+    ensures finds { OnOk result (IsFinding query.now from shift (latest_in conn.old) found.old.items found.new.items) }
     ensures refused { result ≡ Err StoreError.TooManyRows
         → MAX_MATCHING < length found.old.items + length (filter (suits query.now) (left_from from (map version_of (latest_in conn.old)))) }
 {
@@ -145,7 +156,7 @@ fn find(
     if rows.len() > MAX_MATCHING - found.len() {
         return Err(StoreError::TooManyRows);
     }
-    let mut more = versions_from(alloc, query.table(), &rows)?;
+    let mut more = versions_from(alloc, query.table(), &rows, shift)?;
     found.append(&mut more)?;
     Ok(())
 }
@@ -154,13 +165,14 @@ fn find(
 fn add_copies(
     alloc: Global,
     placed: &[Placed],
+    shift: Shift,
     found: &mut Vec<Versioned>,
 ) -> Result<(), StoreError>
-    ensures found { OnOk result (found.new.items ≡ found.old.items ++ map version_of placed.now) }
+    ensures found { OnOk result (found.new.items ≡ found.old.items ++ shown_all shift (map version_of placed.now)) }
     ensures refused { IfErr result (λ e. e ≡ StoreError.Memory) }
 {
     for one in placed {
-        found.push(one.version.copy(alloc)?)?;
+        found.push(one.shown(alloc, shift)?)?;
     }
     Ok(())
 }
@@ -184,7 +196,8 @@ fn find_row(
     alloc: Global,
     table: Table,
     id: u32,
-    from: u32,
+    from: Moment,
+    shift: Shift,
     found: &mut Vec<Versioned>,
 ) -> Result<(), StoreError>
     requires kept { IsKept conn.old }
@@ -192,7 +205,7 @@ fn find_row(
     requires few { length found.old.items ≤ MAX_MATCHING }
     ensures same { IsSame conn.old conn.new }
     ensures known { AreAmong (latest_in conn.old) known.new.items }
-    ensures finds { OnOk result (IsFinding (ById table id) from (latest_in conn.old) found.old.items found.new.items) }
+    ensures finds { OnOk result (IsFinding (ById table id) from shift (latest_in conn.old) found.old.items found.new.items) }
     ensures refused { result ≡ Err StoreError.TooManyRows
         → MAX_MATCHING < length found.old.items + length (filter (suits (ById table id)) (left_from from (map version_of (latest_in conn.old)))) }
 {
@@ -201,7 +214,7 @@ fn find_row(
         return Err(StoreError::TooManyRows);
     }
     let placed = all_placed_from(alloc, table, &rows)?;
-    add_copies(alloc, &placed, found)?;
+    add_copies(alloc, &placed, shift, found)?;
     add_known(known, placed)?;
     Ok(())
 }
@@ -212,7 +225,8 @@ fn find_known(
     known: &mut Vec<Placed>,
     alloc: Global,
     query: &Query,
-    from: u32,
+    from: Moment,
+    shift: Shift,
     found: &mut Vec<Versioned>,
 ) -> Result<(), StoreError>
     requires kept { IsKept conn.old }
@@ -220,13 +234,13 @@ fn find_known(
     requires few { length found.old.items ≤ MAX_MATCHING }
     ensures same { IsSame conn.old conn.new }
     ensures known { AreAmong (latest_in conn.old) known.new.items }
-    ensures finds { OnOk result (IsFinding query.now from (latest_in conn.old) found.old.items found.new.items) }
+    ensures finds { OnOk result (IsFinding query.now from shift (latest_in conn.old) found.old.items found.new.items) }
     ensures refused { result ≡ Err StoreError.TooManyRows
         → MAX_MATCHING < length found.old.items + length (filter (suits query.now) (left_from from (map version_of (latest_in conn.old)))) }
 {
     match *query {
-        Query::ById(table, id) => find_row(conn, known, alloc, table, id, from, found),
-        _ => find(conn, alloc, query, from, found),
+        Query::ById(table, id) => find_row(conn, known, alloc, table, id, from, shift, found),
+        _ => find(conn, alloc, query, from, shift, found),
     }
 }
 
@@ -246,19 +260,20 @@ fn find_all(
     replaced: &Replaced,
     alloc: Global,
     query: &Query,
-    from: u32,
+    from: Moment,
+    shift: Shift,
 ) -> Result<Vec<Versioned>, StoreError>
     requires kept { IsKept conn.old }
     requires apart { AreWellPlaced (latest_in conn.old) replaced.now }
     ensures same { IsSame conn.old conn.new }
-    ensures finds { IfOk result (λ found. Finds query.now (left_from from (versions_of replaced.now conn.old)) found.items) }
+    ensures finds { IfOk result (λ found. Finds query.now (shown_all shift (left_from from (versions_of replaced.now conn.old))) found.items) }
     ensures bound { IfOk result (λ found. length found.items ≤ MAX_MATCHING) }
     ensures refused { result ≡ Err StoreError.TooManyRows
         → MAX_MATCHING < length (filter (suits query.now) (left_from from (versions_of replaced.now conn.old))) }
 {
     let mut found = Vec::new(alloc);
-    find(conn, alloc, query, from, &mut found)?;
-    replaced.find(alloc, query, from, &mut found)?;
+    find(conn, alloc, query, from, shift, &mut found)?;
+    replaced.find(alloc, query, from, shift, &mut found)?;
     sort(&mut found)?;
     Ok(found)
 }
@@ -271,7 +286,8 @@ fn find_last(
     replaced: &Replaced,
     alloc: Global,
     query: &Query,
-    from: u32,
+    from: Moment,
+    shift: Shift,
 ) -> Result<Vec<Versioned>, StoreError>
     requires kept { IsKept conn.old }
     requires known { AreAmong (latest_in conn.old) known.old.items }
@@ -279,17 +295,17 @@ fn find_last(
     ensures same { IsSame conn.old conn.new }
     ensures known { AreAmong (latest_in conn.old) known.new.items }
     ensures finds { IfOk result (λ found. IsPermutation
-        (filter (suits query.now) (current (left_from from (versions_of replaced.now conn.old)))) (current found.items)) }
+        (filter (suits query.now) (current (shown_all shift (left_from from (versions_of replaced.now conn.old))))) (current found.items)) }
     ensures bound { OnOk result (length (filter (suits query.now) (left_from from (versions_of replaced.now conn.old))) ≤ MAX_MATCHING) }
     ensures refused { result ≡ Err StoreError.TooManyRows
         → MAX_MATCHING < length (filter (suits query.now) (left_from from (versions_of replaced.now conn.old))) }
 {
     let mut last = Vec::new(alloc);
-    find_known(conn, known, alloc, query, from, &mut last)?;
+    find_known(conn, known, alloc, query, from, shift, &mut last)?;
     if replaced.len() <= MAX_MATCHING - last.len() {
         return Ok(last);
     }
-    replaced.find(alloc, query, from, &mut last)?;
+    replaced.find(alloc, query, from, shift, &mut last)?;
     Ok(last)
 }
 
@@ -300,19 +316,20 @@ fn find_current(
     replaced: &Replaced,
     alloc: Global,
     query: &Query,
-    from: u32,
+    from: Moment,
+    shift: Shift,
 ) -> Result<Vec<Versioned>, StoreError>
     requires kept { IsKept conn.old }
     requires known { AreAmong (latest_in conn.old) known.old.items }
     requires apart { AreWellPlaced (latest_in conn.old) replaced.now }
     ensures same { IsSame conn.old conn.new }
     ensures known { AreAmong (latest_in conn.old) known.new.items }
-    ensures finds { IfOk result (λ found. Finds query.now (current (left_from from (versions_of replaced.now conn.old))) found.items) }
+    ensures finds { IfOk result (λ found. Finds query.now (current (shown_all shift (left_from from (versions_of replaced.now conn.old)))) found.items) }
     ensures bound { OnOk result (length (filter (suits query.now) (left_from from (versions_of replaced.now conn.old))) ≤ MAX_MATCHING) }
     ensures refused { result ≡ Err StoreError.TooManyRows
         → MAX_MATCHING < length (filter (suits query.now) (left_from from (versions_of replaced.now conn.old))) }
 {
-    let mut found = find_last(conn, known, replaced, alloc, query, from)?;
+    let mut found = find_last(conn, known, replaced, alloc, query, from, shift)?;
     found.retain(|version| version.died.is_none());
     sort(&mut found)?;
     Ok(found)
@@ -331,7 +348,8 @@ impl VersionRows {
             conn,
             replaced: Replaced::new(alloc),
             next_place: 0,
-            kept_from: 0,
+            kept_from: Moment::FIRST,
+            shift: Shift::NONE,
             known: Vec::new(alloc),
             counts: Counts::NONE,
             alloc,
@@ -353,6 +371,7 @@ impl VersionRows {
             self.alloc,
             query,
             self.kept_from,
+            self.shift,
         )
     }
 
@@ -373,6 +392,7 @@ impl VersionRows {
             self.alloc,
             query,
             self.kept_from,
+            self.shift,
         )
     }
 
@@ -386,7 +406,9 @@ impl VersionRows {
     {
         let place = self.next_place;
         let next_place = place_after(place, net.len())?;
-        let number = stamp.number();
+        let Some(moment) = self.shift.moment(stamp) else {
+            return Err(StoreError::Store(LATE));
+        };
         let mut known = std::mem::replace(&mut self.known, Vec::new(self.alloc));
         let kept_from = make_room(
             &mut self.conn,
@@ -395,7 +417,7 @@ impl VersionRows {
             self.alloc,
             &mut self.counts,
             self.kept_from,
-            number,
+            moment,
         )?;
         self.kept_from = kept_from;
         let written = write_all(
@@ -404,10 +426,10 @@ impl VersionRows {
             &mut known,
             self.alloc,
             net,
-            stamp,
+            moment,
             place,
         )?;
-        self.counts.note(written, number);
+        self.counts.note(written, moment);
         self.next_place = next_place;
         Ok(())
     }
@@ -419,12 +441,32 @@ impl VersionRows {
         ensures unchanged { OnErr result (self.new ≡ self.old) }
         ensures refused { IfErr result IsStoreRefusal }
     {
-        let from = self.kept_from.max(horizon.number() + 1);
+        let Some(moment) = self.shift.moment_after(horizon) else {
+            return Err(StoreError::Store(LATE));
+        };
+        let from = self.kept_from.max(moment);
         self.known.clear();
         sweep(&mut self.conn, &mut self.counts, from)?;
         self.replaced.purge(from);
         self.counts.hide(from);
         self.kept_from = from;
+        Ok(())
+    }
+
+    /// Begins anew for a history whose first event has the state of the newest stamp: what died by then is dropped, each
+    /// version that is left stands from the first stamp on, and later stamps are so much less. It takes the time of its
+    /// purge, and nothing for each version. Refused, the versions are as they were.
+    pub fn carry(&mut self, newest: Stamp) -> Result<(), StoreError>
+        ensures after { OnOk result (self.new ≡ carried newest self.old) }
+        ensures keeps { OnOk result (KeepsCarried newest self.old self.new) }
+        ensures unchanged { OnErr result (self.new ≡ self.old) }
+        ensures refused { IfErr result IsStoreRefusal }
+    {
+        let Some(next) = self.shift.carried(newest) else {
+            return Err(StoreError::Store(LATE));
+        };
+        self.purge(newest)?;
+        self.shift = next;
         Ok(())
     }
 

@@ -4,15 +4,16 @@ ghost use Rattle.std.specs.Prelude.{◌≡◌, ◌++◌, ◌∷◌, ◌==◌, []
 ghost use Rattle.std.specs.List.{AllByRecursion, Contains};
 ghost use Rattle.std.specs.List.Sorted.{IsPermutation};
 ghost use Rattle.sqlite.specs.Tree.{IsAscending};
-ghost use Rattle.txc_stamp.specs.declared.stamp.TheConstants.{LAST_STAMP};
+ghost use Rattle.txc_rows.specs.declared.moment.TheConstants.{LAST_MOMENT};
 ghost use Rattle.txc_rows.specs.Values.{IsRow};
 ghost use Rattle.txc_rows.specs.States.{is_at};
 ghost use Rattle.txc_rows.specs.Versions.{put, after_write, after_net};
 ghost use Rattle.txc_rows.specs.Holdable.{IsStorable};
-ghost use Rattle.txc_rows.specs.Placed.{in_group, is_touched, has_key, closed_placed, new_placed, renewed, put_latest, HaveOwnKeys, IsOneCurrent, AreBelow, AreWellPlaced, AreAll, AreAmong, KeepsOthers, AddsAtEnd};
+ghost use Rattle.txc_rows.specs.Placed.{version_of, in_group, is_touched, has_key, closed_placed, new_placed, renewed, put_latest, HaveOwnKeys, IsOneCurrent, AreBelow, AreWellPlaced, AreAll, AreAmong, KeepsOthers, AddsAtEnd};
 ghost use Rattle.txc_rows.specs.Kept.{latest_in, versions_of, HasTable, HasLatest, HasWritten, ArePassing, IsKept, IsStep, IsCall};
 
 use crate::decode::all_placed_from;
+use crate::moment::Moment;
 use crate::placed::Placed;
 use crate::query::Change;
 use crate::replaced::Replaced;
@@ -20,7 +21,6 @@ use crate::row::Row;
 use crate::texts::{ADD_LATEST, END_VERSION, READ_LAST, RENEW_LATEST};
 use sqlite::{Connection, Constraint, Error, ErrorCode, MemStore, Transaction, params};
 use std::alloc::{AllocError, Global};
-use txc_stamp::Stamp;
 use txc_tags::Table;
 
 /// How many versions died in the table, how many dead ones were replaced in it, and how many are the first of their
@@ -55,13 +55,13 @@ fn add_latest(
     tx: &mut Transaction<'_, MemStore>,
     place: u32,
     row: &Row,
-    stamp: Stamp,
+    stamp: Moment,
 ) -> Result<usize, Error>
     requires table { HasTable tx.old.conn.now }
     requires inside { tx.old.conn.now.in_transaction ≡ true }
     ensures same_reference { tx.new.conn.ghost_name ≡ tx.old.conn.ghost_name }
     ensures row { IsRow row.now }
-    ensures stamp { stamp ≤ LAST_STAMP }
+    ensures stamp { stamp ≤ LAST_MOMENT }
     ensures step { IsStep (HasLatest (latest_in tx.old.conn.now ++ new_placed place row.now stamp ∷ []))
         tx.old.conn.now tx.new.conn.now result }
 {
@@ -71,7 +71,7 @@ fn add_latest(
             place,
             u32::from(row.table().number()),
             row.id(),
-            stamp.number(),
+            stamp.stored(),
             row.group(),
             row.body(),
             None::<u32>
@@ -84,19 +84,19 @@ fn end_version(
     tx: &mut Transaction<'_, MemStore>,
     table: Table,
     id: u32,
-    stamp: Stamp,
+    stamp: Moment,
 ) -> Result<usize, Error>
     requires table { HasTable tx.old.conn.now }
     requires inside { tx.old.conn.now.in_transaction ≡ true }
     requires current { IsAscending IsOneCurrent (latest_in tx.old.conn.now) }
     ensures same_reference { tx.new.conn.ghost_name ≡ tx.old.conn.ghost_name }
-    ensures stamp { stamp ≤ LAST_STAMP }
+    ensures stamp { stamp ≤ LAST_MOMENT }
     ensures step { IsStep (HasLatest (map (closed_placed table id stamp) (latest_in tx.old.conn.now)))
         tx.old.conn.now tx.new.conn.now result }
 {
     tx.execute(
         END_VERSION,
-        params![u32::from(table.number()), id, stamp.number()],
+        params![u32::from(table.number()), id, stamp.stored()],
     )
 }
 
@@ -105,14 +105,14 @@ fn renew_latest(
     tx: &mut Transaction<'_, MemStore>,
     place: u32,
     row: &Row,
-    stamp: Stamp,
+    stamp: Moment,
 ) -> Result<usize, Error>
     requires table { HasTable tx.old.conn.now }
     requires inside { tx.old.conn.now.in_transaction ≡ true }
     requires keys { HaveOwnKeys (latest_in tx.old.conn.now) }
     ensures same_reference { tx.new.conn.ghost_name ≡ tx.old.conn.ghost_name }
     ensures row { IsRow row.now }
-    ensures stamp { stamp ≤ LAST_STAMP }
+    ensures stamp { stamp ≤ LAST_MOMENT }
     ensures step { IsStep (HasLatest (map (renewed place row.now stamp) (latest_in tx.old.conn.now)))
         tx.old.conn.now tx.new.conn.now result }
 {
@@ -123,7 +123,7 @@ fn renew_latest(
             row.id(),
             row.group(),
             place,
-            stamp.number(),
+            stamp.stored(),
             row.body()
         ],
     )
@@ -138,7 +138,7 @@ fn read_last(
 ) -> Result<Vec<sqlite::Row>, Error>
     requires table { HasTable tx.old.conn.now }
     requires inside { tx.old.conn.now.in_transaction ≡ true }
-    requires each { AllByRecursion (λ x. IsStorable x.version) (latest_in tx.old.conn.now) }
+    requires each { AllByRecursion (λ x. IsStorable (version_of x)) (latest_in tx.old.conn.now) }
     ensures same_reference { tx.new.conn.ghost_name ≡ tx.old.conn.ghost_name }
     ensures step { IsStep (HasLatest (latest_in tx.old.conn.now)) tx.old.conn.now tx.new.conn.now result }
     ensures touched { IfOk result (λ rows. ArePassing table (is_touched table id group) (latest_in tx.old.conn.now) rows.items) }
@@ -149,20 +149,20 @@ fn read_last(
 // ---- the versions that are known
 
 fn is_of(placed: &Placed, table: Table, id: u32) -> bool
-    ensures { result ≡ is_at table id placed.now.version.row }
+    ensures { result ≡ is_at table id placed.now.row }
 {
-    let row = &placed.version.row;
+    let row = &placed.row;
     row.table() == table && row.id() == id
 }
 
 /// The known one of the row's table, id and group that has not died, if there is one.
 fn last_known<'a>(known: &'a [Placed], row: &Row) -> Option<&'a Placed>
     ensures { IfSome result (λ one. Contains known.now one.now
-        × (has_key row.now.table row.now.id row.now.group one.now ≡ true) × (one.now.version.died ≡ None)) }
+        × (has_key row.now.table row.now.id row.now.group one.now ≡ true) × (one.now.died ≡ None)) }
 {
     for one in known {
-        let is_last = is_of(one, row.table(), row.id()) && one.version.row.group() == row.group();
-        if is_last && one.version.died.is_none() {
+        let is_last = is_of(one, row.table(), row.id()) && one.row.group() == row.group();
+        if is_last && one.died.is_none() {
             return Some(one);
         }
     }
@@ -171,7 +171,7 @@ fn last_known<'a>(known: &'a [Placed], row: &Row) -> Option<&'a Placed>
 
 /// Leaves out those of a table and id.
 fn forget(known: &mut Vec<Placed>, table: Table, id: u32)
-    ensures { known.new.items ≡ filter (λ x. not (is_at table id x.version.row)) known.old.items }
+    ensures { known.new.items ≡ filter (λ x. not (is_at table id x.row)) known.old.items }
 {
     known.retain(|one| !is_of(one, table, id));
 }
@@ -198,7 +198,7 @@ fn find_touched(
     requires inside { tx.old.conn.now.in_transaction ≡ true }
     requires keys { HaveOwnKeys (latest_in tx.old.conn.now) }
     requires current { IsAscending IsOneCurrent (latest_in tx.old.conn.now) }
-    requires each { AllByRecursion (λ x. IsStorable x.version) (latest_in tx.old.conn.now) }
+    requires each { AllByRecursion (λ x. IsStorable (version_of x)) (latest_in tx.old.conn.now) }
     requires known { AreAmong (latest_in tx.old.conn.now) known.now }
     ensures same_reference { tx.new.conn.ghost_name ≡ tx.old.conn.ghost_name }
     ensures step { IsStep (HasLatest (latest_in tx.old.conn.now)) tx.old.conn.now tx.new.conn.now result }
@@ -222,7 +222,7 @@ fn of_group(mut last: Vec<Placed>, group: u32) -> (Option<Placed>, bool)
     ensures moves { result.1 ≡ false → length (filter (in_group group) last.items) ≡ length last.items }
 {
     let count = last.len();
-    last.retain(|one| one.version.row.group() == group);
+    last.retain(|one| one.row.group() == group);
     let moves = last.len() < count;
     (last.pop(), moves)
 }
@@ -232,7 +232,7 @@ fn end_moved(
     tx: &mut Transaction<'_, MemStore>,
     table: Table,
     id: u32,
-    stamp: Stamp,
+    stamp: Moment,
     moves: bool,
 ) -> Result<usize, Error>
     requires table { HasTable tx.old.conn.now }
@@ -250,20 +250,20 @@ fn end_moved(
 }
 
 /// The last version of the group, if there is one, is replaced, and dies at the stamp if it has not died.
-fn replace(replaced: &mut Replaced, last: Option<Placed>, stamp: Stamp) -> Result<usize, Error>
+fn replace(replaced: &mut Replaced, last: Option<Placed>, stamp: Moment) -> Result<usize, Error>
     ensures added { OnOk result (replaced.new ≡ replaced.old
-        ++ map (λ x. closed_placed x.version.row.table x.version.row.id stamp x) (option_to_list last)) }
+        ++ map (λ x. closed_placed x.row.table x.row.id stamp x) (option_to_list last)) }
     ensures unchanged { OnErr result (replaced.new ≡ replaced.old) }
 {
     let Some(mut last) = last else {
         return Ok(0);
     };
-    let revived = usize::from(last.version.died.is_some());
-    if last.version.died.is_none() {
-        if last.version.born >= stamp {
+    let revived = usize::from(last.died.is_some());
+    if last.died.is_none() {
+        if last.born >= stamp {
             return Err(Error::SqliteFailure(ErrorCode::ConstraintViolation(Constraint::Check)));
         }
-        last.version.died = Some(stamp);
+        last.died = Some(stamp);
     }
     let Ok(()) = replaced.add(last) else {
         return Err(Error::SqliteFailure(ErrorCode::OutOfMemory));
@@ -276,7 +276,7 @@ fn put_version(
     tx: &mut Transaction<'_, MemStore>,
     place: u32,
     row: &Row,
-    stamp: Stamp,
+    stamp: Moment,
     is_first: bool,
 ) -> Result<usize, Error>
     requires table { HasTable tx.old.conn.now }
@@ -286,7 +286,7 @@ fn put_version(
         ≡ (length (filter (has_key row.now.table row.now.id row.now.group) (latest_in tx.old.conn.now)) == 0) }
     ensures same_reference { tx.new.conn.ghost_name ≡ tx.old.conn.ghost_name }
     ensures row { OnOk result (IsRow row.now) }
-    ensures stamp { OnOk result (stamp ≤ LAST_STAMP) }
+    ensures stamp { OnOk result (stamp ≤ LAST_MOMENT) }
     ensures step { IsStep (HasLatest (put_latest place row.now stamp (latest_in tx.old.conn.now)))
         tx.old.conn.now tx.new.conn.now result }
 {
@@ -303,7 +303,7 @@ fn write_put(
     known: &[Placed],
     alloc: Global,
     row: &Row,
-    stamp: Stamp,
+    stamp: Moment,
     place: u32,
 ) -> Result<Written, Error>
     requires table { HasTable tx.old.conn.now }
@@ -340,7 +340,7 @@ fn write_change(
     known: &mut Vec<Placed>,
     alloc: Global,
     change: &Change,
-    stamp: Stamp,
+    stamp: Moment,
     place: u32,
 ) -> Result<Written, Error>
     requires table { HasTable tx.old.conn.now }
@@ -380,7 +380,7 @@ fn write_table(
     known: &mut Vec<Placed>,
     alloc: Global,
     net: &[Change],
-    stamp: Stamp,
+    stamp: Moment,
     place: u32,
 ) -> Result<Written, Error>
     requires kept { IsKept conn.old }
@@ -413,7 +413,7 @@ pub(crate) fn write_all(
     known: &mut Vec<Placed>,
     alloc: Global,
     net: &[Change],
-    stamp: Stamp,
+    stamp: Moment,
     place: u32,
 ) -> Result<Written, Error>
     requires kept { IsKept conn.old }

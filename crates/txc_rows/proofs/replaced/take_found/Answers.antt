@@ -17,7 +17,7 @@ returns-then-len-ge-MAX_MATCHING-clause-refused c = λ many.
     let next = rest_more deref c.loop-spot.spot-iterator c.next.new.self c.next.result c.in-Some.spot c.in-Some.is c.next.ensures.steps in
     let x = c.in-Some-get.placed.now in
     let there : slice_get xs (s.number - c.args.first) ≡ Some x = got xs (s.number - c.args.first) x (search (arith, rules)) (search rules) in
-    let left : is_left c.args.from x.version ≡ true = not_false _ (sym c.died_before.ensures ∙ c.if-died_before.false) in
+    let left : is_left c.args.from (version_of x) ≡ true = not_false _ (sym c.died_before.ensures ∙ c.if-died_before.false) in
     let more = ap (taken c.args.from c.args.first xs s c.next.new.self) next ∙ taken_left c.args.from c.args.first xs s c.next.new.self x there left in
     let i = c.loop-spot.invariant in
     let full : MAX_MATCHING ≤ length c.loop-spot.found.items = search (arith, rules) in
@@ -38,14 +38,14 @@ loop-spot-preserved c =
     let next = rest_more deref c.loop-spot.spot-iterator c.next.new.self c.next.result c.in-Some.spot c.in-Some.is c.next.ensures.steps in
     let x = c.in-Some-get.placed.now in
     let there : slice_get xs (s.number - c.args.first) ≡ Some x = got xs (s.number - c.args.first) x (search (arith, rules)) (search rules) in
-    let left : is_left c.args.from x.version ≡ true = not_false _ (sym c.died_before.ensures ∙ c.if-died_before.false) in
+    let left : is_left c.args.from (version_of x) ≡ true = not_false _ (sym c.died_before.ensures ∙ c.if-died_before.false) in
     let more = ap (taken c.args.from c.args.first xs s c.next.new.self) next ∙ taken_left c.args.from c.args.first xs s c.next.new.self x there left in
     let i = c.loop-spot.invariant in
     let rest = taken c.args.from c.args.first xs s c.next.new.self c.next.new.self in
-    let pushed : c.push.new.self.items ≡ c.loop-spot.found.items ++ x.version ∷ [] = search rules in
+    let pushed : c.push.new.self.items ≡ c.loop-spot.found.items ++ (version_of x) ∷ [] = search rules in
     let room : length c.loop-spot.found.items < MAX_MATCHING = search (arith, rules) in
     record {
-      few = omega (arith, room, ap length pushed, length-append c.loop-spot.found.items (x.version ∷ []));
+      few = omega (arith, room, ap length pushed, length-append c.loop-spot.found.items ((version_of x) ∷ []));
       from_first = (subst (AllByRecursion (λ (t : Spot). c.args.first ≤ t.number)) next i.from_first).1;
-      done = ap (λ vs. vs ++ rest) pushed ∙ append_assoc c.loop-spot.found.items (x.version ∷ []) rest ∙ ap (λ vs. c.loop-spot.found.items ++ vs) (sym more) ∙ i.done;
+      done = ap (λ vs. vs ++ rest) pushed ∙ append_assoc c.loop-spot.found.items ((version_of x) ∷ []) rest ∙ ap (λ vs. c.loop-spot.found.items ++ vs) (sym more) ∙ i.done;
     }

@@ -1,5 +1,6 @@
 use Rattle.std.proofs.Common.{Err, ap, arith}
 use Rattle.std.proofs.lemmas.List.Sorted.{length_permutation}
+use Rattle.txc_rows.specs.Placed.{version_of}
 use Rattle.txc_rows.specs.declared.store_error.StoreError.TheVariants.{TooManyRows}
 use Rattle.txc_rows.specs.Kept.{latest_in}
 use Rattle.txc_rows.proofs.PutLemmas.{all_back}
@@ -13,7 +14,7 @@ returns-in_err-find-clause-refused c = λ many.
     latest_many c.args.query.now c.args.from c.args.replaced.now c.args.conn.now c.new-found.result.items c.new-found.ensures.items (c.in_err-find.ensures.refused (ap (λ e. Err e) passed))
 
 pub find-requires-2-clause-each : goal.find-requires-2-clause-each
-find-requires-2-clause-each c = all_back (λ x. IsStorable x.version) (latest_in c.args.conn.now) c.args.replaced.now c.requires.apart.each
+find-requires-2-clause-each c = all_back (λ x. IsStorable (version_of x)) (latest_in c.args.conn.now) c.args.replaced.now c.requires.apart.each
 
 pub returns-in_err-find-2-clause-refused : goal.returns-in_err-find-2-clause-refused
 returns-in_err-find-2-clause-refused c = λ many.

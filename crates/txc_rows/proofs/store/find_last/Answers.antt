@@ -3,7 +3,7 @@ use Rattle.std.proofs.lemmas.List.Sorted.{length_permutation}
 use Rattle.txc_rows.specs.declared.store_error.StoreError.TheVariants.{TooManyRows}
 use Rattle.txc_rows.specs.declared.store_error.TheConstants.{MAX_MATCHING}
 use Rattle.txc_rows.specs.Holdable.{IsStorable}
-use Rattle.txc_rows.specs.Placed.{left_from}
+use Rattle.txc_rows.specs.Placed.{version_of, left_from}
 use Rattle.txc_rows.specs.Kept.{latest_in, versions_of}
 use Rattle.txc_rows.proofs.PutLemmas.{all_back}
 use Rattle.txc_rows.proofs.FindLemmas.{found_latest, found_both, latest_many, replaced_many, passed_error}
@@ -28,7 +28,7 @@ returns-then-len-clause-bound c =
 
 -- they are not
 pub find-requires-clause-each : goal.find-requires-clause-each
-find-requires-clause-each c = all_back (λ x. IsStorable x.version) (latest_in c.args.conn.now) c.args.replaced.now c.requires.apart.each
+find-requires-clause-each c = all_back (λ x. IsStorable (version_of x)) (latest_in c.args.conn.now) c.args.replaced.now c.requires.apart.each
 
 pub returns-in_err-find-clause-refused : goal.returns-in_err-find-clause-refused
 returns-in_err-find-clause-refused c = λ many.

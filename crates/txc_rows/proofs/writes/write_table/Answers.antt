@@ -9,7 +9,7 @@ use Rattle.sqlite_trees.specs.declared.memory.MemStore.{MemStore}
 use Rattle.txc_rows.specs.Versions.{after_net}
 use Rattle.txc_rows.specs.Holdable.{IsStorable}
 use Rattle.txc_rows.specs.declared.placed.Placed.{Placed}
-use Rattle.txc_rows.specs.Placed.{versions_by_place, AreBelow, AreWellPlaced, AreAll, AreAmong}
+use Rattle.txc_rows.specs.Placed.{version_of, versions_by_place, AreBelow, AreWellPlaced, AreAll, AreAmong}
 use Rattle.txc_rows.specs.Stored.{placed_all}
 use Rattle.txc_rows.specs.Kept.{latest_in, versions_of, IsCall, IsKept, HasWritten}
 use Rattle.txc_rows.proofs.PutLemmas.{all_front}
@@ -76,7 +76,7 @@ returns-in_err-commit-clause-call c =
     let last : c.loop-change.next ≡ c.args.place + length c.args.net.now = omega (arith, i.next, i.within, c.loop-change-test.false) in
     let apart = i.written.all.apart in
     let written : leaves (latest_in mid) = record { apart = apart; written = record { versions_are = are; below = rw (← last) i.written.all.written.below } } in
-    let each : AreStorable (latest_in mid) = all_front (λ x. IsStorable x.version) (latest_in mid) replaced apart.each in
+    let each : AreStorable (latest_in mid) = all_front (λ x. IsStorable (version_of x)) (latest_in mid) replaced apart.each in
     let call : IsCall leaves old end c.commit.result
     = ended_call leaves old mid end c.commit.result c.requires.kept i.written.table each written i.base c.commit.ensures.ended (c.commit.ensures.ok (memory_is_clean end)) (c.commit.ensures.err (memory_is_clean end)) i.inside in
     let failed : IsCall leaves old end (Err c.in_err-commit.field-0.0) = subst (IsCall leaves old end) c.in_err-commit.was call in
@@ -98,7 +98,7 @@ returns-clause-call c =
     let last : c.loop-change.next ≡ c.args.place + length c.args.net.now = omega (arith, i.next, i.within, c.loop-change-test.false) in
     let apart = i.written.all.apart in
     let written : leaves (latest_in mid) = record { apart = apart; written = record { versions_are = are; below = rw (← last) i.written.all.written.below } } in
-    let each : AreStorable (latest_in mid) = all_front (λ x. IsStorable x.version) (latest_in mid) replaced apart.each in
+    let each : AreStorable (latest_in mid) = all_front (λ x. IsStorable (version_of x)) (latest_in mid) replaced apart.each in
     let call : IsCall leaves old end c.commit.result
     = ended_call leaves old mid end c.commit.result c.requires.kept i.written.table each written i.base c.commit.ensures.ended (c.commit.ensures.ok (memory_is_clean end)) (c.commit.ensures.err (memory_is_clean end)) i.inside in
     let done : IsCall leaves old end (Ok c.in_ok-commit.field-0) = subst (IsCall leaves old end) c.in_ok-commit.was call in
