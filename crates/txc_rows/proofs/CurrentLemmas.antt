@@ -6,7 +6,7 @@ use Rattle.std.specs.List.Sorted.{IsPermutation}
 use Rattle.std.proofs.lemmas.List.{length-map}
 use Rattle.std.proofs.lemmas.List.Elements.{filter-append}
 use Rattle.std.proofs.lemmas.List.Sorted.{length_permutation}
-use Rattle.sqlite_trees.proofs.ListLemmas.{IsPermutation-filter}
+use Rattle.sqlite_trees.proofs.ListLemmas.{IsPermutation-filter, all-filter, all-map}
 use Rattle.sqlite.specs.Held.{Held}
 use Rattle.sqlite_trees.specs.declared.memory.MemStore.{MemStore}
 use Rattle.txc_rows.specs.declared.store_error.TheConstants.{MAX_MATCHING}
@@ -16,11 +16,13 @@ use Rattle.txc_rows.specs.declared.query.Query.{Query}
 use Rattle.txc_rows.specs.Versions.{suits, current, is_current, purged, died_by}
 use Rattle.txc_rows.specs.declared.placed.Placed.{Placed}
 use Rattle.txc_rows.specs.Placed.{version_of, is_left, left_from}
+use Rattle.txc_rows.specs.declared.moment.Shift.{Shift}
+use Rattle.txc_rows.specs.Shifted.{shown_all}
 use Rattle.txc_rows.specs.Found.{Finds}
 use Rattle.txc_rows.specs.Says.{AreUpTo}
 use Rattle.txc_rows.specs.Keeping.{AnswersNewest}
 use Rattle.txc_rows.specs.Kept.{latest_in, versions_of, IsFinding}
-use Rattle.txc_rows.proofs.FindLemmas.{asked, of_all, found_latest}
+use Rattle.txc_rows.proofs.FindLemmas.{asked, asked_length, of_all, found_latest}
 use Rattle.txc_rows.proofs.KeepingLemmas.{keeps_purged, found_answers}
 
 -- ---- what is left out of a list
@@ -49,36 +51,34 @@ both_current q vs found same = subst (λ xs. IsPermutation xs (current found)) (
 
 -- ---- the last versions alone
 
-module _ (q : Query) (from : ℕ) where
-  none_current : (xs : List Placed) → AllByRecursion (λ x. x.died ≢ None) xs → current (asked q from xs) ≡ []
-  none_current [] all = refl
-  none_current (x ∷ xs) all = go (is_left from (version_of x)) (suits q (version_of x)) x.died refl refl (none_current xs all.1)
+module _ (q : Query) (from : ℕ) (shift : Shift) where
+  none_shown : (vs : List Versioned) → AllByRecursion (λ v. v.died ≢ None) vs → current (shown_all shift vs) ≡ []
+  none_shown [] all = refl
+  none_shown (v ∷ vs) all = go v.died refl (none_shown vs all.1)
     where
-      rest : List Versioned
-      rest = left_from from (map version_of xs)
+      go : (d : Option ℕ) → v.died ≡ d → current (shown_all shift vs) ≡ [] → current (shown_all shift (v ∷ vs)) ≡ []
+      go None e none = absurd (all.0 e)
+      go (Some d) e none = rw e none
 
-      go : (b c : Bool) (d : Option ℕ) → suits q (version_of x) ≡ c → x.died ≡ d → current (filter (suits q) rest) ≡ []
-          → current (filter (suits q) (cond b ((version_of x) ∷ rest) rest)) ≡ []
-      go b c None f e none = absurd (all.0 e)
-      go false c (Some d) f e none = none
-      go true false (Some d) f e none = rw f none
-      go true true (Some d) f e none = rw (f, e) none
+  none_current : (xs : List Placed) → AllByRecursion (λ x. x.died ≢ None) xs → current (asked q from shift xs) ≡ []
+  none_current xs all =
+      none_shown _ (all-filter (λ v. v.died ≢ None) (suits q) _ (all-filter (λ v. v.died ≢ None) (is_left from) _ (all-map (λ v. v.died ≢ None) version_of xs all)))
 
-  asked_few : (xs : List Placed) → length (asked q from xs) ≤ length xs
-  asked_few xs = omega (arith, filter_few (suits q) (left_from from (map version_of xs)), filter_few (is_left from) (map version_of xs), length-map xs version_of)
+  asked_few : (xs : List Placed) → length (asked q from shift xs) ≤ length xs
+  asked_few xs = omega (arith, filter_few (suits q) (left_from from (map version_of xs)), filter_few (is_left from) (map version_of xs), length-map xs version_of, asked_length q from shift xs)
 
-  module _ (replaced : List Placed) (h : Held MemStore) (old found : List Versioned) (none : old ≡ []) (finding : IsFinding q from (latest_in h) old found) where
-    all_of : IsPermutation (of_all q from replaced h) (found ++ asked q from replaced)
-    all_of = found_latest q from replaced h old found none finding
+  module _ (replaced : List Placed) (h : Held MemStore) (old found : List Versioned) (none : old ≡ []) (finding : IsFinding q from shift (latest_in h) old found) where
+    all_of : IsPermutation (of_all q from shift replaced h) (found ++ asked q from shift replaced)
+    all_of = found_latest q from shift replaced h old found none finding
 
-    pub last_current : AllByRecursion (λ x. x.died ≢ None) replaced → IsPermutation (filter (suits q) (current (left_from from (versions_of replaced h)))) (current found)
+    pub last_current : AllByRecursion (λ x. x.died ≢ None) replaced → IsPermutation (filter (suits q) (current (shown_all shift (left_from from (versions_of replaced h))))) (current found)
     last_current ended =
-        let are : current (found ++ asked q from replaced) ≡ current found
-        = filter-append is_current found (asked q from replaced) ∙ ap (λ xs. current found ++ xs) (none_current replaced ended) ∙ append-nil (current found) in
-        subst (IsPermutation (filter (suits q) (current (left_from from (versions_of replaced h))))) are (both_current q (left_from from (versions_of replaced h)) (found ++ asked q from replaced) all_of)
+        let are : current (found ++ asked q from shift replaced) ≡ current found
+        = filter-append is_current found (asked q from shift replaced) ∙ ap (λ xs. current found ++ xs) (none_current replaced ended) ∙ append-nil (current found) in
+        subst (IsPermutation (filter (suits q) (current (shown_all shift (left_from from (versions_of replaced h)))))) are (both_current q (shown_all shift (left_from from (versions_of replaced h))) (found ++ asked q from shift replaced) all_of)
 
-    pub last_few : length found + length replaced ≤ MAX_MATCHING → length (of_all q from replaced h) ≤ MAX_MATCHING
-    last_few room = omega (arith, room, length_permutation _ _ all_of, length-append found (asked q from replaced), asked_few replaced)
+    pub last_few : length found + length replaced ≤ MAX_MATCHING → length (of_all q from shift replaced h) ≤ MAX_MATCHING
+    last_few room = omega (arith, room, length_permutation _ _ all_of, length-append found (asked q from shift replaced), asked_few replaced)
 
 -- ---- the newest state
 
@@ -86,7 +86,7 @@ low_is : (a b : ℕ) → a ≤ b → nat_le a b ≡ true
 low_is a b low = grind (arith, nat_tests)
 
 -- where nothing has happened after a stamp, those that have not died are those that a purge up to it leaves
-no_later : (t : ℕ) (vs : List Versioned) → AreUpTo t vs → current vs ≡ purged t vs
+pub no_later : (t : ℕ) (vs : List Versioned) → AreUpTo t vs → current vs ≡ purged t vs
 no_later t [] all = refl
 no_later t (v ∷ vs) all = go v.died all.0.1 (no_later t vs all.1)
   where

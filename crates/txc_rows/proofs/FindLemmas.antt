@@ -20,6 +20,8 @@ use Rattle.sqlite.specs.Held.{Held}
 use Rattle.sqlite.specs.Order.{Row}
 use Rattle.sqlite_trees.specs.declared.memory.MemStore.{MemStore}
 use Rattle.txc_rows.specs.States.{query_table}
+use Rattle.txc_rows.specs.declared.moment.Shift.{Shift}
+use Rattle.txc_rows.specs.Shifted.{shown, shown_all}
 use Rattle.txc_rows.specs.Stored.{version_shown, placed_from}
 use Rattle.txc_rows.specs.Kept.{latest_in, versions_of, ArePassing, IsListing, IsFinding}
 use Rattle.txc_rows.proofs.PlaceLemmas.{by_place_permutes}
@@ -29,59 +31,72 @@ use Rattle.txc_rows.proofs.Members.{IsIn, contains_it}
 use Rattle.txc_rows.proofs.StoredRows.{is_asked}
 use Rattle.txc_rows.proofs.Answering.{asked_left}
 
-module _ (q : Query) (from : ℕ) where
-  -- what the query asks for of these
+-- what is shown has the rows that are stored
+pub shown_suits : (q : Query) (shift : Shift) (vs : List Versioned) → filter (suits q) (shown_all shift vs) ≡ shown_all shift (filter (suits q) vs)
+shown_suits q shift vs = filter-map (suits q) (shown shift) vs
+
+-- what the query asks for of these, as it is stored
+abbrev pub stored : Query → ℕ → List Placed → List Versioned
+stored q from xs = filter (suits q) (left_from from (map version_of xs))
+
+module _ (q : Query) (from : ℕ) (shift : Shift) where
+  -- and as it is shown
   abbrev pub asked : List Placed → List Versioned
-  asked xs = filter (suits q) (left_from from (map version_of xs))
+  asked xs = shown_all shift (stored q from xs)
+
+  pub asked_length : (xs : List Placed) → length (asked xs) ≡ length (stored q from xs)
+  asked_length xs = length-map (stored q from xs) (shown shift)
 
   asked_append : (xs ys : List Placed) → asked (xs ++ ys) ≡ asked xs ++ asked ys
   asked_append xs ys =
-      ap (λ vs. filter (suits q) (left_from from vs)) (map-append version_of xs ys)
-      ∙ ap (filter (suits q)) (filter-append (is_left from) (map version_of xs) (map version_of ys))
-      ∙ filter-append (suits q) (left_from from (map version_of xs)) (left_from from (map version_of ys))
+      ap (λ vs. shown_all shift (filter (suits q) (left_from from vs))) (map-append version_of xs ys)
+      ∙ ap (λ vs. shown_all shift (filter (suits q) vs)) (filter-append (is_left from) (map version_of xs) (map version_of ys))
+      ∙ ap (shown_all shift) (filter-append (suits q) (left_from from (map version_of xs)) (left_from from (map version_of ys)))
+      ∙ map-append (shown shift) (stored q from xs) (stored q from ys)
 
-  pub all_asked : (xs : List Placed) → IsPermutation (filter (suits q) (left_from from (versions_by_place xs))) (asked xs)
+  pub all_asked : (xs : List Placed) → IsPermutation (filter (suits q) (shown_all shift (left_from from (versions_by_place xs)))) (asked xs)
   all_asked xs =
-      IsPermutation-filter (suits q) _ _ (IsPermutation-filter (is_left from) _ _ (IsPermutation-map version_of _ _ (IsPermutation-sym _ _ (by_place_permutes xs))))
+      rw (shown_suits q shift (left_from from (versions_by_place xs)))
+      (IsPermutation-map (shown shift) _ _ (IsPermutation-filter (suits q) _ _ (IsPermutation-filter (is_left from) _ _ (IsPermutation-map version_of _ _ (IsPermutation-sym _ _ (by_place_permutes xs))))))
 
   module _ (all old new : List Versioned) (here rest : List Placed) (so_far : IsPermutation all (old ++ asked (here ++ rest))) where
-    pub found_more : IsFinding q from here old new → IsPermutation all (new ++ asked rest)
+    pub found_more : IsFinding q from shift here old new → IsPermutation all (new ++ asked rest)
     found_more finding =
         let apart : IsPermutation all (old ++ (asked here ++ asked rest)) = subst (λ ys. IsPermutation all (old ++ ys)) (asked_append here rest) so_far in
-        let moved = IsPermutation-trans _ _ _ apart (IsPermutation-append_right old _ _ (IsPermutation-append_left (asked rest) _ _ finding.same)) in
-        rw (finding.are, append_assoc old finding.more (asked rest)) moved
+        let moved = IsPermutation-trans _ _ _ apart (IsPermutation-append_right old _ _ (IsPermutation-append_left (asked rest) _ _ (IsPermutation-map (shown shift) _ _ finding.same))) in
+        rw (finding.are, append_assoc old (shown_all shift finding.more) (asked rest)) moved
 
-    pub found_many : MAX_MATCHING < length old + length (asked here) → MAX_MATCHING < length all
+    pub found_many : MAX_MATCHING < length old + length (stored q from here) → MAX_MATCHING < length all
     found_many many =
         let apart = ap length (asked_append here rest) ∙ length-append (asked here) (asked rest) in
-        omega (arith, many, length_permutation _ _ so_far, length-append old (asked (here ++ rest)), apart)
+        omega (arith, many, length_permutation _ _ so_far, length-append old (asked (here ++ rest)), apart, asked_length here)
 
 -- what was read of the table is found
-pub read_finding : (q : Query) (from : ℕ) (placed : List Placed) (old new : List Versioned) (rows : List Row) → IsListing q (left_from from (map version_of placed)) rows → length old ≤ MAX_MATCHING → length rows ≤ MAX_MATCHING - length old
-    → new ≡ old ++ map (version_shown (query_table q)) rows → IsFinding q from placed old new
-read_finding q from placed old new rows listing room few are = record {
+pub read_finding : (q : Query) (from : ℕ) (shift : Shift) (placed : List Placed) (old new : List Versioned) (rows : List Row) → IsListing q (left_from from (map version_of placed)) rows → length old ≤ MAX_MATCHING → length rows ≤ MAX_MATCHING - length old
+    → new ≡ old ++ shown_all shift (map (version_shown (query_table q)) rows) → IsFinding q from shift placed old new
+read_finding q from shift placed old new rows listing room few are = record {
   more = map (version_shown (query_table q)) rows;
   same = all_shown q (left_from from (map version_of placed)) rows listing (omega (arith, few));
   are = are;
-  few = omega (arith, few, room, ap length are, length-append old (map (version_shown (query_table q)) rows), length-map rows (version_shown (query_table q)));
+  few = omega (arith, few, room, ap length are, length-append old (shown_all shift (map (version_shown (query_table q)) rows)), length-map (map (version_shown (query_table q)) rows) (shown shift), length-map rows (version_shown (query_table q)));
 }
 
 -- ---- the last versions of one row, with their places
 
-module _ (t i from : ℕ) (latest : List Placed) (rows : List Row) (reads : ArePassing t (is_row_left t i from) latest rows) where
-  row_asked : asked (ById t i) from latest ≡ map version_of (filter (is_row_left t i from) latest)
+module _ (t i from : ℕ) (shift : Shift) (latest : List Placed) (rows : List Row) (reads : ArePassing t (is_row_left t i from) latest rows) where
+  row_asked : stored (ById t i) from latest ≡ map version_of (filter (is_row_left t i from) latest)
   row_asked = asked_left (ById t i) from (map version_of latest) ∙ filter-map (is_asked (ById t i) from) version_of latest
 
-  pub row_finding : (old new : List Versioned) (placed : List Placed) → length old ≤ MAX_MATCHING → length rows ≤ MAX_MATCHING - length old → placed ≡ map placed_from rows → new ≡ old ++ map version_of placed
-      → IsFinding (ById t i) from latest old new
+  pub row_finding : (old new : List Versioned) (placed : List Placed) → length old ≤ MAX_MATCHING → length rows ≤ MAX_MATCHING - length old → placed ≡ map placed_from rows → new ≡ old ++ shown_all shift (map version_of placed)
+      → IsFinding (ById t i) from shift latest old new
   row_finding old new placed low few is are = record {
     more = map version_of placed;
     same = rw (row_asked, is) (IsPermutation-map version_of _ _ reads.same);
     are = are;
-    few = omega (arith, low, few, ap length are, length-append old (map version_of placed), length-map placed version_of, ap length is, length-map rows placed_from);
+    few = omega (arith, low, few, ap length are, length-append old (shown_all shift (map version_of placed)), length-map (map version_of placed) (shown shift), length-map placed version_of, ap length is, length-map rows placed_from);
   }
 
-  pub row_many : (old : List Versioned) → length old ≤ MAX_MATCHING → MAX_MATCHING - length old < length rows → MAX_MATCHING < length old + length (asked (ById t i) from latest)
+  pub row_many : (old : List Versioned) → length old ≤ MAX_MATCHING → MAX_MATCHING - length old < length rows → MAX_MATCHING < length old + length (stored (ById t i) from latest)
   row_many old low many =
       omega (arith, low, many, ap length row_asked, length-map (filter (is_row_left t i from) latest) version_of, length_permutation _ _ reads.same, length-map rows placed_from)
 
@@ -94,26 +109,26 @@ module _ (t i from : ℕ) (latest : List Placed) (rows : List Row) (reads : AreP
 
 -- ---- the last versions first, and then the replaced ones
 
-module _ (q : Query) (from : ℕ) (replaced : List Placed) (h : Held MemStore) where
+module _ (q : Query) (from : ℕ) (shift : Shift) (replaced : List Placed) (h : Held MemStore) where
   abbrev pub of_all : List Versioned
-  of_all = filter (suits q) (left_from from (versions_of replaced h))
+  of_all = filter (suits q) (shown_all shift (left_from from (versions_of replaced h)))
 
-  pub found_latest : (old new : List Versioned) → old ≡ [] → IsFinding q from (latest_in h) old new → IsPermutation of_all (new ++ asked q from replaced)
+  pub found_latest : (old new : List Versioned) → old ≡ [] → IsFinding q from shift (latest_in h) old new → IsPermutation of_all (new ++ asked q from shift replaced)
   found_latest old new none finding =
-      found_more q from of_all [] new (latest_in h) replaced (all_asked q from (latest_in h ++ replaced)) (subst (λ vs. IsFinding q from (latest_in h) vs new) none finding)
+      found_more q from shift of_all [] new (latest_in h) replaced (all_asked q from shift (latest_in h ++ replaced)) (subst (λ vs. IsFinding q from shift (latest_in h) vs new) none finding)
 
-  pub latest_many : (old : List Versioned) → old ≡ [] → MAX_MATCHING < length old + length (asked q from (latest_in h)) → MAX_MATCHING < length of_all
+  pub latest_many : (old : List Versioned) → old ≡ [] → MAX_MATCHING < length old + length (stored q from (latest_in h)) → MAX_MATCHING < length of_all
   latest_many old none many =
-      found_many q from of_all [] [] (latest_in h) replaced (all_asked q from (latest_in h ++ replaced)) (subst (λ vs. MAX_MATCHING < length vs + length (asked q from (latest_in h))) none many)
+      found_many q from shift of_all [] [] (latest_in h) replaced (all_asked q from shift (latest_in h ++ replaced)) (subst (λ vs. MAX_MATCHING < length vs + length (stored q from (latest_in h))) none many)
 
-  module _ (found : List Versioned) (so_far : IsPermutation of_all (found ++ asked q from replaced)) where
-    pub replaced_many : MAX_MATCHING < length found + length (asked q from replaced) → MAX_MATCHING < length of_all
-    replaced_many many = omega (arith, many, length_permutation _ _ so_far, length-append found (asked q from replaced))
+  module _ (found : List Versioned) (so_far : IsPermutation of_all (found ++ asked q from shift replaced)) where
+    pub replaced_many : MAX_MATCHING < length found + length (stored q from replaced) → MAX_MATCHING < length of_all
+    replaced_many many = omega (arith, many, length_permutation _ _ so_far, length-append found (asked q from shift replaced), asked_length q from shift replaced)
 
-    pub found_both : (all : List Versioned) → IsFinding q from replaced found all → IsPermutation of_all all
-    found_both all finding = rw finding.are (IsPermutation-trans _ _ _ so_far (IsPermutation-append_right found _ _ finding.same))
+    pub found_both : (all : List Versioned) → IsFinding q from shift replaced found all → IsPermutation of_all all
+    found_both all finding = rw finding.are (IsPermutation-trans _ _ _ so_far (IsPermutation-append_right found _ _ (IsPermutation-map (shown shift) _ _ finding.same)))
 
-    pub found_all : (all sorted : List Versioned) → IsFinding q from replaced found all → IsPermutation all sorted → IsSorted version_cmp sorted → Finds q (left_from from (versions_of replaced h)) sorted
+    pub found_all : (all sorted : List Versioned) → IsFinding q from shift replaced found all → IsPermutation all sorted → IsSorted version_cmp sorted → Finds q (shown_all shift (left_from from (versions_of replaced h))) sorted
     found_all all sorted finding same sorts = record { same = IsPermutation-trans _ _ _ (found_both all finding) same; sorted = sorts }
 
 -- what is found answers the query in each kept state

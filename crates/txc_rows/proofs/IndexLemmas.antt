@@ -22,9 +22,11 @@ use Rattle.txc_rows.specs.declared.store_error.TheConstants.{MAX_MATCHING}
 use Rattle.txc_rows.specs.Versions.{suits}
 use Rattle.txc_rows.specs.Holdable.{IsStorable}
 use Rattle.txc_rows.specs.Placed.{version_of, is_left, placed_left}
+use Rattle.txc_rows.specs.declared.moment.Shift.{Shift}
+use Rattle.txc_rows.specs.Shifted.{shown, shown_all}
 use Rattle.txc_rows.specs.Indexed.{version_id, version_group, spot_of, spots_from, FitsSpot, AreIndexed, is_between, spot_suits, spots_asked, picked}
 use Rattle.txc_rows.specs.Kept.{IsFinding}
-use Rattle.txc_rows.proofs.FindLemmas.{asked}
+use Rattle.txc_rows.proofs.FindLemmas.{stored}
 
 -- ---- one key more or less
 
@@ -247,12 +249,12 @@ asked_spots q first xs ids groups h = go q
     go (All t) = by version_id _ _ ids h.by_id (λ n x. refl)
     go (Range t a b) = by version_id _ _ ids h.by_id (λ n x. refl)
 
-left_asked : (q : Query) (from : ℕ) (xs : List Placed) → map version_of (placed_left from (filter (λ x. suits q (version_of x)) xs)) ≡ asked q from xs
+left_asked : (q : Query) (from : ℕ) (xs : List Placed) → map version_of (placed_left from (filter (λ x. suits q (version_of x)) xs)) ≡ stored q from xs
 left_asked q from [] = refl
-left_asked q from (x ∷ xs) = go (suits q (version_of x)) refl (is_left from (version_of x)) refl (left_asked q from xs)
+left_stored q from (x ∷ xs) = go (suits q (version_of x)) refl (is_left from (version_of x)) refl (left_stored q from xs)
   where
-    go : (b : Bool) → suits q (version_of x) ≡ b → (c : Bool) → is_left from (version_of x) ≡ c → map version_of (placed_left from (filter (λ y. suits q (version_of y)) xs)) ≡ asked q from xs
-        → map version_of (placed_left from (filter (λ y. suits q (version_of y)) (x ∷ xs))) ≡ asked q from (x ∷ xs)
+    go : (b : Bool) → suits q (version_of x) ≡ b → (c : Bool) → is_left from (version_of x) ≡ c → map version_of (placed_left from (filter (λ y. suits q (version_of y)) xs)) ≡ stored q from xs
+        → map version_of (placed_left from (filter (λ y. suits q (version_of y)) (x ∷ xs))) ≡ stored q from (x ∷ xs)
     go true e true f more = rw (e, f, e) (ap (λ vs. (version_of x) ∷ vs) more)
     go true e false f more = rw (e, f) more
     go false e true f more = rw (e, f, e) more
@@ -262,14 +264,14 @@ module _ (q : Query) (from first : ℕ) (xs : List Placed) (ids groups : List Sp
   abbrev pub found_there : List Placed
   found_there = placed_left from (picked first xs (filter (spot_suits q) (spots_asked q ids groups)))
 
-  found_same : IsPermutation (asked q from xs) (map version_of found_there)
-  found_same = subst (λ vs. IsPermutation vs (map version_of found_there)) (left_asked q from xs)
+  found_same : IsPermutation (stored q from xs) (map version_of found_there)
+  found_same = subst (λ vs. IsPermutation vs (map version_of found_there)) (left_stored q from xs)
       (IsPermutation-map version_of _ _ (IsPermutation-filter (λ x. is_left from (version_of x)) _ _ (asked_spots q first xs ids groups h)))
 
-  pub index_finds : (old new : List Versioned) → new ≡ old ++ map version_of found_there → length new ≤ MAX_MATCHING → IsFinding q from xs old new
-  index_finds old new are few = record { more = map version_of found_there; same = found_same; are = are; few = few }
+  pub index_finds : (shift : Shift) (old new : List Versioned) → new ≡ old ++ shown_all shift (map version_of found_there) → length new ≤ MAX_MATCHING → IsFinding q from shift xs old new
+  index_finds shift old new are few = record { more = map version_of found_there; same = found_same; are = are; few = few }
 
-  pub index_many : (n : ℕ) → MAX_MATCHING < n + length found_there → MAX_MATCHING < n + length (asked q from xs)
+  pub index_many : (n : ℕ) → MAX_MATCHING < n + length found_there → MAX_MATCHING < n + length (stored q from xs)
   index_many n many = omega (arith, many, length_permutation _ _ found_same, length-map found_there version_of)
 
   pub spots_suit : AllByRecursion (λ s. first ≤ s.number) (filter (spot_suits q) (spots_asked q ids groups))
@@ -306,11 +308,11 @@ got [] i x low is = absurd (omega (arith, low))
 got (y ∷ ys) zero x low is = ap (λ z. Some z) (sym is)
 got (y ∷ ys) (suc i) x low is = got ys i x (omega (arith, low)) is
 
-module _ (from first : ℕ) (xs : List Placed) (s : Spot) (ss : List Spot) where
+module _ (from first : ℕ) (shift : Shift) (xs : List Placed) (s : Spot) (ss : List Spot) where
   abbrev pub taken : List Spot → List Versioned
-  taken ts = map version_of (placed_left from (picked first xs ts))
+  taken ts = shown_all shift (map version_of (placed_left from (picked first xs ts)))
 
-  pub taken_left : (x : Placed) → slice_get xs (s.number - first) ≡ Some x → is_left from (version_of x) ≡ true → taken (s ∷ ss) ≡ (version_of x) ∷ taken ss
+  pub taken_left : (x : Placed) → slice_get xs (s.number - first) ≡ Some x → is_left from (version_of x) ≡ true → taken (s ∷ ss) ≡ shown shift (version_of x) ∷ taken ss
   taken_left x e f = rw (e, f) refl
 
 pub not_false : (b : Bool) → not b ≡ false → b ≡ true

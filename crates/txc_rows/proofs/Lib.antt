@@ -33,6 +33,8 @@ pub mod KeepingLemmas
 pub mod Listed
 pub mod FindLemmas
 pub mod CurrentLemmas
+pub mod ShiftLemmas
+pub mod CarryLemmas
 pub mod StoreLemmas
 pub mod UsesLemmas
 pub mod IndexLemmas

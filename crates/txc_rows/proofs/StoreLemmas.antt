@@ -8,6 +8,8 @@ use Rattle.sqlite.specs.Steps.{over_memory}
 use Rattle.sqlite_trees.specs.declared.memory.MemStore.{MemStore}
 use Rattle.txc_rows.specs.declared.query.Change.{Change}
 use Rattle.txc_rows.specs.Versions.{after_net, purged}
+use Rattle.txc_rows.specs.declared.moment.Shift.{Shift}
+use Rattle.txc_rows.specs.Shifted.{IsWithin}
 use Rattle.txc_rows.specs.Holdable.{IsStorable}
 use Rattle.txc_rows.specs.declared.placed.Placed.{Placed}
 use Rattle.txc_rows.specs.Placed.{versions_by_place, left_from, placed_left, without_front_dead, AreBelow, AreWellPlaced, AreAll, AreAmong, AreSwept}
@@ -37,6 +39,9 @@ module _ (replaced : List Placed) (old new : Held MemStore) (same : (state over_
 
   pub same_view : (from : ℕ) → left_from from (versions_of replaced new) ≡ left_from from (versions_of replaced old)
   same_view from = ap (λ xs. left_from from (versions_by_place (xs ++ replaced))) (latest_by old new same)
+
+  pub still_within : (shift : Shift) (from : ℕ) → AllByRecursion (IsWithin shift) (left_from from (versions_of replaced old)) → AllByRecursion (IsWithin shift) (left_from from (versions_of replaced new))
+  still_within shift from all = subst (AllByRecursion (IsWithin shift)) (sym (same_view from)) all
 
 -- ---- room for a write
 

@@ -42,17 +42,14 @@ pub record IsWithin (shift : Shift) (v : Versioned) : Type 0 where
 
 -- ---- a carry
 
--- a version that stands at the newest stamp, as the history that begins with that state has it: the state is its first
+-- a death after the newest stamp, as the history that begins with the state at that stamp has it
+abbrev pub renumbered_death : ℕ → Option ℕ → Option ℕ
+renumbered_death newest None = None
+renumbered_death newest (Some d) = Some (d - (newest - 1))
+
+-- a version that stands at the newest stamp, as that history has it: the state is its first
 abbrev pub renumbered : ℕ → Versioned → Versioned
-renumbered newest v = record {
-  row = v.row;
-  born = max (v.born - (newest - 1)) 1;
-  died = carried_death v.died;
-}
-  where
-    carried_death : Option ℕ → Option ℕ
-    carried_death None = None
-    carried_death (Some d) = Some (d - (newest - 1))
+renumbered newest v = record { row = v.row; born = max (v.born - (newest - 1)) 1; died = renumbered_death newest v.died }
 
 -- the versions after a carry: those that died by the newest stamp are gone
 abbrev pub carried : ℕ → List Versioned → List Versioned

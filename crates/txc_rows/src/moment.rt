@@ -28,7 +28,7 @@ impl Model for Moment {
 }
 
 impl Moment {
-    ghost use Rattle.std.specs.Prelude.{◌≡◌, ◌≤◌, pos};
+    ghost use Rattle.std.specs.Prelude.{◌≡◌, ◌≤◌, max, pos};
     ghost use Rattle.txc_rows.specs.declared.moment.TheConstants.{LAST_MOMENT};
 
     pub(crate) const FIRST: Moment = Moment { number: 0 };
@@ -46,6 +46,13 @@ impl Moment {
         ensures bound { self ≤ LAST_MOMENT }
     {
         self.number
+    }
+
+    /// The later of two.
+    pub(crate) fn later(self, other: Moment) -> Moment
+        ensures { result ≡ max self other }
+    {
+        if self < other { other } else { self }
     }
 
     /// As a column of the store has it.

@@ -1,4 +1,5 @@
-ghost use Rattle.std.specs.Prelude.{◌≡◌, IfOk};
+ghost use Rattle.std.specs.Prelude.{◌≡◌, ◌≤◌, IfOk};
+ghost use Rattle.txc_stamp.specs.declared.stamp.TheConstants.{LAST_STAMP};
 ghost use Rattle.txc_rows.specs.Shifted.{shown};
 ghost use Rattle.txc_rows.specs.Placed.{version_of};
 
@@ -30,6 +31,7 @@ impl Placed {
 
     /// The version with the stamps that are shown.
     pub(crate) fn shown(&self, alloc: Global, shift: Shift) -> Result<Versioned, AllocError>
+        requires { shift.first ≤ LAST_STAMP }
         ensures { IfOk result (λ v. v ≡ shown shift (version_of self.now)) }
     {
         Ok(Versioned {

@@ -3,6 +3,7 @@
 ghost use Rattle.std.specs.Prelude.{◌≡◌, ◌≢◌, ◌++◌, ◌∷◌, [], ◌<◌, ◌≤◌, ◌+◌, ◌-◌, Err, not, take, drop, length, filter, map, IfOk, OnOk, OnErr};
 ghost use Rattle.std.specs.List.{AllByRecursion};
 ghost use Rattle.std.specs.List.Sorted.{IsPermutation};
+ghost use Rattle.txc_stamp.specs.declared.stamp.TheConstants.{LAST_STAMP};
 ghost use Rattle.txc_rows.specs.declared.store_error.TheConstants.{MAX_MATCHING};
 ghost use Rattle.txc_rows.specs.Versions.{suits};
 ghost use Rattle.txc_rows.specs.Holdable.{IsStorable};
@@ -153,6 +154,7 @@ fn take_found(
     shift: Shift,
     found: &mut Vec<Versioned>,
 ) -> Result<(), StoreError>
+    requires first { shift.first ≤ LAST_STAMP }
     requires few { length found.old.items ≤ MAX_MATCHING }
     requires from_first { AllByRecursion (λ s. first ≤ s.number) spots }
     ensures found { OnOk result (found.new.items
@@ -287,6 +289,7 @@ impl Replaced {
         shift: Shift,
         found: &mut Vec<Versioned>,
     ) -> Result<(), StoreError>
+        requires first { shift.first ≤ LAST_STAMP }
         requires each { AllByRecursion (λ x. IsStorable (version_of x)) self.now }
         requires few { length found.old.items ≤ MAX_MATCHING }
         ensures finds { OnOk result (IsFinding query.now from shift self.now found.old.items found.new.items) }

@@ -3,8 +3,9 @@
 ghost use Rattle.std.specs.Prelude.{◌≡◌, ◌++◌, ℕ, ◌+◌, ◌^◌, ◌<◌, ◌≤◌, [], Ok, IfOk, IfErr, OnOk, OnErr, length, filter, map};
 ghost use Rattle.std.specs.List.Sorted.{IsPermutation, IsSorted};
 ghost use Rattle.txc_rows.specs.Versions.{suits, current, purged, after_net, version_cmp};
+ghost use Rattle.txc_stamp.specs.declared.stamp.TheConstants.{LAST_STAMP};
 ghost use Rattle.txc_rows.specs.declared.query.Query.TheVariants.{ById};
-ghost use Rattle.txc_rows.specs.Placed.{version_of, left_from, AreAmong, AreSwept, AreWellPlaced};
+ghost use Rattle.txc_rows.specs.Placed.{version_of, left_from, without_front_dead, AreAmong, AreSwept, AreWellPlaced};
 ghost use Rattle.txc_rows.specs.Kept.{latest_in, versions_of, IsKept, IsCall, IsSame, IsRoom, IsFinding, IsStore};
 ghost use Rattle.txc_rows.specs.States.{State};
 ghost use Rattle.txc_rows.specs.Found.{Finds};
@@ -107,6 +108,24 @@ fn sweep(
     Ok(())
 }
 
+/// Drops what died before the moment, but for rows that are freed later.
+fn drop_dead(
+    conn: &mut Connection<MemStore>,
+    replaced: &mut Replaced,
+    counts: &mut Counts,
+    from: Moment,
+) -> Result<(), sqlite::Error>
+    requires { IsKept conn.old }
+    ensures call { IsCall (AreSwept from (latest_in conn.old)) conn.old conn.new result }
+    ensures dropped { OnOk result (replaced.new ≡ without_front_dead from replaced.old) }
+    ensures unchanged { OnErr result (replaced.new ≡ replaced.old) }
+{
+    sweep(conn, counts, from)?;
+    replaced.purge(from);
+    counts.hide(from);
+    Ok(())
+}
+
 /// Before a write at the stamp: no death at the stamp is hidden. It answers from which stamp on deaths are shown.
 fn make_room(
     conn: &mut Connection<MemStore>,
@@ -145,6 +164,7 @@ fn find(
     shift: Shift,
     found: &mut Vec<Versioned>,
 ) -> Result<(), StoreError>
+    requires first { shift.first ≤ LAST_STAMP }
     requires kept { IsKept conn.old }
     requires few { length found.old.items ≤ MAX_MATCHING }
     ensures same { IsSame conn.old conn.new }
@@ -168,6 +188,7 @@ fn add_copies(
     shift: Shift,
     found: &mut Vec<Versioned>,
 ) -> Result<(), StoreError>
+    requires first { shift.first ≤ LAST_STAMP }
     ensures found { OnOk result (found.new.items ≡ found.old.items ++ shown_all shift (map version_of placed.now)) }
     ensures refused { IfErr result (λ e. e ≡ StoreError.Memory) }
 {
@@ -200,6 +221,7 @@ fn find_row(
     shift: Shift,
     found: &mut Vec<Versioned>,
 ) -> Result<(), StoreError>
+    requires first { shift.first ≤ LAST_STAMP }
     requires kept { IsKept conn.old }
     requires known { AreAmong (latest_in conn.old) known.old.items }
     requires few { length found.old.items ≤ MAX_MATCHING }
@@ -229,6 +251,7 @@ fn find_known(
     shift: Shift,
     found: &mut Vec<Versioned>,
 ) -> Result<(), StoreError>
+    requires first { shift.first ≤ LAST_STAMP }
     requires kept { IsKept conn.old }
     requires known { AreAmong (latest_in conn.old) known.old.items }
     requires few { length found.old.items ≤ MAX_MATCHING }
@@ -263,13 +286,14 @@ fn find_all(
     from: Moment,
     shift: Shift,
 ) -> Result<Vec<Versioned>, StoreError>
+    requires first { shift.first ≤ LAST_STAMP }
     requires kept { IsKept conn.old }
     requires apart { AreWellPlaced (latest_in conn.old) replaced.now }
     ensures same { IsSame conn.old conn.new }
     ensures finds { IfOk result (λ found. Finds query.now (shown_all shift (left_from from (versions_of replaced.now conn.old))) found.items) }
     ensures bound { IfOk result (λ found. length found.items ≤ MAX_MATCHING) }
     ensures refused { result ≡ Err StoreError.TooManyRows
-        → MAX_MATCHING < length (filter (suits query.now) (left_from from (versions_of replaced.now conn.old))) }
+        → MAX_MATCHING < length (filter (suits query.now) (shown_all shift (left_from from (versions_of replaced.now conn.old)))) }
 {
     let mut found = Vec::new(alloc);
     find(conn, alloc, query, from, shift, &mut found)?;
@@ -289,6 +313,7 @@ fn find_last(
     from: Moment,
     shift: Shift,
 ) -> Result<Vec<Versioned>, StoreError>
+    requires first { shift.first ≤ LAST_STAMP }
     requires kept { IsKept conn.old }
     requires known { AreAmong (latest_in conn.old) known.old.items }
     requires apart { AreWellPlaced (latest_in conn.old) replaced.now }
@@ -296,9 +321,9 @@ fn find_last(
     ensures known { AreAmong (latest_in conn.old) known.new.items }
     ensures finds { IfOk result (λ found. IsPermutation
         (filter (suits query.now) (current (shown_all shift (left_from from (versions_of replaced.now conn.old))))) (current found.items)) }
-    ensures bound { OnOk result (length (filter (suits query.now) (left_from from (versions_of replaced.now conn.old))) ≤ MAX_MATCHING) }
+    ensures bound { OnOk result (length (filter (suits query.now) (shown_all shift (left_from from (versions_of replaced.now conn.old)))) ≤ MAX_MATCHING) }
     ensures refused { result ≡ Err StoreError.TooManyRows
-        → MAX_MATCHING < length (filter (suits query.now) (left_from from (versions_of replaced.now conn.old))) }
+        → MAX_MATCHING < length (filter (suits query.now) (shown_all shift (left_from from (versions_of replaced.now conn.old)))) }
 {
     let mut last = Vec::new(alloc);
     find_known(conn, known, alloc, query, from, shift, &mut last)?;
@@ -319,15 +344,16 @@ fn find_current(
     from: Moment,
     shift: Shift,
 ) -> Result<Vec<Versioned>, StoreError>
+    requires first { shift.first ≤ LAST_STAMP }
     requires kept { IsKept conn.old }
     requires known { AreAmong (latest_in conn.old) known.old.items }
     requires apart { AreWellPlaced (latest_in conn.old) replaced.now }
     ensures same { IsSame conn.old conn.new }
     ensures known { AreAmong (latest_in conn.old) known.new.items }
     ensures finds { IfOk result (λ found. Finds query.now (current (shown_all shift (left_from from (versions_of replaced.now conn.old)))) found.items) }
-    ensures bound { OnOk result (length (filter (suits query.now) (left_from from (versions_of replaced.now conn.old))) ≤ MAX_MATCHING) }
+    ensures bound { OnOk result (length (filter (suits query.now) (shown_all shift (left_from from (versions_of replaced.now conn.old)))) ≤ MAX_MATCHING) }
     ensures refused { result ≡ Err StoreError.TooManyRows
-        → MAX_MATCHING < length (filter (suits query.now) (left_from from (versions_of replaced.now conn.old))) }
+        → MAX_MATCHING < length (filter (suits query.now) (shown_all shift (left_from from (versions_of replaced.now conn.old)))) }
 {
     let mut found = find_last(conn, known, replaced, alloc, query, from, shift)?;
     found.retain(|version| version.died.is_none());
@@ -444,11 +470,9 @@ impl VersionRows {
         let Some(moment) = self.shift.moment_after(horizon) else {
             return Err(StoreError::Store(LATE));
         };
-        let from = self.kept_from.max(moment);
+        let from = self.kept_from.later(moment);
         self.known.clear();
-        sweep(&mut self.conn, &mut self.counts, from)?;
-        self.replaced.purge(from);
-        self.counts.hide(from);
+        drop_dead(&mut self.conn, &mut self.replaced, &mut self.counts, from)?;
         self.kept_from = from;
         Ok(())
     }
@@ -462,10 +486,16 @@ impl VersionRows {
         ensures unchanged { OnErr result (self.new ≡ self.old) }
         ensures refused { IfErr result IsStoreRefusal }
     {
-        let Some(next) = self.shift.carried(newest) else {
+        let (Some(next), Some(moment)) = (
+            self.shift.carried(newest),
+            self.shift.moment_after(newest),
+        ) else {
             return Err(StoreError::Store(LATE));
         };
-        self.purge(newest)?;
+        let from = self.kept_from.later(moment);
+        self.known.clear();
+        drop_dead(&mut self.conn, &mut self.replaced, &mut self.counts, from)?;
+        self.kept_from = from;
         self.shift = next;
         Ok(())
     }

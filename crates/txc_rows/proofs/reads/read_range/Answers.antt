@@ -18,7 +18,7 @@ returns c =
     let new = c.query_all.new.self in
     let given : Row = number c.args.table ∷ number MOST_READ ∷ number c.args.from ∷ number c.args.first ∷ number c.args.last ∷ [] in
     let ok : IfOk c.query_all.result (λ rows. Shown READ_RANGE.now given (state over_memory old) (state over_memory new) rows.items)
-    = rw (c.params-to_sql.ensures, c.params-to_sql-2.ensures, c.params-to_sql-3.ensures, c.params-to_sql-4.ensures, c.params-to_sql-5.ensures, c.from.ensures, c.number.ensures.answer) at (c.query_all.ensures.ok (memory_is_clean new)) in
+    = rw (c.params-to_sql.ensures, c.params-to_sql-2.ensures, c.params-to_sql-3.ensures, c.params-to_sql-4.ensures, c.params-to_sql-5.ensures, c.from.ensures, c.number.ensures.answer, c.stored.ensures) at (c.query_all.ensures.ok (memory_is_clean new)) in
     let err : IfErr c.query_all.result (FailsToQuery READ_RANGE.now given (state over_memory old) (state over_memory new))
-    = rw (c.params-to_sql.ensures, c.params-to_sql-2.ensures, c.params-to_sql-3.ensures, c.params-to_sql-4.ensures, c.params-to_sql-5.ensures, c.from.ensures, c.number.ensures.answer) at (c.query_all.ensures.err (memory_is_clean new)) in
+    = rw (c.params-to_sql.ensures, c.params-to_sql-2.ensures, c.params-to_sql-3.ensures, c.params-to_sql-4.ensures, c.params-to_sql-5.ensures, c.from.ensures, c.number.ensures.answer, c.stored.ensures) at (c.query_all.ensures.err (memory_is_clean new)) in
     lists (Range c.args.table c.args.first c.args.last) c.args.from range_filter READ_RANGE.now range_is given (range_test c.args.table MOST_READ c.args.from c.args.first c.args.last) refl old new c.requires c.query_all.result ok err

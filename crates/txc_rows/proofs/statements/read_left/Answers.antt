@@ -15,7 +15,7 @@ returns c =
     let new = c.query_all.new.self in
     let given : Row = number c.args.from ∷ [] in
     let ok : IfOk c.query_all.result (λ rows. Shown READ_LEFT.now given (state over_memory old) (state over_memory new) rows.items)
-    = rw c.params-to_sql.ensures at (c.query_all.ensures.ok (memory_is_clean new)) in
+    = rw (c.params-to_sql.ensures, c.stored.ensures) at (c.query_all.ensures.ok (memory_is_clean new)) in
     let err : IfErr c.query_all.result (FailsToQuery READ_LEFT.now given (state over_memory old) (state over_memory new))
-    = rw c.params-to_sql.ensures at (c.query_all.ensures.err (memory_is_clean new)) in
+    = rw (c.params-to_sql.ensures, c.stored.ensures) at (c.query_all.ensures.err (memory_is_clean new)) in
     leaves c.args.from old new c.requires c.query_all.result ok err

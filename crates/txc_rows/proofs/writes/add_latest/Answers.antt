@@ -16,7 +16,7 @@ abbrev new_one : goal.After-execute → Placed
 new_one c = new_placed c.args.place c.args.row.now c.args.stamp
 
 ran : (c : goal.After-execute) → ExecutesInside 0 ADD_LATEST.now (cells_of (new_one c)) (state over_memory c.args.tx.now.conn.now) (state over_memory c.execute.new.self.conn.now) c.execute.result
-ran c = rw (c.params-to_sql.ensures, c.params-to_sql-2.ensures, c.params-to_sql-3.ensures, c.params-to_sql-4.ensures, c.params-to_sql-5.ensures, c.params-to_sql-6.ensures, c.params-to_sql-7.ensures, c.from.ensures, c.number.ensures.answer, c.table.ensures, c.id.ensures, c.number-2.ensures.answer, c.group.ensures, c.body.ensures.answer)
+ran c = rw (c.params-to_sql.ensures, c.params-to_sql-2.ensures, c.params-to_sql-3.ensures, c.params-to_sql-4.ensures, c.params-to_sql-5.ensures, c.params-to_sql-6.ensures, c.params-to_sql-7.ensures, c.from.ensures, c.number.ensures.answer, c.table.ensures, c.id.ensures, c.stored.ensures, c.group.ensures, c.body.ensures.answer)
     at (c.execute.ensures.runs (memory_is_clean c.execute.new.self.conn.now) c.requires.inside)
 
 pub returns-clause-step : goal.returns-clause-step

@@ -13,7 +13,7 @@ use Rattle.txc_rows.proofs.HeldLemmas.{steps, has_latest}
 use Rattle.txc_rows.proofs.writes.end_version.Goals as goal
 
 ran : (c : goal.After-execute) → ExecutesInside 0 END_VERSION.now (number c.args.table ∷ number c.args.id ∷ number c.args.stamp ∷ []) (state over_memory c.args.tx.now.conn.now) (state over_memory c.execute.new.self.conn.now) c.execute.result
-ran c = rw (c.params-to_sql.ensures, c.params-to_sql-2.ensures, c.params-to_sql-3.ensures, c.from.ensures, c.number.ensures.answer, c.number-2.ensures.answer) at (c.execute.ensures.runs (memory_is_clean c.execute.new.self.conn.now) c.requires.inside)
+ran c = rw (c.params-to_sql.ensures, c.params-to_sql-2.ensures, c.params-to_sql-3.ensures, c.from.ensures, c.number.ensures.answer, c.stored.ensures) at (c.execute.ensures.runs (memory_is_clean c.execute.new.self.conn.now) c.requires.inside)
 
 pub returns-clause-step : goal.returns-clause-step
 returns-clause-step c =

@@ -16,7 +16,7 @@ pub returns-clause-finds : goal.returns-clause-finds
 returns-clause-finds c =
     let was = c.self.inside in
     rw (← c.self.view_is) (both_ok c.take_found.result (rw c.spots_for-spots.ensures at c.take_found.ensures.found) c.take_found.ensures.bound
-    (index_finds c.args.query.now c.args.from was.first was.versions.items was.ids.keys was.groups.keys c.self.invariant c.args.found.now.items c.take_found.new.found.items))
+    (index_finds c.args.query.now c.args.from was.first was.versions.items was.ids.keys was.groups.keys c.self.invariant c.args.shift c.args.found.now.items c.take_found.new.found.items))
 
 pub returns-clause-refused : goal.returns-clause-refused
 returns-clause-refused c = λ many.
