@@ -1,6 +1,7 @@
 pub mod Attempts
 pub mod Counted
 pub mod Generations
+pub mod Guests
 pub mod Keeping
 pub mod Opened
 pub mod Histories

@@ -189,6 +189,11 @@ impl<'a, A: App, D: Definition, J: Naming> SiteClient<'a, A, D, J> {
         self.committer.commits()
     }
 
+    /// What the clock of the site said last, in milliseconds, where the site keeps itself; else 0.
+    pub fn now(&self) -> u64 {
+        self.foundation.tally.now()
+    }
+
     /// What all clients of the site have done by then, and what its nodes were asked, of which the client is then
     /// shown all records. A node that refuses is left out.
     pub fn numbers(&mut self, rt: &impl Wait) -> Numbers

@@ -10,6 +10,7 @@ use crate::application::Application;
 use crate::change::Change;
 use crate::error::{GenerationError, OpenError, SiteError};
 use crate::histories::{Visits, over_new_histories};
+use crate::keeping::{Clock, CountedClock};
 use crate::opening::opened;
 use crate::plan::Plan;
 use crate::returning::{Generation, Returning};
@@ -55,7 +56,7 @@ fn whole_front(core: &DbCore, seen: &HistoryFront) -> Result<HistoryFront, DbErr
 }
 
 /// One generation: it begins with this database, and ends once all threads have.
-fn generation<A, D, V, R>(
+fn generation<A, D, V, C, R>(
     rt: &R,
     alloc: Global,
     plan: Plan,
@@ -63,11 +64,13 @@ fn generation<A, D, V, R>(
     number: usize,
     count: usize,
     visitors: &V,
+    clock: &C,
 ) -> Result<(Generation<V::Output>, DbCore), GenerationError>
 where
     A: Application<D> + Send + Sync,
     D: Definition + Send,
     V: Returning<A, D> + Sync,
+    C: Clock + Sync,
     R: Threads + Wait + Sync,
     requires plan { IsPlan plan }
     requires row { begun.core.events ≡ begun.front.events }
@@ -79,7 +82,9 @@ where
     ensures refused { IfErr result (IsGenerationRefused A.numbers) }
 {
     let Begun { core, front: begun } = begun;
-    let visits = over_new_histories::<A, D, V, R>(rt, alloc, plan, core, count, visitors)?;
+    let visits = over_new_histories::<A, D, V, C, R>(
+        rt, alloc, plan, core, count, visitors, clock,
+    )?;
     let Visits {
         outputs,
         numbers,
@@ -112,12 +117,7 @@ fn next(alloc: Global, plan: Plan, mut core: DbCore) -> Result<Begun, Generation
     Ok(Begun { core, front })
 }
 
-/// Opens a site as [`with_site`](crate::with_site) does, and lets the threads visit. Once all have ended, the
-/// visitors answer whether they come again. Where they do, the newest state is carried over to a new database
-/// with the plan's room, with new nodes, and `count` threads visit that; and so on.
-///
-/// Stamps begin anew in each generation, and the nodes have nothing. What was refused after the opening stands
-/// in the result, beside what the generations before came to.
+/// Goes on as [`with_generations_at`] does, at a clock that counts how often it was looked at.
 pub fn with_generations<A, D, O, V, R>(
     rt: &R,
     alloc: Global,
@@ -138,19 +138,54 @@ where
     ensures refused { IfErr result
         (IsOpenRefused plan A.numbers (O.makes opening.now) (O.refuses opening.now)) }
 {
+    let clock = CountedClock::new();
+    with_generations_at::<A, D, O, V, CountedClock, R>(
+        rt, alloc, plan, opening, count, visitors, &clock,
+    )
+}
+
+/// Opens a site as [`with_clock`](crate::with_clock) does, and lets the threads visit. Once all have ended, the
+/// visitors answer whether they come again. Where they do, the newest state is carried over to a new database
+/// with the plan's room, with new nodes, and `count` threads visit that; and so on.
+///
+/// Stamps begin anew in each generation, and the nodes have nothing. What was refused after the opening stands
+/// in the result, beside what the generations before came to.
+pub fn with_generations_at<A, D, O, V, C, R>(
+    rt: &R,
+    alloc: Global,
+    plan: Plan,
+    opening: &O,
+    count: usize,
+    visitors: &V,
+    clock: &C,
+) -> Result<Served<O::Output, V::Output>, OpenError>
+where
+    A: Application<D> + Send + Sync,
+    D: Definition + Send,
+    O: Change<A, D>,
+    V: Returning<A, D> + Sync,
+    C: Clock + Sync,
+    R: Threads + Wait + Sync,
+    ensures served { IfOk result (IsServed A.next plan count A.numbers (O.makes opening.now)
+        (V.gives visitors.now) (V.goes visitors.now)) }
+    ensures unsound { ¬ (IsPlan plan) → result ≡ Err (OpenError.Site SiteError.Plan) }
+    ensures refused { IfErr result
+        (IsOpenRefused plan A.numbers (O.makes opening.now) (O.refuses opening.now)) }
+{
     if !plan.is_sound() {
         return Err(OpenError::Site(SiteError::Plan));
     }
     let (opening, core) = opened::<A, D, O, R>(rt, alloc, plan, opening)?;
     let front = opening.committed.front.again()?;
     let mut generations = Vec::new(alloc);
-    let end = go_on::<A, D, V, R>(
+    let end = go_on::<A, D, V, C, R>(
         rt,
         alloc,
         plan,
         Begun { core, front },
         count,
         visitors,
+        clock,
         &mut generations,
     );
     Ok(Served {
@@ -162,19 +197,21 @@ where
 
 /// One generation after the other, until the visitors want no other or one is refused.
 #[tactic(auto, using(crate::proofs::Turns::failed_so))]
-fn go_on<A, D, V, R>(
+fn go_on<A, D, V, C, R>(
     rt: &R,
     alloc: Global,
     plan: Plan,
     begun: Begun,
     count: usize,
     visitors: &V,
+    clock: &C,
     generations: &mut Vec<Vec<V::Output>>,
 ) -> Result<(), GenerationError>
 where
     A: Application<D> + Send + Sync,
     D: Definition + Send,
     V: Returning<A, D> + Sync,
+    C: Clock + Sync,
     R: Threads + Wait + Sync,
     requires plan { IsPlan plan }
     requires row { begun.core.events ≡ begun.front.events }
@@ -187,8 +224,8 @@ where
     for _ in rt.forever() {
         generations.reserve(1)?;
         let number = generations.len();
-        let (generation, core) = generation::<A, D, V, R>(
-            rt, alloc, plan, begun, number, count, visitors,
+        let (generation, core) = generation::<A, D, V, C, R>(
+            rt, alloc, plan, begun, number, count, visitors, clock,
         )?;
         let goes_on = visitors.goes_on(&generation);
         generations.push_reserved(generation.outputs);

@@ -9,6 +9,7 @@ ghost use Rattle.txc_site.specs.Sites.{HaveCome};
 use crate::application::Application;
 use crate::error::OpenError;
 use crate::foundation::Foundation;
+use crate::keeping::Clock;
 use crate::node_history::{NodeHistory, new_histories};
 use crate::numbers::Numbers;
 use crate::plan::Plan;
@@ -31,18 +32,20 @@ pub(crate) struct Visits<T> {
 }
 
 /// Lets the threads visit a site of the database and of new nodes.
-pub(crate) fn over_new_histories<A, D, V, R>(
+pub(crate) fn over_new_histories<A, D, V, C, R>(
     rt: &R,
     alloc: Global,
     plan: Plan,
     core: DbCore,
     count: usize,
     visitors: &V,
+    clock: &C,
 ) -> Result<Visits<V::Output>, OpenError>
 where
     A: Application<D> + Send + Sync,
     D: Definition + Send,
     V: Visitor<A, D> + Sync,
+    C: Clock + Sync,
     R: Threads + Wait + Sync,
     requires plan { IsPlan plan }
     ensures each { IfOk result (λ visited. vec_len visited.outputs ≡ count) }
@@ -52,11 +55,11 @@ where
     ensures refused { IfErr result (IsVisitRefused A.numbers) }
 {
     let histories = new_histories(alloc, plan.nodes, plan.records)?;
-    over_histories::<A, D, V, Brand, R>(rt, alloc, plan, core, histories, count, visitors)
+    over_histories::<A, D, V, Brand, C, R>(rt, alloc, plan, core, histories, count, visitors, clock)
 }
 
 /// The same over histories that are the named ones.
-fn over_histories<A, D, V, J, R>(
+fn over_histories<A, D, V, J, C, R>(
     rt: &R,
     alloc: Global,
     plan: Plan,
@@ -64,12 +67,14 @@ fn over_histories<A, D, V, J, R>(
     histories: Vec<NodeHistory>,
     count: usize,
     visitors: &V,
+    clock: &C,
 ) -> Result<Visits<V::Output>, OpenError>
 where
     A: Application<D> + Send + Sync,
     D: Definition + Send,
     V: Visitor<A, D> + Sync,
     J: Naming + Send + Sync,
+    C: Clock + Sync,
     R: Threads + Wait + Sync,
     requires plan { IsPlan plan }
     requires database { core.events ≡ J.database_row }
@@ -84,7 +89,7 @@ where
 {
     let (foundation, committers) = Foundation::<A, J>::new(alloc, plan, core, histories)?;
     let mut pool = PermitPool::new(alloc, plan.permits)?;
-    let outputs = visit::<A, D, V, J, R>(
+    let outputs = visit::<A, D, V, J, C, R>(
         rt,
         alloc,
         &foundation,
@@ -92,6 +97,7 @@ where
         &mut pool,
         count,
         visitors,
+        clock,
     )?;
     let numbers = foundation.tally.numbers();
     let numbers = numbers.with_nodes(rt, &foundation.nodes);

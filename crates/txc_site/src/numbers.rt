@@ -81,13 +81,14 @@ impl Numbers {
     }
 }
 
-/// What the threads of a site count together. Each number begins anew after 2^64.
+/// What the threads of a site count together, and what its clock said last. Each number begins anew after 2^64.
 #[derive(Drop)]
 pub(crate) struct Tally {
     pages: AtomicU64,
     changes: AtomicU64,
     conflicts: AtomicU64,
     refusals: AtomicU64,
+    now: AtomicU64,
 }
 
 impl Tally {
@@ -97,7 +98,18 @@ impl Tally {
             changes: AtomicU64::new(0),
             conflicts: AtomicU64::new(0),
             refusals: AtomicU64::new(0),
+            now: AtomicU64::new(0),
         }
+    }
+
+    /// Notes what the site's clock says.
+    pub(crate) fn set_now(&self, now: u64) {
+        self.now.store(now, Ordering::SeqCst);
+    }
+
+    /// What the clock said last.
+    pub(crate) fn now(&self) -> u64 {
+        self.now.load(Ordering::SeqCst)
     }
 
     /// Counts a page that was shown or refused.

@@ -10,6 +10,7 @@ use crate::application::{Application, registry};
 use crate::change::Change;
 use crate::error::{OpenError, SiteError};
 use crate::histories::{Visits, over_new_histories};
+use crate::keeping::{Clock, CountedClock};
 use crate::last_state::LastState;
 use crate::ledger::Ledger;
 use crate::numbers::Numbers;
@@ -46,12 +47,7 @@ fn new_core(alloc: Global, plan: Plan) -> Result<DbCore, SiteError>
     Ok(DbCore::new(alloc, plan.events)?)
 }
 
-/// Opens a site: makes it by the plan, writes the opening in one read-write transaction, and then starts
-/// `count` threads, each of which visits by a client of its own. Returns once all have ended.
-///
-/// The threads have the numbers from 0, and outputs come in that order. Where no thread can be made, some run
-/// one after the other, so that none may wait for another.
-#[tactic(auto, using(crate::proofs::Opened::visit_so))]
+/// Opens a site as [`with_clock`] does, at a clock that counts how often it was looked at.
 pub fn with_site<A, D, O, V, R>(
     rt: &R,
     alloc: Global,
@@ -72,11 +68,47 @@ where
     ensures refused { IfErr result
         (IsOpenRefused plan A.numbers (O.makes opening.now) (O.refuses opening.now)) }
 {
+    let clock = CountedClock::new();
+    with_clock::<A, D, O, V, CountedClock, R>(rt, alloc, plan, opening, count, visitors, &clock)
+}
+
+/// Opens a site: makes it by the plan, writes the opening in one read-write transaction, and then starts
+/// `count` threads, each of which visits by a client of its own. Returns once all have ended.
+///
+/// Where the plan says so, one more thread keeps the site at the clock, until the visitors have ended.
+///
+/// The threads have the numbers from 0, and outputs come in that order. Where no thread can be made, some run
+/// one after the other, so that none may wait for another.
+#[tactic(auto, using(crate::proofs::Opened::visit_so))]
+pub fn with_clock<A, D, O, V, C, R>(
+    rt: &R,
+    alloc: Global,
+    plan: Plan,
+    opening: &O,
+    count: usize,
+    visitors: &V,
+    clock: &C,
+) -> Result<Visited<O::Output, V::Output>, OpenError>
+where
+    A: Application<D> + Send + Sync,
+    D: Definition + Send,
+    O: Change<A, D>,
+    V: Visitor<A, D> + Sync,
+    C: Clock + Sync,
+    R: Threads + Wait + Sync,
+    ensures visited { IfOk result
+        (IsVisited A.next plan count (O.makes opening.now) (V.gives visitors.now)) }
+    ensures unsound { ¬ (IsPlan plan) → result ≡ Err (OpenError.Site SiteError.Plan) }
+    ensures refused { IfErr result
+        (IsOpenRefused plan A.numbers (O.makes opening.now) (O.refuses opening.now)) }
+{
     if !plan.is_sound() {
         return Err(OpenError::Site(SiteError::Plan));
     }
     let (opening, core) = opened::<A, D, O, R>(rt, alloc, plan, opening)?;
-    let visits = over_new_histories::<A, D, V, R>(rt, alloc, plan, core, count, visitors)?;
+    let visits = over_new_histories::<A, D, V, C, R>(
+        rt, alloc, plan, core, count, visitors, clock,
+    )?;
     let Visits {
         outputs,
         numbers,

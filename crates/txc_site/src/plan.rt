@@ -3,6 +3,7 @@ ghost use Rattle.std.specs.Prelude.{◌≡◌, ◌≤◌, ◌↔◌, IsTrue, IfS
 ghost use Rattle.txc_stream.specs.declared.row.TheConstants.{MAX_CAPACITY as MAX_ROOM};
 ghost use Rattle.txc_site.specs.Plans.{IsPlan};
 
+use crate::keeping::Keeping;
 use txc_node::{MAX_CAPACITY, MAX_RECENT};
 use txc_permits::MAX_PERMITS;
 use txc_stream::MAX_CAPACITY as MAX_ROOM;
@@ -40,10 +41,12 @@ pub struct Plan {
     /// How many records of each node are stored, where anybody can read them: from 1 to
     /// [`txc_stream::MAX_CAPACITY`]. Without a number none is, and a node's history has no end.
     pub records: Option<usize>,
+    /// Whether the site keeps itself, in a thread of its own, until the visitors have ended.
+    pub keep: Option<Keeping>,
 }
 
 impl Plan {
-    /// One node of 4,096 entries whose records are not stored, and room for 65,536 events.
+    /// One node of 4,096 entries whose records are not stored, and room for 65,536 events. It does not keep itself.
     pub const DEFAULT: Plan = Plan {
         nodes: 1,
         capacity: 4096,
@@ -52,6 +55,7 @@ impl Plan {
         permits: 64,
         events: 65_536,
         records: None,
+        keep: None,
     };
 
     // Whether as many records may be stored.

@@ -4,16 +4,20 @@ ghost use Rattle.txc_registry.specs.Objects.{numbers_of};
 ghost use Rattle.txc_site.specs.Histories.{HaveHistoriesBy};
 ghost use Rattle.txc_site.specs.Opened.{IsVisitRefused};
 ghost use Rattle.txc_site.specs.Plans.{IsPlan};
+ghost use Rattle.txc_site.specs.Guests.{AreGuests};
 ghost use Rattle.txc_site.specs.Sites.{numbers_below, HaveCome, IsClientRefused, IsNewClient};
 
 use crate::application::{Application, registry};
 use crate::client::SiteClient;
 use crate::error::{OpenError, SiteError};
 use crate::foundation::Foundation;
+use crate::keeping::{Clock, Keeping, keep_until_ended};
 use crate::ledger::Committers;
+use crate::plan::Plan;
 use crate::visitor::Visitor;
 use std::alloc::Global;
 use std::sync::Wait;
+use std::sync::atomic::{AtomicBool, Ordering};
 use std::thread::{self, Threads};
 use txc_db::Naming;
 use txc_definition::Definition;
@@ -83,15 +87,13 @@ fn guests<'a, A: Application<D>, D: Definition, J: Naming>(
     Ok(guests)
 }
 
-/// Starts so many threads, each with a client of its own, and returns what they came to, in the order of their
-/// numbers, once all have ended.
-pub(crate) fn visit<A, D, V, J, R>(
+/// Starts a thread for each guest, and returns what they came to, in the order of their numbers, once all have
+/// ended.
+fn visit_each<A, D, V, J, R>(
     rt: &R,
     alloc: Global,
-    foundation: &Foundation<A, J>,
-    committers: &Committers<J>,
-    pool: &mut PermitPool,
-    count: usize,
+    plan: Plan,
+    guests: Vec<Guest<SiteClient<'_, A, D, J>>>,
     visitors: &V,
 ) -> Result<Vec<V::Output>, OpenError>
 where
@@ -100,14 +102,12 @@ where
     V: Visitor<A, D> + Sync,
     J: Naming + Send + Sync,
     R: Threads + Wait + Sync,
-    requires plan { IsPlan foundation.now.plan }
-    requires stored_so { HaveHistoriesBy foundation.now.plan J.node_histories }
-    ensures each { IfOk result (λ outputs. vec_len outputs ≡ count) }
+    requires { AreGuests J.node_histories plan guests.items }
+    ensures each { IfOk result (λ outputs. vec_len outputs ≡ vec_len guests.entry) }
     ensures gives { IfOk result (λ outputs.
-        HaveCome (V.gives visitors.now foundation.now.plan J.database_row) outputs.items) }
-    ensures refused { IfErr result (IsVisitRefused A.numbers) }
+        HaveCome (V.gives visitors.now plan J.database_row) outputs.items) }
+    ensures refused { IfErr result (λ error. error ≡ OpenError.Threads) }
 {
-    let guests = guests::<A, D, J>(rt, alloc, foundation, committers, pool, count)?;
     let visited = thread::map_vec(
         rt,
         guests,
@@ -123,5 +123,80 @@ where
     match visited {
         Ok(outputs) => Ok(outputs),
         Err(_) => Err(OpenError::Threads),
+    }
+}
+
+/// The same, beside a thread that keeps the site until all guests have ended.
+fn visit_kept<A, D, V, J, C, R>(
+    rt: &R,
+    alloc: Global,
+    foundation: &Foundation<A, J>,
+    guests: Vec<Guest<SiteClient<'_, A, D, J>>>,
+    visitors: &V,
+    keeping: Keeping,
+    clock: &C,
+) -> Result<Vec<V::Output>, OpenError>
+where
+    A: Application<D> + Send + Sync,
+    D: Definition + Send,
+    V: Visitor<A, D> + Sync,
+    J: Naming + Send + Sync,
+    C: Clock + Sync,
+    R: Threads + Wait + Sync,
+    requires { AreGuests J.node_histories foundation.now.plan guests.items }
+    ensures each { IfOk result (λ outputs. vec_len outputs ≡ vec_len guests.entry) }
+    ensures gives { IfOk result (λ outputs.
+        HaveCome (V.gives visitors.now foundation.now.plan J.database_row) outputs.items) }
+    ensures refused { IfErr result (λ error. error ≡ OpenError.Threads) }
+{
+    let ended = AtomicBool::new(false);
+    let plan = foundation.plan;
+    let (visited, ()) = thread::join(
+        rt,
+        || -> Result<Vec<V::Output>, OpenError>
+            requires { AreGuests J.node_histories plan guests.items }
+            ensures { IfOk result (λ outputs. (vec_len outputs ≡ vec_len guests.entry)
+                × HaveCome (V.gives visitors.entry.now plan J.database_row) outputs.items)
+                × IfErr result (λ error. error ≡ OpenError.Threads) }
+        {
+            let visited = visit_each(rt, alloc, plan, guests, visitors);
+            ended.store(true, Ordering::SeqCst);
+            visited
+        },
+        || keep_until_ended(rt, alloc, foundation, keeping, clock, &ended),
+    );
+    visited
+}
+
+/// Starts so many threads, each with a client of its own, and returns what they came to, in the order of their
+/// numbers, once all have ended. Where the plan says so, one more keeps the site meanwhile.
+pub(crate) fn visit<A, D, V, J, C, R>(
+    rt: &R,
+    alloc: Global,
+    foundation: &Foundation<A, J>,
+    committers: &Committers<J>,
+    pool: &mut PermitPool,
+    count: usize,
+    visitors: &V,
+    clock: &C,
+) -> Result<Vec<V::Output>, OpenError>
+where
+    A: Application<D> + Send + Sync,
+    D: Definition + Send,
+    V: Visitor<A, D> + Sync,
+    J: Naming + Send + Sync,
+    C: Clock + Sync,
+    R: Threads + Wait + Sync,
+    requires plan { IsPlan foundation.now.plan }
+    requires stored_so { HaveHistoriesBy foundation.now.plan J.node_histories }
+    ensures each { IfOk result (λ outputs. vec_len outputs ≡ count) }
+    ensures gives { IfOk result (λ outputs.
+        HaveCome (V.gives visitors.now foundation.now.plan J.database_row) outputs.items) }
+    ensures refused { IfErr result (IsVisitRefused A.numbers) }
+{
+    let guests = guests::<A, D, J>(rt, alloc, foundation, committers, pool, count)?;
+    match foundation.plan.keep {
+        Some(keeping) => visit_kept(rt, alloc, foundation, guests, visitors, keeping, clock),
+        None => visit_each(rt, alloc, foundation.plan, guests, visitors),
     }
 }

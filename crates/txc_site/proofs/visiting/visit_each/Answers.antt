@@ -4,7 +4,7 @@ use Rattle.txc_db.proofs.Captured.{argument_send}
 use Rattle.txc_site.proofs.Crosses.{site_client_send}
 use Rattle.txc_site.proofs.Guests.{number_at}
 use Rattle.txc_site.proofs.visiting.Guest.TheSendSync as guest
-use Rattle.txc_site.proofs.visiting.visit.Goals as goal
+use Rattle.txc_site.proofs.visiting.visit_each.Goals as goal
 
 -- a guest owns a client
 pub map_vec-visited-requires-send-J : goal.map_vec-visited-requires-send-J
@@ -16,13 +16,11 @@ map_vec-visited-requires-send-J g c κs within =
 -- each guest has the number of his place, and a client of the site's plan
 pub returns-in-Ok-clause-gives : goal.returns-in-Ok-clause-gives
 returns-in-Ok-clause-gives g c = λ number d short.
-    let guests = c.in_ok-guests.guests in
+    let guests = c.args.guests in
     let visited = c.in-Ok.outputs in
-    let so_many = c.in-Ok.ensures.len in
-    let within : number < length guests.items = omega (arith, short, so_many, guests.ok.0, visited.ok.0) in
-    let below : number < c.args.count = omega (arith, within, c.in_ok-guests.ensures.each, guests.ok.0) in
+    let within : number < length guests.items = omega (arith, short, c.in-Ok.ensures.len, guests.ok.0, visited.ok.0) in
     let came = (c.in-Ok.ensures.each number d within).1 in
-    let its = ap (λ guest. guest.number) came.job_read ∙ number_at (λ guest. guest.number) guests.items c.args.count number came.job c.in_ok-guests.ensures.numbers below within in
-    let planned = ap (λ guest. guest.client.plan) came.job_read ∙ c.in_ok-guests.ensures.plan number came.job within in
+    let its = ap (λ guest. guest.number) came.job_read ∙ number_at (λ guest. guest.number) guests.items (length guests.items) number came.job c.requires.numbers within within in
+    let planned = ap (λ guest. guest.client.plan) came.job_read ∙ c.requires.plans number came.job within in
     subst (λ plan. g.V.Visitor.gives c.args.visitors.now plan g.J.Naming.database_row number (slice_index_or visited.items number d)) planned
     (subst (λ (k : ℕ). g.V.Visitor.gives c.args.visitors.now came.job.client.plan g.J.Naming.database_row k (slice_index_or visited.items number d)) its came.call.met)
