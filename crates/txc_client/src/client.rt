@@ -3,6 +3,7 @@ ghost use Rattle.std.specs.Prelude.{◌≡◌, ◌≤◌, ◌<◌, ◌⊎◌, []
 ghost use Rattle.txc_stream.specs.Names.{HasRow};
 ghost use Rattle.txc_node.specs.Counts.{AreCountsOf};
 ghost use Rattle.txc_cushion.specs.Cushion.{cushion_front, handed_out};
+ghost use Rattle.txc_cushion.specs.Kept.{fresh_of};
 ghost use Rattle.txc_cushion.specs.Shared.{CushionMayAnswer};
 ghost use Rattle.txc_registry.specs.Objects.{AllIdle};
 ghost use Rattle.txc_app.specs.Eval.{Next};
@@ -19,7 +20,7 @@ use std::alloc::{AllocError, Global};
 use std::marker::Model;
 use std::sync::Wait;
 use txc_app::App;
-use txc_cushion::{Pincushion, Pins};
+use txc_cushion::{KeptPins, Pincushion, Pins};
 use txc_db::{Database, Naming};
 use txc_node::Counts;
 use txc_ports::Bounds;
@@ -115,6 +116,53 @@ impl<'a, A: App, C: Cacheable, J: Naming> Client<'a, A, C, J> {
             Ok(core) => Ok(RoTxn {
                 ports,
                 renew_after,
+                kept: 0,
+                txn: RunningTxn::new(core, registry),
+            }),
+            Err(error) => {
+                let client = Client {
+                    ports,
+                    registry,
+                    renew_after,
+                };
+                Err((error, client))
+            }
+        }
+    }
+
+    /// Begins a transaction with exactly those of the kept pins that its bounds allow, and the present. It is
+    /// to give back the pins alone that it adds: the others are to be kept as long as it is open. Out of
+    /// memory, the client is returned.
+    pub fn begin_kept(
+        self,
+        alloc: Global,
+        bounds: Bounds,
+        kept: &KeptPins<J>,
+    ) -> Result<RoTxn<'a, A, C, J>, (AllocError, Client<'a, A, C, J>)>
+        ensures bounds { IfOk result (λ txn. txn.txn.core.bounds ≡ bounds) }
+        ensures recorded { IfOk result (λ txn. txn.txn.core.recorded ≡ []) }
+        ensures meant { IfOk result (λ txn. IsTxn A.next txn.txn) }
+        ensures kept { IfOk result (λ txn. txn.txn.core.pins.members
+            ≡ fresh_of kept.now bounds.now bounds.staleness bounds.at_least) }
+        ensures members { IfOk result (CushionMayAnswer J.database_row (λ c txn. (txn.txn.core.seen ≡ cushion_front c)
+            × (txn.txn.core.pins.members ≡ handed_out c bounds.now bounds.staleness bounds.at_least))) }
+        ensures taken { IfOk result (λ txn. txn.txn.core.taken
+            ≡ map (λ pin. pin.stamp) txn.txn.core.pins.members) }
+        ensures present { IfOk result (λ txn. txn.txn.core.pins.has_present ≡ true) }
+        ensures row { IfOk result (λ txn. txn.txn.core.seen.events ≡ J.database_row) }
+        ensures client { IfOk result (λ txn. client_of txn ≡ self.entry) }
+        ensures handed_back { IfErr result (λ e. e.1 ≡ self.entry) }
+    {
+        let Client {
+            ports,
+            registry,
+            renew_after,
+        } = self;
+        match begun_kept(alloc, ports.len(), renew_after, bounds, kept) {
+            Ok((core, own)) => Ok(RoTxn {
+                ports,
+                renew_after,
+                kept: own,
                 txn: RunningTxn::new(core, registry),
             }),
             Err(error) => {
@@ -244,6 +292,47 @@ fn begun<J: Naming>(
             give_back_each(rt, cushion, &pins);
             Err(AllocError)
         }
+    }
+}
+
+// A core with the kept pins that are fresh for its bounds, and how many they are.
+fn begun_kept<J: Naming>(
+    alloc: Global,
+    nodes: usize,
+    renew_after: u64,
+    bounds: Bounds,
+    kept: &KeptPins<J>,
+) -> Result<(TxnCore, usize), AllocError>
+    requires { 1 ≤ nodes }
+    ensures fits { IfOk result (λ it. (next : Next) (objects : Objects) → AllIdle objects
+        → IsCore next objects (value_of it.0)) }
+    ensures holds { IfOk result (λ it. (next : Next) (objects : Objects)
+        → CoreHolds next (value_of it.0).seen.history objects (value_of it.0)) }
+    ensures idle { IfOk result (λ it. IsIdle (value_of it.0)) }
+    ensures row { IfOk result (λ it. (value_of it.0).seen.events ≡ J.database_row) }
+    ensures bounds { IfOk result (λ it. (value_of it.0).bounds ≡ bounds) }
+    ensures renew_after { IfOk result (λ it. (value_of it.0).renew_after ≡ renew_after) }
+    ensures nodes { IfOk result (λ it. (value_of it.0).nodes ≡ nodes) }
+    ensures recorded { IfOk result (λ it. (value_of it.0).recorded ≡ []) }
+    ensures kept { IfOk result (λ it. (value_of it.0).pins.members
+        ≡ fresh_of kept.now bounds.now bounds.staleness bounds.at_least) }
+    ensures members { IfOk result (CushionMayAnswer J.database_row (λ c it. ((value_of it.0).seen ≡ cushion_front c)
+        × ((value_of it.0).pins.members ≡ handed_out c bounds.now bounds.staleness bounds.at_least))) }
+    ensures taken { IfOk result (λ it. (value_of it.0).taken
+        ≡ map (λ pin. pin.stamp) (value_of it.0).pins.members) }
+    ensures own { IfOk result (λ it. it.1 ≡ length (value_of it.0).taken) }
+    ensures present { IfOk result (λ it. (value_of it.0).pins.has_present ≡ true) }
+{
+    let Bounds {
+        now,
+        staleness,
+        at_least,
+    } = bounds;
+    let pins = kept.fresh(alloc, now, staleness, at_least)?;
+    let own = pins.pins.len();
+    match TxnCore::begin(alloc, nodes, renew_after, bounds, pins) {
+        Ok(core) => Ok((core, own)),
+        Err(_) => Err(AllocError),
     }
 }
 

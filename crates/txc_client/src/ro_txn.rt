@@ -1,5 +1,5 @@
 //! Read-only transactions of clients.
-ghost use Rattle.std.specs.Prelude.{◌≡◌, ◌≢◌, ◌++◌, ◌∷◌, [], Err, IfOk, IsNone, OnErr};
+ghost use Rattle.std.specs.Prelude.{◌≡◌, ◌≢◌, ◌++◌, ◌∷◌, [], Err, IfOk, IsNone, OnErr, drop};
 ghost use mathlib.Core.List.{IsPrefix};
 ghost use Rattle.txc_registry.specs.Objects.{activity_of, AllIdle};
 ghost use Rattle.txc_call.specs.declared.error.CallError.TheVariants.{NoFunction};
@@ -22,6 +22,7 @@ use txc_db::{HistoryFront, Naming};
 use txc_node::Value;
 use txc_ports::{Recorded, Turn, TxnError};
 use txc_registry::Cacheable;
+use txc_stamp::Stamp;
 use txc_tags::Key;
 use txc_txn::{Receipt, RunningTxn};
 
@@ -32,6 +33,8 @@ use txc_txn::{Receipt, RunningTxn};
 pub struct RoTxn<'a, A: App, C: Cacheable, J: Naming> {
     pub(crate) ports: Ports<'a, A, J>,
     pub(crate) renew_after: u64,
+    // How many of the first pins that it took are its client's, which keeps them.
+    pub(crate) kept: usize,
     pub(crate) txn: RunningTxn<A, C>,
 }
 
@@ -131,10 +134,11 @@ impl<'a, A: App, C: Cacheable, J: Naming> RoTxn<'a, A, C, J> {
         let RoTxn {
             ports,
             renew_after,
+            kept,
             txn,
         } = self;
-        let (receipt, give_back, registry) = txn.finish();
-        let _ = ports.cushion.give_back(rt, &give_back);
+        let (receipt, taken, registry) = txn.finish();
+        let _ = ports.cushion.give_back(rt, own(&taken, kept));
         let client = Client {
             ports,
             registry,
@@ -151,4 +155,11 @@ impl<'a, A: App, C: Cacheable, J: Naming> RoTxn<'a, A, C, J> {
         let (_receipt, client) = self.commit(rt);
         client
     }
+}
+
+// The stamps after those of the pins that are kept: these are to be given back.
+fn own(taken: &[Stamp], kept: usize) -> &[Stamp]
+    ensures { result.now ≡ drop kept taken.now }
+{
+    taken.get(kept..).unwrap_or(&[])
 }

@@ -6,3 +6,4 @@ pub mod Adding
 pub mod UserCounts
 pub mod Counts
 pub mod Offered
+pub mod Kept

@@ -1,11 +1,12 @@
 //! What is done to the pincushion under its lock.
-ghost use Rattle.std.specs.Prelude.{◌≡◌, All, IfOk, OnOk, OnErr, IfErr};
+ghost use Rattle.std.specs.Prelude.{◌≡◌, All, map, IfOk, OnOk, OnErr, IfErr};
 ghost use Rattle.txc_db.specs.History.{IsAllowed};
 ghost use Rattle.txc_cushion.specs.Cushion.{IsCushion, cushion_front, handed_out, after_fresh, after_add, after_give_back, retired, after_retire};
 ghost use Rattle.txc_cushion.specs.Refusals.{IsAddRefused, IsFirstUnused};
 
 use crate::cushion_core::CushionCore;
 use crate::error::{AddError, UnknownPin};
+use crate::kept::KeptPins;
 use crate::pins::Pins;
 use std::alloc::{AllocError, Global};
 use std::marker::{Model, PhantomData};
@@ -83,6 +84,18 @@ impl<J: Naming> Locked<J> {
     {
         self.core.is_cushion();
         self.core.give_back(stamps)
+    }
+
+    /// Takes back pins that were kept.
+    pub(crate) fn take_back(&mut self, kept: KeptPins<J>) -> Result<(), UnknownPin>
+        ensures named { self.old.events ≡ J.database_row }
+        ensures cushion { IsCushion self.old }
+        ensures after { OnOk result (self.new ≡ after_give_back self.old (map (λ pin. pin.stamp) kept.pins)) }
+        ensures unchanged { OnErr result (self.new ≡ self.old) }
+        ensures refused { IfErr result (λ unknown.
+            IsFirstUnused self.old.entries (map (λ pin. pin.stamp) kept.pins) unknown.stamp) }
+    {
+        self.give_back(&kept.into_stamps())
     }
 
     pub(crate) fn retire(

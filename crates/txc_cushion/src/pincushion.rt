@@ -1,13 +1,16 @@
 //! The pincushion under its lock.
-ghost use Rattle.std.specs.Prelude.{◌≡◌, All, IfOk, IfErr};
+ghost use Rattle.std.specs.Prelude.{◌≡◌, ◌+◌, ◌≤◌, true, All, map, IfOk, IfErr, IfSome};
 ghost use Rattle.txc_db.specs.History.{IsAllowed};
 ghost use Rattle.txc_cushion.specs.Cushion.{cushion_front, handed_out, retired};
+ghost use Rattle.txc_cushion.specs.Kept.{may_be_used};
 ghost use Rattle.txc_cushion.specs.Refusals.{IsAddRefused, IsFirstUnused};
 ghost use Rattle.txc_cushion.specs.Shared.{CushionMayAnswer};
 
 use crate::cushion_core::CushionCore;
 use crate::error::{AddError, UnknownPin};
+use crate::kept::KeptPins;
 use crate::locked::Locked;
+use crate::pin::Pin;
 use crate::pins::Pins;
 use std::alloc::{AllocError, Global};
 use std::sync::{Mutex, Wait};
@@ -76,6 +79,67 @@ impl<J: Naming> Pincushion<J> {
         lock_soon(rt, &self.lock).give_back(stamps)
     }
 
+    /// Hands out pins as [`Pincushion::fresh`] does, to be kept from one transaction to the next.
+    pub fn keep(
+        &self,
+        rt: &impl Wait,
+        alloc: Global,
+        now: u64,
+        staleness: u64,
+        at_least: Stamp,
+    ) -> Result<KeptPins<J>, AllocError>
+        ensures since { IfOk result (λ kept. kept.since ≡ now) }
+        ensures answer { IfOk result (CushionMayAnswer J.database_row (λ c kept.
+            (kept.pins ≡ handed_out c now staleness at_least) × (kept.front ≡ cushion_front c))) }
+    {
+        let given = self.fresh(rt, alloc, now, staleness, at_least)?;
+        match stamps_of(alloc, &given.pins) {
+            Ok(stamps) => Ok(KeptPins::new(given, stamps, now)),
+            Err(error) => {
+                for pin in &given.pins {
+                    let _ = self.give_back(rt, &[pin.stamp]);
+                }
+                Err(error)
+            }
+        }
+    }
+
+    /// Takes back pins that were kept: each has a user fewer. It takes no memory.
+    pub fn take_back(&self, rt: &impl Wait, kept: KeptPins<J>) -> Result<(), UnknownPin>
+        ensures refused { IfErr result (CushionMayAnswer J.database_row (λ c unknown.
+            IsFirstUnused c.entries (map (λ pin. pin.stamp) kept.pins) unknown.stamp)) }
+    {
+        lock_soon(rt, &self.lock).take_back(kept)
+    }
+
+    /// Pins for the next transaction of a client: those that it has kept, where it may use them, for at most
+    /// `most` milliseconds. Else these are given back, and pins are handed out anew; out of memory, none is kept.
+    pub fn renew(
+        &self,
+        rt: &impl Wait,
+        alloc: Global,
+        kept: Option<KeptPins<J>>,
+        most: u64,
+        now: u64,
+        staleness: u64,
+        at_least: Stamp,
+    ) -> Result<KeptPins<J>, AllocError>
+        ensures same { IfSome kept (λ it. may_be_used most it now staleness at_least ≡ true
+            → IfOk result (λ left. left ≡ it)) }
+        ensures within { IfOk result (λ left. now ≤ left.since + most) }
+    {
+        match kept {
+            Some(kept) => {
+                if kept.may_be_used(most, now, staleness, at_least) {
+                    return Ok(kept);
+                }
+                let _ = self.take_back(rt, kept);
+            }
+            None => {}
+        }
+        self.keep(rt, alloc, now, staleness, at_least)
+    }
+
     /// Takes out the pins that no transaction may use and whose moment is more than `age` before `now`, all
     /// in milliseconds. It answers their stamps, the least first.
     pub fn retire(
@@ -90,4 +154,11 @@ impl<J: Naming> Pincushion<J> {
     {
         lock_soon(rt, &self.lock).retire(alloc, now, age)
     }
+}
+
+// The stamps of the pins.
+fn stamps_of(alloc: Global, pins: &[Pin]) -> Result<Vec<Stamp>, AllocError>
+    ensures { IfOk result (λ stamps. stamps.items ≡ map (λ pin. pin.stamp) pins.now) }
+{
+    pins.iter().map(|pin| pin.stamp).collect(alloc)
 }
