@@ -13,12 +13,12 @@ use Rattle.txc_tags.proofs.Offered.{same_call_iff}
 use Rattle.txc_node.specs.declared.entry.Entry.{Entry}
 use Rattle.txc_node.specs.Entries.{same_place, meets_range, outlasts, is_best, others, AreApart}
 use Rattle.txc_node.specs.Best.{BestSoFar}
-use Rattle.txc_node.specs.Cache.{Cache, IsCache, found, after_use, after_lookup, is_kept, replayed_reach, entries_with, after_insert, is_invalidated, entry_after, after_event}
+use Rattle.txc_node.specs.Cache.{Cache, IsBounded, IsCache, found, after_use, after_lookup, is_kept, replayed_reach, entries_with, after_insert, is_invalidated, entry_after, after_event}
 use Rattle.txc_node.specs.Laws.{MeetsRange, LastsLonger, FindsTheLongest, MissesOnlyWhereNone, MeetsAtAStamp, ShowsNothingBeyond, IsHitBy, ClosesOnlyIfHit, EachPlace, ClosesExactlyTheHit, HasOneForEach, InsertsWithinBounds, StepsKeepCaches}
 use Rattle.txc_node.proofs.Best.{best_none, best_skips, best_begins, best_keeps, best_takes, best_end, read_test, read_tests}
 use Rattle.txc_node.proofs.Apart.{recursion_at, remove_is_others, first_apart, after_apart}
 use Rattle.txc_node.proofs.Inserts.{cut_apart, replay_lo}
-use Rattle.txc_node.proofs.Swept.{sweep_keeps}
+use Rattle.txc_node.proofs.Swept.{bounded_of, cache_of, sweep_keeps}
 
 -- ---- tests and what they mean
 
@@ -172,42 +172,61 @@ others_fewer es e h at =
     let same : remove es at.0 ≡ others e es = remove_is_others es at.0 e at.1 h ∙ ap (λ x. others x es) at.2 in
     omega (arith, ap length same, length-remove es at.0 at.1)
 
-use_keeps : (c : Cache) (o : Option Entry) → ((e : Entry) → o ≡ Some e → Contains c.entries e) → IsCache c → IsCache (after_use c o)
-use_keeps c None at h = h
-use_keeps c (Some e) at h = record {
+use_bounded : (c : Cache) (o : Option Entry) → ((e : Entry) → o ≡ Some e → Contains c.entries e) → IsBounded c → IsBounded (after_use c o)
+use_bounded c None at h = h
+use_bounded c (Some e) at h = record {
   apart = first_apart e c.entries h.apart;
   within = omega (arith, others_fewer c.entries e h.apart (at e refl), h.within);
-  kept = h.kept;
+  deep = h.deep;
   some = h.some;
   any = h.any;
 }
 
+use_recent : (c : Cache) (o : Option Entry) → length c.recent ≡ min c.depth c.processed → length (after_use c o).recent ≡ min (after_use c o).depth (after_use c o).processed
+use_recent c None kept = kept
+use_recent c (Some e) kept = kept
+
+pub lookup_bounded : (c : Cache) (key : Call) (lo hi : ℕ) → IsBounded c → IsBounded (after_lookup c key lo hi)
+lookup_bounded c key lo hi h = use_bounded c (found c key lo hi) (λ e k. (finds_the_longest c key lo hi e k).stands) h
+
 pub lookup_keeps : (c : Cache) (key : Call) (lo hi : ℕ) → IsCache c → IsCache (after_lookup c key lo hi)
-lookup_keeps c key lo hi h = use_keeps c (found c key lo hi) (λ e k. (finds_the_longest c key lo hi e k).stands) h
+lookup_keeps c key lo hi h = cache_of (after_lookup c key lo hi) (lookup_bounded c key lo hi (bounded_of c h)) (use_recent c (found c key lo hi) h.kept)
+
+pub insert_bounded : (c : Cache) (e : Entry) → IsBounded c → IsBounded (after_insert c e)
+insert_bounded c e h =
+    let new : Cache = record c { entries = take c.capacity (entries_with c e) } in
+    let stored : IsBounded new = record {
+      apart = cut_apart c.capacity e (replayed_reach c e) c.entries (replay_lo e.reach e.tags c.processed c.recent) h.apart;
+      within = take_within c.capacity (entries_with c e);
+      deep = h.deep;
+      some = h.some;
+      any = h.any;
+    } in
+    let go : (b : Bool) → IsBounded (cond b c new) = λ b. elim b as (λ v. IsBounded (cond v c new)) [ true ↦ h | false ↦ stored ] in
+    go (is_kept c e)
 
 pub insert_keeps : (c : Cache) (e : Entry) → IsCache c → IsCache (after_insert c e)
 insert_keeps c e h =
     let new : Cache = record c { entries = take c.capacity (entries_with c e) } in
-    let stored : IsCache new = record {
-      apart = cut_apart c.capacity e (replayed_reach c e) c.entries (replay_lo e.reach e.tags c.processed c.recent) h.apart;
-      within = take_within c.capacity (entries_with c e);
-      kept = h.kept;
+    let go : (b : Bool) → length (cond b c new).recent ≡ min (cond b c new).depth (cond b c new).processed = λ b. elim b as (λ v. length (cond v c new).recent ≡ min (cond v c new).depth (cond v c new).processed) [ true ↦ h.kept | false ↦ h.kept ] in
+    cache_of (after_insert c e) (insert_bounded c e (bounded_of c h)) (go (is_kept c e))
+
+pub event_bounded : (c : Cache) (tags : List Tag) (stamp : ℕ) → IsBounded c → IsBounded (after_event c stamp tags)
+event_bounded c tags stamp h =
+    let all = c.recent ++ tags ∷ [] in
+    record {
+      apart = after_apart stamp tags c.entries h.apart;
+      within = omega (arith, length-map c.entries (entry_after stamp tags), h.within);
+      deep = omega (arith, length-drop (length all - c.depth) all);
       some = h.some;
       any = h.any;
-    } in
-    let go : (b : Bool) → IsCache (cond b c new) = λ b. elim b as (λ v. IsCache (cond v c new)) [ true ↦ h | false ↦ stored ] in
-    go (is_kept c e)
+    }
 
 pub event_keeps : (c : Cache) (tags : List Tag) → IsCache c → IsCache (after_event c (c.processed + 1) tags)
 event_keeps c tags h =
     let all = c.recent ++ tags ∷ [] in
-    record {
-      apart = after_apart (c.processed + 1) tags c.entries h.apart;
-      within = omega (arith, length-map c.entries (entry_after (c.processed + 1) tags), h.within);
-      kept = omega (arith, length-drop (length all - c.depth) all, length-append c.recent (tags ∷ []), h.kept);
-      some = h.some;
-      any = h.any;
-    }
+    let kept : length (after_event c (c.processed + 1) tags).recent ≡ min c.depth (c.processed + 1) = omega (arith, length-drop (length all - c.depth) all, length-append c.recent (tags ∷ []), h.kept) in
+    cache_of (after_event c (c.processed + 1) tags) (event_bounded c tags (c.processed + 1) (bounded_of c h)) kept
 
 pub steps_keep_caches : StepsKeepCaches
 steps_keep_caches = record {

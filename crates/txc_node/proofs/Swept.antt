@@ -11,7 +11,7 @@ use Rattle.txc_stamp.specs.Interval.{end_at}
 use Rattle.txc_tags.specs.Keys.{Call, same_call}
 use Rattle.txc_node.specs.declared.entry.Entry.{Entry}
 use Rattle.txc_node.specs.Entries.{meets_range, outlasts, is_best}
-use Rattle.txc_node.specs.Cache.{Cache, IsCache, shown_of, has_ended, after_sweep}
+use Rattle.txc_node.specs.Cache.{Cache, IsBounded, IsCache, shown_of, has_ended, after_sweep}
 use Rattle.txc_node.specs.Laws.{SweepDropsTheEnded, ChangesNoLaterAnswer}
 use Rattle.txc_node.proofs.Apart.{filter_apart}
 
@@ -53,14 +53,24 @@ drops_the_ended c horizon =
       counted = omega (arith, length-filter (has_ended c.processed horizon) c.entries, length-filter_both (has_ended c.processed horizon) s (λ _. refl) c.entries);
     }
 
-pub sweep_keeps : (c : Cache) (horizon : ℕ) → IsCache c → IsCache (after_sweep c horizon)
-sweep_keeps c horizon h = record {
+pub sweep_bounded : (c : Cache) (horizon : ℕ) → IsBounded c → IsBounded (after_sweep c horizon)
+sweep_bounded c horizon h = record {
   apart = filter_apart (λ e. not (has_ended c.processed horizon e)) c.entries h.apart;
   within = omega (arith, (drops_the_ended c horizon).counted, h.within);
-  kept = h.kept;
+  deep = h.deep;
   some = h.some;
   any = h.any;
 }
+
+pub bounded_of : (c : Cache) → IsCache c → IsBounded c
+bounded_of c h = record { apart = h.apart; within = h.within; deep = omega (arith, h.kept); some = h.some; any = h.any }
+
+-- with as many tags as it should keep, it is a cache
+pub cache_of : (c : Cache) → IsBounded c → length c.recent ≡ min c.depth c.processed → IsCache c
+cache_of c h kept = record { apart = h.apart; within = h.within; kept = kept; some = h.some; any = h.any }
+
+pub sweep_keeps : (c : Cache) (horizon : ℕ) → IsCache c → IsCache (after_sweep c horizon)
+sweep_keeps c horizon h = cache_of (after_sweep c horizon) (sweep_bounded c horizon (bounded_of c h)) h.kept
 
 -- ---- lookups after it
 

@@ -27,6 +27,19 @@ abbrev pub empty_cache : ℕ → ℕ → Cache
 empty_cache capacity depth =
     record { entries = []; processed = 0; recent = []; capacity = capacity; depth = depth }
 
+-- no entry yet, in a node that begins at that stamp: it keeps no tags of the events before
+abbrev pub empty_cache_at : ℕ → ℕ → ℕ → Cache
+empty_cache_at capacity depth from = record (empty_cache capacity depth) { processed = from }
+
+-- What is true of a cache at whatever stamp it began. No two entries have the same key and first stamp. It holds no
+-- more than its capacity, and the tags of no more than `depth` events.
+pub record IsBounded (c : Cache) : Type 0 where
+  pub apart : AreApart c.entries
+  pub within : length c.entries ≤ c.capacity
+  pub deep : length c.recent ≤ c.depth
+  pub some : 0 < c.capacity
+  pub any : 0 < c.depth
+
 -- What is true of a cache after every list of steps. No two entries have the same key and first stamp. It
 -- holds no more than its capacity. And it keeps the tags of its last `depth` events, or of all while there
 -- are fewer.

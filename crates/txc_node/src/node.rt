@@ -5,7 +5,7 @@ ghost use Rattle.std.specs.Borrow.{sem};
 ghost use Rattle.std.specs.Io.BufRead.{Rests};
 ghost use Rattle.txc_node.specs.contracts.node.NodeCore.{the_row};
 ghost use Rattle.txc_node.specs.declared.entry.Entry.{Entry};
-ghost use Rattle.txc_node.specs.Cache.{ends_no_earlier, shown_of, empty_cache, found, lookup_answer, after_lookup, is_kept, after_insert, outcome, after_event, closed_count, after_sweep, swept_count};
+ghost use Rattle.txc_node.specs.Cache.{ends_no_earlier, shown_of, empty_cache, empty_cache_at, found, lookup_answer, after_lookup, is_kept, after_insert, outcome, after_event, closed_count, after_sweep, swept_count};
 ghost use Rattle.txc_node.specs.Hit.{seen};
 ghost use Rattle.txc_node.specs.Indexed.{IsFound, IsSearchOf, entries_under, shown_as};
 
@@ -69,7 +69,7 @@ pub struct NodeCore {
 }
 
 impl Model for NodeCore {
-    ghost use Rattle.txc_node.specs.Cache.{Cache, IsCache};
+    ghost use Rattle.txc_node.specs.Cache.{Cache, IsBounded};
 
     ghost Value = { Cache };
 
@@ -81,7 +81,7 @@ impl Model for NodeCore {
       depth = n.recent.capacity;
     } };
 
-    ghost invariant = { λ n. IsCache (record {
+    ghost invariant = { λ n. IsBounded (record {
       entries = n.entries.entries;
       processed = n.processed;
       recent = n.recent.items;
@@ -146,12 +146,27 @@ impl NodeCore {
         requires recent { (1 ≤ recent) × (recent ≤ MAX_RECENT) }
         ensures { IfOk result (λ n. n ≡ empty_cache capacity recent) }
     {
+        NodeCore::beginning_at(alloc, capacity, recent, Stamp::ZERO)
+    }
+
+    /// An empty node as if it had taken the events up to that stamp. An entry that is not known from there on is
+    /// closed when it is inserted, since what came in between is not known.
+    pub fn beginning_at(
+        alloc: Global,
+        capacity: usize,
+        recent: usize,
+        from: Stamp,
+    ) -> Result<NodeCore, AllocError>
+        requires capacity { (1 ≤ capacity) × (capacity ≤ MAX_CAPACITY) }
+        requires recent { (1 ≤ recent) × (recent ≤ MAX_RECENT) }
+        ensures { IfOk result (λ n. n ≡ empty_cache_at capacity recent from) }
+    {
         let room = NonZeroUsize::new(capacity).unwrap();
         let entries = IndexedEntries::new(alloc, room)?;
         let recent = HeapCircularBuffer::with_capacity(alloc, recent)?;
         Ok(NodeCore {
             entries,
-            processed: Stamp::ZERO,
+            processed: from,
             recent,
             looked: 0,
         })

@@ -4,10 +4,10 @@ use Rattle.txc_stamp.specs.Interval.{Interval, shown}
 use Rattle.txc_node.specs.declared.entry.Entry.{Entry}
 use Rattle.txc_node.specs.declared.node.Inserted.TheVariants.{Stored}
 use Rattle.txc_node.specs.Entries.{others}
-use Rattle.txc_node.specs.Cache.{Cache, IsCache, is_kept, outcome, after_insert, replayed_reach, entries_with, evicted_entry}
+use Rattle.txc_node.specs.Cache.{Cache, IsBounded, is_kept, outcome, after_insert, replayed_reach, entries_with, evicted_entry}
 use Rattle.txc_node.specs.contracts.node.NodeCore.{the_view}
 use Rattle.txc_node.proofs.Inserts.{kept_state, stored_state}
-use Rattle.txc_node.proofs.LawLemmas.{insert_keeps}
+use Rattle.txc_node.proofs.LawLemmas.{insert_bounded}
 use Rattle.txc_node.proofs.Puts.{kept_by}
 use Rattle.txc_node.proofs.node.NodeCore.insert.Goals as goal
 
@@ -41,7 +41,7 @@ invariant_of-self-2 c =
     let entries : c.put.new.self.entries ≡ take n.capacity (entries_with n e) =
     c.in_ok-evicted.ensures.entries ∙ ap (λ (i : Interval). let f : Entry = record e { reach = i } in take n.capacity (f ∷ others e n.entries)) c.replay_for-reach.ensures.value in
     let state = stored_state n e c.put.new.self.entries (evicted_entry n e) (sym is ∙ c.if-ends_no_earlier.false) entries refl in
-    rw c.in_ok-evicted.ensures.capacity (subst IsCache (sym state.0) (insert_keeps n e c.self.invariant))
+    rw c.in_ok-evicted.ensures.capacity (subst IsBounded (sym state.0) (insert_bounded n e c.self.invariant))
 
 pub returns-clause-after : goal.returns-clause-after
 returns-clause-after c =

@@ -1,9 +1,9 @@
 use Rattle.std.proofs.Common.{◌≡◌, ◌∷◌, sym, subst}
 use Rattle.txc_node.specs.contracts.node.NodeCore.{the_view}
-use Rattle.txc_node.specs.Cache.{Cache, IsCache}
+use Rattle.txc_node.specs.Cache.{Cache, IsBounded}
 use Rattle.txc_node.specs.Indexed.{IsSearchOf}
 use Rattle.txc_node.specs.Entries.{others}
-use Rattle.txc_node.proofs.LawLemmas.{lookup_keeps}
+use Rattle.txc_node.proofs.LawLemmas.{lookup_bounded}
 use Rattle.txc_node.proofs.Moves.{after_found}
 use Rattle.txc_node.proofs.node.NodeCore.mark_used.Goals as goal
 
@@ -15,4 +15,4 @@ invariant_of-self c =
     let is = subst (λ (m : Cache). IsSearchOf m a.key.now s) (sym c.self.view_is) c.requires in
     let h = rw c.in-Some.is at is.stands in
     let moved : c.bring_first.new.self.entries ≡ h.0 ∷ others h.0 v.entries = c.bring_first.ensures.entries h.0 h.2 in
-    rw c.bring_first.ensures.capacity (subst IsCache (sym (after_found v a.key.now s.lo s.hi h.0 c.bring_first.new.self.entries h.1 moved)) (lookup_keeps v a.key.now s.lo s.hi c.self.invariant))
+    rw c.bring_first.ensures.capacity (subst IsBounded (sym (after_found v a.key.now s.lo s.hi h.0 c.bring_first.new.self.entries h.1 moved)) (lookup_bounded v a.key.now s.lo s.hi c.self.invariant))
