@@ -1,6 +1,6 @@
 -- The spots at which a cache finds its entries.
 use Rattle.std.proofs.Common.{◌≡◌, ℕ, ◌+◌, ◌-◌, ◌⊎◌, inl, inr, Bool, true, false, ◌&&◌, eqb, cond, List, [], ◌∷◌, map, take, Option, Some, None, refl, sym, ap, subst, ◌∙◌, arith, suc, zero}
-use Rattle.std.specs.Prelude.{slice_get}
+use Rattle.std.specs.Prelude.{is_some, slice_get}
 use Rattle.std.specs.List.{AllByRecursion, IsDistinct}
 use Rattle.std.specs.Option.{option_map, option_map_or}
 use Rattle.std.specs.Map.{keys_of, lookup, lookup_entry, remove_entry, set_value}
@@ -78,6 +78,7 @@ here q x e lo =
 
 pub names_spot : (q : Place) (ps : List (Spot × Stored)) → AreSpotted ps → IsDistinct equal_spots (keys_of ps) → AreApart (entries_of (all_placed ps)) → (b : Bool)
     → option_map_or (λ s. eqb s.reach.lo q.lo) (lookup (equal_spots (first_spot q.key)) ps) false ≡ b → Names (cond b (first_spot q.key) (later_spot q)) q ps
+unfolding IsDistinct
 names_spot q [] spotted distinct apart b is = tt
 names_spot q (x ∷ ps) spotted distinct apart b is =
     let t = first_spot q.key in
@@ -122,8 +123,12 @@ later_free q (p ∷ ps) spotted h = (later_at q p spotted.0 (λ none. h.0), late
 pub names_free_later : (q : Place) (ps : List (Spot × Stored)) → AreSpotted ps → lookup (equal_places q) (all_placed ps) ≡ None → Names (later_spot q) q ps
 names_free_later q ps spotted h = later_free q ps spotted (no_place q ps h)
 
-pub names_free_first : (q : Place) (ps : List (Spot × Stored)) → lookup (equal_spots (first_spot q.key)) ps ≡ None → lookup (equal_places q) (all_placed ps) ≡ None → Names (first_spot q.key) q ps
-names_free_first q ps none absent = names_none (first_spot q.key) q ps (no_key (equal_spots (first_spot q.key)) ps none) (no_place q ps absent)
+is_none : (o : Option Stored) → is_some o ≡ false → o ≡ None
+is_none None h = refl
+is_none (Some s) h = let no : true ≡ false = h in cc
+
+pub names_free_first : (q : Place) (ps : List (Spot × Stored)) → is_some (lookup (equal_spots (first_spot q.key)) ps) ≡ false → lookup (equal_places q) (all_placed ps) ≡ None → Names (first_spot q.key) q ps
+names_free_first q ps none absent = names_none (first_spot q.key) q ps (no_key (equal_spots (first_spot q.key)) ps (is_none (lookup (equal_spots (first_spot q.key)) ps) none)) (no_place q ps absent)
 
 -- ---- what is done at the spot is done at the place
 
@@ -187,7 +192,7 @@ module _ (t : Spot) (q : Place) where
         | false ↦ λ e. ap (λ ys. placed x ∷ ys) (set_named ps w lo names.1)
       ]) refl
 
-  after_named : (stamp : ℕ) (tags : List Tag) (ps : List (Spot × Stored)) → Names t q ps → all_placed (after_spot stamp tags t ps) ≡ after_at stamp tags q (all_placed ps)
+  pub after_named : (stamp : ℕ) (tags : List Tag) (ps : List (Spot × Stored)) → Names t q ps → all_placed (after_spot stamp tags t ps) ≡ after_at stamp tags q (all_placed ps)
   after_named stamp tags ps names =
       let xs = all_placed ps in
       (elim (lookup (equal_spots t) ps) as (λ f. f ≡ lookup (equal_places q) xs → all_placed (option_map_or (λ s. set_value (equal_spots t) ps (stored_after stamp tags s)) f ps) ≡ after_at stamp tags q xs) [

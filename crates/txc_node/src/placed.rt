@@ -129,28 +129,33 @@ fn free_spot(cache: &LruCache<Spot, Stored>, place: &Place) -> Spot
 fn push_at(
     cache: &mut LruCache<Spot, Stored>,
     spot: Spot,
+    place: Place,
     stored: Stored,
 ) -> Result<Option<(Place, Stored)>, AllocFailed<(Place, Stored)>>
     requires spotted { AreSpotted cache.old.entries }
     requires spot { IsSpotOf spot stored }
-    requires names { Names spot (placed (spot, stored)).0 cache.old.entries }
+    requires place { place ≡ (placed (spot, stored)).0 }
+    requires names { Names spot place cache.old.entries }
     ensures spotted { AreSpotted cache.new.entries }
     ensures old { let c = lru_cache (all_placed cache.old.entries) cache.old.cap in
-        IfOk result (λ old. old ≡ displaced equal_places c (placed (spot, stored)).0 stored) }
+        IfOk result (λ old. old ≡ displaced equal_places c place stored) }
     ensures entries { let c = lru_cache (all_placed cache.old.entries) cache.old.cap in
         OnOk result (lru_cache (all_placed cache.new.entries) cache.new.cap
-        ≡ lru_cache (put_entries equal_places c (placed (spot, stored)).0 stored) cache.old.cap) }
-    ensures value_returned { IfErr result (λ y. y.value ≡ placed (spot, stored)) }
-    ensures err { OnErr result (cache.new ≡ cache.old) }
-    ensures succeeds { IsSome (lookup (equal_places (placed (spot, stored)).0) (all_placed cache.old.entries))
-        → IsOk result }
+        ≡ lru_cache (put_entries equal_places c place stored) c.cap) }
+    ensures value_returned { IfErr result (λ y. y.value ≡ (place, stored)) }
+    ensures err { OnErr result (lru_cache (all_placed cache.new.entries) cache.new.cap
+        ≡ lru_cache (all_placed cache.old.entries) cache.old.cap) }
+    ensures succeeds { IsSome (lookup (equal_places place) (all_placed cache.old.entries)) → IsOk result }
 {
     match cache.push(spot, stored) {
         Ok(None) => Ok(None),
         Ok(Some(pair)) => Ok(Some(place_pair(pair))),
-        Err(failed) => Err(AllocFailed {
-            value: place_pair(failed.value),
-        }),
+        Err(failed) => {
+            let (_, stored) = failed.value;
+            Err(AllocFailed {
+                value: (place, stored),
+            })
+        }
     }
 }
 
@@ -241,7 +246,7 @@ impl PlacedEntries {
         ensures err { OnErr result (self.new ≡ self.old) }
     {
         let spot = free_spot(&self.cache, &place);
-        push_at(&mut self.cache, spot, stored)
+        push_at(&mut self.cache, spot, place, stored)
     }
 
     /// Puts an entry first in the stead of the one at its place, and returns that one.
@@ -260,6 +265,6 @@ impl PlacedEntries {
         ensures succeeds { IsSome (lookup (equal_places place) self.old.entries) → IsOk result }
     {
         let spot = spot_of(&self.cache, &place);
-        push_at(&mut self.cache, spot, stored)
+        push_at(&mut self.cache, spot, place, stored)
     }
 }

@@ -18,7 +18,7 @@ pub(crate) struct Spot {
 }
 
 // Two numbers in one.
-fn in_one(function: u32, number: u32) -> u64
+fn in_one(function: u8, number: u32) -> u64
     ensures { result ≡ function * STAMPS + number }
 {
     u64::from(function) * STAMPS + u64::from(number)

@@ -11,6 +11,9 @@ use Rattle.txc_node.specs.Indexed.{HeldEntries, entries_of, entries_under, reach
 use Rattle.txc_node.proofs.Fronts.{brought_entries, brought_tied}
 use Rattle.txc_node.proofs.keyed.KeyedEntries.bring_first.Goals as goal
 
+pub promote-requires : goal.promote-requires
+promote-requires c = c.self.invariant.apart
+
 pub bring_found-requires : goal.bring_found-requires
 bring_found-requires c =
     let a = c.args in

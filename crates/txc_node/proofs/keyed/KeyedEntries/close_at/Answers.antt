@@ -2,6 +2,9 @@ use Rattle.std.proofs.Common.{sym, ◌∙◌}
 use Rattle.txc_node.proofs.Closings.{untouched, tied_at, closes_at, closes_none, live_after, spared_at}
 use Rattle.txc_node.proofs.keyed.KeyedEntries.close_at.Goals as goal
 
+pub close-closed-requires : goal.close-closed-requires
+close-closed-requires c = c.self.invariant.apart
+
 pub invariant_of-self : goal.invariant_of-self
 invariant_of-self c =
     let a = c.args in

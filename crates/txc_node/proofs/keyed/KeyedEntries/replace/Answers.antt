@@ -10,6 +10,9 @@ use Rattle.txc_node.specs.Indexed.{HeldEntries, StandsUnder, entry_of, entries_o
 use Rattle.txc_node.proofs.Puts.{there_before, there_put, within_listed, replaced_entries, replaced_tied}
 use Rattle.txc_node.proofs.keyed.KeyedEntries.replace.Goals as goal
 
+pub replace-requires-clause-apart : goal.replace-requires-clause-apart
+replace-requires-clause-apart c = c.self.invariant.apart
+
 pub bring_first-requires : goal.bring_first-requires
 bring_first-requires c =
     let a = c.args in
