@@ -26,7 +26,7 @@ returns-in-Ok-None-clause-old c =
 pub returns-in-Ok-Some-clause-old : goal.returns-in-Ok-Some-clause-old
 returns-in-Ok-Some-clause-old c =
     let a = c.args in
-    ap (λ (p : Place × Stored). Some p) c.place_pair.ensures ∙ ap (λ (p : Spot × Stored). Some (placed p)) (sym c.in-Ok-Some.pair-is) ∙ ap (option_map placed) (sym c.in-Ok-Some.field-0-is ∙ c.in-Ok-Some.ensures.old) ∙ displaced_named a.spot a.place a.cache.now.entries a.cache.now.cap a.stored c.requires.place c.requires.names
+    ap (λ (p : Place × Stored). Some p) c.place_pair.ensures ∙ ap (λ (p : Spot × Stored). Some (placed p)) c.in-Ok-Some.pair-is ∙ ap (option_map placed) (sym c.in-Ok-Some.field-0-is ∙ c.in-Ok-Some.ensures.old) ∙ displaced_named a.spot a.place a.cache.now.entries a.cache.now.cap a.stored c.requires.place c.requires.names
 
 pub returns-in-Ok-None-clause-entries : goal.returns-in-Ok-None-clause-entries
 returns-in-Ok-None-clause-entries c =

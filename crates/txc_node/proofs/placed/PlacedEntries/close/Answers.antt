@@ -11,8 +11,8 @@ use Rattle.txc_node.specs.Spots.{AreSpotted, all_placed}
 use Rattle.txc_node.proofs.Spotted.{after_named, after_spotted, lookup_named}
 use Rattle.txc_node.proofs.placed.PlacedEntries.close.Goals as goal
 
-pub spot_of-requires-clause-apart : goal.spot_of-requires-clause-apart
-spot_of-requires-clause-apart c = subst (λ (m : LruCache Place Stored). AreApart (entries_of m.entries)) (sym c.self.view_is) c.requires
+pub spot_of-spot-requires-clause-apart : goal.spot_of-spot-requires-clause-apart
+spot_of-spot-requires-clause-apart c = subst (λ (m : LruCache Place Stored). AreApart (entries_of m.entries)) (sym c.self.view_is) c.requires
 
 pub invariant_of-self : goal.invariant_of-self
 invariant_of-self c =

@@ -11,8 +11,8 @@ use Rattle.txc_node.specs.Spots.{AreSpotted, all_placed}
 use Rattle.txc_node.proofs.Spotted.{lookup_named}
 use Rattle.txc_node.proofs.placed.PlacedEntries.peek.Goals as goal
 
-pub spot_of-requires-clause-apart : goal.spot_of-requires-clause-apart
-spot_of-requires-clause-apart c = subst (λ (m : LruCache Place Stored). AreApart (entries_of m.entries)) (sym c.self.view_is) c.requires
+pub spot_of-spot-requires-clause-apart : goal.spot_of-spot-requires-clause-apart
+spot_of-spot-requires-clause-apart c = subst (λ (m : LruCache Place Stored). AreApart (entries_of m.entries)) (sym c.self.view_is) c.requires
 
 pub returns : goal.returns
 returns c =

@@ -10,8 +10,8 @@ use Rattle.txc_node.specs.Indexed.{entries_of}
 use Rattle.txc_node.specs.Spots.{all_placed}
 use Rattle.txc_node.proofs.placed.PlacedEntries.push.Goals as goal
 
-pub free_spot-requires-clause-absent : goal.free_spot-requires-clause-absent
-free_spot-requires-clause-absent c = subst (λ (m : LruCache Place Stored). lookup (equal_places c.args.place) m.entries ≡ None) (sym c.self.view_is) c.requires.absent
+pub free_spot-spot-requires-clause-absent : goal.free_spot-spot-requires-clause-absent
+free_spot-spot-requires-clause-absent c = subst (λ (m : LruCache Place Stored). lookup (equal_places c.args.place) m.entries ≡ None) (sym c.self.view_is) c.requires.absent
 
 pub push_at-requires-clause-spot : goal.push_at-requires-clause-spot
 push_at-requires-clause-spot c = subst (λ (n : ℕ). (c.free_spot-spot.result.number ≡ 0) ⊎ (c.free_spot-spot.result.number ≡ n + 1)) c.requires.placed c.free_spot-spot.ensures.number

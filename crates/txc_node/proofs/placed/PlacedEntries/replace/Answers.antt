@@ -10,8 +10,8 @@ use Rattle.txc_node.specs.Indexed.{entries_of}
 use Rattle.txc_node.specs.Spots.{all_placed}
 use Rattle.txc_node.proofs.placed.PlacedEntries.replace.Goals as goal
 
-pub spot_of-requires-clause-apart : goal.spot_of-requires-clause-apart
-spot_of-requires-clause-apart c = subst (λ (m : LruCache Place Stored). AreApart (entries_of m.entries)) (sym c.self.view_is) c.requires.apart
+pub spot_of-spot-requires-clause-apart : goal.spot_of-spot-requires-clause-apart
+spot_of-spot-requires-clause-apart c = subst (λ (m : LruCache Place Stored). AreApart (entries_of m.entries)) (sym c.self.view_is) c.requires.apart
 
 pub push_at-requires-clause-spot : goal.push_at-requires-clause-spot
 push_at-requires-clause-spot c = subst (λ (n : ℕ). (c.spot_of-spot.result.number ≡ 0) ⊎ (c.spot_of-spot.result.number ≡ n + 1)) c.requires.placed c.spot_of-spot.ensures.number
