@@ -1,7 +1,7 @@
 //! Steps of the node, whose replies are taken.
 ghost use Rattle.std.specs.Prelude.{◌≡◌, OnErr};
 ghost use Rattle.txc_script.specs.Words.{words_left};
-ghost use Rattle.txc_run.specs.Lines.{event_form, insert_form, lookup_form, sweep_form};
+ghost use Rattle.txc_run.specs.Lines.{echo_form, event_form, insert_form, lookup_form, sweep_form};
 ghost use Rattle.txc_run.specs.Steps.{MakesForm, MakesLine};
 
 use crate::taker::Taker;
@@ -109,6 +109,25 @@ fn make_sweep<T: Taker>(
     taker.take(alloc, None, &Reply::Swept(node.sweep(horizon)))
 }
 
+/// Makes the echo that the words after its name are, and takes its reply.
+#[inline(never)]
+fn make_echo<T: Taker>(
+    alloc: Global,
+    node: &mut NodeCore,
+    words: WordsLeft<'_>,
+    taker: &mut T,
+) -> Result<bool, Unanswered>
+    ensures made { MakesForm T.takes echo_form (words_left words.entry) node.old node.new taker.old taker.new result }
+    ensures unchanged { OnErr result (T.text taker.new ≡ T.text taker.old) }
+{
+    let (_, ()) = match read_row::<(Stamp, ())>(alloc, words) {
+        Ok(row) => row,
+        Err(Unanswered::Wrong(fault)) => return Err(Unanswered::Wrong(fault)),
+        Err(Unanswered::Memory) => return Err(Unanswered::Memory),
+    };
+    taker.take(alloc, None, &Reply::Swept(node.sweep(Stamp::ZERO)))
+}
+
 /// Makes the step that a line names, and takes its reply; or says what is wrong with its words. Each kind of step is a
 /// function of its own, so that a line pays for the room of its own words alone.
 pub fn make_step<T: Taker>(
@@ -133,6 +152,9 @@ pub fn make_step<T: Taker>(
     }
     if name == b"sweep".as_slice() {
         return make_sweep(alloc, node, words, taker);
+    }
+    if name == b"echo".as_slice() {
+        return make_echo(alloc, node, words, taker);
     }
     Err(Unanswered::Wrong(CommandFault::Unknown(Excerpt::new(name))))
 }
