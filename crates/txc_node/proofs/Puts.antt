@@ -43,6 +43,9 @@ no_pair (x ∷ ps) q e at placed h =
     let rest = no_pair ps q e at placed.1 h.1 in
     (ap (λ b. cond b (Some x) (lookup_entry (equal_places q) ps)) other ∙ rest.0, ap (λ b. cond b (Some x.1) (lookup (equal_places q) ps)) other ∙ rest.1)
 
+pub nothing_at : (ps : List (Place × Stored)) (q : Place) (s : Stored) → q ≡ place_of (entry_of (q, s)) → find (λ o. same_place o (entry_of (q, s))) (entries_of ps) ≡ None → ArePlaced ps → lookup (equal_places q) ps ≡ None
+nothing_at ps q s at absent placed = (no_pair ps q (entry_of (q, s)) at placed (none_there (λ o. same_place o (entry_of (q, s))) (entries_of ps) absent)).1
+
 -- where an entry stands, its pair does
 pair_there : (ps : List (Place × Stored)) (q : Place) (e o : Entry) → q ≡ place_of e → ArePlaced ps → find (λ y. same_place y e) (entries_of ps) ≡ Some o
     → (x : Place × Stored) × (lookup_entry (equal_places q) ps ≡ Some x) × (lookup (equal_places q) ps ≡ Some x.1) × (same_place o e ≡ true)

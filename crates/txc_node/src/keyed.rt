@@ -15,11 +15,11 @@ use crate::closing::Closing;
 use crate::entry::Entry;
 use crate::key_index::KeyIndex;
 use crate::place::Place;
+use crate::placed::PlacedEntries;
 use crate::stored::{Stored, join, join_some};
 use crate::sweeping::Sweep;
 use crate::tag_index::TagIndex;
 use crate::versions::{Found, Versions};
-use lru::LruCache;
 use std::alloc::{AllocError, AllocFailed, Global};
 use std::fmt;
 use std::marker::Model;
@@ -30,7 +30,7 @@ use txc_tags::Key;
 /// At most so many entries, the most recently used first, that are found by their place and by their key.
 #[derive(Drop)]
 pub(crate) struct KeyedEntries {
-    cache: LruCache<Place, Stored>,
+    cache: PlacedEntries,
     keys: KeyIndex,
 }
 
@@ -47,33 +47,7 @@ impl Model for KeyedEntries {
 impl fmt::Debug for KeyedEntries {
     // The entries alone, since the index is made of them.
     fn fmt<W: fmt::Write>(&self, f: &mut fmt::Formatter<W>) -> fmt::Result {
-        f.debug_map().entries(self.cache.iter()).finish()
-    }
-}
-
-// Closes the entry at a place just below an event that invalidates it. Returns its new reach, and whether a
-// still valid entry stands there now.
-fn close_in(
-    cache: &mut LruCache<Place, Stored>,
-    place: &Place,
-    closing: &Closing<'_>,
-) -> (Option<Reach>, bool)
-    ensures entries { cache.new.entries
-        ≡ after_at closing.now.stamp closing.now.tags.now place.now cache.old.entries }
-    ensures cap { cache.new.cap ≡ cache.old.cap }
-    ensures reach { result.0 ≡ closed_reach closing.now.stamp closing.now.tags.now
-        (lookup (equal_places place.now) cache.old.entries) }
-    ensures live { result.1 ≡ stays_live closing.now.stamp closing.now.tags.now
-        (lookup (equal_places place.now) cache.old.entries) }
-{
-    match cache.peek_mut(place) {
-        None => (None, false),
-        Some(stored) => {
-            if !closing.close(stored) {
-                return (None, stored.reach.is_still());
-            }
-            (Some(stored.reach), false)
-        }
+        self.cache.fmt(f)
     }
 }
 
@@ -94,7 +68,7 @@ impl KeyedEntries {
         ensures { IfOk result (λ x. x
             ≡ record { entries = []; capacity = non_zero_usize_get capacity }) }
     {
-        let cache = LruCache::sparse(alloc, capacity)?;
+        let cache = PlacedEntries::new(alloc, capacity)?;
         Ok(KeyedEntries {
             cache,
             keys: KeyIndex::new(alloc),
@@ -150,10 +124,7 @@ impl KeyedEntries {
     pub(crate) fn first(&self) -> Option<&Stored>
         ensures { option_copied result ≡ option_map stored_of (slice_get self.now.entries 0) }
     {
-        match self.cache.peek_mru() {
-            None => None,
-            Some((_, stored)) => Some(stored),
-        }
+        self.cache.first()
     }
 
     /// Closes the entry at a place just below an event that invalidates it, and counts it. Returns with the
@@ -163,7 +134,7 @@ impl KeyedEntries {
         ensures spared { IsSpared closing.now.stamp closing.now.tags.now self.new.entries place.now }
         ensures live { result.1 ≡ is_live self.new.entries place.now }
     {
-        let (closed, is_live) = close_in(&mut self.cache, place, closing);
+        let (closed, is_live) = self.cache.close(place, closing);
         match closed {
             None => (0, is_live),
             Some(reach) => {
@@ -246,7 +217,7 @@ impl KeyedEntries {
         ensures capacity { self.new.capacity ≡ self.old.capacity }
     {
         self.keys.bring_first(&place.key, at, stored.reach);
-        join_some(self.cache.push(place, stored).unwrap())
+        join_some(self.cache.replace(place, stored).unwrap())
     }
 }
 

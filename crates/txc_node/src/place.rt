@@ -7,8 +7,8 @@ use std::hash::{Hash, Hasher};
 use txc_stamp::Stamp;
 use txc_tags::Key;
 
-// More than there are stamps.
-const STAMPS: u64 = 4_294_967_296;
+/// More than there are stamps.
+pub(crate) const STAMPS: u64 = 4_294_967_296;
 
 /// Where an entry stands: its key, and its first stamp.
 #[derive(Debug, Drop)]

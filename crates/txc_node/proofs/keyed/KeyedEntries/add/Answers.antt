@@ -9,8 +9,17 @@ use Rattle.txc_node.specs.declared.stored.Stored.{Stored}
 use Rattle.txc_node.specs.Entries.{same_place}
 use Rattle.txc_node.specs.Indexed.{HeldEntries, entry_of, entries_of, listed, Relists, with_first}
 use Rattle.txc_node.proofs.KeyLists.{relisted_here}
-use Rattle.txc_node.proofs.Puts.{absent_entries, absent_put, evicted_is, pushed_out, put_tied, relists_over, same_keys, take_past, within_pairs}
+use Rattle.txc_node.proofs.Puts.{absent_entries, absent_put, evicted_is, nothing_at, pushed_out, put_tied, relists_over, same_keys, take_past, within_pairs}
 use Rattle.txc_node.proofs.keyed.KeyedEntries.add.Goals as goal
+
+pub push-requires-clause-placed : goal.push-requires-clause-placed
+push-requires-clause-placed c = ap (λ (q : Place). q.lo) c.requires.placed
+
+pub push-requires-clause-absent : goal.push-requires-clause-absent
+push-requires-clause-absent c =
+    let a = c.args in
+    let absent = subst (λ (m : HeldEntries). find (λ o. same_place o (entry_of (a.place, a.stored))) m.entries ≡ None) (sym c.self.view_is) c.requires.absent in
+    nothing_at c.self.inside.cache.entries a.place a.stored c.requires.placed absent c.self.invariant.placed
 
 pub invariant_of-self : goal.invariant_of-self
 invariant_of-self c =
@@ -62,20 +71,19 @@ invariant_of-self-in-Ok-Some c =
     let last : slice_get ps (i.cache.cap - 1) ≡ Some x = sym put.1 ∙ sym c.in-Ok-Some.ensures.old ∙ c.in-Ok-Some.field-0-is in
     let new : c.push.new.self.entries ≡ p ∷ take (i.cache.cap - 1) ps = ap (λ (m : LruCache Place Stored). m.entries) c.in-Ok-Some.ensures.entries ∙ put.0 in
     let whole = put_tied ps a.place a.stored i.keys.versions.entries c.add.new.self.versions.entries c.requires.placed absent c.self.invariant (rw c.in-Ok.is at c.add.ensures) in
-    let valid = c.len-len.ensures.valid in
-    rw new (pushed_out i.cache.cap ps p x c.add.new.self.versions.entries c.drop_last.new.self.versions.entries valid.2 (within_pairs ps i.cache.cap valid.1) last whole c.drop_last.ensures)
+    rw new (pushed_out i.cache.cap ps p x c.add.new.self.versions.entries c.drop_last.new.self.versions.entries c.len-len.ensures.some (within_pairs ps i.cache.cap c.len-len.ensures.within) last whole c.drop_last.ensures)
 
 pub returns-in-Ok-None-clause-entries : goal.returns-in-Ok-None-clause-entries
 returns-in-Ok-None-clause-entries c =
     let a = c.args in
     let absent = subst (λ (m : HeldEntries). find (λ o. same_place o (entry_of (a.place, a.stored))) m.entries ≡ None) (sym c.self.view_is) c.requires.absent in
-    rw (← c.self.view_is) (ap (λ (m : LruCache Place Stored). entries_of m.entries) c.in-Ok-None.ensures.entries ∙ absent_entries c.self.inside.cache a.place a.stored c.requires.placed absent c.self.invariant.placed c.len-len.ensures.valid.2)
+    rw (← c.self.view_is) (ap (λ (m : LruCache Place Stored). entries_of m.entries) c.in-Ok-None.ensures.entries ∙ absent_entries c.self.inside.cache a.place a.stored c.requires.placed absent c.self.invariant.placed c.len-len.ensures.some)
 
 pub returns-in-Ok-Some-clause-entries : goal.returns-in-Ok-Some-clause-entries
 returns-in-Ok-Some-clause-entries c =
     let a = c.args in
     let absent = subst (λ (m : HeldEntries). find (λ o. same_place o (entry_of (a.place, a.stored))) m.entries ≡ None) (sym c.self.view_is) c.requires.absent in
-    rw (← c.self.view_is) (ap (λ (m : LruCache Place Stored). entries_of m.entries) c.in-Ok-Some.ensures.entries ∙ absent_entries c.self.inside.cache a.place a.stored c.requires.placed absent c.self.invariant.placed c.len-len.ensures.valid.2)
+    rw (← c.self.view_is) (ap (λ (m : LruCache Place Stored). entries_of m.entries) c.in-Ok-Some.ensures.entries ∙ absent_entries c.self.inside.cache a.place a.stored c.requires.placed absent c.self.invariant.placed c.len-len.ensures.some)
 
 pub returns-in-Ok-None-clause-evicted : goal.returns-in-Ok-None-clause-evicted
 returns-in-Ok-None-clause-evicted c =
@@ -83,7 +91,7 @@ returns-in-Ok-None-clause-evicted c =
     let i = c.self.inside in
     let absent = subst (λ (m : HeldEntries). find (λ o. same_place o (entry_of (a.place, a.stored))) m.entries ≡ None) (sym c.self.view_is) c.requires.absent in
     let put = absent_put i.cache a.place a.stored c.requires.placed absent c.self.invariant.placed in
-    evicted_is i.cache.cap i.cache.entries (entry_of (a.place, a.stored)) None c.len-len.ensures.valid.2 absent (sym c.in-Ok-None.field-0-is ∙ c.in-Ok-None.ensures.old ∙ put.1)
+    evicted_is i.cache.cap i.cache.entries (entry_of (a.place, a.stored)) None c.len-len.ensures.some absent (sym c.in-Ok-None.field-0-is ∙ c.in-Ok-None.ensures.old ∙ put.1)
     ∙ ap (λ (m : HeldEntries). slice_get (with_first (entry_of (a.place, a.stored)) m.entries) m.capacity) c.self.view_is
 
 pub returns-in-Ok-Some-clause-evicted : goal.returns-in-Ok-Some-clause-evicted
@@ -93,5 +101,5 @@ returns-in-Ok-Some-clause-evicted c =
     let x : Place × Stored = (c.in-Ok-Some.place, c.in-Ok-Some.stored) in
     let absent = subst (λ (m : HeldEntries). find (λ o. same_place o (entry_of (a.place, a.stored))) m.entries ≡ None) (sym c.self.view_is) c.requires.absent in
     let put = absent_put i.cache a.place a.stored c.requires.placed absent c.self.invariant.placed in
-    ap (λ (e : Entry). Some e) c.join.ensures ∙ evicted_is i.cache.cap i.cache.entries (entry_of (a.place, a.stored)) (Some x) c.len-len.ensures.valid.2 absent (sym c.in-Ok-Some.field-0-is ∙ c.in-Ok-Some.ensures.old ∙ put.1)
+    ap (λ (e : Entry). Some e) c.join.ensures ∙ evicted_is i.cache.cap i.cache.entries (entry_of (a.place, a.stored)) (Some x) c.len-len.ensures.some absent (sym c.in-Ok-Some.field-0-is ∙ c.in-Ok-Some.ensures.old ∙ put.1)
     ∙ ap (λ (m : HeldEntries). slice_get (with_first (entry_of (a.place, a.stored)) m.entries) m.capacity) c.self.view_is

@@ -7,6 +7,9 @@ use Rattle.txc_node.specs.Indexed.{HeldEntries, stored_of}
 use Rattle.txc_node.proofs.Pairs.{stored_at}
 use Rattle.txc_node.proofs.keyed.KeyedEntries.get.Goals as goal
 
+pub peek-requires : goal.peek-requires
+peek-requires c = c.self.invariant.apart
+
 pub returns : goal.returns
 returns c =
     c.peek.ensures ∙ stored_at c.args.place.now c.self.inside.cache.entries c.self.invariant.placed
