@@ -174,6 +174,10 @@ no_reach (e ∷ es) h = cc
 pub listed_are : (index : List (Call × List Interval)) (key : Call) (es : List Entry) (rs : List Interval) → IndexesKeys index es → listed index key ≡ rs → AreOf key (entries_under key es) rs
 listed_are index key es rs indexed h = record { of_key = all_under key es; reaches = sym (indexed key) ∙ h }
 
+-- its entries by themselves
+pub under_are : (key : Call) (es : List Entry) (rs : List Interval) → reaches_under key es ≡ rs → AreOf key (entries_under key es) rs
+under_are key es rs h = record { of_key = all_under key es; reaches = h }
+
 -- a key of which nothing is listed has no entry
 pub none_under : (index : List (Call × List Interval)) (key : Call) (es : List Entry) → IndexesKeys index es → listed index key ≡ [] → entries_under key es ≡ []
 none_under index key es indexed h = no_reach (entries_under key es) (sym (indexed key) ∙ h)

@@ -20,6 +20,7 @@ pub mod Listed
 pub mod Buckets
 pub mod Puts
 pub mod Pairs
+pub mod Marked
 pub mod Sweepings
 pub mod Lasting
 pub mod History

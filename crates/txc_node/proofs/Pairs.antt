@@ -81,20 +81,20 @@ promoted_is ps x placed apart h =
 
 -- ---- what a change of the order keeps
 
-pub removed_keeps : (P : Place × Stored → Type 0) (test : Place → Bool) (ps : List (Place × Stored)) → AllByRecursion P ps → AllByRecursion P (remove_entry test ps)
+pub removed_keeps : {V : Type 0} (P : Place × V → Type 0) (test : Place → Bool) (ps : List (Place × V)) → AllByRecursion P ps → AllByRecursion P (remove_entry test ps)
 removed_keeps P test [] h = tt
 removed_keeps P test (x ∷ ps) h =
     let go : (v : Bool) → AllByRecursion P (cond v ps (x ∷ remove_entry test ps)) = λ v. elim v as (λ w. AllByRecursion P (cond w ps (x ∷ remove_entry test ps))) [ true ↦ h.1 | false ↦ (h.0, removed_keeps P test ps h.1) ] in
     go (test x.0)
 
-pub looked_up : (P : Place × Stored → Type 0) (test : Place → Bool) (ps : List (Place × Stored)) (e : Place × Stored) → AllByRecursion P ps → lookup_entry test ps ≡ Some e → P e
+pub looked_up : {V : Type 0} (P : Place × V → Type 0) (test : Place → Bool) (ps : List (Place × V)) (e : Place × V) → AllByRecursion P ps → lookup_entry test ps ≡ Some e → P e
 looked_up P test [] e h k = cc
 looked_up P test (x ∷ ps) e h k = (elim (test x.0) as (λ v. test x.0 ≡ v → P e) [
   | true ↦ λ t. let k' : Some x ≡ Some e = sym (ap (λ v. cond v (Some x) (lookup_entry test ps)) t) ∙ k in let same : x ≡ e = cc in subst P same h.0
   | false ↦ λ t. looked_up P test ps e h.1 (sym (ap (λ v. cond v (Some x) (lookup_entry test ps)) t) ∙ k)
 ]) refl
 
-pub promoted_keeps : (P : Place × Stored → Type 0) (test : Place → Bool) (ps : List (Place × Stored)) → AllByRecursion P ps → AllByRecursion P (promoted test ps)
+pub promoted_keeps : {V : Type 0} (P : Place × V → Type 0) (test : Place → Bool) (ps : List (Place × V)) → AllByRecursion P ps → AllByRecursion P (promoted test ps)
 promoted_keeps P test ps h = (elim (lookup_entry test ps) as (λ f. lookup_entry test ps ≡ f → AllByRecursion P (option_map_or (λ e. e ∷ remove_entry test ps) f ps)) [
   | None ↦ λ t. h
   | Some e ↦ λ t. (looked_up P test ps e h t, removed_keeps P test ps h)

@@ -1,6 +1,7 @@
 pub mod Entries
 pub mod Places
 pub mod Indexed
+pub mod Marks
 pub mod Cache
 pub mod Sweeping
 pub mod Best

@@ -47,6 +47,13 @@ impl KeyIndex {
         }
     }
 
+    /// One reach, as that of a key.
+    pub(crate) fn alone(&self, reach: Reach) -> Versions
+        ensures { result ≡ reach ∷ [] }
+    {
+        Versions::one(self.alloc, reach)
+    }
+
     /// The reaches of a key's entries, if there are any.
     pub(crate) fn get(&self, key: &Key) -> Option<&Versions>
         ensures { MatchOption result (listed self.now.versions.entries key.now ≡ [])

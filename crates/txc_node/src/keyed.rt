@@ -1,25 +1,29 @@
 //! The entries of a node at their places, and by their keys.
-ghost use Rattle.std.specs.Prelude.{List, ◌≡◌, ◌∷◌, [], take, length, not, remove, None, Some, OnOk, OnErr, IfOk, IfErr, slice_get, option_copied};
+ghost use Rattle.std.specs.Prelude.{List, ◌≡◌, ◌∷◌, [], take, length, not, remove, None, Some, IsSome, OnOk, OnErr, IfOk, IfErr, IfSome, IfNone, slice_get, option_copied};
 ghost use Rattle.std.specs.List.{find, filter};
 ghost use Rattle.std.specs.Option.{option_map};
 ghost use Rattle.std.specs.Map.{lookup};
 ghost use Rattle.std.specs.NonZero.{non_zero_usize_get};
+ghost use Rattle.lru.specs.LruCache.{lru_cache, put_entries, displaced};
+ghost use Rattle.txc_stamp.specs.Interval.{Interval};
 ghost use Rattle.txc_tags.specs.Keys.{Call};
 ghost use Rattle.txc_node.specs.declared.entry.Entry.{Entry};
-ghost use Rattle.txc_node.specs.Places.{place_of, equal_places};
+ghost use Rattle.txc_node.specs.Places.{place_at, place_of, equal_places};
 ghost use Rattle.txc_node.specs.Entries.{is_best, others, same_place};
 ghost use Rattle.txc_node.specs.Cache.{has_ended};
-ghost use Rattle.txc_node.specs.Indexed.{AreOf, Closes, HoldsApart, IndexesTags, IsFound, IsSpared, Relists, StandsUnder, after_at, closed_reach, entries_under, entry_at, entry_of, is_live, listed, reaches_under, stays_live, stored_of, with_first};
+ghost use Rattle.txc_node.specs.Indexed.{AreOf, Closes, HoldsApart, IndexesTags, IsFound, IsSpared, Relists, StandsUnder, entries_under, entry_at, entry_of, is_live, listed, reaches_under, stored_of, with_first};
+ghost use Rattle.txc_node.specs.Marks.{HasNone};
 
 use crate::closing::Closing;
 use crate::entry::Entry;
+use crate::hints::Hints;
 use crate::key_index::KeyIndex;
+use crate::marked::MarkedEntries;
 use crate::place::Place;
 use crate::stored::{Stored, join, join_some};
 use crate::sweeping::Sweep;
 use crate::tag_index::TagIndex;
 use crate::versions::{Found, Versions};
-use lru::LruCache;
 use std::alloc::{AllocError, AllocFailed, Global};
 use std::fmt;
 use std::marker::Model;
@@ -30,8 +34,9 @@ use txc_tags::Key;
 /// At most so many entries, the most recently used first, that are found by their place and by their key.
 #[derive(Drop)]
 pub(crate) struct KeyedEntries {
-    cache: LruCache<Place, Stored>,
+    cache: MarkedEntries,
     keys: KeyIndex,
+    hints: Hints,
 }
 
 impl Model for KeyedEntries {
@@ -47,33 +52,7 @@ impl Model for KeyedEntries {
 impl fmt::Debug for KeyedEntries {
     // The entries alone, since the index is made of them.
     fn fmt<W: fmt::Write>(&self, f: &mut fmt::Formatter<W>) -> fmt::Result {
-        f.debug_map().entries(self.cache.iter()).finish()
-    }
-}
-
-// Closes the entry at a place just below an event that invalidates it. Returns its new reach, and whether a
-// still valid entry stands there now.
-fn close_in(
-    cache: &mut LruCache<Place, Stored>,
-    place: &Place,
-    closing: &Closing<'_>,
-) -> (Option<Reach>, bool)
-    ensures entries { cache.new.entries
-        ≡ after_at closing.now.stamp closing.now.tags.now place.now cache.old.entries }
-    ensures cap { cache.new.cap ≡ cache.old.cap }
-    ensures reach { result.0 ≡ closed_reach closing.now.stamp closing.now.tags.now
-        (lookup (equal_places place.now) cache.old.entries) }
-    ensures live { result.1 ≡ stays_live closing.now.stamp closing.now.tags.now
-        (lookup (equal_places place.now) cache.old.entries) }
-{
-    match cache.peek_mut(place) {
-        None => (None, false),
-        Some(stored) => {
-            if !closing.close(stored) {
-                return (None, stored.reach.is_still());
-            }
-            (Some(stored.reach), false)
-        }
+        self.cache.fmt(f)
     }
 }
 
@@ -88,16 +67,51 @@ fn bring_found(keys: &mut KeyIndex, key: &Key, found: Found)
     }
 }
 
+// A place at which an entry of a key stands.
+fn other_place(keys: &KeyIndex, key: &Key) -> Option<Place>
+    ensures none { IfNone result (listed keys.now.versions.entries key.now ≡ []) }
+    ensures other { IfSome result (λ q. (r : Interval)
+        × (slice_get (listed keys.now.versions.entries key.now) 0 ≡ Some r) × (q ≡ place_at key.now r.lo)) }
+{
+    match keys.get(key) {
+        None => None,
+        Some(versions) => Some(Place::new(key, versions.first().lo())),
+    }
+}
+
+// Puts a new entry first, beside one of its key at another place if there is any.
+fn push_at(
+    cache: &mut MarkedEntries,
+    other: Option<Place>,
+    place: Place,
+    stored: Stored,
+) -> Result<Option<(Place, Stored)>, AllocFailed<(Place, Stored)>>
+    requires none { IfNone other (HasNone place.key cache.old.entries) }
+    requires other { IfSome other (λ q. (q.key ≡ place.key)
+        × IsSome (lookup (equal_places q) cache.old.entries)) }
+    ensures old { IfOk result (λ old. old ≡ displaced equal_places cache.old place stored) }
+    ensures entries { OnOk result
+        (cache.new ≡ lru_cache (put_entries equal_places cache.old place stored) cache.old.cap) }
+    ensures value_returned { IfErr result (λ y. y.value ≡ (place, stored)) }
+    ensures err { OnErr result (cache.new ≡ cache.old) }
+{
+    match other {
+        None => cache.push_lone(place, stored),
+        Some(other) => cache.push_beside(&other, place, stored),
+    }
+}
+
 impl KeyedEntries {
     /// No entries, and room for `capacity`.
     pub(crate) fn new(alloc: Global, capacity: NonZeroUsize) -> Result<KeyedEntries, AllocError>
         ensures { IfOk result (λ x. x
             ≡ record { entries = []; capacity = non_zero_usize_get capacity }) }
     {
-        let cache = LruCache::sparse(alloc, capacity)?;
+        let cache = MarkedEntries::new(alloc, capacity)?;
         Ok(KeyedEntries {
             cache,
             keys: KeyIndex::new(alloc),
+            hints: Hints::none(alloc),
         })
     }
 
@@ -109,9 +123,43 @@ impl KeyedEntries {
         self.cache.len()
     }
 
+    // The reach of a key's only entry, if that is found without the index of the keys.
+    fn lone(&self, key: &Key) -> Option<Reach>
+        ensures { IfSome result (λ reach. reaches_under key.now self.now.entries ≡ reach ∷ []) }
+    {
+        match self.hints.get(key) {
+            None => None,
+            Some(lo) => {
+                let place = Place::new(key, lo);
+                self.cache.lone(&place)
+            }
+        }
+    }
+
     /// The entry of the key whose span meets the stamps from `lo` to `hi`, and that lasts longest; and how
     /// many entries were looked at.
     pub(crate) fn best(
+        &self,
+        processed: Stamp,
+        key: &Key,
+        lo: Stamp,
+        hi: Stamp,
+    ) -> (Option<Found>, usize)
+        ensures found { IsFound (entries_under key.now self.now.entries)
+            (find (is_best processed key.now lo hi self.now.entries) self.now.entries) result.0 }
+        ensures looked { result.1 ≡ length (entries_under key.now self.now.entries) }
+    {
+        match self.lone(key) {
+            None => self.best_listed(processed, key, lo, hi),
+            Some(reach) => {
+                let versions = self.keys.alone(reach);
+                (best_of(&versions, processed, lo, hi), 1)
+            }
+        }
+    }
+
+    // The same, by the index of the keys.
+    fn best_listed(
         &self,
         processed: Stamp,
         key: &Key,
@@ -150,10 +198,7 @@ impl KeyedEntries {
     pub(crate) fn first(&self) -> Option<&Stored>
         ensures { option_copied result ≡ option_map stored_of (slice_get self.now.entries 0) }
     {
-        match self.cache.peek_mru() {
-            None => None,
-            Some((_, stored)) => Some(stored),
-        }
+        self.cache.first()
     }
 
     /// Closes the entry at a place just below an event that invalidates it, and counts it. Returns with the
@@ -163,7 +208,7 @@ impl KeyedEntries {
         ensures spared { IsSpared closing.now.stamp closing.now.tags.now self.new.entries place.now }
         ensures live { result.1 ≡ is_live self.new.entries place.now }
     {
-        let (closed, is_live) = close_in(&mut self.cache, place, closing);
+        let (closed, is_live) = self.cache.close(place, closing);
         match closed {
             None => (0, is_live),
             Some(reach) => {
@@ -183,6 +228,7 @@ impl KeyedEntries {
     {
         let place = Place::new(key, found.reach.lo());
         self.cache.promote(&place);
+        self.hints.set(key, place.lo);
         bring_found(&mut self.keys, key, found);
     }
 
@@ -215,12 +261,14 @@ impl KeyedEntries {
         ensures handed_back { IfErr result (λ e. e.value ≡ (place, stored)) }
     {
         let _len = self.cache.len();
+        self.hints.give(&place.key, place.lo);
+        let other = other_place(&self.keys, &place.key);
         let Ok(()) = self.keys.add(&place.key, stored.reach) else {
             return Err(AllocFailed {
                 value: (place, stored),
             });
         };
-        match self.cache.push(place, stored) {
+        match push_at(&mut self.cache, other, place, stored) {
             Err(failed) => {
                 let (place, stored) = failed.value;
                 self.keys.drop_first(&place.key);
@@ -246,7 +294,7 @@ impl KeyedEntries {
         ensures capacity { self.new.capacity ≡ self.old.capacity }
     {
         self.keys.bring_first(&place.key, at, stored.reach);
-        join_some(self.cache.push(place, stored).unwrap())
+        join_some(self.cache.replace(place, stored).unwrap())
     }
 }
 

@@ -111,6 +111,13 @@ impl Versions {
         self.others.len() + 1
     }
 
+    /// The first reach.
+    pub(crate) fn first(&self) -> Reach
+        ensures { slice_get self.now 0 ≡ Some result }
+    {
+        self.first
+    }
+
     /// The reach at a place.
     pub(crate) fn get(&self, at: usize) -> Reach
         requires { at < length self.now }

@@ -1,16 +1,44 @@
-use Rattle.std.proofs.Common.{◌≡◌, ◌-◌, ◌∷◌, List, Some, None, take, ap, sym, subst, ◌∙◌}
+use Rattle.std.proofs.Common.{◌≡◌, ◌-◌, ◌∷◌, [], List, Option, Some, None, IsSome, IfSome, IfNone, take, ap, sym, subst, ◌∙◌}
 use Rattle.std.specs.Prelude.{slice_get}
 use Rattle.std.specs.List.{find}
+use Rattle.std.specs.Map.{lookup}
 use Rattle.lru.specs.LruCache.{LruCache}
 use Rattle.txc_stamp.specs.Interval.{Interval}
 use Rattle.txc_node.specs.declared.entry.Entry.{Entry}
 use Rattle.txc_node.specs.declared.place.Place.{Place}
 use Rattle.txc_node.specs.declared.stored.Stored.{Stored}
+use Rattle.txc_node.specs.Places.{place_at, equal_places}
 use Rattle.txc_node.specs.Entries.{same_place}
-use Rattle.txc_node.specs.Indexed.{HeldEntries, entry_of, entries_of, listed, Relists, with_first}
-use Rattle.txc_node.proofs.KeyLists.{relisted_here}
+use Rattle.txc_node.specs.Marks.{HasNone}
+use Rattle.txc_node.specs.Indexed.{HeldEntries, entry_of, entries_of, listed, reaches_under, Relists, with_first}
+use Rattle.txc_node.proofs.KeyLists.{none_under, relisted_here}
+use Rattle.txc_node.proofs.Marked.{has_none, head_stands}
 use Rattle.txc_node.proofs.Puts.{absent_entries, absent_put, evicted_is, pushed_out, put_tied, relists_over, same_keys, take_past, within_pairs}
 use Rattle.txc_node.proofs.keyed.KeyedEntries.add.Goals as goal
+
+pub push_at-requires-clause-none : goal.push_at-requires-clause-none
+push_at-requires-clause-none c =
+    let a = c.args in
+    let i = c.self.inside in
+    let go : (o : Option Place) → IfNone o (listed i.keys.versions.entries a.place.key ≡ []) → IfNone o (HasNone a.place.key i.cache.entries) = λ o. elim o as (λ p. IfNone p (listed i.keys.versions.entries a.place.key ≡ []) → IfNone p (HasNone a.place.key i.cache.entries)) [
+      | None ↦ λ h. has_none a.place.key i.cache.entries (none_under i.keys.versions.entries a.place.key (entries_of i.cache.entries) c.self.invariant.keys h)
+      | Some _ ↦ λ _. tt
+    ] in
+    go c.other_place-other.result c.other_place-other.ensures.none
+
+pub push_at-requires-clause-other : goal.push_at-requires-clause-other
+push_at-requires-clause-other c =
+    let a = c.args in
+    let i = c.self.inside in
+    let rs = listed i.keys.versions.entries a.place.key in
+    let go : (o : Option Place) → IfSome o (λ q. (r : Interval) × (slice_get rs 0 ≡ Some r) × (q ≡ place_at a.place.key r.lo)) → IfSome o (λ q. (q.key ≡ a.place.key) × IsSome (lookup (equal_places q) i.cache.entries)) =
+    λ o. elim o as (λ p. IfSome p (λ q. (r : Interval) × (slice_get rs 0 ≡ Some r) × (q ≡ place_at a.place.key r.lo)) → IfSome p (λ q. (q.key ≡ a.place.key) × IsSome (lookup (equal_places q) i.cache.entries))) [
+      | None ↦ λ _. tt
+      | Some q ↦ λ h.
+          let first : slice_get (reaches_under a.place.key (entries_of i.cache.entries)) 0 ≡ Some h.0 = ap (λ (xs : List Interval). slice_get xs 0) (sym (c.self.invariant.keys a.place.key)) ∙ h.1 in
+          (ap (λ (s : Place). s.key) h.2, subst (λ (s : Place). IsSome (lookup (equal_places s) i.cache.entries)) (sym h.2) (head_stands a.place.key h.0 i.cache.entries c.self.invariant.placed first))
+    ] in
+    go c.other_place-other.result c.other_place-other.ensures.other
 
 pub invariant_of-self : goal.invariant_of-self
 invariant_of-self c =
@@ -35,7 +63,7 @@ invariant_of-self-in-Err c =
     let taken : (r : Interval) (is : List Interval) → listed mid a.place.key ≡ r ∷ is → Relists a.place.key is mid new =
     subst (λ (q : Place). (r : Interval) (is : List Interval) → listed mid q.key ≡ r ∷ is → Relists q.key is mid new) back c.drop_first.ensures in
     let relists = relists_over a.place.key rs more index mid new added (taken a.stored.reach rs (relisted_here a.place.key more index mid added)) in
-    let same : c.push.new.self.entries ≡ i.cache.entries = ap (λ (m : LruCache Place Stored). m.entries) c.in-Err.ensures.err in
+    let same : c.push_at.new.cache.entries ≡ i.cache.entries = ap (λ (m : LruCache Place Stored). m.entries) c.in-Err.ensures.err in
     rw same (record { placed = c.self.invariant.placed; apart = c.self.invariant.apart; keys = same_keys a.place.key index new (entries_of i.cache.entries) c.self.invariant.keys relists })
 
 pub invariant_of-self-in-Ok-None : goal.invariant_of-self-in-Ok-None
@@ -46,7 +74,7 @@ invariant_of-self-in-Ok-None c =
     let absent = subst (λ (m : HeldEntries). find (λ o. same_place o (entry_of (a.place, a.stored))) m.entries ≡ None) (sym c.self.view_is) c.requires.absent in
     let put = absent_put i.cache a.place a.stored c.requires.placed absent c.self.invariant.placed in
     let none : slice_get ps (i.cache.cap - 1) ≡ None = sym put.1 ∙ sym c.in-Ok-None.ensures.old ∙ c.in-Ok-None.field-0-is in
-    let new : c.push.new.self.entries ≡ (a.place, a.stored) ∷ ps =
+    let new : c.push_at.new.cache.entries ≡ (a.place, a.stored) ∷ ps =
     ap (λ (m : LruCache Place Stored). m.entries) c.in-Ok-None.ensures.entries ∙ put.0 ∙ ap (λ (qs : List (Place × Stored)). (a.place, a.stored) ∷ qs) (take_past (i.cache.cap - 1) ps none) in
     rw new (put_tied ps a.place a.stored i.keys.versions.entries c.add.new.self.versions.entries c.requires.placed absent c.self.invariant (rw c.in-Ok.is at c.add.ensures))
 
@@ -60,7 +88,7 @@ invariant_of-self-in-Ok-Some c =
     let absent = subst (λ (m : HeldEntries). find (λ o. same_place o (entry_of (a.place, a.stored))) m.entries ≡ None) (sym c.self.view_is) c.requires.absent in
     let put = absent_put i.cache a.place a.stored c.requires.placed absent c.self.invariant.placed in
     let last : slice_get ps (i.cache.cap - 1) ≡ Some x = sym put.1 ∙ sym c.in-Ok-Some.ensures.old ∙ c.in-Ok-Some.field-0-is in
-    let new : c.push.new.self.entries ≡ p ∷ take (i.cache.cap - 1) ps = ap (λ (m : LruCache Place Stored). m.entries) c.in-Ok-Some.ensures.entries ∙ put.0 in
+    let new : c.push_at.new.cache.entries ≡ p ∷ take (i.cache.cap - 1) ps = ap (λ (m : LruCache Place Stored). m.entries) c.in-Ok-Some.ensures.entries ∙ put.0 in
     let whole = put_tied ps a.place a.stored i.keys.versions.entries c.add.new.self.versions.entries c.requires.placed absent c.self.invariant (rw c.in-Ok.is at c.add.ensures) in
     let valid = c.len-len.ensures.valid in
     rw new (pushed_out i.cache.cap ps p x c.add.new.self.versions.entries c.drop_last.new.self.versions.entries valid.2 (within_pairs ps i.cache.cap valid.1) last whole c.drop_last.ensures)

@@ -1,21 +1,22 @@
-use Rattle.std.proofs.Common.{List, ap, sym, subst, ◌∙◌, Option}
-use Rattle.std.specs.List.{find}
+use Rattle.std.proofs.Common.{◌≡◌, ◌∷◌, [], List, Option, ap, sym, subst, ◌∙◌}
+use Rattle.std.specs.Prelude.{length}
+use Rattle.std.proofs.lemmas.List.{length-map}
+use Rattle.txc_stamp.specs.Interval.{Interval}
 use Rattle.txc_node.specs.declared.entry.Entry.{Entry}
-use Rattle.txc_node.specs.Entries.{is_best}
-use Rattle.txc_node.specs.Indexed.{entries_of, entries_under, IsFound}
-use Rattle.txc_node.proofs.KeyLists.{find_under, listed_are, none_under}
+use Rattle.txc_node.specs.Indexed.{HeldEntries, AreOf, IsFound, entries_of, entries_under, reaches_under}
+use Rattle.txc_node.proofs.KeyLists.{find_under, under_are}
 use Rattle.txc_node.proofs.keyed.KeyedEntries.best.Goals as goal
-
-pub returns-in-None-clause-found : goal.returns-in-None-clause-found
-returns-in-None-clause-found c =
-    let a = c.args in
-    let es = entries_of c.self.inside.cache.entries in
-    let none = none_under c.self.inside.keys.versions.entries a.key.now es c.self.invariant.keys (rw c.in-None.is at c.get.ensures) in
-    rw (← c.self.view_is) (sym (find_under a.processed a.key.now a.lo a.hi es) ∙ ap (λ (xs : List Entry). find (is_best a.processed a.key.now a.lo a.hi xs) xs) none)
 
 pub returns-in-Some-clause-found : goal.returns-in-Some-clause-found
 returns-in-Some-clause-found c =
     let a = c.args in
     let es = entries_of c.self.inside.cache.entries in
-    let are = listed_are c.self.inside.keys.versions.entries a.key.now es c.in-Some.versions.now c.self.invariant.keys (rw c.in-Some.is at c.get.ensures) in
+    let one : reaches_under a.key.now es ≡ c.in-Some.reach ∷ [] = subst (λ (m : HeldEntries). reaches_under a.key.now m.entries ≡ c.in-Some.reach ∷ []) (sym c.self.view_is) (rw c.in-Some.is at c.lone.ensures) in
+    let are = under_are a.key.now es c.alone-versions.result (one ∙ sym c.alone-versions.ensures) in
     rw (← c.self.view_is) (subst (λ (o : Option Entry). IsFound (entries_under a.key.now es) o c.best_of.result) (find_under a.processed a.key.now a.lo a.hi es) (c.best_of.ensures a.key.now (entries_under a.key.now es) are))
+
+pub returns-in-Some-clause-looked : goal.returns-in-Some-clause-looked
+returns-in-Some-clause-looked c =
+    let a = c.args in
+    let one : reaches_under a.key.now _ ≡ c.in-Some.reach ∷ [] = rw c.in-Some.is at c.lone.ensures in
+    ap (λ (rs : List Interval). length rs) (sym one) ∙ length-map (entries_under a.key.now _) (λ (e : Entry). e.reach)
