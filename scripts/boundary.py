@@ -195,16 +195,14 @@ def try_c(trial, room, compiler, archives, played, wanted):
         it.writelines(f"{capacity} {recent} {mode} {file}\n" for capacity, recent, mode, file, _ in played)
     for name, flags, archive in ("", ["-O2"], archives[0]), (" under sanitizers", SANITIZERS, archives[1]):
         built = True
-        for file in ("tests/play.c", "tests/odd.c", "tests/odd_site.c", "example.c", "page.c"):
-            wrap = ["-Wl,--wrap=malloc", "-Wl,--wrap=realloc"] if file in ("tests/play.c", "tests/odd_site.c") else []
+        for file in ("tests/play.c", "tests/odd.c", "example.c"):
+            wrap = ["-Wl,--wrap=malloc", "-Wl,--wrap=realloc"] if "play" in file else []
             words = [compiler, *WARNINGS, *flags, "-I", C, f"{C}/{file}", archive, *wrap, "-o", f"{room}/{os.path.basename(file)[:-2]}"]
             built = built and trial.ran(f"{compiler}: {file}{name}", words).returncode == 0
         if not built:
             continue
         trial.ran(f"{compiler}{name}", [f"{room}/odd"])
-        trial.ran(f"{compiler}{name}", [f"{room}/odd_site"])
         trial.ran(f"{compiler}: the example{name}", [f"{room}/example"])
-        trial.ran(f"{compiler}: the page{name}", [f"{room}/page"])
         ran = subprocess.run([f"{room}/play", f"{room}/list"], stdout=subprocess.PIPE, stderr=subprocess.PIPE, text=True, errors="replace")
         got = dict(re.findall(r"^== (\w+ \S+)\n(.*?)(?=^== |\Z)", ran.stdout, re.M | re.S))
         other = [it for *_, mode, file, _ in played if got.get(it := f"{mode} {file}") != wanted[it]]
@@ -226,15 +224,13 @@ def try_bindings(trial, folder):
         with tempfile.TemporaryDirectory(prefix="cargo-") as target:
             words = ["cargo", "--quiet", "test", "--offline", "--target-dir", target]
             trial.ran("Rust: tests", words, cwd=f"{ROOT}/bindings/rust", env=where)
-            for example in ("page", "transaction"):
-                words = ["cargo", "--quiet", "run", "--offline", "--example", example, "--target-dir", target]
-                trial.ran(f"Rust: the example {example}", words, cwd=f"{ROOT}/bindings/rust", env=where)
+            words = ["cargo", "--quiet", "run", "--offline", "--example", "page", "--target-dir", target]
+            trial.ran("Rust: the example", words, cwd=f"{ROOT}/bindings/rust", env=where)
     else:
         print("skipped: Rust, since there is no cargo")
     if os.path.exists(f"{folder}/libtxc_c.so"):
         trial.ran("Python: tests", [sys.executable, "-m", "unittest", "-q", "tests"], cwd=f"{ROOT}/bindings/python", env=where)
-        for example in ("example.py", "page.py"):
-            trial.ran(f"Python: {example}", [sys.executable, example], cwd=f"{ROOT}/bindings/python", env=where)
+        trial.ran("Python: the example", [sys.executable, "example.py"], cwd=f"{ROOT}/bindings/python", env=where)
     else:
         print("skipped: Python, since there is no libtxc_c.so")
 

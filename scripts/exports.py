@@ -119,7 +119,7 @@ def asserts():
     lines += [f"_Static_assert(TXC_{name} == {value}, \"{name}\");" for name, value in numbers().items()]
     all_structs = structs()
     for name in all_structs:
-        if name in ("Slot", "SiteSlot"):
+        if name == "Slot":
             continue
         places, size, _ = fields(name, all_structs)
         lines.append(f'_Static_assert(sizeof({c_name(name)}) == {size}, "{name}");')

@@ -42,8 +42,8 @@ def value_of(kind, structs):
     array = re.fullmatch(r"\[(\w+); (\w+)\]", kind)
     if array:
         return f"[{value_of(array[1], structs)}; txc_tags::{array[2]}]"
-    if kind in ("TxcNode", "TxcSite"):
-        return f"{kind}::closed(alloc)"
+    if kind == "TxcNode":
+        return "TxcNode::closed(alloc)"
     if kind in structs:
         return f"{kind} {{ {', '.join(f'{name}: {value_of(it, structs)}' for name, it in structs[kind])} }}"
     return ZEROS[kind]
@@ -146,18 +146,16 @@ def make(objects, folder, is_shared=True):
     for it in (archive, shared):
         if os.path.exists(it):
             os.remove(it)
-    objects = [*objects, *objects_of(f"{unproved.kit()}/c/liblibc_c.a", f"{folder}/kit/libc")]
-    # the store names the last error of the system, though in memory it has none
-    objects += [it for it in objects_of(f"{unproved.kit()}/c/libos_c.a", f"{folder}/kit/os") if os.path.basename(it).startswith("errno")]
+    objects = [*objects, *objects_of(f"{unproved.kit()}/c/liblibc_c.a", f"{folder}/heap")]
     told([f"{unproved.kit()}/toolchain/bin/llvm-ar", "rcs", archive, *objects])
     shutil.copy(exports.HEADER, header)
     if is_shared and compiler():
-        with open(f"{folder}/kit/map", "w", encoding="utf-8") as it:
+        with open(f"{folder}/heap/map", "w", encoding="utf-8") as it:
             it.write("{ global: txc_*; local: *; };\n")
-        told([compiler(), "-shared", "-o", shared, *objects, f"-Wl,--version-script={folder}/kit/map", "-Wl,--gc-sections"])
+        told([compiler(), "-shared", "-o", shared, *objects, f"-Wl,--version-script={folder}/heap/map", "-Wl,--gc-sections"])
     elif is_shared:
         print("skipped: libtxc_c.so, since there is no C compiler", file=sys.stderr)
-    shutil.rmtree(f"{folder}/kit")
+    shutil.rmtree(f"{folder}/heap")
     return [it for it in (archive, shared, header) if os.path.exists(it)]
 
 

@@ -97,67 +97,15 @@ enum {
     TXC_NO_ROOM = 3,         /* a hit, but the value is longer than the buffer: *reach and *len are told, no byte is
                               * written, and the entry stays. Ask again with that much room */
     /* Refusals. The node is as it was, nothing is counted, and nothing is written but *processed. */
-    TXC_CLOSED = 4,          /* the handle has no node, or no site */
-    TXC_ALREADY_OPEN = 5,    /* the handle has a node or a site, which stays; or the site a transaction, which stays */
+    TXC_CLOSED = 4,          /* the handle has no node */
+    TXC_ALREADY_OPEN = 5,    /* the handle has a node, which stays */
     TXC_BAD_ARGUMENT = 6,    /* a number is above its limit, a size is 0, or a tag is of no kind */
     TXC_EMPTY_RANGE = 7,     /* hi is below lo */
     TXC_BAD_REACH = 8,       /* known is below lo */
     TXC_OUT_OF_ORDER = 9,    /* the event is not the one after *processed */
     TXC_VALUE_TOO_LONG = 10, /* a value of more than TXC_MAX_VALUE_LEN bytes */
-    TXC_NO_MEMORY = 11,      /* malloc or realloc refused; the call may be made again */
-    /* Of transactions. */
-    TXC_COMPUTE = 12,        /* no node has the call: compute its function */
-    TXC_ANSWERED = 13,       /* the function that you compute has its answer: go on with it */
-    TXC_NOT_OPEN = 14,       /* no transaction is open of which this can be asked, or no function is computed */
-    TXC_MID_CALL = 15,       /* a call is open: finish it, give it up, or abort */
-    TXC_REFUSED = 16,        /* the open call was refused, and is no more; or the query or change was. The transaction is open,
-                              * and its answers are as before */
-    TXC_OTHER_ASK = 17,      /* another ask was supplied for the same answers; the call is open */
-    TXC_CONFLICT = 18        /* what was read has changed; the transaction is open */
+    TXC_NO_MEMORY = 11       /* malloc or realloc refused; the call may be made again */
 };
-
-/* A row, but for its body. */
-typedef struct {
-    uint8_t table;
-    uint32_t id;
-    uint32_t group;
-} txc_row;
-
-/* A query of a table: TXC_ALL, TXC_ID with the id `first`, TXC_GROUP with the group `first`, or TXC_RANGE, ids from `first`
- * to `last`. */
-typedef struct {
-    uint8_t table;
-    uint8_t kind;
-    uint32_t first;
-    uint32_t last;
-} txc_query;
-
-enum { TXC_RANGE = 3 };
-
-/* How many answers a receipt explains, and the stamp at which each is right, with its moment, if there is one. */
-typedef struct {
-    size_t answers;
-    bool has_pin;
-    uint32_t stamp;
-    uint64_t moment;
-} txc_receipt;
-
-/* What a keep did: how many pins it retired, the horizon that it left, below which nothing is read any more, and how many
- * results the node dropped. */
-typedef struct {
-    size_t retired;
-    uint32_t horizon;
-    size_t swept;
-} txc_kept;
-
-/* A handle of a site: a database, its pins and a node. Its fields are not yours. */
-typedef struct {
-    void *slot;
-    bool is_open;
-} txc_site;
-
-/* A handle that has no site. */
-#define TXC_SITE_CLOSED {NULL, false}
 
 /* Makes a node for at most `capacity` entries, that keeps the tags of the last `recent` events: for results that come
  * in after events that they missed. 1 to TXC_MAX_CAPACITY, and 1 to TXC_MAX_RECENT.
@@ -196,73 +144,6 @@ uint32_t txc_node_sweep(txc_node *node, uint32_t horizon, size_t *swept);
 /* Writes the counts of one function.
  * TXC_DONE, TXC_CLOSED or TXC_BAD_ARGUMENT. */
 uint32_t txc_node_count(txc_node *node, uint8_t function, txc_counts *counts);
-
-/* ---- transactions, whose functions you compute
- *
- * A site has one transaction open at most. One that only reads is answered as if nothing had been cached: all it was answered
- * is right in one state, that of its receipt's stamp.
- *
- * txc_call asks for the value of a call. TXC_DONE gives it. TXC_COMPUTE says that you are to compute its function: ask by
- * txc_query_rows for rows and by txc_call for other calls, and then give its value by txc_finish. Inside a function
- * TXC_ANSWERED gives the value of a call, or says how many rows there are.
- *
- * What you owe: what a function asks next, or gives, is determined by its number, its arguments and what it was answered so far;
- * and it refuses no arguments. Of your functions nothing else is assumed. */
-
-/* Makes a database with room for `events` commits and pins, and a node as txc_node_open does. A pin that is older than
- * `renew_after` milliseconds is renewed. */
-uint32_t txc_site_open(txc_site *site, size_t events, size_t capacity, size_t recent, uint64_t renew_after);
-
-/* Frees all of it. */
-uint32_t txc_site_close(txc_site *site);
-
-/* Begins a transaction that only reads: now is `now`, in milliseconds; what it reads is no more than `staleness` older, and not
- * before the stamp `at_least`. */
-uint32_t txc_begin(txc_site *site, uint64_t now, uint64_t staleness, uint32_t at_least);
-
-/* Asks for the value of a call. TXC_DONE or TXC_ANSWERED write it; TXC_NO_ROOM writes its length alone, and txc_answer gives it
- * once more. */
-uint32_t txc_call(txc_site *site, const txc_key *key, uint8_t *value, size_t room, size_t *len);
-
-/* Asks for the rows of a query, by the function that you compute or by a transaction that writes, and writes how many they are. */
-uint32_t txc_query_rows(txc_site *site, const txc_query *query, size_t *count);
-
-/* Writes one of the rows that the last query found. */
-uint32_t txc_row_at(txc_site *site, size_t at, txc_row *row, uint8_t *body, size_t room, size_t *len);
-
-/* Writes the last answer once more: TXC_DONE of a call, TXC_ANSWERED inside a function. */
-uint32_t txc_answer(txc_site *site, uint8_t *value, size_t room, size_t *len);
-
-/* Says that the function that you compute gives these bytes. TXC_DONE gives the value of the outermost call; TXC_ANSWERED gives
- * the value to the function around. */
-uint32_t txc_finish(txc_site *site, const uint8_t *bytes, size_t count, uint8_t *value, size_t room, size_t *len);
-
-/* Gives the open call up. The transaction stays open. TXC_MISS where none was open. */
-uint32_t txc_give_up(txc_site *site);
-
-/* Ends the transaction that only reads, and writes its receipt. */
-uint32_t txc_commit(txc_site *site, txc_receipt *receipt);
-
-/* Gives the open transaction up. */
-uint32_t txc_abort(txc_site *site);
-
-/* Begins a transaction that writes. It reads the newest state by txc_query_rows, and does not see its own changes. */
-uint32_t txc_begin_write(txc_site *site);
-
-/* The row is to stand at its table and id once the transaction is committed. */
-uint32_t txc_put(txc_site *site, uint8_t table, uint32_t id, uint32_t group, const uint8_t *body, size_t len);
-
-/* No row is to stand there. */
-uint32_t txc_remove(txc_site *site, uint8_t table, uint32_t id);
-
-/* Commits the changes, and writes the newest stamp that they leave. */
-uint32_t txc_commit_write(txc_site *site, uint32_t *stamp);
-
-/* Tidies, while no transaction is open: retires the pins that are more than `age` milliseconds before `now`, and drops the
- * versions of rows and the results that no transaction can read any more. Call it now and then: there is room for so many
- * pins. What was done before a refusal is written and stays done.
- * TXC_DONE, TXC_CLOSED, TXC_ALREADY_OPEN where a transaction is open, TXC_NO_MEMORY or TXC_REFUSED. */
-uint32_t txc_keep(txc_site *site, uint64_t now, uint64_t age, txc_kept *kept);
 
 #ifdef __cplusplus
 }

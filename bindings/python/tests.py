@@ -3,7 +3,6 @@
 import threading
 import unittest
 
-from txcache_site import Kept, Query, Site, cacheable
 from txcache_node import LAST_STAMP, MAX_VALUE_LEN, Counts, Hit, Key, Node, OutOfOrder, Reach, Refused, Stored, Tag
 
 
@@ -59,67 +58,6 @@ class NodeTests(unittest.TestCase):
             for it in threads:
                 it.join()
         self.assertEqual(hits, [1000] * 4)
-
-
-@cacheable(0)
-def highest(call, item):
-    return str(max((int(row.body) for row in call.rows(Query.group(1, item))), default=0)).encode()
-
-
-@cacheable(1)
-def twice(call, item):
-    return call(highest, item) + b" " + call(highest, item)
-
-
-class Transactions(unittest.TestCase):
-    def setUp(self):
-        self.site = Site(1000, 100, 64)
-        self.bid(1, b"110")
-
-    def tearDown(self):
-        self.site.close()
-
-    def bid(self, number, body):
-        with self.site.write() as write:
-            write.put(1, number, 7, body)
-        return write.stamp
-
-    def test_a_receipt_explains_each_answer(self):
-        with self.site.read(now=1000, staleness=30_000) as page:
-            self.assertEqual(page(twice, 7), b"110 110")
-        first = page.receipt
-        self.bid(2, b"130")
-        with self.site.read(now=2000, staleness=30_000) as page:
-            self.assertEqual(page(highest, 7), b"110")
-        self.assertEqual(page.receipt, first)
-        with self.site.read(now=40_000, staleness=30_000) as page:
-            self.assertEqual(page(twice, 7), b"130 130")
-        self.assertGreater(page.receipt.stamp, first.stamp)
-
-    def test_an_error_gives_the_transaction_up(self):
-        for begin in (lambda: self.site.read(now=0, staleness=0), self.site.write):
-            with self.assertRaises(ZeroDivisionError), begin():
-                1 / 0
-        with self.site.write() as write:
-            self.assertEqual([row.body for row in write.rows(Query.all(1))], [b"110"])
-            write.remove(1, 1)
-        with self.site.write() as write:
-            self.assertEqual(write.rows(Query.all(1)), [])
-
-    def test_what_is_refused(self):
-        with self.site.read(now=0, staleness=0) as page:
-            self.assertRaises(Refused, self.site.write)
-            self.assertRaises(Refused, lambda: self.site.keep(0, 0))
-            self.assertRaises(Refused, lambda: page.rows(Query.all(1)))
-        with self.site.write() as write:
-            self.assertRaises(Refused, lambda: write.put(1, 1, 7, b""))
-
-    def test_pins_stay_for_their_age(self):
-        with self.site.read(now=1000, staleness=30_000) as page:
-            page(highest, 7)
-        newest = self.bid(2, b"130")
-        self.assertEqual(self.site.keep(2000, 30_000).retired, 0)
-        self.assertEqual(self.site.keep(40_000, 30_000), Kept(1, newest, 1))
 
 
 if __name__ == "__main__":

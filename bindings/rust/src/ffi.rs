@@ -50,40 +50,6 @@ pub struct Counts {
     pub evicted: u64,
 }
 
-#[repr(C)]
-#[derive(Clone, Copy)]
-pub struct Row {
-    pub table: u8,
-    pub id: u32,
-    pub group: u32,
-}
-
-#[repr(C)]
-#[derive(Clone, Copy)]
-pub struct Query {
-    pub table: u8,
-    pub kind: u8,
-    pub first: u32,
-    pub last: u32,
-}
-
-#[repr(C)]
-#[derive(Clone, Copy)]
-pub struct Receipt {
-    pub answers: usize,
-    pub has_pin: bool,
-    pub stamp: u32,
-    pub moment: u64,
-}
-
-#[repr(C)]
-#[derive(Clone, Copy)]
-pub struct Kept {
-    pub retired: usize,
-    pub horizon: u32,
-    pub swept: usize,
-}
-
 pub const DONE: u32 = 0;
 pub const MISS: u32 = 1;
 pub const KEPT: u32 = 2;
@@ -93,11 +59,6 @@ pub const BAD_REACH: u32 = 8;
 pub const OUT_OF_ORDER: u32 = 9;
 pub const VALUE_TOO_LONG: u32 = 10;
 pub const NO_MEMORY: u32 = 11;
-pub const COMPUTE: u32 = 12;
-pub const ANSWERED: u32 = 13;
-pub const MID_CALL: u32 = 15;
-pub const OTHER_ASK: u32 = 17;
-pub const CONFLICT: u32 = 18;
 
 extern "C" {
     pub fn txc_node_open(node: *mut Handle, capacity: usize, recent: usize) -> u32;
@@ -132,33 +93,4 @@ extern "C" {
     ) -> u32;
     pub fn txc_node_sweep(node: *mut Handle, horizon: u32, swept: *mut usize) -> u32;
     pub fn txc_node_count(node: *mut Handle, function: u8, counts: *mut Counts) -> u32;
-    pub fn txc_site_open(site: *mut Handle, events: usize, capacity: usize, recent: usize, renew_after: u64) -> u32;
-    pub fn txc_site_close(site: *mut Handle) -> u32;
-    pub fn txc_begin(site: *mut Handle, now: u64, staleness: u64, at_least: u32) -> u32;
-    pub fn txc_call(site: *mut Handle, key: *const Key, value: *mut u8, room: usize, len: *mut usize) -> u32;
-    pub fn txc_query_rows(site: *mut Handle, query: *const Query, count: *mut usize) -> u32;
-    pub fn txc_row_at(
-        site: *mut Handle,
-        at: usize,
-        row: *mut Row,
-        body: *mut u8,
-        room: usize,
-        len: *mut usize,
-    ) -> u32;
-    pub fn txc_finish(
-        site: *mut Handle,
-        bytes: *const u8,
-        count: usize,
-        value: *mut u8,
-        room: usize,
-        len: *mut usize,
-    ) -> u32;
-    pub fn txc_give_up(site: *mut Handle) -> u32;
-    pub fn txc_commit(site: *mut Handle, receipt: *mut Receipt) -> u32;
-    pub fn txc_abort(site: *mut Handle) -> u32;
-    pub fn txc_begin_write(site: *mut Handle) -> u32;
-    pub fn txc_put(site: *mut Handle, table: u8, id: u32, group: u32, body: *const u8, len: usize) -> u32;
-    pub fn txc_remove(site: *mut Handle, table: u8, id: u32) -> u32;
-    pub fn txc_commit_write(site: *mut Handle, stamp: *mut u32) -> u32;
-    pub fn txc_keep(site: *mut Handle, now: u64, age: u64, kept: *mut Kept) -> u32;
 }

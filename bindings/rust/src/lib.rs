@@ -16,7 +16,6 @@
 //! # Ok::<(), txcache_node::Error>(())
 //! ```
 mod ffi;
-pub mod site;
 
 use std::fmt;
 

@@ -1,9 +1,3 @@
 pub mod AsBox
-pub mod SiteAsBox
 pub mod Made
 pub mod Tagged
-pub mod Stepping
-pub mod Changes
-pub mod LastAnswers
-pub mod Kept
-pub mod Functions

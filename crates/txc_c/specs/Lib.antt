@@ -5,11 +5,3 @@ pub mod Numbers
 pub mod Told
 pub mod Held
 pub mod Life
-pub mod Opaque
-pub mod SiteHeld
-pub mod Sites
-pub mod Receipts
-pub mod Turning
-pub mod Telling
-pub mod Asking
-pub mod Keeping

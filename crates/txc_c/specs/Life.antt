@@ -19,7 +19,7 @@ open_number (Some n) capacity recent = ALREADY_OPEN
 open_number None capacity recent = if are_sizes capacity recent then DONE else BAD_ARGUMENT
 
 -- the number of a closing
-abbrev pub close_number : {A : Type 0} → Option A → ℕ
+abbrev pub close_number : Option Counted → ℕ
 close_number None = CLOSED
 close_number (Some n) = DONE
 

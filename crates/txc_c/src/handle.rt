@@ -71,7 +71,7 @@ pub struct TxcNode {
 // What the slot points to may go to another thread, and so may the slot.
 unsafe impl Send for Slot {}
 
-pub(crate) fn crosses<T: Send>(_it: &T) {}
+fn crosses<T: Send>(_it: &T) {}
 
 /// A handle may go to another thread: this is compiled only where that is proved. It does nothing.
 pub fn handle_crosses(handle: &TxcNode) {

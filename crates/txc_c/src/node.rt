@@ -23,7 +23,7 @@ use txc_stamp::Stamp;
 use txc_tags::LAST_FUNCTION;
 
 /// Whether a node may be made for so many entries, and for the tags of so many events.
-pub(crate) fn are_sizes(capacity: usize, recent: usize) -> bool
+fn are_sizes(capacity: usize, recent: usize) -> bool
     ensures { result ≡ are_sizes capacity recent }
 {
     (1 <= capacity && capacity <= MAX_CAPACITY) && (1 <= recent && recent <= MAX_RECENT)

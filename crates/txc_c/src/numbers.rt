@@ -12,9 +12,9 @@ pub const MISS: u32 = 1;
 pub const KEPT: u32 = 2;
 /// A hit whose value is longer than the buffer: its length is told.
 pub const NO_ROOM: u32 = 3;
-/// The handle has no node, or no site.
+/// The handle has no node.
 pub const CLOSED: u32 = 4;
-/// The handle has a node or a site already, or the site a transaction.
+/// The handle has a node already.
 pub const ALREADY_OPEN: u32 = 5;
 /// A number is none of its kind: of a function, a table, a stamp, a size.
 pub const BAD_ARGUMENT: u32 = 6;
@@ -28,21 +28,6 @@ pub const OUT_OF_ORDER: u32 = 9;
 pub const VALUE_TOO_LONG: u32 = 10;
 /// Memory was refused.
 pub const NO_MEMORY: u32 = 11;
-
-/// The caller is to compute the function of the call that he asked for.
-pub const COMPUTE: u32 = 12;
-/// The function that is computed has its answer, and goes on.
-pub const ANSWERED: u32 = 13;
-/// No transaction is open of which this can be asked, or no function is computed.
-pub const NOT_OPEN: u32 = 14;
-/// A call is open.
-pub const MID_CALL: u32 = 15;
-/// The call, or what was asked, was refused.
-pub const REFUSED: u32 = 16;
-/// Another ask was supplied for the same answers.
-pub const OTHER_ASK: u32 = 17;
-/// What was read has changed.
-pub const CONFLICT: u32 = 18;
 
 /// The number of a refusal.
 pub(crate) fn number_of(refusal: Refusal) -> u32
