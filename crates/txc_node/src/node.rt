@@ -12,6 +12,7 @@ ghost use Rattle.txc_node.specs.Indexed.{IsFound, IsSearchOf, entries_under, sho
 use crate::entry::Entry;
 use crate::hit::Hit;
 use crate::indexed::IndexedEntries;
+use crate::leaving::Leaving;
 use crate::place::Place;
 use crate::replay::replay_for;
 use crate::search::Search;
@@ -170,6 +171,19 @@ impl NodeCore {
             recent,
             looked: 0,
         })
+    }
+
+    /// Its entries, once it is not wanted any more. It takes no memory.
+    pub fn leave(self) -> Leaving
+        ensures { result ≡ self.entries }
+    {
+        let NodeCore {
+            entries,
+            processed: _,
+            recent: _,
+            looked: _,
+        } = self;
+        entries.leave()
     }
 
     /// The stamp of the last event that was taken.

@@ -17,6 +17,7 @@ use crate::error::NodeError;
 use crate::finding::Finding;
 use crate::insertion::Insertion;
 use crate::laws::legal_histories;
+use crate::left_node::LeftNode;
 use crate::log::MAX_PASSES;
 use crate::node_pass::NodePass;
 use crate::settings::NodeSettings;
@@ -59,6 +60,14 @@ impl<A: App, J: Naming> Held<A, J> {
         ensures { result ≡ node }
     {
         Held { node, feed }
+    }
+
+    /// What the node holds, once no thread has it any more.
+    pub(crate) fn leave(self) -> LeftNode<A>
+        ensures { result.seen.events ≡ J.database_history }
+    {
+        let Held { node, feed: _ } = self;
+        node.leave()
     }
 
     // Whether the node agrees with what a pass says of it.

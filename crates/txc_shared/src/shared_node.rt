@@ -16,6 +16,7 @@ use crate::finding::Finding;
 use crate::held::Held;
 use crate::history::History;
 use crate::insertion::Insertion;
+use crate::left_node::LeftNode;
 use crate::log::MAX_PASSES;
 use crate::node_front::NodeFront;
 use crate::node_pass::NodePass;
@@ -131,6 +132,18 @@ impl<A: App, J: Naming> SharedNode<A, J> {
         ensures refused { IfErr result (NodeMayRefuse J.node_histories (IsNewPassRefused self.now)) }
     {
         lock_soon(rt, &self.lock).pass(self.settings)
+    }
+
+    /// What the node holds, once no thread has it any more. It takes no memory.
+    pub fn leave(self) -> LeftNode<A>
+        ensures { result.seen.events ≡ J.database_history }
+    {
+        let SharedNode {
+            settings: _,
+            start: _,
+            lock,
+        } = self;
+        lock.into_inner().leave()
     }
 
     /// The row of its records, where they are stored, which anybody reads without the lock. Whoever appends to

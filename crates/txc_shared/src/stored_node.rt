@@ -20,6 +20,7 @@ use crate::finding::Finding;
 use crate::history::History;
 use crate::insertion::Insertion;
 use crate::laws::{answers_are_true, nodes_go_on};
+use crate::left_node::LeftNode;
 use crate::log::{Log, MAX_PASSES};
 use crate::node_front::NodeFront;
 use crate::settings::NodeSettings;
@@ -180,6 +181,31 @@ impl<A: App> StoredNode<A> {
         ensures { result ≡ self.now.from }
     {
         self.from
+    }
+
+    /// What it holds, once it is not wanted any more. It takes no memory.
+    pub fn leave(self) -> LeftNode<A>
+        ensures entries { result.entries ≡ self.cache.entries }
+        ensures processed { result.processed ≡ self.cache.processed }
+        ensures seen { result.seen ≡ self.seen }
+    {
+        let StoredNode {
+            settings: _,
+            from: _,
+            core,
+            log: _,
+            counts: _,
+            seen,
+            broken: _,
+            of: _,
+        } = self;
+        let processed = core.processed();
+        LeftNode {
+            entries: core.leave(),
+            processed,
+            seen,
+            of: PhantomData,
+        }
     }
 
     /// A front that shows its records.
