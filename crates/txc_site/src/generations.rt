@@ -265,6 +265,7 @@ where
     requires plan { IsPlan plan }
     requires row { begun.core.events ≡ begun.front.events }
     requires room { IsHistoryFor plan.events begun.front.events }
+    requires warm { IfSome begun.warmth (λ w. w.front.events ≡ begun.core.events) }
     requires none { generations.old.items ≡ [] }
     ensures { HaveServed plan (C.tells clock.now) count A.numbers (V.gives visitors.now) (V.goes visitors.now)
         begun.front generations.new.items result }
