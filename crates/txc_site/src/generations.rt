@@ -10,7 +10,7 @@ ghost use Rattle.txc_visits.specs.Plans.{IsPlan};
 use crate::error::GenerationError;
 use crate::opening::opened;
 use crate::returning::{Generation, Returning};
-use std::alloc::Global;
+use std::alloc::{AllocError, Global};
 use std::sync::Wait;
 use std::thread::Threads;
 use txc_app::App;
@@ -125,6 +125,29 @@ where
     })
 }
 
+/// What goes over to the nodes of the next generation; nothing where a front was refused.
+fn warmth<A: App>(
+    left: Vec<LeftNode<A>>,
+    whole: Result<HistoryFront, AllocError>,
+    front: &HistoryFront,
+) -> Option<Warmth<A>>
+    requires seen { IfOk whole (λ whole. All (λ left. left.seen.events ≡ whole.events) left.items) }
+    requires state { IfOk whole (λ whole. last_state whole ≡ last_state front.now) }
+    ensures { IfSome result (λ w. w.front ≡ front.now) }
+{
+    let Ok(whole) = whole else {
+        return None;
+    };
+    let Ok(front) = front.again() else {
+        return None;
+    };
+    Some(Warmth {
+        nodes: left,
+        whole,
+        front,
+    })
+}
+
 /// What the next generation begins with: the newest state of this database, and what these nodes held.
 fn next<A: App>(
     alloc: Global,
@@ -146,15 +169,7 @@ fn next<A: App>(
         Err(cause) => return Err(GenerationError::Carry(cause)),
     };
     let front = core.front()?;
-    let again = front.again();
-    let warmth = match (whole, again) {
-        (Ok(whole), Ok(front)) => Some(Warmth {
-            nodes: left,
-            whole,
-            front,
-        }),
-        _ => None,
-    };
+    let warmth = warmth(left, whole, &front);
     Ok(Begun {
         core,
         front,
