@@ -15,10 +15,10 @@ use Rattle.txc_run.specs.Reading.{Line, Quiet, Step, Unmade, Malformed, IsLine, 
 
 -- a name begins with a letter
 letters : AllByRecursion (λ (form : LineForm Op). 35 < get_or form.name 0 32) node_forms
-letters = (lit< tt, (lit< tt, (lit< tt, (lit< tt, tt))))
+letters = (lit< tt, (lit< tt, (lit< tt, (lit< tt, (lit< tt, tt)))))
 
 small : AllByRecursion (λ (form : LineForm Op). AreSmall form.kinds) node_forms
-small = ((tt, (tt, (tt, (tt, (tt, (tt, tt)))))), ((tt, (tt, (tt, tt))), ((tt, (tt, tt)), ((tt, tt), tt))))
+small = ((tt, (tt, (tt, (tt, (tt, (tt, tt)))))), ((tt, (tt, (tt, tt))), ((tt, (tt, tt)), ((tt, tt), ((tt, tt), tt)))))
 
 pub no_quiet_step : (line : List ℕ) (op : Op) → IsQuiet line → IsStepLine line op → ⊥
 no_quiet_step line op quiet h = not_quiet node_forms line op letters quiet h.1

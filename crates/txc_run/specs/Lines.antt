@@ -41,8 +41,12 @@ event_form = record {
 abbrev pub sweep_form : LineForm Op
 sweep_form = record { name = codes "sweep"; kinds = Stamp ∷ []; asks = λ said. Sweep said.0 }
 
+-- a trial: a stamp, from which no entry is dropped
+abbrev pub echo_form : LineForm Op
+echo_form = record { name = codes "echo"; kinds = Stamp ∷ []; asks = λ said. Sweep 0 }
+
 abbrev pub node_forms : List (LineForm Op)
-node_forms = insert_form ∷ lookup_form ∷ event_form ∷ sweep_form ∷ []
+node_forms = insert_form ∷ lookup_form ∷ event_form ∷ sweep_form ∷ echo_form ∷ []
 
 -- the line is of one of these forms, and asks for this step
 abbrev pub Spells : List ℕ → Op → Type 0

@@ -3,7 +3,7 @@ ghost use Rattle.std.specs.Prelude.{◌≡◌, IfNone};
 ghost use Rattle.txc_script.specs.Excerpts.{excerpt_of};
 ghost use Rattle.txc_script.specs.Words.{words_left};
 ghost use Rattle.txc_script.specs.declared.line_fault.CommandFault.TheVariants.{Unknown};
-ghost use Rattle.txc_run.specs.Lines.{event_form, insert_form, lookup_form, sweep_form};
+ghost use Rattle.txc_run.specs.Lines.{echo_form, event_form, insert_form, lookup_form, sweep_form};
 ghost use Rattle.txc_run.specs.Steps.{MakesForm, MakesLine};
 
 use crate::taker::Taker;
@@ -116,6 +116,26 @@ fn make_sweep<T: Taker>(
     taker.take(alloc, None, &Reply::Swept(node.sweep(horizon)), why)
 }
 
+/// Makes the echo that the words after its name are, and takes its reply.
+#[inline(never)]
+fn make_echo<T: Taker>(
+    alloc: Global,
+    node: &mut NodeCore,
+    words: WordsLeft<'_>,
+    taker: &mut T,
+    why: &mut Unanswered,
+) -> Option<bool>
+    ensures made { MakesForm T.takes echo_form (words_left words.entry)
+        node.old node.new taker.old taker.new result why.new }
+    ensures unchanged { IfNone result (T.text taker.new ≡ T.text taker.old) }
+{
+    let (_, ()) = match read_row::<(Stamp, ())>(alloc, words, why) {
+        Some(row) => row,
+        None => return None,
+    };
+    taker.take(alloc, None, &Reply::Swept(node.sweep(Stamp::ZERO)), why)
+}
+
 /// Leaves that no line has this name.
 #[cold]
 #[inline(never)]
@@ -151,6 +171,9 @@ pub fn make_step<T: Taker>(
     }
     if name == b"sweep".as_slice() {
         return make_sweep(alloc, node, words, taker, why);
+    }
+    if name == b"echo".as_slice() {
+        return make_echo(alloc, node, words, taker, why);
     }
     leave_unknown(name, why);
     None
