@@ -4,10 +4,10 @@ use Rattle.txc_script.specs.Words.{HasNoBlank, words_of}
 use Rattle.txc_script.proofs.Blanks.{words_cut, words_alone, some_left, take_first, take_one}
 use Rattle.txc_script.proofs.words.WordsLeft.next.Goals as goal
 
-pub returns-then-end-eq-text : goal.returns-then-end-eq-text
-returns-then-end-eq-text c =
+pub returns-then-end-text : goal.returns-then-end-text
+returns-then-end-text c =
     let self = c.args.self.now in
-    let bare : HasNoBlank self.rest.now = subst HasNoBlank (take_all c.word_len-end.result self.rest.now (omega (arith, c.if-end-eq-text.true))) c.word_len-end.ensures.bare in
+    let bare : HasNoBlank self.rest.now = subst HasNoBlank (take_all c.word_len-end.result self.rest.now (omega (arith, c.if-end-text.true))) c.word_len-end.ensures.bare in
     ap (take self.count) (words_alone self.rest.now bare) ∙ take_one self.count self.rest.now (some_left self.count (words_of self.rest.now) c.requires)
 
 pub returns : goal.returns
