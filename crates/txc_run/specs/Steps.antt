@@ -21,8 +21,8 @@ IsFor function op reply = is_refusal reply ≡ false → function ≡ function_o
 abbrev pub Taking : Type 0 → Type 1
 Taking T = T → Op → Reply Shown → T → Type 0
 
--- such a step was made: it has a reply, which was taken and is a refusal or none, and leaves that cache; or there is none,
--- and it is left why: this is wrong, and nothing changed; or a growth was refused
+-- Such a step was made: it has a reply, which was taken and is a refusal or none, and leaves that cache. Or there is no
+-- reply, and it is left why: this is wrong, and nothing changed; or a growth was refused.
 abbrev pub MakesStep : {T : Type 0} → Taking T → (Op → Type 0) → (CommandFault → Type 0) → Cache → Cache → T → T
     → Option Bool → Unanswered → Type 0
 MakesStep takes Is IsFault c next old new (Some refused) why = (op : Op) × Is op × (reply : Reply Shown)
