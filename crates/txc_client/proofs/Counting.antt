@@ -50,7 +50,7 @@ counts_more asked s = ⊎_elim (λ done. inl done) (λ (more : ((asked + 1) < s.
 
 allowed : (x : Option CallError) (s : Standing) (P : Type 0) → UnlessRefused x (Ok s) P → (x ≡ None) × P
 allowed None s P h = (refl, h)
-allowed (Some e) s P h = absurd (cc h)
+allowed (Some e) s P h = cc h
 
 within_budget : (own all : ℕ) → count_refusal own all ≡ None → all < MAX_CALL_ASKS
 within_budget own all is = grind (arith, nat_tests)
@@ -86,7 +86,7 @@ module _ (next : Next) (s : Standing) where
       let goes_on : Onward = λ idle_os bytes. AfterValue next outer (asked + 1) (unreached after bytes) idle_os (Ok s) in
       let os' : Objects = with_answer os frame.key.function (answers.Value o.value) in
       ⊎_elim
-      (λ no. let no' : Ok s ≡ Err no.0 = no.1 in absurd (cc))
+      (λ no. let no' : Ok s ≡ Err no.0 = no.1 in cc)
       (λ (three : (ask : Ask) × (next_ask next os frame (answers.Value o.value) ≡ Some ask) × AskLeads outer asked after ask os' goes_on (Ok s)).
       ask_counts asked s after outer goes_on (λ idle_os bytes on. value_counts outer (asked + 1) (unreached after bytes) idle_os on) three.0 os' three.2)
       leads
@@ -100,7 +100,7 @@ module _ (next : Next) (s : Standing) where
   rows_count [] asked found os leads = absurd leads
   rows_count (frame ∷ outer) asked found os leads =
       ⊎_elim
-      (λ no. let no' : Ok s ≡ Err no.0 = no.1 in absurd (cc))
+      (λ no. let no' : Ok s ≡ Err no.0 = no.1 in cc)
       (λ (three : (ask : Ask) × (next_ask next os frame (answers.Rows found.rows.items) ≡ Some ask)
       × AfterAsk next outer asked (given frame (Some found.reach) found.tags) ask (with_answer os frame.key.function (answers.Rows found.rows.items)) (Ok s)).
       after_ask_counts outer asked (given frame (Some found.reach) found.tags) three.0 (with_answer os frame.key.function (answers.Rows found.rows.items)) three.2)
@@ -109,7 +109,7 @@ module _ (next : Next) (s : Standing) where
   miss_counts : (frames : List Frame) (asked : ℕ) (k : Call) (os : Objects) → AfterMiss next frames asked k os (Ok s) → Counts asked s
   miss_counts frames asked k os leads =
       ⊎_elim
-      (λ no. let no' : Ok s ≡ Err no.0 = no.1 in absurd (cc))
+      (λ no. let no' : Ok s ≡ Err no.0 = no.1 in cc)
       (λ (three : (ask : Ask) × (next k.function k.args [] ≡ Some ask) × AfterAsk next frames asked (begun_frame k) ask (with_begun os k) (Ok s)).
       after_ask_counts frames asked (begun_frame k) three.0 (with_begun os k) three.2)
       leads
@@ -155,14 +155,14 @@ counted_down : (before after : Bool) (pinning : Option Pinning) (a b : ℕ) → 
 counted_down true true None a b keeps less most = omega (arith, less, most)
 counted_down true true (Some p) a b keeps less most = let few = steps_few p.step in omega (arith, few)
 counted_down true false pinning a b keeps less most = omega (arith, less, most)
-counted_down false true pinning a b keeps less most = let no : false ≡ true = keeps refl in absurd (cc no)
+counted_down false true pinning a b keeps less most = let no : false ≡ true = keeps refl in cc no
 counted_down false false pinning a b keeps less most = omega (arith, less, most)
 
 -- ---- a core that asks
 
 waits_for_no_value : (first : Option Call) (need : Option Need) (members : List Pin) (o : Outcome) → need ≡ Some (needs.Value o) → ¬ (WaitsForPin first need members)
-waits_for_no_value (Some k) need members o is waits = let no : None ≡ Some (needs.Value o) = sym waits.0 ∙ is in absurd (cc no)
-waits_for_no_value None need members o is waits = let no : Some (needs.Query waits.0) ≡ Some (needs.Value o) = sym waits.1 ∙ is in absurd (cc no)
+waits_for_no_value (Some k) need members o is waits = let no : None ≡ Some (needs.Value o) = sym waits.0 ∙ is in cc no
+waits_for_no_value None need members o is waits = let no : Some (needs.Query waits.0) ≡ Some (needs.Value o) = sym waits.1 ∙ is in cc no
 
 module _ (c : CoreValue) (fits : PinningFits c.pinning c.pins c.call.need) where
   pinned_fits : (step : PinStep) (at : IsPinningAt c step) → PinningFits (Some (record { step = step; first = at.0 })) c.pins c.call.need
@@ -176,9 +176,9 @@ module _ (c : CoreValue) (fits : PinningFits c.pinning c.pins c.call.need) where
   asking_waits (requests.Pin now at_least) o asking is = pinning_waits Asked o asking.0 is
   asking_waits (requests.AddPin pinned) o asking is = pinning_waits (Adding (pin_of pinned)) o asking is
   asking_waits (requests.Unpin stamp) o asking is = pinning_waits (Dropping stamp asking.0) o asking.1 is
-  asking_waits (requests.Lookup node key lo hi) o asking is = let no : Some (needs.Lookup key) ≡ Some (needs.Value o) = sym asking.0.1 ∙ is in absurd (cc no)
-  asking_waits (requests.Query query stamp) o asking is = let no : Some (needs.Query query) ≡ Some (needs.Value o) = sym asking.0.1 ∙ is in absurd (cc no)
-  asking_waits (requests.Insert node entry) o asking is = let no : Some (needs.Insert entry) ≡ Some (needs.Value o) = sym asking.0.1 ∙ is in absurd (cc no)
+  asking_waits (requests.Lookup node key lo hi) o asking is = let no : Some (needs.Lookup key) ≡ Some (needs.Value o) = sym asking.0.1 ∙ is in cc no
+  asking_waits (requests.Query query stamp) o asking is = let no : Some (needs.Query query) ≡ Some (needs.Value o) = sym asking.0.1 ∙ is in cc no
+  asking_waits (requests.Insert node entry) o asking is = let no : Some (needs.Insert entry) ≡ Some (needs.Value o) = sym asking.0.1 ∙ is in cc no
 
   -- how many follow while the present is pinned
   pinning_left : (step : PinStep) → IsPinningAt c step → left_of c ≡ MAX_CALL_ASKS + steps_of step
@@ -195,7 +195,7 @@ kept_present : (old new : PinSetValue) → new ≡ old → new.has_present ≡ t
 kept_present old new same is = sym (ap (λ (p : PinSetValue). p.has_present) same) ∙ is
 
 lost_present : (reach : Interval) (old new : PinSetValue) → new ≡ narrowed reach old → new.has_present ≡ true → old.has_present ≡ true
-lost_present reach old new same is = let no : false ≡ true = sym (ap (λ (p : PinSetValue). p.has_present) same) ∙ is in absurd (cc no)
+lost_present reach old new same is = let no : false ≡ true = sym (ap (λ (p : PinSetValue). p.has_present) same) ∙ is in cc no
 
 -- ---- what comes of a reply
 
@@ -207,7 +207,7 @@ module _ (next : Next) (old new : TxnValue) (was : IsTxn next old) (now : IsTxn 
     where
       go : (stands : CallTurn) → AfterReply next old.core.call.frames old.core.call.asked old.objects need reply stands
           → StandingLeads stands new.core new.objects (turns.Ask request) → left_of new.core < left_of old.core
-      go (Err error) after stand = absurd (cc stand)
+      go (Err error) after stand = cc stand
       go (Ok s) after stand =
           ⊎_elim
           (λ (done : (o : Outcome) × (s.need ≡ Some (needs.Value o))). absurd (asking_waits new.core now.fits.pinning request done.0 asking (stand.2 ∙ done.1)))
@@ -225,7 +225,7 @@ module _ (next : Next) (old new : TxnValue) (was : IsTxn next old) (now : IsTxn 
       go : (members : List Pin) → kept hit.reach old.core.pins.members ≡ members → left_of new.core < left_of old.core
       go [] is = call_leads_less (needs.Lookup k) replies.Miss none (kept_present old.core.pins new.core.pins (pins.none is)) (leads.none is)
       go (m ∷ ms) is =
-          let some : kept hit.reach old.core.pins.members ≢ [] = λ no. let both : m ∷ ms ≡ [] = sym is ∙ no in absurd (cc both) in
+          let some : kept hit.reach old.core.pins.members ≢ [] = λ no. let both : m ∷ ms ≡ [] = sym is ∙ no in cc both in
           call_leads_less (needs.Lookup k) (replies.Hit hit) none (lost_present hit.reach old.core.pins new.core.pins (pins.held some)) (leads.held some)
 
   asks_less : (reply : PortReply) → IsAnswered old.core reply → ReplyLeads next old.core old.objects reply new.core new.objects (turns.Ask request)
@@ -235,7 +235,7 @@ module _ (next : Next) (old new : TxnValue) (was : IsTxn next old) (now : IsTxn 
       let before = pinning_left old.core was.fits.pinning Asked answered.0 in
       let after = pinning_left new.core now.fits.pinning (Adding (pin_of pinned)) (subst (CoreAsks new.core) same asking) in
       omega (arith, before, after)
-  asks_less (ports.Pin (Err error)) answered leads pins = absurd (cc leads)
+  asks_less (ports.Pin (Err error)) answered leads pins = cc leads
   asks_less (ports.AddPin pinned (Ok added)) answered leads pins =
       let before = pinning_left old.core was.fits.pinning (Adding (pin_of pinned)) answered in
       let after = few_left new.core (ap (λ (p : PinSetValue). p.has_present) pins) in
@@ -245,14 +245,14 @@ module _ (next : Next) (old new : TxnValue) (was : IsTxn next old) (now : IsTxn 
       let after = pinning_left new.core now.fits.pinning (Dropping pinned.stamp (refused_pin error)) leads.1 in
       omega (arith, before, after)
   asks_less (ports.Unpin unpinned) answered leads pins =
-      let no : turns.Ask request ≡ turns.Ended (Err answered.1) = leads answered.0 answered.1 answered.2 in absurd (cc no)
+      let no : turns.Ask request ≡ turns.Ended (Err answered.1) = leads answered.0 answered.1 answered.2 in cc no
   asks_less (ports.Lookup None) answered leads pins =
       call_leads_less (needs.Lookup answered.0) replies.Miss answered.1.0 (kept_present old.core.pins new.core.pins pins) (leads answered.0 answered.1.1)
   asks_less (ports.Lookup (Some hit)) answered leads pins = hit_less answered.0 hit.answer answered.1.0 pins (leads answered.0 answered.1.1)
   asks_less (ports.Query (Ok found)) answered leads pins =
       call_leads_less (needs.Query answered.0) (replies.Found found.answer) answered.1.0
       (lost_present found.answer.reach old.core.pins new.core.pins pins) (leads answered.0 answered.1.1)
-  asks_less (ports.Query (Err error)) answered leads pins = absurd (cc leads)
+  asks_less (ports.Query (Err error)) answered leads pins = cc leads
   asks_less (ports.Insert keeps) answered leads pins =
       call_leads_less (needs.Insert answered.0) replies.Inserted answered.1.0 (kept_present old.core.pins new.core.pins pins) (leads answered.0 answered.1.1)
 

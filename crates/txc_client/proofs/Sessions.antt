@@ -38,7 +38,7 @@ pin_within K zero moment is = omega arith
 pin_within K (suc t) moment is = go (slice_get K t) refl
   where
     go : (e : Option EventValue) → slice_get K t ≡ e → suc t ≤ length K
-    go None none = let no : None ≡ Some moment = sym (ap pinned_moment none) ∙ is in absurd (cc no)
+    go None none = let no : None ≡ Some moment = sym (ap pinned_moment none) ∙ is in cc no
     go (Some e) some = let below = slice_get_within K t e some in omega (arith, below)
 
 explained_within : (next : Next) (K : History) (bounds : Bounds) (pin : Pin) (answers : List Recorded) → Explains next K bounds (Some pin) answers → pin.stamp ≤ length K

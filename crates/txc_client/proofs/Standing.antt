@@ -116,7 +116,7 @@ module _ (old new : PassValue) (grown : HasGrown old new) (x : Exchange) where
 -- ---- one exchange
 
 get_set_same : (ps : List PassValue) (i : ℕ) (old new : PassValue) → slice_get ps i ≡ Some old → slice_get (set ps i new) i ≡ Some new
-get_set_same [] i old new is = absurd (cc is)
+get_set_same [] i old new is = cc is
 get_set_same (p ∷ ps) zero old new is = refl
 get_set_same (p ∷ ps) (suc i) old new is = get_set_same ps i old new is
 
@@ -166,7 +166,7 @@ module _ (node_histories : ℕ → Name) (olds news : List PassValue) (node : �
       added_at at node (exchanges.Lookup at key lo hi (Some hit)) (LookupLeaves node_histories key lo hi (Some hit)) olds news p
       (λ old new grown called. elim called [
         | inl made ↦ added_one old new grown (exchanges.Lookup at key lo hi (Some hit)) (ops.Lookup key lo hi) (reply_to_lookup (Some hit)) made (λ one. one) (refl, refl)
-        | inr refused ↦ absurd (cc refused.0)
+        | inr refused ↦ cc refused.0
       ]) h is
 
   miss_adds : (at : ℕ) (key : Call) (lo hi : ℕ) → IsCallAt at (LookupLeaves node_histories key lo hi None) olds news

@@ -9,10 +9,10 @@ use Rattle.txc_script.specs.declared.fault.RunFault.{RunFault}
 use Rattle.txc_script.specs.declared.fault.Status.{Status}
 use Rattle.txc_run.specs.NodeScripts.{node_script}
 use Rattle.txc_functions.specs.Program.{program}
-use Rattle.txc_world.specs.Cast.{resting}
+use Rattle.txc_world.specs.ActorValues.{resting}
 use Rattle.txc_world.specs.Making.{AreNewPorts}
-use Rattle.txc_world.specs.Tidy.{empty_purse}
-use Rattle.txc_world.specs.Told.{idle}
+use Rattle.txc_world.specs.Tidy.{nothing_in_hand}
+use Rattle.txc_world.specs.Observation.{idle}
 use Rattle.txc_world.specs.Worlds.{IsBalanced, WorldValue}
 use Rattle.txc_play.specs.WorldRuns.{world_settings, HasPlayed}
 use Rattle.txc_batch.specs.BatchRuns.{HasNotBegun, HasRunBatch}
@@ -27,8 +27,8 @@ pub record IsNewWorldOf (settings : Settings) (staff : StaffValue) (w : WorldVal
   pub history : w.told.history ≡ []
   pub spare : w.told.spare ≡ []
   pub floors : w.told.floors ≡ map (λ objects. 0) staff.registries
-  pub stories : w.told.actors ≡ map (λ objects. idle) staff.registries
-  pub balanced : IsBalanced w empty_purse
+  pub observed : w.told.actors ≡ map (λ objects. idle) staff.registries
+  pub balanced : IsBalanced w nothing_in_hand
   pub ports : AreNewPorts (world_settings settings) (length staff.registries) w.ports
   pub actors : w.actors ≡ map (λ objects. resting objects) staff.registries
 
@@ -45,7 +45,7 @@ HasRunBy scripts.World settings remaining_old remaining_new contents_old content
     ⊎ ((staff : StaffValue) × (start : WorldValue) × (left : WorldValue) × IsStaff settings.permits ACTORS staff
     × IsNewWorldOf settings staff start
     × HasPlayed program start remaining_old remaining_new contents_old contents_new result left
-    × All (λ story. story ≡ idle) left.told.actors)
+    × All (λ observed. observed ≡ idle) left.told.actors)
 HasRunBy scripts.Batch settings remaining_old remaining_new contents_old contents_new result =
     HasNotBegun remaining_old remaining_new contents_old contents_new result
     ⊎ ((staff : StaffValue) × IsStaff settings.permits settings.workers staff

@@ -11,7 +11,7 @@ use Rattle.txc_world.specs.declared.reply.Reply.TheVariants as replies
 use Rattle.txc_world.specs.declared.step.Act.{Act}
 use Rattle.txc_world.specs.declared.step.Act.TheVariants as acts
 use Rattle.txc_world.specs.declared.step.Step.TheVariants.{Actor}
-use Rattle.txc_world.specs.Told.{Reading, Writing, Story, idle, reading, writing, leaving, given_up, story_after, Told, act_at, after, IsActDue, IsActReply, IsDue}
+use Rattle.txc_world.specs.Observation.{Reading, Writing, ObservedActor, idle, reading, writing, leaving, given_up, observed_after, Observation, act_at, after, IsActDue, IsActReply, IsDue}
 use Rattle.txc_world.specs.Worlds.{WorldValue}
 use Rattle.txc_play.specs.TaskSteps.{AreTaken, HasGivenUp, IsTaken, give_up_steps}
 use Rattle.txc_play.proofs.WorldSteps.{taken_more}
@@ -19,7 +19,7 @@ use Rattle.txc_play.proofs.WorldSteps.{taken_more}
 -- ---- one actor
 
 -- no transaction is open, but a hold may be left
-abbrev pub HasEnded : Story → Type 0
+abbrev pub HasEnded : ObservedActor → Type 0
 HasEnded idle = Unit {0}
 HasEnded (reading x) = ⊥
 HasEnded (writing x) = ⊥
@@ -29,49 +29,49 @@ given_up_ended : (left : Option ℕ) → HasEnded (given_up left)
 given_up_ended None = tt
 given_up_ended (Some stamp) = tt
 
-reading_given_up : (x : Reading) (r : Reply) → IsActReply acts.Abort (reading x) r → HasEnded (story_after acts.Abort r (reading x))
+reading_given_up : (x : Reading) (r : Reply) → IsActReply acts.Abort (reading x) r → HasEnded (observed_after acts.Abort r (reading x))
 reading_given_up x (replies.Aborted left) h = given_up_ended left
 reading_given_up x r h = absurd h
 
-writing_given_up : (x : Writing) (r : Reply) → IsActReply acts.Abort (writing x) r → HasEnded (story_after acts.Abort r (writing x))
+writing_given_up : (x : Writing) (r : Reply) → IsActReply acts.Abort (writing x) r → HasEnded (observed_after acts.Abort r (writing x))
 writing_given_up x (replies.Aborted left) h = given_up_ended left
 writing_given_up x r h = absurd h
 
-abort_ends : (story : Story) (r : Reply) → IsActDue story acts.Abort r → HasEnded (story_after acts.Abort r story)
-abort_ends idle r due = subst (λ (x : Reply). HasEnded (story_after acts.Abort x idle)) (sym due) tt
+abort_ends : (observed : ObservedActor) (r : Reply) → IsActDue observed acts.Abort r → HasEnded (observed_after acts.Abort r observed)
+abort_ends idle r due = subst (λ (x : Reply). HasEnded (observed_after acts.Abort x idle)) (sym due) tt
 abort_ends (reading x) r due = reading_given_up x r due
 abort_ends (writing x) r due = writing_given_up x r due
-abort_ends (leaving stamp) r due = subst (λ (x : Reply). HasEnded (story_after acts.Abort x (leaving stamp))) (sym due) tt
+abort_ends (leaving stamp) r due = subst (λ (x : Reply). HasEnded (observed_after acts.Abort x (leaving stamp))) (sym due) tt
 
 -- the hold that is left is taken away, or the database refuses, which lets it go
-left_idle : (stamp : ℕ) (r : Reply) → IsActReply acts.Request (leaving stamp) r → story_after acts.Request r (leaving stamp) ≡ idle
+left_idle : (stamp : ℕ) (r : Reply) → IsActReply acts.Request (leaving stamp) r → observed_after acts.Request r (leaving stamp) ≡ idle
 left_idle stamp (replies.Asked did None) h = refl
 left_idle stamp r h = absurd h
 
-request_idles : (story : Story) (r : Reply) → IsActDue story acts.Request r → HasEnded story → story_after acts.Request r story ≡ idle
-request_idles idle r due h = subst (λ (x : Reply). story_after acts.Request x idle ≡ idle) (sym due) refl
+request_idles : (observed : ObservedActor) (r : Reply) → IsActDue observed acts.Request r → HasEnded observed → observed_after acts.Request r observed ≡ idle
+request_idles idle r due h = subst (λ (x : Reply). observed_after acts.Request x idle ≡ idle) (sym due) refl
 request_idles (reading x) r due h = absurd h
 request_idles (writing x) r due h = absurd h
 request_idles (leaving stamp) r due h = left_idle stamp r due
 
 -- ---- a step of an actor that is there
 
-due_of : (t : Told) (i : ℕ) (act : Act) (r : Reply) → i < length t.actors → IsDue t (Actor i act) r → IsActDue (get_or t.actors i idle) act r
+due_of : (t : Observation) (i : ℕ) (act : Act) (r : Reply) → i < length t.actors → IsDue t (Actor i act) r → IsActDue (get_or t.actors i idle) act r
 due_of t i act r lt due =
-    subst (λ (o : Option Story). MatchOption o (r ≡ replies.Refused NoActor) (λ story. IsActDue story act r)) (slice_get-get_or t.actors i idle lt) due
+    subst (λ (o : Option ObservedActor). MatchOption o (r ≡ replies.Refused NoActor) (λ observed. IsActDue observed act r)) (slice_get-get_or t.actors i idle lt) due
 
-stories_after : (t m : Told) (i : ℕ) (act : Act) (r : Reply) → i < length t.actors → m ≡ after t (Actor i act) r → m.actors ≡ slice_set t.actors i (story_after act r (get_or t.actors i idle))
-stories_after t m i act r lt is = ap (λ (x : Told). x.actors) (is ∙ ap (act_at i act r t) (slice_get-get_or t.actors i idle lt))
+all_observed_after : (t m : Observation) (i : ℕ) (act : Act) (r : Reply) → i < length t.actors → m ≡ after t (Actor i act) r → m.actors ≡ slice_set t.actors i (observed_after act r (get_or t.actors i idle))
+all_observed_after t m i act r lt is = ap (λ (x : Observation). x.actors) (is ∙ ap (act_at i act r t) (slice_get-get_or t.actors i idle lt))
 
-set_length : (xs : List Story) (i : ℕ) (x : Story) → length (slice_set xs i x) ≡ length xs
+set_length : (xs : List ObservedActor) (i : ℕ) (x : ObservedActor) → length (slice_set xs i x) ≡ length xs
 set_length [] i x = refl
 set_length (y ∷ xs) zero x = refl
 set_length (y ∷ xs) (suc i) x = ap suc (set_length xs i x)
 
 -- ---- the first actors
 
-abbrev pub IsIdle : Story → Type 0
-IsIdle story = story ≡ idle
+abbrev pub IsIdle : ObservedActor → Type 0
+IsIdle observed = observed ≡ idle
 
 -- they gave up what they had open
 pub record HaveGivenUp (next : Next) (world : WorldValue) (count : ℕ) (now : WorldValue) : Type 0 where
@@ -83,17 +83,17 @@ pub record HaveGivenUp (next : Next) (world : WorldValue) (count : ℕ) (now : W
 pub none_gave_up : (next : Next) (world : WorldValue) → HaveGivenUp next world 0 world
 none_gave_up next world = record { replied = []; taken = refl; same = refl; closed = All-nil IsIdle }
 
-first_closed : (t m e : Told) (i : ℕ) (r q : Reply) → i < length t.actors → IsDue t (Actor i acts.Abort) r → m ≡ after t (Actor i acts.Abort) r → IsDue m (Actor i acts.Request) q
+first_closed : (t m e : Observation) (i : ℕ) (r q : Reply) → i < length t.actors → IsDue t (Actor i acts.Abort) r → m ≡ after t (Actor i acts.Abort) r → IsDue m (Actor i acts.Request) q
     → e ≡ after m (Actor i acts.Request) q → All IsIdle (take i t.actors) → All IsIdle (take (i + 1) e.actors) × (length e.actors ≡ length t.actors)
 first_closed t m e i r q lt due is due' is' closed =
-    let y = story_after acts.Abort r (get_or t.actors i idle) in
-    let set : m.actors ≡ slice_set t.actors i y = stories_after t m i acts.Abort r lt is in
+    let y = observed_after acts.Abort r (get_or t.actors i idle) in
+    let set : m.actors ≡ slice_set t.actors i y = all_observed_after t m i acts.Abort r lt is in
     let count : length m.actors ≡ length t.actors = ap length set ∙ set_length t.actors i y in
     let within : i < length m.actors = omega (arith, lt, count) in
-    let there : get_or m.actors i idle ≡ y = ap (λ (xs : List Story). get_or xs i idle) set ∙ get_or-set_same t.actors i y idle lt in
+    let there : get_or m.actors i idle ≡ y = ap (λ (xs : List ObservedActor). get_or xs i idle) set ∙ get_or-set_same t.actors i y idle lt in
     let up : HasEnded (get_or m.actors i idle) = subst HasEnded (sym there) (abort_ends (get_or t.actors i idle) r (due_of t i acts.Abort r lt due)) in
-    let z = story_after acts.Request q (get_or m.actors i idle) in
-    let set' : e.actors ≡ slice_set m.actors i z = stories_after m e i acts.Request q within is' in
+    let z = observed_after acts.Request q (get_or m.actors i idle) in
+    let set' : e.actors ≡ slice_set m.actors i z = all_observed_after m e i acts.Request q within is' in
     let before : take i m.actors ≡ take i t.actors = ap (take i) set ∙ take-set t.actors i y in
     let all : take (i + 1) e.actors ≡ take i m.actors ++ z ∷ [] = ap (take (i + 1)) set' ∙ take_more_set m.actors i z within in
     let last : IsIdle z = request_idles (get_or m.actors i idle) q (due_of m i acts.Request q within due') up in

@@ -12,7 +12,7 @@ use Rattle.txc_world.specs.declared.step.Step.{Step}
 use Rattle.txc_world.specs.declared.reply.Reply.{Reply}
 use Rattle.txc_world.specs.declared.reply.Reply.TheVariants as replies
 use Rattle.txc_world.specs.declared.reply.Refusal.TheVariants.{NoNode}
-use Rattle.txc_world.specs.Cast.{reads, ReadingValue}
+use Rattle.txc_world.specs.ActorValues.{reads, ReadingValue}
 use Rattle.txc_world.specs.Worlds.{WorldValue}
 use Rattle.txc_play.specs.TaskSteps.{AreShown, Does, DoesCounts, DoesEnd, DoesFinish, DoesPin, DoesTidy, DoesUnpin, ShowsMembers, ending_of, is_unpinned, taken_out}
 use Rattle.txc_play.specs.TaskTexts.{printed_text, stamps_text}

@@ -4,7 +4,7 @@ use Rattle.txc_app.specs.Eval.{Next}
 use Rattle.txc_shared.specs.Nodes.{NodeValue}
 use Rattle.txc_world.specs.declared.step.Step.{Step}
 use Rattle.txc_world.specs.declared.reply.Reply.{Reply}
-use Rattle.txc_world.specs.Cast.{reads, ReadingValue}
+use Rattle.txc_world.specs.ActorValues.{reads, ReadingValue}
 use Rattle.txc_world.specs.Worlds.{WorldValue}
 use Rattle.txc_play.specs.TaskSteps.{Does, DoesCounts, ShowsMembers}
 use Rattle.txc_play.specs.TaskTexts.{printed_text}

@@ -12,9 +12,9 @@ use Rattle.txc_world.specs.declared.reply.Reply.{Reply}
 use Rattle.txc_world.specs.declared.reply.Reply.TheVariants as replies
 use Rattle.txc_world.specs.declared.reply.Refusal.TheVariants.{NoNode}
 use Rattle.txc_world.specs.Acts.{HasStepped}
-use Rattle.txc_world.specs.Cast.{reads, ReadingValue}
-use Rattle.txc_world.specs.Tidy.{purse_after, IsTidy, LosesNoSnapshot, Purse}
-use Rattle.txc_world.specs.Told.{Reading, reading, IsDue, IsExplainedIn}
+use Rattle.txc_world.specs.ActorValues.{reads, ReadingValue}
+use Rattle.txc_world.specs.Tidy.{in_hand_after, IsTidy, LosesNoSnapshot, InHand}
+use Rattle.txc_world.specs.Observation.{Reading, reading, IsDue, IsExplainedIn}
 use Rattle.txc_world.specs.Worlds.{due_of_pins, AreMembersOf, IsBalanced, WorldValue}
 use Rattle.txc_play.specs.declared.printed.Printed.{Printed}
 use Rattle.txc_play.specs.declared.printed.Printed.TheVariants.{Replied, Ended, Members, Tidied, Counted}
@@ -31,8 +31,8 @@ pub record IsTaken (next : Next) (old : WorldValue) (step : Step) (reply : Reply
   pub stepped : HasStepped next old step reply new
   pub explained : IsExplainedIn next new.told.history old.told step reply
   pub due : IsDue old.told step reply
-  pub balanced : (purse : Purse) → IsBalanced old purse → IsTidy step reply purse
-      → IsBalanced new (purse_after step reply purse) × LosesNoSnapshot step reply
+  pub balanced : (in_hand : InHand) → IsBalanced old in_hand → IsTidy step reply in_hand
+      → IsBalanced new (in_hand_after step reply in_hand) × LosesNoSnapshot step reply
 
 -- steps were taken one after another and replied so, each in the world that those before it left
 abbrev pub AreTaken : Next → WorldValue → List Step → List Reply → WorldValue → Type 0

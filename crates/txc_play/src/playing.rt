@@ -1,7 +1,7 @@
 //! The steps that a line of a world's script stands for.
 ghost use Rattle.std.specs.Prelude.{◌≡◌, map, All, IfOk, OnErr};
 ghost use Rattle.txc_play.specs.TaskSteps.{DoesCounts, DoesPins, HasGivenUp, IsTaken, TaskHasBegun, TaskIsDone};
-ghost use Rattle.txc_world.specs.Told.{idle};
+ghost use Rattle.txc_world.specs.Observation.{idle};
 ghost use Rattle.txc_play.specs.Playing.{HasEndedTxn, HasUnpinned, IsCutShort};
 
 use crate::outcome::{ending_of, is_added, is_unpinned, leaves_hold, stamp_in, taken_out, tidied};
@@ -179,7 +179,7 @@ pub fn play<A: App, C: Cacheable>(
 /// an actor with nothing open are refused, and change nothing.
 pub fn give_all_up<A: App, C: Cacheable>(alloc: Global, world: &mut World<A, C>)
     ensures given_up { HasGivenUp A.next world.old world.new }
-    ensures closed { All (λ story. story ≡ idle) world.new.told.actors }
+    ensures closed { All (λ observed. observed ≡ idle) world.new.told.actors }
 {
     for actor in 0..world.actor_count() {
         let _ = take(alloc, world, Step::Actor(actor, Act::Abort));

@@ -1,6 +1,6 @@
 //! Runs of a world's scripts.
 ghost use Rattle.std.specs.Prelude.{◌≡◌, All};
-ghost use Rattle.txc_world.specs.Told.{idle};
+ghost use Rattle.txc_world.specs.Observation.{idle};
 ghost use Rattle.txc_play.specs.WorldRuns.{world_settings, HasPlayed};
 
 use crate::player::WorldScript;
@@ -40,7 +40,7 @@ pub fn run_world<A: App, C: Cacheable, R: Read, W: Write>(
 ) -> Result<Status, RunFault>
     ensures after { HasPlayed A.next world.old (R.remaining reader.old) (R.remaining reader.new)
         (W.contents writer.old) (W.contents writer.new) result world.new }
-    ensures closed { All (λ story. story ≡ idle) world.new.told.actors }
+    ensures closed { All (λ observed. observed ≡ idle) world.new.told.actors }
 {
     let script: WorldScript<A, C> = WorldScript(PhantomData);
     let ended = run_script(alloc, &script, world, reader, writer);

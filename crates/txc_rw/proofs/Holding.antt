@@ -173,7 +173,7 @@ rows_at_one changes q rows tags is = record {
       let high = inside.1 in
       let one : t ≡ 1 = omega (arith, low, high) in
       subst (λ (n : ℕ). rows ≡ answer q (state_at (committed changes) n)) (sym one) is;
-  covered = λ still t inside. absurd (cc still);
+  covered = λ still t inside. cc still;
 }
 
 -- what was found for the query that was asked
@@ -281,7 +281,7 @@ holds_in_longer stay next L M objects c begins h =
 -- a reply that hands in nothing is right
 pub nothing_handed_in : (next : Next) (L : History) (need : Need) (reply : Reply) → ReplyFits need reply → reply_reach reply ≡ None → ReplyHolds next L need reply
 nothing_handed_in next L (needs.Lookup k) replies.Miss fits none = tt
-nothing_handed_in next L (needs.Lookup k) (replies.Hit hit) fits none = absurd (cc none)
-nothing_handed_in next L (needs.Query q) (replies.Found found) fits none = absurd (cc none)
+nothing_handed_in next L (needs.Lookup k) (replies.Hit hit) fits none = cc none
+nothing_handed_in next L (needs.Query q) (replies.Found found) fits none = cc none
 nothing_handed_in next L (needs.Insert e) replies.Inserted fits none = tt
 nothing_handed_in next L need reply fits none = absurd fits

@@ -64,8 +64,8 @@ module _ (next : Next) (s : State) where
 -- a reply that hands in nothing is that of no cache, and to no query
 pub uncached_of : (s : State) (need : Need) (reply : Reply) → ReplyFits need reply → reply_reach reply ≡ None → IsUncached s need reply × (query_in need ≡ [])
 uncached_of s (needs.Lookup k) replies.Miss fits none = (refl, refl)
-uncached_of s (needs.Lookup k) (replies.Hit hit) fits none = absurd (cc none)
-uncached_of s (needs.Query q) (replies.Found found) fits none = absurd (cc none)
+uncached_of s (needs.Lookup k) (replies.Hit hit) fits none = cc none
+uncached_of s (needs.Query q) (replies.Found found) fits none = cc none
 uncached_of s (needs.Insert e) replies.Inserted fits none = (refl, refl)
 uncached_of s need reply fits none = absurd fits
 
@@ -146,7 +146,7 @@ run_asks : (next : Next) (row : Name) (s : State) (from : CallTurn) (old core : 
     → IsLedTo next s from queries (standing_of core.call objects)
 run_asks next row s from old core objects asked queries (Ok standing) led (inl does) = subst (λ (t : CallTurn). IsLedTo next s from queries t) (sym does) led
 run_asks next row s from old core objects asked queries (Ok standing) led (inr does) = absurd does
-run_asks next row s from old core objects asked queries (Err e) led (inl does) = absurd (cc does)
+run_asks next row s from old core objects asked queries (Err e) led (inl does) = cc does
 run_asks next row s from old core objects asked queries (Err e) led (inr does) = absurd does
 
 -- and goes on with the database's answer

@@ -54,10 +54,10 @@ module _ (never : NeverIsEmpty) (next : Next) (objects : Objects) (c : CoreValue
         call = h.call;
         within = All-cons (λ (p : Pin). InCall p.stamp c.call) pin c.pins.members
             (subst (λ (r : Option Interval). InReach pin.stamp r) (sym unreached.0) tt, in_unreached pin.stamp c.call.frames unreached.1) h.within;
-        unreached = λ again. absurd (cc again);
+        unreached = λ again. cc again;
         pinning = rw none tt;
-        member = λ calling empty. absurd (cc empty);
-        answered = λ some empty. absurd (cc empty);
+        member = λ calling empty. cc empty;
+        answered = λ some empty. cc empty;
         taken = All-cons (λ (p : Pin). Contains (c.taken ++ pin.stamp ∷ []) p.stamp) pin c.pins.members (Contains-push c.taken pin.stamp)
             (All-weaker (λ (p : Pin). Contains c.taken p.stamp) (λ (p : Pin). Contains (c.taken ++ pin.stamp ∷ []) p.stamp) (λ p there. Contains-append_left c.taken (pin.stamp ∷ []) p.stamp there) c.pins.members h.taken);
         nodes = h.nodes;
@@ -106,7 +106,7 @@ module _ (keeps : KeepsExactlyTheHeld) (never : NeverIsEmpty) (next : Next) (obj
     set = never.narrows c.pins reach h.set some;
     call = h.call;
     within = kept_all keeps (λ (p : Pin). InCall p.stamp c.call) (λ (p : Pin). InCall p.stamp c.call) reach c.pins (λ p held inside. inside) h.within;
-    unreached = λ present. absurd (cc present);
+    unreached = λ present. cc present;
     pinning = rw none tt;
     member = λ calling. some;
     answered = λ recorded. some;
@@ -119,7 +119,7 @@ module _ (keeps : KeepsExactlyTheHeld) (never : NeverIsEmpty) (next : Next) (obj
     meant = fewer_members_mean_the_same next L c.bounds c.pins (narrowed reach c.pins) c.recorded objects c.call h.meant record {
       set = never.narrows c.pins reach h.meant.set some;
       members = λ i d below. ((keeps c.pins reach _).0 (Contains-get_or (kept reach c.pins.members) i d below)).0;
-      present = λ present. absurd (cc present);
+      present = λ present. cc present;
     };
     coming = h.coming;
   }
@@ -160,7 +160,7 @@ common_of call reach [] some held within = absurd (some refl)
 common_of call reach (p ∷ ps) some held within = (p.stamp, held 0 p (omega arith), within 0 p (omega arith))
 
 needs_one : (need : Option Need) (n : Need) → need ≡ Some n → need ≢ None
-needs_one need n is none = absurd (let both = sym is ∙ none in cc both)
+needs_one need n is none = cc (sym is ∙ none)
 
 module _ (next : Next) (objects : Objects) (c : CoreValue) (reach : Option Interval) (held : All (λ m. InReach m.stamp reach) c.pins.members) where
   pub common : (n : Need) → c.call.need ≡ Some n → IsCore next objects c → (t : ℕ) × InReach t reach × InCall t c.call
@@ -244,9 +244,9 @@ core_explains next L objects c some h = go c.recorded c.pins.members some h.mean
     go : (recorded : List Recorded) (members : List Pin) → (recorded ≢ [] → members ≢ []) → All (IsFresh L c.bounds) members → All (λ p. AreConsistent next recorded (state_at L p.stamp)) members
         → Explains next L c.bounds (receipt_pin recorded members) recorded
     go [] members some fresh right = refl
-    go (r ∷ rs) [] some fresh right = absurd (some (λ none. absurd (cc none)) refl)
+    go (r ∷ rs) [] some fresh right = absurd (some (λ none. cc none) refl)
     go (r ∷ rs) (newest ∷ older) some fresh right = (
-      λ none. absurd (cc none),
+      λ none. cc none,
       All-head (IsFresh L c.bounds) newest older fresh,
       All-head (λ (p : Pin). AreConsistent next (r ∷ rs) (state_at L p.stamp)) newest older right,
     )
@@ -314,13 +314,13 @@ leads_seen next c seen objects (ports.Insert kept) new objects' turn h = h
 
 -- a reply that shows nothing of the history says nothing of it
 no_front : (next : Next) (need : Option Need) (reply : PortReply) (M : History) → front_of_reply reply ≡ None → IsRightPortReply next M need reply
-no_front next need (ports.Pin (Ok pinned)) M none = absurd (cc none)
+no_front next need (ports.Pin (Ok pinned)) M none = cc none
 no_front next need (ports.Pin (Err error)) M none = tt
 no_front next need (ports.AddPin pinned added) M none = tt
 no_front next need (ports.Unpin unpinned) M none = tt
 no_front next need (ports.Lookup None) M none = tt
-no_front next need (ports.Lookup (Some hit)) M none = absurd (cc none)
-no_front next need (ports.Query (Ok found)) M none = absurd (cc none)
+no_front next need (ports.Lookup (Some hit)) M none = cc none
+no_front next need (ports.Query (Ok found)) M none = cc none
 no_front next need (ports.Query (Err error)) M none = tt
 no_front next need (ports.Insert kept) M none = tt
 

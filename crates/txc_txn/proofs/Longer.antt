@@ -31,25 +31,25 @@ use Rattle.txc_ports.specs.Answers.{IsFresh}
 -- ---- pins
 
 get_more : (L more : History) (i : ℕ) (e : EventValue) → slice_get L i ≡ Some e → slice_get (L ++ more) i ≡ Some e
-get_more [] more i e is = absurd (cc is)
+get_more [] more i e is = cc is
 get_more (x ∷ L) more zero e is = is
 get_more (x ∷ L) more (suc i) e is = get_more L more i e is
 
 moment_more : (L more : History) (t m : ℕ) → moment_at L t ≡ Some m → moment_at (L ++ more) t ≡ Some m
-moment_more L more zero m is = absurd (cc is)
+moment_more L more zero m is = cc is
 moment_more L more (suc t) m is = go (slice_get L t) refl is
   where
     go : (o : Option EventValue) → slice_get L t ≡ o → pinned_moment o ≡ Some m → pinned_moment (slice_get (L ++ more) t) ≡ Some m
-    go None there has = absurd (cc has)
+    go None there has = cc has
     go (Some e) there has = ap pinned_moment (get_more L more t e there) ∙ has
 
 -- the stamp of a pin is not beyond the history
 pub pin_within : (L : History) (t m : ℕ) → moment_at L t ≡ Some m → t ≤ length L
-pin_within L zero m is = absurd (cc is)
+pin_within L zero m is = cc is
 pin_within L (suc t) m is = go (slice_get L t) refl is
   where
     go : (o : Option EventValue) → slice_get L t ≡ o → pinned_moment o ≡ Some m → suc t ≤ length L
-    go None there has = absurd (cc has)
+    go None there has = cc has
     go (Some e) there has = let within = slice_get_within L t e there in omega (arith, within)
 
 module _ (stay : StatesStay) (L M : History) (begins : IsPrefix L M) where

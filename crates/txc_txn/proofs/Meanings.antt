@@ -139,8 +139,8 @@ finding_narrows keeps next L bounds pins recorded objects objects' call call' (S
   consistent = kept_all keeps (λ (p : Pin). AreConsistent next recorded (state_at L p.stamp)) (λ (p : Pin). AreConsistent next recorded (state_at L p.stamp)) reach pins (λ p inside right. right) h.consistent;
   right = on.right;
   within = kept_all keeps (λ (p : Pin). InCall p.stamp call) (λ (p : Pin). InCall p.stamp call') reach pins (λ p held inside. on.within p.stamp held inside) h.within;
-  unreached = λ present. absurd (cc present);
-  everywhere = λ present. absurd (cc present);
+  unreached = λ present. cc present;
+  everywhere = λ present. cc present;
 }
 
 pub query_leaves_a_member : KeepsExactlyTheHeld → QueryLeavesAMember
@@ -165,8 +165,8 @@ present_joins never next L bounds pins recorded objects call pin h present fresh
       consistent = All-cons (λ (p : Pin). AreConsistent next recorded (state_at L p.stamp)) pin pins.members (h.everywhere present (state_at L pin.stamp)) h.consistent;
       right = h.right;
       within = All-cons (λ (p : Pin). InCall p.stamp call) pin pins.members (subst (λ (r : Option Interval). InReach pin.stamp r) (sym none.0) tt, in_unreached pin.stamp call.frames none.1) h.within;
-      unreached = λ again. absurd (cc again);
-      everywhere = λ again. absurd (cc again);
+      unreached = λ again. cc again;
+      everywhere = λ again. cc again;
     }
 
 pub present_is_fresh : PresentIsFresh
@@ -196,7 +196,7 @@ value_at next L o (Some reach) t h inside = h.holds t inside
 
 value_anywhere : (next : Next) (L : History) (o : Outcome) (reach : Option Interval) (s : State) → ValueHolds next L o.key o.value reach o.tags → reach ≡ None → eval next o.key s ≡ Some o.value
 value_anywhere next L o None s h none = (h s).0
-value_anywhere next L o (Some reach) s h none = absurd (cc none)
+value_anywhere next L o (Some reach) s h none = cc none
 
 pub value_is_recorded : ValueIsRecorded
 value_is_recorded next L bounds pins recorded objects call o h is =
@@ -243,14 +243,14 @@ open_answers_are_right next L bounds pins recorded objects call h =
 
 nothing_before : {X : Type 0} (xs ys : List X) → xs ++ ys ≡ [] → (xs ≡ []) × (ys ≡ [])
 nothing_before [] ys none = (refl, none)
-nothing_before (x ∷ xs) ys none = absurd (cc none)
+nothing_before (x ∷ xs) ys none = cc none
 
 -- rows answer a query alone
 no_rows : (next : Next) (f : ℕ) (s : State) (ask : Option Ask) (x : Answer) → IsRight next f s ask x → queries_of next s ask ≡ [] → IsValueAnswer x
 no_rows next f s ask (answers.Value bytes) right none = tt
 no_rows next f s None (answers.Rows rows) right none = right
-no_rows next f s (Some (asks.Query q)) (answers.Rows rows) right none = absurd (cc none)
-no_rows next f s (Some (asks.Call k)) (answers.Rows rows) right none = let is = right.is in absurd (cc is)
+no_rows next f s (Some (asks.Query q)) (answers.Rows rows) right none = cc none
+no_rows next f s (Some (asks.Call k)) (answers.Rows rows) right none = let is = right.is in cc is
 no_rows next f s (Some (asks.Done bytes)) (answers.Rows rows) right none = right
 
 values_after : (next : Next) (k : Call) (s : State) (before given : List Answer)

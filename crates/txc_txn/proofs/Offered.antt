@@ -85,11 +85,11 @@ module _ (next : Next) (row : Name) (t : TxnValue) (kept : IsTxn next t) where
 -- where the next query runs at a stamp, that is the newest member's
 chosen : (now renew_after : ℕ) (present : Bool) (members : List Pin) (stamp : ℕ) (reach : Interval)
     → choice_among now renew_after present members ≡ At stamp → Holds reach stamp → HoldsNewest reach members
-chosen now renew_after present [] stamp reach is around = absurd (cc is)
+chosen now renew_after present [] stamp reach is around = cc is
 chosen now renew_after present (newest ∷ older) stamp reach is around = go (present && is_older renew_after now newest) refl
   where
     go : (b : Bool) → (present && is_older renew_after now newest) ≡ b → Holds reach newest.stamp
-    go true due = let no : Present ≡ At stamp = rw due at is in absurd (cc no)
+    go true due = let no : Present ≡ At stamp = rw due at is in cc no
     go false due = let same : At newest.stamp ≡ At stamp = rw due at is in let at : newest.stamp ≡ stamp = cc in subst (Holds reach) (sym at) around
 
 module _ (next : Next) (c : CoreValue) where
@@ -119,10 +119,10 @@ module _ (next : Next) (t : TxnValue) where
   shown_right (exchanges.Pin now at_least (Ok pinned)) right asking = λ front is.
       let same : pinned.front ≡ front = cc in
       subst (λ (f : FrontValue). moment_at f.history pinned.stamp ≡ Some pinned.moment) same right.2
-  shown_right (exchanges.Pin now at_least (Err error)) right asking = λ front is. absurd (cc is)
+  shown_right (exchanges.Pin now at_least (Err error)) right asking = λ front is. cc is
   shown_right (exchanges.AddPin pinned given added) right asking = λ front is. tt
-  shown_right (exchanges.Unpin stamp unpinned) right asking = λ front is. absurd (cc is)
-  shown_right (exchanges.Lookup node key lo hi None) right asking = λ front is. absurd (cc is)
+  shown_right (exchanges.Unpin stamp unpinned) right asking = λ front is. cc is
+  shown_right (exchanges.Lookup node key lo hi None) right asking = λ front is. cc is
   shown_right (exchanges.Lookup node key lo hi (Some hit)) right asking = λ front is n at.
       let same : hit.front ≡ front = cc in
       subst (λ (f : FrontValue). ReplyHolds next f.history n (calls.Hit hit.answer)) same
@@ -131,8 +131,8 @@ module _ (next : Next) (t : TxnValue) where
       let same : found.front ≡ front = cc in
       subst (λ (f : FrontValue). ReplyHolds next f.history n (calls.Found found.answer)) same
       (subst (λ (m : Need). ReplyHolds next found.front.history m (calls.Found found.answer)) (needs_this (needs.Query query) n asking.0.1 at) right.rows)
-  shown_right (exchanges.Query query stamp (Err error)) right asking = λ front is. absurd (cc is)
-  shown_right (exchanges.Insert node entry kept) right asking = λ front is. absurd (cc is)
+  shown_right (exchanges.Query query stamp (Err error)) right asking = λ front is. cc is
+  shown_right (exchanges.Insert node entry kept) right asking = λ front is. cc is
 
   pub is_right : (request : PortRequest) (reply : PortReply) → CoreAsks t.core request → IsReplyTo next request reply → IsShownRight next t reply
   is_right request reply asking to =

@@ -52,7 +52,7 @@ module _ (deeds : List Deed) (deed : Deed) (floor : ℕ) (h : IsFloorOf deeds fl
     where
       go : (stamp : ℕ) → HasNoted deeds stamp ⊎ (stamp_of deed ≡ Some stamp) → stamp ≤ floor
       go stamp (inl was) = h.greatest stamp was
-      go stamp (inr last) = let no : None ≡ Some stamp = sym none ∙ last in absurd (cc no)
+      go stamp (inr last) = let no : None ≡ Some stamp = sym none ∙ last in cc no
 
   -- it notes a stamp
   module _ (stamp : ℕ) (is : stamp_of deed ≡ Some stamp) where

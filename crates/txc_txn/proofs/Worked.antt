@@ -24,7 +24,7 @@ newer_fresh : IsFresh worked (within_ms 1500) newer_pin
 newer_fresh = record { shown = refl; allowed = record { moment = 2000; pinned = refl; fresh = omega arith; late = omega arith } }
 
 one_falls : (p : Pin) → Falls (p ∷ [])
-one_falls p = AllPairs-cons (λ (newer older : Pin). older.stamp < newer.stamp) p [] (All-nil (λ (m : Pin). m.stamp < p.stamp)) (λ i j d before below. absurd (omega (arith, below)))
+one_falls p = AllPairs-cons (λ (newer older : Pin). older.stamp < newer.stamp) p [] (All-nil (λ (m : Pin). m.stamp < p.stamp)) (λ i j d before below. omega (arith, before, below))
 
 none_recorded : (s : State) → AreConsistent program [] s
 none_recorded s = All-nil (λ (r : Recorded). eval program r.key s ≡ Some r.value)
@@ -43,7 +43,7 @@ one_right : (s : State) → eval program bodies s ≡ Some (97 ∷ []) → AreRi
 one_right s is zero x there =
     let same : answers.Value (97 ∷ []) ≡ x = cc there in
     subst (λ (a : Answer). IsRight program 2 s (program 2 (2 ∷ 9 ∷ []) []) a) same (record { bytes = 97 ∷ []; is = refl; below = omega arith; value = is })
-one_right s is (suc i) x there = absurd (cc there)
+one_right s is (suc i) x there = cc there
 
 an_a_from_1_to_2 : (t : ℕ) → 1 ≤ t → t ≤ 2 → eval program bodies (state_at worked t) ≡ Some (97 ∷ [])
 unfolding activation call_below
@@ -82,30 +82,30 @@ worked_meanings = record {
       let old = All-head (IsFresh worked (within_ms 1499)) older_pin [] (All-tail (IsFresh worked (within_ms 1499)) newer_pin (older_pin ∷ []) h.fresh) in
       moment_is_1000 old.allowed.moment old.allowed.pinned old.allowed.fresh;
   recorded = record {
-    set = record { falls = one_falls older_pin; some = λ none. absurd (cc none) };
+    set = record { falls = one_falls older_pin; some = λ none. cc none };
     fresh = one_member (IsFresh worked (within_ms 1500)) older_fresh;
     consistent = one_member (λ (p : Pin). AreConsistent program (an_a ∷ []) (state_at worked p.stamp)) an_a_at_2;
     right = tt;
     within = one_member (λ (p : Pin). InCall p.stamp at_rest) (tt, tt);
-    unreached = λ present. absurd (cc present);
-    everywhere = λ present. absurd (cc present);
+    unreached = λ present. cc present;
+    everywhere = λ present. cc present;
   };
   too_new = λ h. b_too_at_4 (All-head (λ (p : Pin). AreConsistent program (an_a ∷ []) (state_at worked p.stamp)) newer_pin [] h.consistent);
   open_frame = record {
-    set = record { falls = one_falls older_pin; some = λ none. absurd (cc none) };
+    set = record { falls = one_falls older_pin; some = λ none. cc none };
     fresh = one_member (IsFresh worked (within_ms 1500)) older_fresh;
     consistent = one_member (λ (p : Pin). AreConsistent program [] (state_at worked p.stamp)) (none_recorded (state_at worked 2));
     right = (
       record {
         within = omega arith;
         holds = λ t inside. one_right (state_at worked t) (an_a_from_1_to_2 t inside.0 inside.1);
-        covered = λ still. absurd (cc still);
+        covered = λ still. cc still;
       },
       tt,
     );
     within = one_member (λ (p : Pin). InCall p.stamp (open_over while_a)) (tt, ((omega arith, omega arith), tt));
-    unreached = λ present. absurd (cc present);
-    everywhere = λ present. absurd (cc present);
+    unreached = λ present. cc present;
+    everywhere = λ present. cc present;
   };
   outside = λ h.
       let beyond = (All-head (λ (p : Pin). InCall p.stamp (open_over while_a)) newer_pin (older_pin ∷ []) h.within).1.0 in
@@ -114,5 +114,5 @@ worked_meanings = record {
   too_wide = λ h.
       let value = h.right.0.holds 3 (omega arith, omega arith) 0 (answers.Value (97 ∷ [])) refl in
       more_at_3 value.bytes value.is value.value;
-  with_present = λ h. let reached = (h.unreached refl).1.0 in absurd (cc reached);
+  with_present = λ h. let reached = (h.unreached refl).1.0 in cc reached;
 }

@@ -12,10 +12,10 @@ use Rattle.txc_visits.specs.declared.plan.Plan.{Plan}
 use Rattle.txc_visits.specs.Plans.{nodes_of}
 use Rattle.txc_visits.specs.Tended.{IsTendedAsPlanned}
 
--- of these nodes, which are those
-pub tended_of : (row : Name) (nodes others : List NodeSettings) (tells : ℕ → Type 0) (age : ℕ) (tended : Tended) → nodes ≡ others
-    → IsTendedBy row nodes tells age tended → IsTendedBy row others tells age tended
-tended_of row nodes others tells age tended same h = subst (λ (all : List NodeSettings). IsTendedBy row all tells age tended) same h
+-- a keeper of these nodes, which are those, is one of those
+pub tended_of : (row : Name) (nodes others : List NodeSettings) (tells : ℕ → Type 0) (age : ℕ) (result : Result Tended SiteError) → nodes ≡ others
+    → IfOk result (IsTendedBy row nodes tells age) → IfOk result (IsTendedBy row others tells age)
+tended_of row nodes others tells age result same h = subst (λ (all : List NodeSettings). IfOk result (IsTendedBy row all tells age)) same h
 
 -- what a site's own keeper came to, as its plan says
 module _ (plan : Plan) (tells : ℕ → Type 0) (row : Name) where

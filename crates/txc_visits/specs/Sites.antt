@@ -15,7 +15,8 @@ use Rattle.txc_visits.specs.declared.error.OpenError.{OpenError}
 use Rattle.txc_visits.specs.declared.error.OpenError.TheVariants as opens
 use Rattle.txc_keeper.specs.Refusals.{IsNoPass}
 use Rattle.txc_pages.specs.Pages.{IsPageRefused}
-use Rattle.txc_visits.specs.Plans.{HaveHistoriesBy, nodes_of, IsPlan}
+use Rattle.txc_visits.specs.Histories.{HaveHistoriesBy}
+use Rattle.txc_visits.specs.Plans.{nodes_of, IsPlan}
 
 -- a client of a site: the site's plan, the client that reads, what the objects do that a change calls, and how often a
 -- change was committed

@@ -2,8 +2,8 @@
 ghost use Rattle.std.specs.Prelude.{◌≡◌, ◌≤◌, IfErr, IfOk, length, vec_len};
 ghost use Rattle.txc_db.specs.Shared.{IsDatabaseOf};
 ghost use Rattle.txc_visits.specs.Sites.{IsVisitRefused, HaveCome};
-ghost use Rattle.txc_visits.specs.Plans.{IsPlan, HaveHistoriesBy};
-ghost use Rattle.txc_visits.specs.Histories.{AreHistoriesOf};
+ghost use Rattle.txc_visits.specs.Plans.{IsPlan};
+ghost use Rattle.txc_visits.specs.Histories.{AreHistoriesOf, HaveHistoriesBy};
 ghost use Rattle.txc_visits.specs.Tended.{IsTendedAsPlanned};
 
 use crate::application::Application;

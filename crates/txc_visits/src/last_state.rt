@@ -1,8 +1,8 @@
 //! The state that a site leaves.
 ghost use Rattle.std.specs.Prelude.{◌≡◌, IfErr, IfOk, length, vec_len};
 ghost use Rattle.txc_db.specs.DatabaseValue.{front_of};
-ghost use Rattle.txc_visits.specs.Histories.{AreHistoriesOf};
-ghost use Rattle.txc_visits.specs.Plans.{HaveHistoriesBy, IsPlan};
+ghost use Rattle.txc_visits.specs.Histories.{AreHistoriesOf, HaveHistoriesBy};
+ghost use Rattle.txc_visits.specs.Plans.{IsPlan};
 ghost use Rattle.txc_pages.specs.Pages.{last_bounds};
 ghost use Rattle.txc_visits.specs.Sites.{IsLastRefused};
 ghost use Rattle.txc_txn.specs.Core.{Explains};

@@ -14,7 +14,7 @@ pub const MAX_NODES: usize = 64;
 /// How a site is made, and how long it lasts.
 ///
 /// Its database's history has room for `events`, which is fixed once it is made. Each commit that changes something is
-/// an event, and so is each pin: one for each [`Keeper::keep`](crate::Keeper::keep), and one for each transaction whose
+/// an event, and so is each pin: one for each [`Keeper::keep`](txc_keeper::Keeper::keep), and one for each transaction whose
 /// newest pin is too old. Once there are as many, no commit and no pin is made any more, and a transaction without a pin
 /// that its bounds allow is refused. Where they are stored, their row is never given back. Else the history exists in the
 /// proofs alone: what stands in memory of an event are its tags, until each node has taken it and a keeper has passed it.
@@ -23,9 +23,9 @@ pub const MAX_NODES: usize = 64;
 /// proofs alone, unless the plan asks for `records`; then, once there are as many, the node has nothing and keeps
 /// nothing, and all calls are computed. So a site of `e` events ends
 /// after `e` commits and pins: at ten a second [`Plan::DEFAULT`] lasts 109 minutes.
-/// [`Keeper::keep`](crate::Keeper::keep) tells what is left.
+/// [`Keeper::keep`](txc_keeper::Keeper::keep) tells what is left.
 ///
-/// [`with_generations`](crate::with_generations) goes on from there: each generation has this room anew, less the
+/// `with_generations` (`txc_site`) goes on from there: each generation has this room anew, less the
 /// events that carry the state over, which are at most one for each row.
 #[derive(Clone, Copy, Debug, PartialEq, Eq)]
 pub struct Plan {

@@ -1,7 +1,8 @@
 //! The threads of a site, and their clients.
 ghost use Rattle.std.specs.Prelude.{◌≡◌, ◌<◌, All, IfErr, IfOk, map, vec_len};
 ghost use Rattle.txc_registry.specs.Objects.{numbers_of};
-ghost use Rattle.txc_visits.specs.Plans.{HaveHistoriesBy, nodes_of, IsPlan};
+ghost use Rattle.txc_visits.specs.Histories.{HaveHistoriesBy};
+ghost use Rattle.txc_visits.specs.Plans.{nodes_of, IsPlan};
 ghost use Rattle.txc_visits.specs.Sites.{IsVisitRefused, numbers_below, HaveCome, IsClientRefused, IsNewClient};
 ghost use Rattle.txc_visits.specs.Guests.{AreGuests};
 ghost use Rattle.txc_keeper.specs.Refusals.{IsKeeperRefused};

@@ -29,10 +29,10 @@ use Rattle.txc_world.specs.declared.did.Did.TheVariants as dids
 use Rattle.txc_world.specs.Parts.{IsPartOf}
 use Rattle.txc_world.specs.Ports.{PortsValue, whole_of, KeepsRow, HasLedNode}
 use Rattle.txc_world.specs.Asks.{kept_after, AddLeads, AnswersRows, DoesTell, FindLeads, IsAsked, IsAskedAt, IsTold, PinLeads, PortRequestLeads, UnpinLeads}
-use Rattle.txc_world.specs.Books.{CountRight}
+use Rattle.txc_world.specs.Holdings.{CountRight}
 use Rattle.txc_world.specs.NodeSteps.{InsertLeads, LookupLeads}
 use Rattle.txc_world.proofs.Fairness.{counts_add, counts_pin, counts_query, counts_unpin, fair_led}
-use Rattle.txc_world.specs.Told.{did_in}
+use Rattle.txc_world.specs.Observation.{did_in}
 use Rattle.txc_world.proofs.PartLemmas.{part_itself, part_then}
 use Rattle.txc_world.proofs.PortsLemmas.{left_history}
 
@@ -45,7 +45,7 @@ for_this : {X : Type 0} (P : X → Type 0) (x : X) → P x → ForSome (Some x) 
 for_this P x h y is = let same : x ≡ y = cc in subst P same h
 
 for_none : {X : Type 0} (P : X → Type 0) → ForSome None P
-for_none P y is = absurd (cc is)
+for_none P y is = cc is
 
 -- what a node shows that is not broken is part of the whole
 pub shown_part : (whole : FrontValue) (node : NodeValue) (hit : Option (Answered Shown)) → (node.broken ≡ false → IsPartOf whole node.seen)

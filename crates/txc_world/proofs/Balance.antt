@@ -18,8 +18,8 @@ use Rattle.txc_shared.specs.Nodes.{NodeValue}
 use Rattle.txc_world.specs.Ports.{PortsValue, HasLedNode, HasRefused}
 use Rattle.txc_world.specs.Asks.{UnpinLeads}
 use Rattle.txc_world.specs.Keeping.{stamps_of_pins, GiveBackLeads, HasAddedSpare, PinSpareLeads, RetireLeads, WriteLeads}
-use Rattle.txc_world.specs.Books.{books_of, Account, CountRight}
-use Rattle.txc_world.specs.Tidy.{AreBalanced, KeepsBalance, Purse}
+use Rattle.txc_world.specs.Holdings.{holdings_of, Account, CountRight}
+use Rattle.txc_world.specs.Tidy.{AreBalanced, KeepsBalance, InHand}
 use Rattle.txc_world.specs.Kept.{KeepLeads}
 use Rattle.txc_world.proofs.KeptLemmas.{pinned_spare_stamps}
 use Rattle.txc_world.proofs.Times.{held_there, times_append, times_cons, times_one, times_without}
@@ -27,18 +27,18 @@ use Rattle.txc_world.proofs.Fairness.{left_holds, pin_holds}
 
 module _ (old new : PortsValue) where
   -- a step that leaves holds and pins, and the keeper's pins
-  balance_same : (purse : Purse) (accounts : List Account) → new.database.holds ≡ old.database.holds → new.cushion ≡ old.cushion
-      → stamps_of_pins new.spare ≡ stamps_of_pins old.spare → AreBalanced (stamps_of_pins old.spare) (books_of old accounts) purse
-      → AreBalanced (stamps_of_pins new.spare) (books_of new accounts) purse
-  balance_same purse accounts holds cushion spare h = rw (holds, cushion, spare) (record { held = h.held; used = h.used })
+  balance_same : (in_hand : InHand) (accounts : List Account) → new.database.holds ≡ old.database.holds → new.cushion ≡ old.cushion
+      → stamps_of_pins new.spare ≡ stamps_of_pins old.spare → AreBalanced (stamps_of_pins old.spare) (holdings_of old accounts) in_hand
+      → AreBalanced (stamps_of_pins new.spare) (holdings_of new accounts) in_hand
+  balance_same in_hand accounts holds cushion spare h = rw (holds, cushion, spare) (record { held = h.held; used = h.used })
 
-  balance_led : (at : ℕ) (leads : NodeValue → NodeValue → Type 0) → HasLedNode at leads old new → (purse : Purse) (accounts : List Account)
-      → AreBalanced (stamps_of_pins old.spare) (books_of old accounts) purse → AreBalanced (stamps_of_pins new.spare) (books_of new accounts) purse
-  balance_led at leads led purse accounts h = rw led.is (record { held = h.held; used = h.used })
+  balance_led : (at : ℕ) (leads : NodeValue → NodeValue → Type 0) → HasLedNode at leads old new → (in_hand : InHand) (accounts : List Account)
+      → AreBalanced (stamps_of_pins old.spare) (holdings_of old accounts) in_hand → AreBalanced (stamps_of_pins new.spare) (holdings_of new accounts) in_hand
+  balance_led at leads led in_hand accounts h = rw led.is (record { held = h.held; used = h.used })
 
-  balance_refused : (e : DbError) → HasRefused old new e → (purse : Purse) (accounts : List Account)
-      → AreBalanced (stamps_of_pins old.spare) (books_of old accounts) purse → AreBalanced (stamps_of_pins new.spare) (books_of new accounts) purse
-  balance_refused e h purse accounts b = balance_same purse accounts (left_holds old.database new.database e h.left)
+  balance_refused : (e : DbError) → HasRefused old new e → (in_hand : InHand) (accounts : List Account)
+      → AreBalanced (stamps_of_pins old.spare) (holdings_of old accounts) in_hand → AreBalanced (stamps_of_pins new.spare) (holdings_of new accounts) in_hand
+  balance_refused e h in_hand accounts b = balance_same in_hand accounts (left_holds old.database new.database e h.left)
       (ap (λ (p : PortsValue). p.cushion) h.is) (ap (λ (p : PortsValue). stamps_of_pins p.spare) h.is) b
 
 pub committed_holds : (d : DatabaseValue) (net : List Change) (other : DatabaseValue) → other.holds ≡ d.holds → (where_some net d other).holds ≡ d.holds
@@ -49,21 +49,21 @@ committed_holds d (c ∷ cs) other same = same
 
 module _ (old new : PortsValue) where
   keeps_written : (change : Change) (stamp : ℕ) → WriteLeads change old new (Ok stamp) → KeepsBalance (keeps.Write change) old new (replies.At stamp)
-  keeps_written change stamp leads = λ purse accounts tidy h.
+  keeps_written change stamp leads = λ in_hand accounts tidy h.
       let d = old.database in
       let holds : new.database.holds ≡ old.database.holds =
       ap (λ (p : PortsValue). p.database.holds) leads.0
       ∙ committed_holds d (newest_net d (change ∷ [])) (after_event_of d (commit_event (newest_state d) (change ∷ [])) (newest_net d (change ∷ []))) refl in
-      balance_same old new purse accounts holds (ap (λ (p : PortsValue). p.cushion) leads.0) (ap (λ (p : PortsValue). stamps_of_pins p.spare) leads.0) h
+      balance_same old new in_hand accounts holds (ap (λ (p : PortsValue). p.cushion) leads.0) (ap (λ (p : PortsValue). stamps_of_pins p.spare) leads.0) h
 
   keeps_not_written : (change : Change) (e : DbError) → WriteLeads change old new (Err e) → KeepsBalance (keeps.Write change) old new (Refused (refusals.Database e))
-  keeps_not_written change e leads = λ purse accounts tidy h. balance_refused old new e leads.0 purse accounts h
+  keeps_not_written change e leads = λ in_hand accounts tidy h. balance_refused old new e leads.0 in_hand accounts h
 
   keeps_not_pinned : (now : ℕ) (e : DbError) → PinSpareLeads now old new (Err e) → KeepsBalance (keeps.Pin now) old new (Refused (refusals.Database e))
-  keeps_not_pinned now e leads = λ purse accounts tidy h. balance_refused old new e leads.0 purse accounts h
+  keeps_not_pinned now e leads = λ in_hand accounts tidy h. balance_refused old new e leads.0 in_hand accounts h
 
   keeps_pinned : (now stamp : ℕ) → PinSpareLeads now old new (Ok stamp) → KeepsBalance (keeps.Pin now) old new (replies.At stamp)
-  keeps_pinned now stamp leads = λ purse accounts tidy h.
+  keeps_pinned now stamp leads = λ in_hand accounts tidy h.
       let pinned = leads.pinned in
       let holds : new.database.holds ≡ old.database.holds ++ pinned.stamp ∷ [] =
       pin_holds old (record new { spare = old.spare }) now pinned.stamp (ap (λ (p : PortsValue). p.database) leads.made.after) leads.made.stamp in
@@ -78,11 +78,11 @@ module _ (old new : PortsValue) where
       })
 
   keeps_unpinned : (stamp : ℕ) → CountRight old → UnpinLeads {A = Unit {0}} stamp old new (Ok tt) → KeepsBalance (keeps.Unpin stamp) old new replies.Unpinned
-  keeps_unpinned stamp right leads = λ purse accounts tidy h. rw leads.0 (record {
+  keeps_unpinned stamp right leads = λ in_hand accounts tidy h. rw leads.0 (record {
     held = λ t.
         let a = h.held t in
         let b = times_without right.unpin t stamp old.database.holds leads.1 in
-        let c = times_without right.unpin t stamp purse.owed (held_there stamp purse.owed tidy) in
+        let c = times_without right.unpin t stamp in_hand.owed (held_there stamp in_hand.owed tidy) in
         omega (arith, a, b, c);
     used = h.used;
   })
@@ -90,7 +90,7 @@ module _ (old new : PortsValue) where
   -- ---- the pincushion
 
   keeps_added : (stamp : ℕ) → CountRight old → HasAddedSpare {A = Unit {0}} stamp old new (Ok tt) → KeepsBalance (keeps.Add stamp) old new replies.Added
-  keeps_added stamp right leads = λ purse accounts tidy h.
+  keeps_added stamp right leads = λ in_hand accounts tidy h.
       let pinned = leads.pinned in
       let holds : new.database.holds ≡ old.database.holds = ap (λ (p : PortsValue). p.database.holds) leads.added.0 in
       rw (holds, ap (λ (p : PortsValue). p.cushion) leads.added.0, leads.spare) (record {
@@ -107,7 +107,7 @@ module _ (old new : PortsValue) where
             let a = h.used t in
             let one = right.add old.cushion pinned t right.cushion leads.added.1 in
             let b = one.users in
-            let c = times_cons t stamp purse.lent in
+            let c = times_cons t stamp in_hand.lent in
             let d = ap (λ (s : ℕ). times t (s ∷ [])) leads.stamp_is in
             let e = times_one t pinned.stamp in
             let f = times_one t stamp in
@@ -115,20 +115,20 @@ module _ (old new : PortsValue) where
       })
 
   keeps_not_added : (stamp : ℕ) (e : AddError) → CountRight old → HasAddedSpare {A = Unit {0}} stamp old new (Err e) → KeepsBalance (keeps.Add stamp) old new (Refused (refusals.Pincushion e))
-  keeps_not_added stamp e right leads = λ purse accounts tidy h.
+  keeps_not_added stamp e right leads = λ in_hand accounts tidy h.
       let holds : new.database.holds ≡ old.database.holds = ap (λ (p : PortsValue). p.database.holds) leads.added.0 in
       rw (holds, ap (λ (p : PortsValue). p.cushion) leads.added.0, leads.spare) (record {
         held = λ t.
             let a = h.held t in
             let b = times_without right.unpin t stamp (stamps_of_pins old.spare) leads.held in
-            let c = times_cons t stamp purse.owed in
+            let c = times_cons t stamp in_hand.owed in
             let d = times_one t stamp in
             omega (arith, a, b, c, d);
         used = h.used;
       })
 
   keeps_given_back : (stamp : ℕ) → CountRight old → GiveBackLeads {A = Unit {0}} (stamp ∷ []) old new (Ok tt) → KeepsBalance (keeps.GiveBack stamp) old new replies.GivenBack
-  keeps_given_back stamp right leads = λ purse accounts tidy h. rw leads.0 (record {
+  keeps_given_back stamp right leads = λ in_hand accounts tidy h. rw leads.0 (record {
     held = λ t.
         let a = h.held t in
         let one = right.give_back old.cushion (stamp ∷ []) t leads.1 in
@@ -138,18 +138,18 @@ module _ (old new : PortsValue) where
         let a = h.used t in
         let one = right.give_back old.cushion (stamp ∷ []) t leads.1 in
         let b = one.users in
-        let c = times_without right.unpin t stamp purse.lent (held_there stamp purse.lent tidy) in
+        let c = times_without right.unpin t stamp in_hand.lent (held_there stamp in_hand.lent tidy) in
         omega (arith, a, b, c);
   })
 
   keeps_retired : (now age : ℕ) (stamps : Vec ℕ Global) → CountRight old → RetireLeads {A = Unit {0}} now age old new (Ok stamps)
       → KeepsBalance (keeps.Retire now age) old new (replies.Retired stamps)
-  keeps_retired now age stamps right leads = λ purse accounts tidy h. rw (leads.0, leads.1) (record {
+  keeps_retired now age stamps right leads = λ in_hand accounts tidy h. rw (leads.0, leads.1) (record {
     held = λ t.
         let a = h.held t in
         let one = right.retire old.cushion now age t right.cushion in
         let b = one.stamps in
-        let c = times_append t (retired old.cushion now age) purse.owed in
+        let c = times_append t (retired old.cushion now age) in_hand.owed in
         omega (arith, a, b, c);
     used = λ t.
         let a = h.used t in
@@ -160,9 +160,9 @@ module _ (old new : PortsValue) where
 
   -- ---- any step
 
-  nothing_spent : new ≡ old → (purse : Purse) (accounts : List Account) → AreBalanced (stamps_of_pins old.spare) (books_of old accounts) purse
-      → AreBalanced (stamps_of_pins new.spare) (books_of new accounts) purse
-  nothing_spent same purse accounts h = rw same h
+  nothing_spent : new ≡ old → (in_hand : InHand) (accounts : List Account) → AreBalanced (stamps_of_pins old.spare) (holdings_of old accounts) in_hand
+      → AreBalanced (stamps_of_pins new.spare) (holdings_of new accounts) in_hand
+  nothing_spent same in_hand accounts h = rw same h
 
   pub kept_balance : CountRight old → (keep : Keep) (reply : Reply) → KeepLeads keep old new reply → KeepsBalance keep old new reply
   kept_balance right (keeps.Write change) (replies.At stamp) leads = keeps_written change stamp leads
@@ -171,22 +171,22 @@ module _ (old new : PortsValue) where
   kept_balance right (keeps.Pin now) (Refused (refusals.Database e)) leads = keeps_not_pinned now e leads
   kept_balance right (keeps.Add stamp) replies.Added leads = keeps_added stamp right leads
   kept_balance right (keeps.Add stamp) (Refused (refusals.Pincushion e)) leads = keeps_not_added stamp e right leads
-  kept_balance right (keeps.Add stamp) (Refused refusals.NoRequest) leads = λ purse accounts tidy h. nothing_spent leads.0 purse accounts h
+  kept_balance right (keeps.Add stamp) (Refused refusals.NoRequest) leads = λ in_hand accounts tidy h. nothing_spent leads.0 in_hand accounts h
   kept_balance right (keeps.GiveBack stamp) replies.GivenBack leads = keeps_given_back stamp right leads
-  kept_balance right (keeps.GiveBack stamp) (Refused (refusals.GiveBack unknown)) leads = λ purse accounts tidy h. nothing_spent leads.0 purse accounts h
+  kept_balance right (keeps.GiveBack stamp) (Refused (refusals.GiveBack unknown)) leads = λ in_hand accounts tidy h. nothing_spent leads.0 in_hand accounts h
   kept_balance right (keeps.Retire now age) (replies.Retired stamps) leads = keeps_retired now age stamps right leads
-  kept_balance right (keeps.Retire now age) (Refused refusals.Memory) leads = λ purse accounts tidy h. nothing_spent leads purse accounts h
+  kept_balance right (keeps.Retire now age) (Refused refusals.Memory) leads = λ in_hand accounts tidy h. nothing_spent leads in_hand accounts h
   kept_balance right (keeps.Unpin stamp) replies.Unpinned leads = keeps_unpinned stamp right leads
-  kept_balance right (keeps.Unpin stamp) (Refused (refusals.Database e)) leads = λ purse accounts tidy h. nothing_spent leads.0 purse accounts h
-  kept_balance right keeps.Vacuum (replies.Vacuumed horizon) leads = λ purse accounts tidy h.
-      balance_same old new purse accounts (ap (λ (p : PortsValue). p.database.holds) leads.0) (ap (λ (p : PortsValue). p.cushion) leads.0) (ap (λ (p : PortsValue). stamps_of_pins p.spare) leads.0) h
-  kept_balance right keeps.Vacuum (Refused (refusals.Database e)) leads = λ purse accounts tidy h. nothing_spent leads.0 purse accounts h
-  kept_balance right (keeps.Query stamp query) (replies.Rows rows) leads = λ purse accounts tidy h. nothing_spent leads.0 purse accounts h
-  kept_balance right (keeps.Query stamp query) (Refused (refusals.Database e)) leads = λ purse accounts tidy h. nothing_spent leads.0 purse accounts h
-  kept_balance right (keeps.Advance node) (replies.Advanced advanced) leads = λ purse accounts tidy h. balance_led old new node _ leads purse accounts h
-  kept_balance right (keeps.Advance node) (Refused (refusals.Node e)) leads = λ purse accounts tidy h. balance_led old new node _ leads purse accounts h
-  kept_balance right (keeps.Advance node) (Refused refusals.NoNode) leads = λ purse accounts tidy h. nothing_spent leads.0 purse accounts h
-  kept_balance right (keeps.Sweep node horizon) (replies.Swept count) leads = λ purse accounts tidy h. balance_led old new node _ leads purse accounts h
-  kept_balance right (keeps.Sweep node horizon) (Refused (refusals.Node e)) leads = λ purse accounts tidy h. balance_led old new node _ leads purse accounts h
-  kept_balance right (keeps.Sweep node horizon) (Refused refusals.NoNode) leads = λ purse accounts tidy h. nothing_spent leads.0 purse accounts h
+  kept_balance right (keeps.Unpin stamp) (Refused (refusals.Database e)) leads = λ in_hand accounts tidy h. nothing_spent leads.0 in_hand accounts h
+  kept_balance right keeps.Vacuum (replies.Vacuumed horizon) leads = λ in_hand accounts tidy h.
+      balance_same old new in_hand accounts (ap (λ (p : PortsValue). p.database.holds) leads.0) (ap (λ (p : PortsValue). p.cushion) leads.0) (ap (λ (p : PortsValue). stamps_of_pins p.spare) leads.0) h
+  kept_balance right keeps.Vacuum (Refused (refusals.Database e)) leads = λ in_hand accounts tidy h. nothing_spent leads.0 in_hand accounts h
+  kept_balance right (keeps.Query stamp query) (replies.Rows rows) leads = λ in_hand accounts tidy h. nothing_spent leads.0 in_hand accounts h
+  kept_balance right (keeps.Query stamp query) (Refused (refusals.Database e)) leads = λ in_hand accounts tidy h. nothing_spent leads.0 in_hand accounts h
+  kept_balance right (keeps.Advance node) (replies.Advanced advanced) leads = λ in_hand accounts tidy h. balance_led old new node _ leads in_hand accounts h
+  kept_balance right (keeps.Advance node) (Refused (refusals.Node e)) leads = λ in_hand accounts tidy h. balance_led old new node _ leads in_hand accounts h
+  kept_balance right (keeps.Advance node) (Refused refusals.NoNode) leads = λ in_hand accounts tidy h. nothing_spent leads.0 in_hand accounts h
+  kept_balance right (keeps.Sweep node horizon) (replies.Swept count) leads = λ in_hand accounts tidy h. balance_led old new node _ leads in_hand accounts h
+  kept_balance right (keeps.Sweep node horizon) (Refused (refusals.Node e)) leads = λ in_hand accounts tidy h. balance_led old new node _ leads in_hand accounts h
+  kept_balance right (keeps.Sweep node horizon) (Refused refusals.NoNode) leads = λ in_hand accounts tidy h. nothing_spent leads.0 in_hand accounts h
   kept_balance right keep reply leads = absurd leads

@@ -13,10 +13,11 @@ use Rattle.txc_world.specs.declared.settings.WorldSettings.{WorldSettings}
 use Rattle.txc_world.specs.declared.step.Step.{Step}
 use Rattle.txc_world.specs.Ports.{PortsValue}
 use Rattle.txc_world.specs.Keeping.{stamps_of_pins}
-use Rattle.txc_world.specs.Books.{account_at, account_of, books_of, nothing, Account, ActCounts, CountRight, HasLost, IsFair}
-use Rattle.txc_world.specs.Tidy.{empty_purse, purse_after, purse_by, AreBalanced, AreTidy, IsTidy, LoseNoSnapshot, LosesNoSnapshot, LosesNothing, Purse}
+use Rattle.txc_world.specs.Holdings.{account_at, account_of, holdings_of, nothing, Account, ActCounts, CountRight, HasLost, IsFair}
+use Rattle.txc_world.specs.Tidy.{nothing_in_hand, in_hand_after, in_hand_by, AreBalanced, AreTidy, IsTidy, LoseNoSnapshot, LosesNoSnapshot, LosesNothing, InHand}
 use Rattle.txc_world.specs.Worlds.{value_of_world, IsBalanced, WorldValue}
 use Rattle.txc_world.proofs.Losing.{reply_so}
+use Rattle.txc_world.proofs.Paired.{paired}
 use Rattle.txc_world.proofs.Times.{sum_at, sum_set}
 
 -- ---- a new world
@@ -31,7 +32,7 @@ module _ {A C X : Type 0} (start : X → Option (Actor A C)) (starts : (x : X) �
       omega (arith, all, first, rest, none)
 
   pub new_balanced : (settings : WorldSettings) (ports : PortsValue) (floors : List ℕ) (actors : List (Option (Actor A C))) (xs : List X)
-      → ports.database.holds ≡ [] → ports.cushion.entries ≡ [] → ports.spare ≡ [] → actors ≡ map start xs → IsBalanced (value_of_world settings ports floors actors) empty_purse
+      → ports.database.holds ≡ [] → ports.cushion.entries ≡ [] → ports.spare ≡ [] → actors ≡ map start xs → IsBalanced (value_of_world settings ports floors actors) nothing_in_hand
   new_balanced settings ports floors actors xs holds entries spare is = rw (holds, entries, spare, is) (record {
     held = λ t. let none = none_have (λ (a : Account). times t a.own) refl xs in omega (arith, none);
     used = λ t. let none = none_have (λ (a : Account). times t a.taken) refl xs in omega (arith, none);
@@ -39,8 +40,8 @@ module _ {A C X : Type 0} (start : X → Option (Actor A C)) (starts : (x : X) �
 
 -- ---- an actor steps
 
-module _ (old new : PortsValue) (accounts : List Account) (place : ℕ) (before after : Account) (there : slice_get accounts place ≡ Some before) (spare : List ℕ) (purse : Purse) where
-  acts_balanced : IsFair old new before after → AreBalanced spare (books_of old accounts) purse → AreBalanced spare (books_of new (slice_set accounts place after)) purse
+module _ (old new : PortsValue) (accounts : List Account) (place : ℕ) (before after : Account) (there : slice_get accounts place ≡ Some before) (spare : List ℕ) (in_hand : InHand) where
+  acts_balanced : IsFair old new before after → AreBalanced spare (holdings_of old accounts) in_hand → AreBalanced spare (holdings_of new (slice_set accounts place after)) in_hand
   acts_balanced fair h = record {
     held = λ t.
         let a = h.held t in
@@ -55,7 +56,7 @@ module _ (old new : PortsValue) (accounts : List Account) (place : ℕ) (before 
   }
 
   -- what an actor has is held
-  none_lost : CountRight old → AreBalanced spare (books_of old accounts) purse → HasLost old before → ⊥
+  none_lost : CountRight old → AreBalanced spare (holdings_of old accounts) in_hand → HasLost old before → ⊥
   none_lost right h lost =
       let t = lost.stamp in
       let a = h.held t in
@@ -67,9 +68,9 @@ module _ (old new : PortsValue) (accounts : List Account) (place : ℕ) (before 
       let once = right.once old.cushion t right.cushion in
       let pins : times t (stamps_of old.cushion.entries) ≡ 0 = omega (arith, a, gone) in
       let users = once.1 pins in
-      absurd (omega (arith, a, b, c, d, e, gone, users))
+      omega (arith, a, b, c, d, e, gone, users)
 
-  loses_nothing : (reply : Reply) → CountRight old → AreBalanced spare (books_of old accounts) purse → ActCounts old new before after reply → LosesNothing reply
+  loses_nothing : (reply : Reply) → CountRight old → AreBalanced spare (holdings_of old accounts) in_hand → ActCounts old new before after reply → LosesNothing reply
   loses_nothing reply right h counts = reply_so (HasLost old before) ⊥ (none_lost right h) reply counts.loss
 
 module _ {A C : Type 0} (settings : WorldSettings) (old new : PortsValue) (floors floors' : List ℕ) (actors : List (Option (Actor A C))) (place : ℕ) (actor actor' : Actor A C)
@@ -77,51 +78,46 @@ module _ {A C : Type 0} (settings : WorldSettings) (old new : PortsValue) (floor
   account_there : slice_get (map account_at actors) place ≡ Some (account_of actor)
   account_there = slice_get-map account_at actors place ∙ ap (λ (o : Option (Option (Actor A C))). option_map account_at o) is
 
-  pub world_balanced : (actors' : List (Option (Actor A C))) (was now : WorldValue) (reply : Reply) (purse : Purse)
+  pub world_balanced : (actors' : List (Option (Actor A C))) (was now : WorldValue) (reply : Reply) (in_hand : InHand)
       → actors' ≡ slice_set actors place (Some actor') → new.spare ≡ old.spare → CountRight old
       → ActCounts old new (account_of actor) (account_of actor') reply
-      → value_of_world settings old floors actors ≡ was → value_of_world settings new floors' actors' ≡ now → IsBalanced was purse → IsBalanced now purse × LosesNothing reply
-  world_balanced actors' was now reply purse put spare right counts shows shows' h =
-      let h' = subst (λ (w : WorldValue). IsBalanced w purse) (sym shows) h in
-      let b = acts_balanced old new (map account_at actors) place (account_of actor) (account_of actor') account_there (stamps_of_pins old.spare) purse counts.fair h' in (
-        subst (λ (w : WorldValue). IsBalanced w purse) shows' (rw (put, spare, map-set account_at actors place (Some actor')) b),
-        loses_nothing old new (map account_at actors) place (account_of actor) (account_of actor') account_there (stamps_of_pins old.spare) purse reply right h' counts,
+      → value_of_world settings old floors actors ≡ was → value_of_world settings new floors' actors' ≡ now → IsBalanced was in_hand → IsBalanced now in_hand × LosesNothing reply
+  world_balanced actors' was now reply in_hand put spare right counts shows shows' h =
+      let h' = subst (λ (w : WorldValue). IsBalanced w in_hand) (sym shows) h in
+      let b = acts_balanced old new (map account_at actors) place (account_of actor) (account_of actor') account_there (stamps_of_pins old.spare) in_hand counts.fair h' in (
+        subst (λ (w : WorldValue). IsBalanced w in_hand) shows' (rw (put, spare, map-set account_at actors place (Some actor')) b),
+        loses_nothing old new (map account_at actors) place (account_of actor) (account_of actor') account_there (stamps_of_pins old.spare) in_hand reply right h' counts,
       )
 
 -- ---- one more step and its reply
 
-pub tidy_first : (purse : Purse) (steps : List Step) (replies : List Reply) (step : Step) (reply : Reply) → length replies ≡ length steps
-    → AreTidy purse (steps ++ step ∷ []) (replies ++ reply ∷ []) → AreTidy purse steps replies × IsTidy step reply (purse_by purse steps replies)
-tidy_first purse [] [] step reply e h = (tt, h.0)
-tidy_first purse [] (r ∷ rs) step reply e h = absurd (cc e)
-tidy_first purse (s ∷ ss) [] step reply e h = absurd (cc e)
-tidy_first purse (s ∷ ss) (r ∷ rs) step reply e h =
-    let e' : length rs ≡ length ss = cc in
-    let rest = tidy_first (purse_after s r purse) ss rs step reply e' h.1 in
-    ((h.0, rest.0), rest.1)
+pub tidy_first : (in_hand : InHand) (steps : List Step) (replies : List Reply) (step : Step) (reply : Reply) → length replies ≡ length steps
+    → AreTidy in_hand (steps ++ step ∷ []) (replies ++ reply ∷ []) → AreTidy in_hand steps replies × IsTidy step reply (in_hand_by in_hand steps replies)
+tidy_first in_hand steps replies step reply e = paired
+    (λ (ss : List Step) (rs : List Reply). (in_hand : InHand) → AreTidy in_hand (ss ++ step ∷ []) (rs ++ reply ∷ []) → AreTidy in_hand ss rs × IsTidy step reply (in_hand_by in_hand ss rs))
+    (λ in_hand h. (tt, h.0))
+    (λ s ss r rs more in_hand h. let rest = more (in_hand_after s r in_hand) h.1 in ((h.0, rest.0), rest.1)) steps replies e in_hand
 
-pub purse_more : (purse : Purse) (steps : List Step) (replies : List Reply) (step : Step) (reply : Reply) → length replies ≡ length steps
-    → purse_by purse (steps ++ step ∷ []) (replies ++ reply ∷ []) ≡ purse_after step reply (purse_by purse steps replies)
-purse_more purse [] [] step reply e = refl
-purse_more purse [] (r ∷ rs) step reply e = absurd (cc e)
-purse_more purse (s ∷ ss) [] step reply e = absurd (cc e)
-purse_more purse (s ∷ ss) (r ∷ rs) step reply e =
-    let e' : length rs ≡ length ss = cc in purse_more (purse_after s r purse) ss rs step reply e'
+pub in_hand_more : (in_hand : InHand) (steps : List Step) (replies : List Reply) (step : Step) (reply : Reply) → length replies ≡ length steps
+    → in_hand_by in_hand (steps ++ step ∷ []) (replies ++ reply ∷ []) ≡ in_hand_after step reply (in_hand_by in_hand steps replies)
+in_hand_more in_hand steps replies step reply e = paired
+    (λ (ss : List Step) (rs : List Reply). (in_hand : InHand) → in_hand_by in_hand (ss ++ step ∷ []) (rs ++ reply ∷ []) ≡ in_hand_after step reply (in_hand_by in_hand ss rs))
+    (λ in_hand. refl)
+    (λ s ss r rs more in_hand. more (in_hand_after s r in_hand)) steps replies e in_hand
 
 pub lose_more : (steps : List Step) (replies : List Reply) (step : Step) (reply : Reply) → length replies ≡ length steps
     → LoseNoSnapshot steps replies → LosesNoSnapshot step reply → LoseNoSnapshot (steps ++ step ∷ []) (replies ++ reply ∷ [])
-lose_more [] [] step reply e h k = (k, tt)
-lose_more [] (r ∷ rs) step reply e h k = absurd (cc e)
-lose_more (s ∷ ss) [] step reply e h k = absurd (cc e)
-lose_more (s ∷ ss) (r ∷ rs) step reply e h k =
-    let e' : length rs ≡ length ss = cc in (h.0, lose_more ss rs step reply e' h.1 k)
+lose_more steps replies step reply e = paired
+    (λ (ss : List Step) (rs : List Reply). LoseNoSnapshot ss rs → LosesNoSnapshot step reply → LoseNoSnapshot (ss ++ step ∷ []) (rs ++ reply ∷ []))
+    (λ h k. (k, tt))
+    (λ s ss r rs more h k. (h.0, more h.1 k)) steps replies e
 
 -- ---- the loop over the steps
 
 -- each list that is tidy leaves each what is its own, and loses no snapshot
 abbrev pub StaysBalanced : WorldValue → WorldValue → List Step → List Reply → Type 0
-StaysBalanced start now steps replies = (purse : Purse) → IsBalanced start purse → AreTidy purse steps replies
-    → IsBalanced now (purse_by purse steps replies) × LoseNoSnapshot steps replies
+StaysBalanced start now steps replies = (in_hand : InHand) → IsBalanced start in_hand → AreTidy in_hand steps replies
+    → IsBalanced now (in_hand_by in_hand steps replies) × LoseNoSnapshot steps replies
 
 module _ (steps : List Step) (i : ℕ) (step : Step) (within : i < length steps) where
   one_more : step ≡ get_or steps i step → take (i + 1) steps ≡ take i steps ++ step ∷ []
@@ -132,14 +128,14 @@ module _ (steps : List Step) (i : ℕ) (step : Step) (within : i < length steps)
 
   pub loop_tidy : (replies : List Reply) (reply : Reply) → step ≡ get_or steps i step → length replies ≡ i
       → (start now new : WorldValue) → StaysBalanced start now (take i steps) replies
-      → ((purse : Purse) → IsBalanced now purse → IsTidy step reply purse → IsBalanced new (purse_after step reply purse) × LosesNoSnapshot step reply)
+      → ((in_hand : InHand) → IsBalanced now in_hand → IsTidy step reply in_hand → IsBalanced new (in_hand_after step reply in_hand) × LosesNoSnapshot step reply)
       → StaysBalanced start new (take (i + 1) steps) (replies ++ reply ∷ [])
-  loop_tidy replies reply is even start now new h k = rw (one_more is) (λ purse b tidy.
+  loop_tidy replies reply is even start now new h k = rw (one_more is) (λ in_hand b tidy.
       let long = as_many replies even in
-      let parts = tidy_first purse (take i steps) replies step reply long tidy in
-      let before = h purse b parts.0 in
-      let last = k (purse_by purse (take i steps) replies) before.0 parts.1 in (
-        subst (IsBalanced new) (sym (purse_more purse (take i steps) replies step reply long)) last.0,
+      let parts = tidy_first in_hand (take i steps) replies step reply long tidy in
+      let before = h in_hand b parts.0 in
+      let last = k (in_hand_by in_hand (take i steps) replies) before.0 parts.1 in (
+        subst (IsBalanced new) (sym (in_hand_more in_hand (take i steps) replies step reply long)) last.0,
         lose_more (take i steps) replies step reply long before.1 last.1,
       ))
 

@@ -21,7 +21,7 @@ use Rattle.txc_rw.specs.Core.{RwValue, RwHolds, tags_read}
 use Rattle.txc_rw.specs.Laws.{AnswersAreRight, EventCommitsAreRight, HoldsInLonger, QuietCommitsAreRight}
 use Rattle.txc_rw.specs.Outcomes.{HasChanged, HasChangedNothing}
 use Rattle.txc_world.specs.declared.actor.OpenCall.{OpenCall}
-use Rattle.txc_world.specs.Told.{Writing, CommitExplains}
+use Rattle.txc_world.specs.Observation.{Writing, CommitExplains}
 use Rattle.txc_world.specs.Ports.{PortsValue}
 use Rattle.txc_world.specs.Keeping.{CommitLeads}
 use Rattle.txc_world.specs.Actors.{told_answers}
@@ -30,7 +30,7 @@ use Rattle.txc_world.specs.Actors.{told_answers}
 
 empty_or : (net : List Change) → (net ≡ []) ⊎ (net ≢ [])
 empty_or [] = inl refl
-empty_or (c ∷ cs) = inr (λ e. let f = e in absurd cc)
+empty_or (c ∷ cs) = inr (λ e. let f = e in cc)
 
 some_is : (net : List Change) (d other : DatabaseValue) → net ≢ [] → where_some net d other ≡ other
 some_is [] d other some = absurd (some refl)

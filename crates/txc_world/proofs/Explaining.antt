@@ -18,7 +18,7 @@ moment_later L M zero moment on is = is
 moment_later L M (suc t) moment on is = go (slice_get L t) refl
   where
     go : (e : Option EventValue) → slice_get L t ≡ e → moment_at M (suc t) ≡ Some moment
-    go None none = let no : None ≡ Some moment = sym (ap pinned_moment none) ∙ is in absurd (cc no)
+    go None none = let no : None ≡ Some moment = sym (ap pinned_moment none) ∙ is in cc no
     go (Some e) some = ap pinned_moment (prefix_get L M t e on some ∙ sym some) ∙ is
 
 pub moment_within : (L : History) (t moment : ℕ) → moment_at L t ≡ Some moment → t ≤ length L
@@ -26,7 +26,7 @@ moment_within L zero moment is = omega arith
 moment_within L (suc t) moment is = go (slice_get L t) refl
   where
     go : (e : Option EventValue) → slice_get L t ≡ e → suc t ≤ length L
-    go None none = let no : None ≡ Some moment = sym (ap pinned_moment none) ∙ is in absurd (cc no)
+    go None none = let no : None ≡ Some moment = sym (ap pinned_moment none) ∙ is in cc no
     go (Some e) some = let below = slice_get_within L t e some in omega (arith, below)
 
 pub state_later : (L M : History) (t : ℕ) → IsPrefix L M → t ≤ length L → state_at M t ≡ state_at L t

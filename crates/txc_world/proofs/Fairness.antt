@@ -42,7 +42,7 @@ use Rattle.txc_world.specs.Asks.{AddLeads, FindLeads, FreshLeads, PinLeads, Unpi
 use Rattle.txc_world.specs.Keeping.{GiveBackLeads}
 use Rattle.txc_world.specs.declared.reply.Reply.{Reply}
 use Rattle.txc_world.specs.Actors.{counted, holds_any}
-use Rattle.txc_world.specs.Books.{account_of_core, gained, handed, nothing, spent, stamp_if_any, Account, ActCounts, AskCounts, CountRight, HasLost, IsFair, LosesOnlyUnheld}
+use Rattle.txc_world.specs.Holdings.{account_of_core, gained, handed, nothing, spent, stamp_if_any, Account, ActCounts, AskCounts, CountRight, HasLost, IsFair, LosesOnlyUnheld}
 use Rattle.txc_world.specs.Losing.{IfDidLose, IfGone, IfPortLoses, IfReplyLost}
 use Rattle.txc_world.proofs.Losing.{gone_so, port_so}
 use Rattle.txc_world.proofs.Times.{times_append, times_cons, times_off, times_one, times_there, times_without}
@@ -116,7 +116,7 @@ none_held stamp horizon last [] below all = refl
 none_held stamp horizon last (h ∷ hs) below all = go (h == stamp) refl (none_held stamp horizon last hs below all.1)
   where
     go : (b : Bool) → (h == stamp) ≡ b → times stamp hs ≡ 0 → times stamp (h ∷ hs) ≡ 0
-    go true is none = let same : h ≡ stamp = eqb-true h stamp is in let low = all.0.low in absurd (omega (arith, low, same, below))
+    go true is none = let same : h ≡ stamp = eqb-true h stamp is in let low = all.0.low in omega (arith, low, same, below)
     go false is none = times_off stamp h hs is ∙ none
 
 module _ (p : PortsValue) (right : CountRight p) where
@@ -226,14 +226,14 @@ fair_gone_on old new c c' request reply asking fair taken left =
 -- where the next query runs at a stamp, that is a member's, which was taken
 newest_taken : (now renew_after : ℕ) (present : Bool) (members : List Pin) (taken : List ℕ) (stamp : ℕ)
     → choice_among now renew_after present members ≡ At stamp → All (λ m. Contains taken m.stamp) members → 0 < times stamp taken
-newest_taken now renew_after present [] taken stamp is all = absurd (cc is)
+newest_taken now renew_after present [] taken stamp is all = cc is
 newest_taken now renew_after present (newest ∷ older) taken stamp is all = go (present && is_older renew_after now newest) refl
   where
     first : 0 < times newest.stamp taken
     first = times_there newest.stamp taken (All-head (λ (m : Pin). Contains taken m.stamp) newest older all)
 
     go : (b : Bool) → (present && is_older renew_after now newest) ≡ b → 0 < times stamp taken
-    go true due = let no : Present ≡ At stamp = rw due at is in absurd (cc no)
+    go true due = let no : Present ≡ At stamp = rw due at is in cc no
     go false due = let same : At newest.stamp ≡ At stamp = rw due at is in let at : newest.stamp ≡ stamp = cc in subst (λ (s : ℕ). 0 < times s taken) at first
 
 -- what is asked at a stamp that is gone, is asked at one that was taken

@@ -14,14 +14,14 @@ use Rattle.txc_world.specs.declared.step.Step.TheVariants.{Actor, BeginIn, Keepe
 use Rattle.txc_ports.specs.declared.error.TxnError.{TxnError}
 use Rattle.txc_world.specs.declared.reply.Reply.{Reply}
 use Rattle.txc_world.specs.declared.reply.Reply.TheVariants as replies
-use Rattle.txc_world.specs.Told.{Reading, Story, idle, reading, writing, leaving, Told, act_at, after, after_end, begin_at, floor_at, floor_by, story_after, AreExplained, IsCommitOf, IsExplainedIn, IsReceiptOfStory, ReplyExplains}
+use Rattle.txc_world.specs.Observation.{Reading, ObservedActor, idle, reading, writing, leaving, Observation, act_at, after, after_end, begin_at, floor_at, floor_by, observed_after, AreExplained, IsCommitOf, IsExplainedIn, IsReceiptOfActor, ReplyExplains}
 use Rattle.txc_world.specs.Sessions.{replied, BeganNone, HaveBegunNone, HaveToldAtMost, NoActorGoesBack, ToldAtMost}
 use Rattle.txc_world.proofs.Stepping.{set_length}
 
 -- ---- floors
 
 floor_set : (floors : List ℕ) (place floor : ℕ) → place < length floors → floor_at (slice_set floors place floor) place ≡ floor
-floor_set [] place floor within = absurd (omega (arith, within))
+floor_set [] place floor within = omega (arith, within)
 floor_set (f ∷ fs) zero floor within = refl
 floor_set (f ∷ fs) (suc place) floor within = floor_set fs place floor (omega (arith, within))
 
@@ -40,25 +40,25 @@ reply_raises (replies.At stamp) floor = omega arith
 reply_raises reply floor = omega arith
 
 -- each actor has a session
-abbrev pub HasSessions : Told → Type 0
+abbrev pub HasSessions : Observation → Type 0
 HasSessions told = length told.floors ≡ length told.actors
 
-module _ (told : Told) (at : ℕ) (act : Act) (reply : Reply) where
-  act_has : (story : Option Story) → HasSessions told → HasSessions (act_at at act reply told story)
+module _ (told : Observation) (at : ℕ) (act : Act) (reply : Reply) where
+  act_has : (observed : Option ObservedActor) → HasSessions told → HasSessions (act_at at act reply told observed)
   act_has None h = h
-  act_has (Some story) h =
-      set_length told.floors at (floor_by reply (floor_at told.floors at)) ∙ h ∙ sym (set_length told.actors at (story_after act reply story))
+  act_has (Some observed) h =
+      set_length told.floors at (floor_by reply (floor_at told.floors at)) ∙ h ∙ sym (set_length told.actors at (observed_after act reply observed))
 
-  act_raises : (story : Option Story) (place : ℕ) → floor_at told.floors place ≤ floor_at (act_at at act reply told story).floors place
+  act_raises : (observed : Option ObservedActor) (place : ℕ) → floor_at told.floors place ≤ floor_at (act_at at act reply told observed).floors place
   act_raises None place = omega arith
-  act_raises (Some story) place = floors_rise told.floors at place (floor_by reply) (reply_raises reply)
+  act_raises (Some observed) place = floors_rise told.floors at place (floor_by reply) (reply_raises reply)
 
-step_has : (told : Told) (step : Step) (reply : Reply) → HasSessions told → HasSessions (after told step reply)
+step_has : (told : Observation) (step : Step) (reply : Reply) → HasSessions told → HasSessions (after told step reply)
 step_has told (Actor at act) reply h = act_has told at act reply (slice_get told.actors at) h
 step_has told (BeginIn at now staleness) reply h = act_has told at (begin_at (floor_at told.floors at) now staleness) reply (slice_get told.actors at) h
 step_has told (Keeper keep) reply h = h
 
-step_raises : (told : Told) (step : Step) (reply : Reply) (place : ℕ) → floor_at told.floors place ≤ floor_at (after told step reply).floors place
+step_raises : (told : Observation) (step : Step) (reply : Reply) (place : ℕ) → floor_at told.floors place ≤ floor_at (after told step reply).floors place
 step_raises told (Actor at act) reply place = act_raises told at act reply (slice_get told.actors at) place
 step_raises told (BeginIn at now staleness) reply place =
     act_raises told at (begin_at (floor_at told.floors at) now staleness) reply (slice_get told.actors at) place
@@ -66,29 +66,29 @@ step_raises told (Keeper keep) reply place = omega arith
 
 -- ---- one after another
 
-abbrev pub told_through : Told → List (Step × Reply) → Told
+abbrev pub told_through : Observation → List (Step × Reply) → Observation
 told_through told [] = told
 told_through told (x ∷ xs) = told_through (after told x.0 x.1) xs
 
-abbrev pub AreExplainedThrough : Next → Told → List (Step × Reply) → Type 0
+abbrev pub AreExplainedThrough : Next → Observation → List (Step × Reply) → Type 0
 AreExplainedThrough next told [] = Unit {0}
 AreExplainedThrough next told (x ∷ xs) =
     IsExplainedIn next (after told x.0 x.1).history told x.0 x.1 × AreExplainedThrough next (after told x.0 x.1) xs
 
-through_raises : (told : Told) (xs : List (Step × Reply)) (place : ℕ) → floor_at told.floors place ≤ floor_at (told_through told xs).floors place
+through_raises : (told : Observation) (xs : List (Step × Reply)) (place : ℕ) → floor_at told.floors place ≤ floor_at (told_through told xs).floors place
 through_raises told [] place = omega arith
 through_raises told (x ∷ xs) place =
     let first = step_raises told x.0 x.1 place in
     let rest = through_raises (after told x.0 x.1) xs place in
     omega (arith, first, rest)
 
-explained_through : (next : Next) (told : Told) (steps : List Step) (replies : List Reply) → AreExplained next told steps replies
+explained_through : (next : Next) (told : Observation) (steps : List Step) (replies : List Reply) → AreExplained next told steps replies
     → AreExplainedThrough next told (replied steps replies)
 explained_through next told [] replies h = tt
 explained_through next told (s ∷ ss) [] h = tt
 explained_through next told (s ∷ ss) (r ∷ rs) h = (h.0, explained_through next (after told s r) ss rs h.1)
 
-explained_apart : (next : Next) (told : Told) (xs ys : List (Step × Reply)) → AreExplainedThrough next told (xs ++ ys)
+explained_apart : (next : Next) (told : Observation) (xs ys : List (Step × Reply)) → AreExplainedThrough next told (xs ++ ys)
     → AreExplainedThrough next told xs × AreExplainedThrough next (told_through told xs) ys
 explained_apart next told [] ys h = (tt, h)
 explained_apart next told (x ∷ xs) ys h =
@@ -100,13 +100,13 @@ all_of_both P (x ∷ xs) ys a b = (a.0, all_of_both P xs ys a.1 b)
 
 -- ---- what is told is at most the floor
 
-module _ (next : Next) (L : History) (told : Told) (has : HasSessions told) (place most : ℕ) where
-  stamp_low : (at stamp : ℕ) (reply : Reply) → ((floor : ℕ) → stamp ≤ floor_by reply floor) → (story : Option Story) → slice_get told.actors at ≡ story
-      → MatchOption story ⊥ (λ s. ReplyExplains next L (length told.history) s reply) → floor_at (act_at at Commit reply told story).floors place ≤ most
+module _ (next : Next) (L : History) (told : Observation) (has : HasSessions told) (place most : ℕ) where
+  stamp_low : (at stamp : ℕ) (reply : Reply) → ((floor : ℕ) → stamp ≤ floor_by reply floor) → (observed : Option ObservedActor) → slice_get told.actors at ≡ observed
+      → MatchOption observed ⊥ (λ s. ReplyExplains next L (length told.history) s reply) → floor_at (act_at at Commit reply told observed).floors place ≤ most
       → at ≡ place → stamp ≤ most
   stamp_low at stamp reply raises None is h low same = absurd h
-  stamp_low at stamp reply raises (Some story) is h low same =
-      let within = slice_get_within told.actors at story is in
+  stamp_low at stamp reply raises (Some observed) is h low same =
+      let within = slice_get_within told.actors at observed is in
       let below : at < length told.floors = omega (arith, within, has) in
       let low' = subst (λ (n : ℕ). floor_at (slice_set told.floors at (floor_by reply (floor_at told.floors at))) n ≤ most) (sym same) low in
       let set = floor_set told.floors at (floor_by reply (floor_at told.floors at)) below in
@@ -120,7 +120,7 @@ module _ (next : Next) (L : History) (told : Told) (has : HasSessions told) (pla
   told_low (Actor at Commit) (replies.At stamp) h low = stamp_low at stamp (replies.At stamp) (λ floor. omega arith) (slice_get told.actors at) refl h low
   told_low step reply h low = tt
 
-before_low : (next : Next) (told : Told) (xs : List (Step × Reply)) (place most : ℕ) → HasSessions told → AreExplainedThrough next told xs
+before_low : (next : Next) (told : Observation) (xs : List (Step × Reply)) (place most : ℕ) → HasSessions told → AreExplainedThrough next told xs
     → floor_at (told_through told xs).floors place ≤ most → HaveToldAtMost place most xs
 before_low next told [] place most has h low = tt
 before_low next told (x ∷ xs) place most has h low =
@@ -132,7 +132,7 @@ before_low next told (x ∷ xs) place most has h low =
 -- ---- what an actor reads
 
 -- a read-only transaction that the actor has open begins where this holds of the least stamp that it may read
-abbrev pub ReadsFrom : (ℕ → Type 0) → Story → Type 0
+abbrev pub ReadsFrom : (ℕ → Type 0) → ObservedActor → Type 0
 ReadsFrom P idle = Unit {0}
 ReadsFrom P (reading r) = P r.bounds.at_least
 ReadsFrom P (writing w) = Unit {0}
@@ -148,45 +148,45 @@ module _ (P : ℕ → Type 0) where
   end_reads (Some (Ok value)) r h = h
   end_reads (Some (Err error)) r h = h
 
-  act_reads : (act : Act) (reply : Reply) (story : Story) → NotBegun reply → ReadsFrom P story → ReadsFrom P (story_after act reply story)
-  act_reads (BeginRo bounds) replies.Begun story new h = absurd new
-  act_reads BeginRw (replies.Based base) story new h = tt
+  act_reads : (act : Act) (reply : Reply) (observed : ObservedActor) → NotBegun reply → ReadsFrom P observed → ReadsFrom P (observed_after act reply observed)
+  act_reads (BeginRo bounds) replies.Begun observed new h = absurd new
+  act_reads BeginRw (replies.Based base) observed new h = tt
   act_reads (Start key) replies.Started (reading r) new h = h
   act_reads Request (replies.Asked did end) (reading r) new h = end_reads end r h
   act_reads Request (replies.Ended end) (reading r) new h = end_reads (Some end) r h
   act_reads (Ask query) (replies.Answered rows) (writing w) new h = tt
   act_reads (Write change) replies.Kept (writing w) new h = tt
-  act_reads Commit (replies.Receipt pin) story new h = tt
+  act_reads Commit (replies.Receipt pin) observed new h = tt
   act_reads Commit (replies.At stamp) (writing w) new h = tt
-  act_reads Abort (replies.Aborted None) story new h = tt
-  act_reads Abort (replies.Aborted (Some held)) story new h = tt
-  act_reads act reply story new h = h
+  act_reads Abort (replies.Aborted None) observed new h = tt
+  act_reads Abort (replies.Aborted (Some held)) observed new h = tt
+  act_reads act reply observed new h = h
 
 -- what is set at a place is there
-set_there : (stories : List Story) (at : ℕ) (new story : Story) → slice_get (slice_set stories at new) at ≡ Some story → new ≡ story
-set_there [] at new story is = absurd (cc is)
-set_there (s ∷ ss) zero new story is = cc is
-set_there (s ∷ ss) (suc at) new story is = set_there ss at new story is
+set_there : (actors : List ObservedActor) (at : ℕ) (new observed : ObservedActor) → slice_get (slice_set actors at new) at ≡ Some observed → new ≡ observed
+set_there [] at new observed is = cc is
+set_there (s ∷ ss) zero new observed is = cc is
+set_there (s ∷ ss) (suc at) new observed is = set_there ss at new observed is
 
-set_reads : (P : Story → Type 0) (stories : List Story) (at place : ℕ) (new : Story) → (at ≡ place → P new)
-    → ((story : Story) → slice_get stories place ≡ Some story → P story)
-    → (story : Story) → slice_get (slice_set stories at new) place ≡ Some story → P story
-set_reads P [] at place new own others story is = others story is
-set_reads P (s ∷ ss) zero zero new own others story is = let same : new ≡ story = cc is in subst P same (own refl)
-set_reads P (s ∷ ss) zero (suc place) new own others story is = others story is
-set_reads P (s ∷ ss) (suc at) zero new own others story is = others story is
-set_reads P (s ∷ ss) (suc at) (suc place) new own others story is = set_reads P ss at place new (λ e. own (ap suc e)) others story is
+set_reads : (P : ObservedActor → Type 0) (actors : List ObservedActor) (at place : ℕ) (new : ObservedActor) → (at ≡ place → P new)
+    → ((observed : ObservedActor) → slice_get actors place ≡ Some observed → P observed)
+    → (observed : ObservedActor) → slice_get (slice_set actors at new) place ≡ Some observed → P observed
+set_reads P [] at place new own others observed is = others observed is
+set_reads P (s ∷ ss) zero zero new own others observed is = let same : new ≡ observed = cc is in subst P same (own refl)
+set_reads P (s ∷ ss) zero (suc place) new own others observed is = others observed is
+set_reads P (s ∷ ss) (suc at) zero new own others observed is = others observed is
+set_reads P (s ∷ ss) (suc at) (suc place) new own others observed is = set_reads P ss at place new (λ e. own (ap suc e)) others observed is
 
 module _ (P : ℕ → Type 0) (place : ℕ) where
   -- a read-only transaction that the actor of the number has open begins so
-  abbrev pub Reads : Told → Type 0
-  Reads told = (story : Story) → slice_get told.actors place ≡ Some story → ReadsFrom P story
+  abbrev pub Reads : Observation → Type 0
+  Reads told = (observed : ObservedActor) → slice_get told.actors place ≡ Some observed → ReadsFrom P observed
 
-  place_reads : (told : Told) (at : ℕ) (act : Act) (reply : Reply) → (at ≡ place → NotBegun reply) → Reads told
-      → (story : Option Story) → slice_get told.actors at ≡ story → Reads (act_at at act reply told story)
+  place_reads : (told : Observation) (at : ℕ) (act : Act) (reply : Reply) → (at ≡ place → NotBegun reply) → Reads told
+      → (observed : Option ObservedActor) → slice_get told.actors at ≡ observed → Reads (act_at at act reply told observed)
   place_reads told at act reply new h None is = h
   place_reads told at act reply new h (Some was) is =
-      set_reads (ReadsFrom P) told.actors at place (story_after act reply was)
+      set_reads (ReadsFrom P) told.actors at place (observed_after act reply was)
       (λ same. act_reads P act reply was (new same) (h was (subst (λ (n : ℕ). slice_get told.actors n ≡ Some was) same is))) h
 
   not_begun : (at : ℕ) (act : Act) (reply : Reply) → BeganNone place (Actor at act) reply → at ≡ place → NotBegun reply
@@ -197,70 +197,70 @@ module _ (P : ℕ → Type 0) (place : ℕ) where
   not_begun_in at now staleness replies.Begun none same = absurd (none same)
   not_begun_in at now staleness reply none same = tt
 
-  step_reads : (told : Told) (step : Step) (reply : Reply) → BeganNone place step reply → Reads told → Reads (after told step reply)
+  step_reads : (told : Observation) (step : Step) (reply : Reply) → BeganNone place step reply → Reads told → Reads (after told step reply)
   step_reads told (Actor at act) reply none h = place_reads told at act reply (not_begun at act reply none) h (slice_get told.actors at) refl
   step_reads told (BeginIn at now staleness) reply none h =
       place_reads told at (begin_at (floor_at told.floors at) now staleness) reply (not_begun_in at now staleness reply none) h (slice_get told.actors at) refl
   step_reads told (Keeper keep) reply none h = h
 
-  through_reads : (told : Told) (xs : List (Step × Reply)) → HaveBegunNone place xs → Reads told → Reads (told_through told xs)
+  through_reads : (told : Observation) (xs : List (Step × Reply)) → HaveBegunNone place xs → Reads told → Reads (told_through told xs)
   through_reads told [] none h = h
   through_reads told (x ∷ xs) none h = through_reads (after told x.0 x.1) xs none.1 (step_reads told x.0 x.1 none.0 h)
 
 -- who begins in its session begins at its floor
-begun_reads : (told : Told) (place now staleness : ℕ) → Reads (λ n. n ≡ floor_at told.floors place) place (after told (BeginIn place now staleness) replies.Begun)
+begun_reads : (told : Observation) (place now staleness : ℕ) → Reads (λ n. n ≡ floor_at told.floors place) place (after told (BeginIn place now staleness) replies.Begun)
 begun_reads told place now staleness = go (slice_get told.actors place) refl
   where
     P : ℕ → Type 0
     P n = n ≡ floor_at told.floors place
 
-    go : (story : Option Story) → slice_get told.actors place ≡ story
-        → Reads P place (act_at place (begin_at (floor_at told.floors place) now staleness) replies.Begun told story)
-    go None none = λ story is. let no : None ≡ Some story = sym none ∙ is in absurd (cc no)
-    go (Some was) some = λ story is. subst (ReadsFrom P)
-        (set_there told.actors place (story_after (begin_at (floor_at told.floors place) now staleness) replies.Begun was) story is) refl
+    go : (observed : Option ObservedActor) → slice_get told.actors place ≡ observed
+        → Reads P place (act_at place (begin_at (floor_at told.floors place) now staleness) replies.Begun told observed)
+    go None none = λ observed is. let no : None ≡ Some observed = sym none ∙ is in cc no
+    go (Some was) some = λ observed is. subst (ReadsFrom P)
+        (set_there told.actors place (observed_after (begin_at (floor_at told.floors place) now staleness) replies.Begun was) observed is) refl
 
 -- ---- what a receipt is of
 
-module _ (next : Next) (L : History) (told : Told) (place : ℕ) where
+module _ (next : Next) (L : History) (told : Observation) (place : ℕ) where
   receipt_from : (P : ℕ → Type 0) (pin : Pin) → IsExplainedIn next L told (Actor place Commit) (replies.Receipt (Some pin)) → Reads P place told
       → (n : ℕ) × P n × (n ≤ pin.stamp)
   receipt_from P pin h reads = go (slice_get told.actors place) refl h
     where
-      of : (story : Story) → slice_get told.actors place ≡ Some story → IsReceiptOfStory next L story (Some pin) → (n : ℕ) × P n × (n ≤ pin.stamp)
+      of : (observed : ObservedActor) → slice_get told.actors place ≡ Some observed → IsReceiptOfActor next L observed (Some pin) → (n : ℕ) × P n × (n ≤ pin.stamp)
       of idle is x = absurd x
       of (reading r) is x = (r.bounds.at_least, reads (reading r) is, x.1.allowed.late)
       of (writing w) is x = absurd x
       of (leaving stamp) is x = absurd x
 
-      go : (story : Option Story) → slice_get told.actors place ≡ story → MatchOption story ⊥ (λ s. IsReceiptOfStory next L s (Some pin)) → (n : ℕ) × P n × (n ≤ pin.stamp)
+      go : (observed : Option ObservedActor) → slice_get told.actors place ≡ observed → MatchOption observed ⊥ (λ s. IsReceiptOfActor next L s (Some pin)) → (n : ℕ) × P n × (n ≤ pin.stamp)
       go None is x = absurd x
-      go (Some story) is x = of story is x
+      go (Some observed) is x = of observed is x
 
   -- once it is told so, it has nothing open to read with
   receipt_ends : (at : ℕ) (pin : Option Pin) → at ≡ place → IsExplainedIn next L told (Actor at Commit) (replies.Receipt pin)
       → Reads (λ n. ⊥) place (after told (Actor at Commit) (replies.Receipt pin))
   receipt_ends at pin same h = go (slice_get told.actors at) refl h
     where
-      go : (story : Option Story) → slice_get told.actors at ≡ story → MatchOption story ⊥ (λ s. IsReceiptOfStory next L s pin)
-          → Reads (λ n. ⊥) place (act_at at Commit (replies.Receipt pin) told story)
+      go : (observed : Option ObservedActor) → slice_get told.actors at ≡ observed → MatchOption observed ⊥ (λ s. IsReceiptOfActor next L s pin)
+          → Reads (λ n. ⊥) place (act_at at Commit (replies.Receipt pin) told observed)
       go None is x = absurd x
-      go (Some was) is x = λ story there. subst (ReadsFrom (λ n. ⊥))
-          (set_there told.actors at idle story (subst (λ (n : ℕ). slice_get (slice_set told.actors at idle) n ≡ Some story) (sym same) there)) tt
+      go (Some was) is x = λ observed there. subst (ReadsFrom (λ n. ⊥))
+          (set_there told.actors at idle observed (subst (λ (n : ℕ). slice_get (slice_set told.actors at idle) n ≡ Some observed) (sym same) there)) tt
 
   commit_ends : (at stamp : ℕ) → at ≡ place → IsExplainedIn next L told (Actor at Commit) (replies.At stamp)
       → Reads (λ n. ⊥) place (after told (Actor at Commit) (replies.At stamp))
   commit_ends at stamp same h = go (slice_get told.actors at) refl h
     where
-      of : (was : Story) → IsCommitOf next L (length told.history) was stamp → Reads (λ n. ⊥) place (act_at at Commit (replies.At stamp) told (Some was))
+      of : (was : ObservedActor) → IsCommitOf next L (length told.history) was stamp → Reads (λ n. ⊥) place (act_at at Commit (replies.At stamp) told (Some was))
       of idle x = absurd x
       of (reading r) x = absurd x
-      of (writing w) x = λ story there. subst (ReadsFrom (λ n. ⊥))
-          (set_there told.actors at (leaving w.base) story (subst (λ (n : ℕ). slice_get (slice_set told.actors at (leaving w.base)) n ≡ Some story) (sym same) there)) tt
+      of (writing w) x = λ observed there. subst (ReadsFrom (λ n. ⊥))
+          (set_there told.actors at (leaving w.base) observed (subst (λ (n : ℕ). slice_get (slice_set told.actors at (leaving w.base)) n ≡ Some observed) (sym same) there)) tt
       of (leaving held) x = absurd x
 
-      go : (story : Option Story) → slice_get told.actors at ≡ story → MatchOption story ⊥ (λ s. IsCommitOf next L (length told.history) s stamp)
-          → Reads (λ n. ⊥) place (act_at at Commit (replies.At stamp) told story)
+      go : (observed : Option ObservedActor) → slice_get told.actors at ≡ observed → MatchOption observed ⊥ (λ s. IsCommitOf next L (length told.history) s stamp)
+          → Reads (λ n. ⊥) place (act_at at Commit (replies.At stamp) told observed)
       go None is x = absurd x
       go (Some was) is x = of was x
 
@@ -271,7 +271,7 @@ module _ (next : Next) (L : History) (told : Told) (place : ℕ) where
   told_none most step reply h ends = tt
 
 -- a transaction that is committed has been open since it began
-between_low : (next : Next) (L : History) (told : Told) (xs : List (Step × Reply)) (place : ℕ) (pin : Pin) → HaveBegunNone place xs → AreExplainedThrough next told xs
+between_low : (next : Next) (L : History) (told : Observation) (xs : List (Step × Reply)) (place : ℕ) (pin : Pin) → HaveBegunNone place xs → AreExplainedThrough next told xs
     → IsExplainedIn next L (told_through told xs) (Actor place Commit) (replies.Receipt (Some pin)) → HaveToldAtMost place pin.stamp xs
 between_low next L told [] place pin none h receipt = tt
 between_low next L told (x ∷ xs) place pin none h receipt =
@@ -281,7 +281,7 @@ between_low next L told (x ∷ xs) place pin none h receipt =
       between_low next L now xs place pin none.1 h.1 receipt,
     )
 
-pub nobody_goes_back : (next : Next) (told : Told) (steps : List Step) (answers : List Reply) → HasSessions told → AreExplained next told steps answers
+pub nobody_goes_back : (next : Next) (told : Observation) (steps : List Step) (answers : List Reply) → HasSessions told → AreExplained next told steps answers
     → NoActorGoesBack steps answers
 nobody_goes_back next told steps answers has explained place now staleness pin before between more apart none =
     let receipt : Step × Reply = (Actor place Commit, replies.Receipt (Some pin)) in
@@ -302,7 +302,7 @@ nobody_goes_back next told steps answers has explained place now staleness pin b
     (between_low next end begun between place pin none second.0 second.1.0)
 
 -- at the end of the loop over the steps
-pub loop_back : (next : Next) (start : Told) (steps : List Step) (i : ℕ) (answers : List Reply) → length steps ≤ i → i ≤ length steps
+pub loop_back : (next : Next) (start : Observation) (steps : List Step) (i : ℕ) (answers : List Reply) → length steps ≤ i → i ≤ length steps
     → HasSessions start → AreExplained next start (take i steps) answers → NoActorGoesBack steps answers
 loop_back next start steps i answers past within has explained =
     let at : i ≡ length steps = omega (arith, past, within) in

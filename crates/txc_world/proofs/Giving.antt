@@ -13,7 +13,7 @@ use Rattle.txc_cushion.specs.Refusals.{HaveUsers, IsFirstUnused}
 use Rattle.txc_world.specs.Ports.{PortsValue}
 use Rattle.txc_world.specs.Asks.{FreshLeads}
 use Rattle.txc_world.specs.Keeping.{GiveBackLeads}
-use Rattle.txc_world.specs.Books.{CountRight, GivesBack, KeepsPins}
+use Rattle.txc_world.specs.Holdings.{CountRight, GivesBack, KeepsPins}
 use Rattle.txc_world.proofs.SameEntries.{pins_back, pins_handed, same_entries}
 use Rattle.txc_world.proofs.Times.{times_cons, times_on, times_one}
 
@@ -28,8 +28,8 @@ not_unused : (p : PortsValue) (s stamp : ℕ) → IsFirstUnused p.cushion.entrie
 not_unused p s stamp first some = go first.place first.there first.none_left
   where
     go : (place : ℕ) → slice_get (s ∷ []) place ≡ Some stamp → users_of stamp p.cushion.entries ≤ times stamp (take place (s ∷ [])) → ⊥
-    go zero there none = let same : s ≡ stamp = cc there in let none' : users_of s p.cushion.entries ≤ 0 = rw same none in absurd (omega (arith, none', some))
-    go (suc k) there none = absurd (cc there)
+    go zero there none = let same : s ≡ stamp = cc there in let none' : users_of s p.cushion.entries ≤ 0 = rw same none in omega (arith, none', some)
+    go (suc k) there none = cc there
 
 given_one : {A : Type 0} → (old new : PortsValue) (s : ℕ) (given : Result A UnknownPin) → GiveBackCountsUsers → GiveBackLeads (s ∷ []) old new given
     → 0 < users_of s old.cushion.entries → (t : ℕ) → users_of t new.cushion.entries + times t (s ∷ []) ≡ users_of t old.cushion.entries

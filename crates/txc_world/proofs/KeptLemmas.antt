@@ -21,7 +21,7 @@ use Rattle.txc_world.specs.declared.reply.Refusal.TheVariants as refusals
 use Rattle.txc_world.specs.Ports.{PortsValue, HasRefused, HasLedNode, KeepsRow}
 use Rattle.txc_world.specs.Keeping.{stamps_of_pins, CommitLeads, HasPinnedSpare, WriteLeads, AddSpareLeads}
 use Rattle.txc_world.specs.Kept.{told_addition, IsKeeperStep, KeepLeads}
-use Rattle.txc_world.specs.Told.{commit_in, keep_in, spare_after, IsDueOr, IsKeepDue, IsNoReceipt}
+use Rattle.txc_world.specs.Observation.{commit_in, keep_in, spare_after, IsDueOr, IsKeepDue, IsNoReceipt}
 use Rattle.txc_shared.specs.Nodes.{NodeValue}
 use Rattle.txc_world.proofs.PortsLemmas.{left_history}
 

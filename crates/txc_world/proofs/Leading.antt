@@ -18,10 +18,11 @@ use Rattle.txc_world.specs.declared.step.Act.{Act}
 use Rattle.txc_world.specs.declared.step.Step.{Step}
 use Rattle.txc_world.specs.declared.step.Step.TheVariants as steps
 use Rattle.txc_world.specs.Ports.{PortsValue}
-use Rattle.txc_world.specs.Cast.{actor_at, actor_value, reading_value, reads, ReadingValue}
+use Rattle.txc_world.specs.ActorValues.{actor_at, actor_value, reading_value, reads, ReadingValue}
 use Rattle.txc_world.specs.Actors.{IsNoted}
 use Rattle.txc_world.specs.Acts.{ActLeads, AreLed, HasStepped, StepLeads}
 use Rattle.txc_world.specs.Worlds.{value_of_world, WorldValue}
+use Rattle.txc_world.proofs.Paired.{paired}
 
 -- ---- a call, as it is kept and as it is seen
 
@@ -67,11 +68,10 @@ seen_there actors place o r is at =
 pub led_more : (next : Next) (start now new : WorldValue) (steps : List Step) (replies : List Reply) (step : Step) (reply : Reply)
     → length replies ≡ length steps → AreLed next start steps replies now → HasStepped next now step reply new
     → AreLed next start (steps ++ step ∷ []) (replies ++ reply ∷ []) new
-led_more next start now new [] [] step reply e h k = (new, subst (λ (w : WorldValue). HasStepped next w step reply new) h k, refl)
-led_more next start now new [] (r ∷ rs) step reply e h k = absurd (cc e)
-led_more next start now new (s ∷ ss) [] step reply e h k = absurd (cc e)
-led_more next start now new (s ∷ ss) (r ∷ rs) step reply e h k =
-    let e' : length rs ≡ length ss = cc in (h.0, h.1, led_more next h.0 now new ss rs step reply e' h.2 k)
+led_more next start now new steps replies step reply e = paired
+    (λ (ss : List Step) (rs : List Reply). (start : WorldValue) → AreLed next start ss rs now → HasStepped next now step reply new → AreLed next start (ss ++ step ∷ []) (rs ++ reply ∷ []) new)
+    (λ start h k. (new, subst (λ (w : WorldValue). HasStepped next w step reply new) h k, refl))
+    (λ s ss r rs more start h k. (h.0, h.1, more h.0 h.2 k)) steps replies e start
 
 -- ---- the loop over the steps
 

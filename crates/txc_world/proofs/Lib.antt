@@ -14,6 +14,7 @@ pub mod Turning
 pub mod Stepping
 pub mod MemberLemmas
 pub mod Losing
+pub mod Paired
 pub mod Times
 pub mod Fairness
 pub mod Balance

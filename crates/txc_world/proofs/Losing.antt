@@ -168,7 +168,7 @@ module _ (P : Type 0) where
       where
         go : (ms : List Pin) → old.pins.members ≡ ms → IfTurnLost turn P
         go [] none = present_not_lost turn (leads.pins none).asks
-        go (m ∷ ms) some = begin_not_lost old before k (leads.begins (λ none. let no : m ∷ ms ≡ [] = sym some ∙ none in absurd (cc no)))
+        go (m ∷ ms) some = begin_not_lost old before k (leads.begins (λ none. let no : m ∷ ms ≡ [] = sym some ∙ none in cc no))
 
     standing_not_lost : (stands : CallTurn) → StandingLeads stands new objects turn → IfTurnLost turn P
     standing_not_lost stands leads = standing_turn stands turn leads
@@ -189,7 +189,7 @@ module _ (P : Type 0) where
         go : (ms : List Pin) → kept hit.reach old.pins.members ≡ ms → IfTurnLost turn P
         go [] none = called_not_lost next old before (needs.Lookup k) calls_replies.Miss (leads.none none)
         go (m ∷ ms) some =
-            called_not_lost next old before (needs.Lookup k) (calls_replies.Hit hit) (leads.held (λ none. let no : m ∷ ms ≡ [] = sym some ∙ none in absurd (cc no)))
+            called_not_lost next old before (needs.Lookup k) (calls_replies.Hit hit) (leads.held (λ none. let no : m ∷ ms ≡ [] = sym some ∙ none in cc no))
 
     pinned_not_lost : (first : Option Call) (old : CoreValue) (before : Objects) → PresentPinLeads first old before new objects turn → IfTurnLost turn P
     pinned_not_lost (Some k) old before leads = begin_not_lost old before k leads
@@ -240,10 +240,10 @@ reason_of (Some p) = reason_in p.step
 
 -- no pin is left to be added or unpinned
 pub none_left : (c : CoreValue) → left_pin c.pinning ≡ None → DropsNone c
-none_left c none = λ stamp error at. let some : Some stamp ≡ None = sym (ap left_pin at.1) ∙ none in absurd (cc some)
+none_left c none = λ stamp error at. let some : Some stamp ≡ None = sym (ap left_pin at.1) ∙ none in cc some
 
 adding_drops_none : (c : CoreValue) (pin : Pin) → IsPinningAt c (Adding pin) → DropsNone c
-adding_drops_none c pin adding = λ stamp error at. let no : None ≡ Some error = ap reason_of (sym adding.1 ∙ at.1) in absurd (cc no)
+adding_drops_none c pin adding = λ stamp error at. let no : None ≡ Some error = ap reason_of (sym adding.1 ∙ at.1) in cc no
 
 dropping_drops_none : (c : CoreValue) (stamp : ℕ) (error : AddError) → IsPinningAt c (Dropping stamp (refused_pin error)) → DropsNone c
 dropping_drops_none c stamp error dropping = λ at_stamp why at.

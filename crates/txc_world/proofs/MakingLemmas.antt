@@ -28,7 +28,7 @@ memory_is_wanting (Err e) h = rw h tt
 each_push : {X : Type 0} (P : ℕ → X → Type 0) (xs : List X) (y : X) → ((i : ℕ) (x : X) → slice_get xs i ≡ Some x → P i x) → P (length xs) y
     → (i : ℕ) (x : X) → slice_get (xs ++ y ∷ []) i ≡ Some x → P i x
 each_push P [] y h last zero x is = let same : y ≡ x = cc in subst (P 0) same last
-each_push P [] y h last (suc i) x is = absurd (cc is)
+each_push P [] y h last (suc i) x is = cc is
 each_push P (z ∷ zs) y h last zero x is = h zero x is
 each_push P (z ∷ zs) y h last (suc i) x is = each_push (λ k. P (suc k)) zs y (λ k w at. h (suc k) w at) last i x is
 

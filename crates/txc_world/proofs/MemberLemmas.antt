@@ -14,16 +14,16 @@ use Rattle.txc_world.specs.declared.actor.OpenTxn.{OpenTxn}
 use Rattle.txc_world.specs.declared.actor.Actor.{Actor}
 use Rattle.txc_world.specs.declared.actor.Actor.TheVariants as actors
 use Rattle.txc_world.specs.declared.settings.WorldSettings.{WorldSettings}
-use Rattle.txc_world.specs.Told.{Reading, reading, Told}
+use Rattle.txc_world.specs.Observation.{Reading, reading, Observation}
 use Rattle.txc_world.specs.Ports.{PortsValue, whole_of}
-use Rattle.txc_world.specs.Actors.{story_of, IsActorThere}
+use Rattle.txc_world.specs.Actors.{observed_of, IsActorThere}
 use Rattle.txc_world.specs.Worlds.{told_of, AreMembersOf, IsWorld}
 use Rattle.txc_world.proofs.Explaining.{moment_later, moment_within, state_later}
-use Rattle.txc_world.proofs.Stepping.{story_there}
+use Rattle.txc_world.proofs.Stepping.{observed_there}
 
 -- what is true of all is true of the one at the place
 pub all_get : {X : Type 0} (P : X → Type 0) (xs : List X) (i : ℕ) (x : X) → All P xs → slice_get xs i ≡ Some x → P x
-all_get P [] i x all is = absurd (cc is)
+all_get P [] i x all is = cc is
 all_get P (y ∷ ys) zero x all is = let same : y ≡ x = cc is in subst P same (All-head P y ys all)
 all_get P (y ∷ ys) (suc i) x all is = all_get P ys i x (All-tail P y ys all) is
 
@@ -65,17 +65,17 @@ module _ {A C : Type 0} (next : Next) (o : OpenTxn A C) (kept : IsTxn next o.txn
 
 -- the actor at the place is as it is told
 pub members_there : {A C : Type 0} (next : Next) (settings : WorldSettings) (ports : PortsValue) (floors : List ℕ) (cast : List (Option (Actor A C))) (place : ℕ)
-    (o : OpenTxn A C) (now : Told) (r : Reading) → IsTxn next o.txn → IsWorld next settings ports floors cast
+    (o : OpenTxn A C) (now : Observation) (r : Reading) → IsTxn next o.txn → IsWorld next settings ports floors cast
     → slice_get cast place ≡ Some (Some (actors.Reading o)) → told_of settings ports floors cast ≡ now → slice_get now.actors place ≡ Some (reading r)
     → AreMembersOf next now.history r o.txn.core.pins.has_present o.txn.core.pins.members
 members_there next settings ports floors cast place o now r kept world is shows at =
     let open_there : IsActorThere next (whole_of ports) settings.nodes (Some (actors.Reading o)) =
     all_get (IsActorThere next (whole_of ports) settings.nodes) cast place (Some (actors.Reading o)) world.there is in
-    let there : slice_get (told_of settings ports floors cast).actors place ≡ Some (story_of (actors.Reading o)) =
-    story_there settings ports floors cast place (actors.Reading o) is in
+    let there : slice_get (told_of settings ports floors cast).actors place ≡ Some (observed_of (actors.Reading o)) =
+    observed_there settings ports floors cast place (actors.Reading o) is in
     let same : told_reading o ≡ r =
-    reading_is (told_reading o) r (sym there ∙ ap (λ (t : Told). slice_get t.actors place) shows ∙ at) in
+    reading_is (told_reading o) r (sym there ∙ ap (λ (t : Observation). slice_get t.actors place) shows ∙ at) in
     let members : AreMembersOf next ports.database.history (told_reading o) o.txn.core.pins.has_present o.txn.core.pins.members =
     members_of next o kept ports.database.history open_there.seen.begins in
-    subst (λ (t : Told). AreMembersOf next t.history r o.txn.core.pins.has_present o.txn.core.pins.members) shows
+    subst (λ (t : Observation). AreMembersOf next t.history r o.txn.core.pins.has_present o.txn.core.pins.members) shows
     (subst (λ (q : Reading). AreMembersOf next ports.database.history q o.txn.core.pins.has_present o.txn.core.pins.members) same members)

@@ -62,7 +62,7 @@ module _ (whole : FrontValue) where
     name = ap (λ (n : NodeValue). n.name) broke.is;
     row = λ h. broke.events ∙ h;
     passes = ap (λ (n : NodeValue). n.passes) broke.is;
-    seen = λ h whole_new. let no : true ≡ false = sym (ap (λ (n : NodeValue). n.broken) broke.is) ∙ whole_new in absurd (cc no);
+    seen = λ h whole_new. let no : true ≡ false = sym (ap (λ (n : NodeValue). n.broken) broke.is) ∙ whole_new in cc no;
   }
 
   pub stays_left : (old new : NodeValue) (e : NodeError) → IsNodeLeft old new e → StaysNode whole old new

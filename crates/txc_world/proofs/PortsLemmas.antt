@@ -233,7 +233,7 @@ none_is_held stamp (s ∷ ss) none =
 
 pub stamp_at : (spare : List Pinned) (i : ℕ) (pinned : Pinned) → i < length spare → pinned ≡ get_or spare i pinned
     → get_or (stamps_of_pins spare) i 0 ≡ pinned.stamp
-stamp_at [] i pinned within is = absurd (omega (arith, within))
+stamp_at [] i pinned within is = omega (arith, within)
 stamp_at (s ∷ ss) zero pinned within is = sym (ap (λ (q : Pinned). q.stamp) is)
 stamp_at (s ∷ ss) (suc i) pinned within is = stamp_at ss i pinned (omega (arith, within)) is
 

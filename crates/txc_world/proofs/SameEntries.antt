@@ -29,13 +29,13 @@ no_users t [] none = refl
 no_users t (e ∷ es) none = go (e.pin.stamp == t) refl (no_users t es)
   where
     go : (b : Bool) → (e.pin.stamp == t) ≡ b → (times t (stamps_of es) ≡ 0 → users_of t es ≡ 0) → users_of t (e ∷ es) ≡ 0
-    go true is rest = let one = times_on t e.pin.stamp (stamps_of es) is in absurd (omega (arith, one, none))
+    go true is rest = let one = times_on t e.pin.stamp (stamps_of es) is in omega (arith, one, none)
     go false is rest = let all = times_cons t e.pin.stamp (stamps_of es) in let at : users_of t es ≡ 0 = rest (omega (arith, all, none)) in rw is at
 
 stamps_by_pins : (xs ys : List PinEntry) → pins_of xs ≡ pins_of ys → stamps_of xs ≡ stamps_of ys
 stamps_by_pins [] [] same = refl
-stamps_by_pins [] (y ∷ ys) same = absurd (cc same)
-stamps_by_pins (x ∷ xs) [] same = absurd (cc same)
+stamps_by_pins [] (y ∷ ys) same = cc same
+stamps_by_pins (x ∷ xs) [] same = cc same
 stamps_by_pins (x ∷ xs) (y ∷ ys) same =
     let pin : x.pin ≡ y.pin = cc same in
     let rest : pins_of xs ≡ pins_of ys = cc same in
@@ -47,8 +47,8 @@ users_here x xs = let is : (x.pin.stamp == x.pin.stamp) ≡ true = eq-eqb x.pin.
 pub same_entries : (xs ys : List PinEntry) → ((t : ℕ) → times t (stamps_of xs) ≤ 1) → pins_of xs ≡ pins_of ys
     → ((t : ℕ) → users_of t xs ≡ users_of t ys) → xs ≡ ys
 same_entries [] [] once pins users = refl
-same_entries [] (y ∷ ys) once pins users = absurd (cc pins)
-same_entries (x ∷ xs) [] once pins users = absurd (cc pins)
+same_entries [] (y ∷ ys) once pins users = cc pins
+same_entries (x ∷ xs) [] once pins users = cc pins
 same_entries (x ∷ xs) (y ∷ ys) once pins users =
     let pin : x.pin ≡ y.pin = cc pins in
     let rest : pins_of xs ≡ pins_of ys = cc pins in

@@ -16,10 +16,10 @@ use Rattle.txc_world.specs.declared.reply.Reply.{Reply}
 use Rattle.txc_world.specs.declared.settings.WorldSettings.{WorldSettings}
 use Rattle.txc_world.specs.declared.step.Act.{Act}
 use Rattle.txc_world.specs.declared.step.Step.TheVariants as steps
-use Rattle.txc_world.specs.Told.{Told, act_in, after, floor_at, floor_by, story_after, IsActDue, IsDue, IsExplainedIn, ReplyExplains}
+use Rattle.txc_world.specs.Observation.{Observation, act_in, after, floor_at, floor_by, observed_after, IsActDue, IsDue, IsExplainedIn, ReplyExplains}
 use Rattle.txc_world.specs.Parts.{IsPartOf}
 use Rattle.txc_world.specs.Ports.{PortsValue, whole_of, KeepsRow}
-use Rattle.txc_world.specs.Actors.{story_at, story_of, HasCall, IsActor, IsActorThere}
+use Rattle.txc_world.specs.Actors.{observed_at, observed_of, HasCall, IsActor, IsActorThere}
 use Rattle.txc_world.specs.Worlds.{told_of, IsWorld}
 use Rattle.txc_world.proofs.Whole.{part_kept}
 
@@ -97,30 +97,30 @@ module _ {A C : Type 0} (longer : HoldsInLonger) (next : Next) (settings : World
 
 module _ {A C : Type 0} (settings : WorldSettings) (ports : PortsValue) (floors : List ℕ) (actors : List (Option (Actor A C))) (place : ℕ) (actor : Actor A C)
     (is : slice_get actors place ≡ Some (Some actor)) where
-  pub story_there : slice_get (told_of settings ports floors actors).actors place ≡ Some (story_of actor)
-  story_there = slice_get-map story_at actors place ∙ ap (λ (o : Option (Option (Actor A C))). option_map story_at o) is
+  pub observed_there : slice_get (told_of settings ports floors actors).actors place ≡ Some (observed_of actor)
+  observed_there = slice_get-map observed_at actors place ∙ ap (λ (o : Option (Option (Actor A C))). option_map observed_at o) is
 
   -- what the world shows after the step is what is told
-  pub told_act : (new : PortsValue) (floors' : List ℕ) (actors' : List (Option (Actor A C))) (actor' : Actor A C) (act : Act) (reply : Reply) (now : Told)
+  pub told_act : (new : PortsValue) (floors' : List ℕ) (actors' : List (Option (Actor A C))) (actor' : Actor A C) (act : Act) (reply : Reply) (now : Observation)
       → floors' ≡ slice_set floors place (floor_by reply (floor_at floors place))
       → actors' ≡ slice_set actors place (Some actor')
-      → story_of actor' ≡ story_after act reply (story_of actor)
-      → new.database.history ≡ act_in act reply (story_of actor) ports.database.history → new.spare ≡ ports.spare
+      → observed_of actor' ≡ observed_after act reply (observed_of actor)
+      → new.database.history ≡ act_in act reply (observed_of actor) ports.database.history → new.spare ≡ ports.spare
       → told_of settings ports floors actors ≡ now → told_of settings new floors' actors' ≡ after now (steps.Actor place act) reply
-  told_act new floors' actors' actor' act reply now noted put story history spare shows =
+  told_act new floors' actors' actor' act reply now noted put observed history spare shows =
       let told : told_of settings new floors' actors' ≡ after (told_of settings ports floors actors) (steps.Actor place act) reply =
-      rw (noted, put, story_there, history, spare, map-set story_at actors place (Some actor'), story) refl
-      in told ∙ ap (λ (t : Told). after t (steps.Actor place act) reply) shows
+      rw (noted, put, observed_there, history, spare, map-set observed_at actors place (Some actor'), observed) refl
+      in told ∙ ap (λ (t : Observation). after t (steps.Actor place act) reply) shows
 
-  pub due_act : (act : Act) (reply : Reply) (now : Told) → IsActDue (story_of actor) act reply → told_of settings ports floors actors ≡ now
+  pub due_act : (act : Act) (reply : Reply) (now : Observation) → IsActDue (observed_of actor) act reply → told_of settings ports floors actors ≡ now
       → IsDue now (steps.Actor place act) reply
   due_act act reply now h shows =
-      let due : IsDue (told_of settings ports floors actors) (steps.Actor place act) reply = rw story_there h in
-      subst (λ (t : Told). IsDue t (steps.Actor place act) reply) shows due
+      let due : IsDue (told_of settings ports floors actors) (steps.Actor place act) reply = rw observed_there h in
+      subst (λ (t : Observation). IsDue t (steps.Actor place act) reply) shows due
 
-  pub explained_act : (next : Next) (new : PortsValue) (act : Act) (reply : Reply) (now : Told)
-      → ReplyExplains next new.database.history (length ports.database.history) (story_of actor) reply
+  pub explained_act : (next : Next) (new : PortsValue) (act : Act) (reply : Reply) (now : Observation)
+      → ReplyExplains next new.database.history (length ports.database.history) (observed_of actor) reply
       → told_of settings ports floors actors ≡ now → IsExplainedIn next new.database.history now (steps.Actor place act) reply
   explained_act next new act reply now h shows =
-      let explained : IsExplainedIn next new.database.history (told_of settings ports floors actors) (steps.Actor place act) reply = rw story_there h in
-      subst (λ (t : Told). IsExplainedIn next new.database.history t (steps.Actor place act) reply) shows explained
+      let explained : IsExplainedIn next new.database.history (told_of settings ports floors actors) (steps.Actor place act) reply = rw observed_there h in
+      subst (λ (t : Observation). IsExplainedIn next new.database.history t (steps.Actor place act) reply) shows explained

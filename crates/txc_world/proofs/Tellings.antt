@@ -20,37 +20,36 @@ use Rattle.txc_world.specs.declared.did.Did.{Did}
 use Rattle.txc_world.specs.declared.did.Did.TheVariants as dids
 use Rattle.txc_world.specs.declared.reply.Reply.{Reply}
 use Rattle.txc_world.specs.declared.reply.Reply.TheVariants as replies
-use Rattle.txc_world.specs.Told.{Writing, Story, reading, writing, Told, act_in, act_at, after, begin_at, commit_in, floor_at, did_in, keep_in, told_by, AreDue, AreExplained, AreExplainedIn, CommitExplains, CommitMakes, IsCommitOf, IsDue, IsExplainedIn, IsNoCommit, IsReceiptOfStory, ReplyExplains}
+use Rattle.txc_world.specs.Observation.{Writing, ObservedActor, reading, writing, Observation, act_in, act_at, after, begin_at, commit_in, floor_at, did_in, keep_in, told_by, AreDue, AreExplained, AreExplainedIn, CommitExplains, CommitMakes, IsCommitOf, IsDue, IsExplainedIn, IsNoCommit, IsReceiptOfActor, ReplyExplains}
 use Rattle.txc_stream.proofs.Offered.{prefix_self, prefix_take, prefix_trans}
 use Rattle.txc_world.proofs.Explaining.{explained_later, state_later}
+use Rattle.txc_world.proofs.Paired.{paired}
 
 -- ---- one more step and its reply
 
-pub told_more : (told : Told) (steps : List Step) (replies : List Reply) (step : Step) (reply : Reply) → length replies ≡ length steps
+pub told_more : (told : Observation) (steps : List Step) (replies : List Reply) (step : Step) (reply : Reply) → length replies ≡ length steps
     → told_by told (steps ++ step ∷ []) (replies ++ reply ∷ []) ≡ after (told_by told steps replies) step reply
-told_more told [] [] step reply e = refl
-told_more told [] (r ∷ replies) step reply e = absurd (cc)
-told_more told (s ∷ steps) [] step reply e = absurd (cc)
-told_more told (s ∷ steps) (r ∷ replies) step reply e =
-    let e' : length replies ≡ length steps = cc in told_more (after told s r) steps replies step reply e'
+told_more told steps replies step reply e = paired
+    (λ (ss : List Step) (rs : List Reply). (told : Observation) → told_by told (ss ++ step ∷ []) (rs ++ reply ∷ []) ≡ after (told_by told ss rs) step reply)
+    (λ told. refl)
+    (λ s ss r rs more told. more (after told s r)) steps replies e told
 
-pub explained_more : (next : Next) (told : Told) (steps : List Step) (replies : List Reply) (step : Step) (reply : Reply)
+pub explained_more : (next : Next) (told : Observation) (steps : List Step) (replies : List Reply) (step : Step) (reply : Reply)
     → length replies ≡ length steps → AreExplained next told steps replies
     → IsExplainedIn next (after (told_by told steps replies) step reply).history (told_by told steps replies) step reply
     → AreExplained next told (steps ++ step ∷ []) (replies ++ reply ∷ [])
-explained_more next told [] [] step reply e h k = (k, tt)
-explained_more next told [] (r ∷ replies) step reply e h k = absurd (cc)
-explained_more next told (s ∷ steps) [] step reply e h k = absurd (cc)
-explained_more next told (s ∷ steps) (r ∷ replies) step reply e h k =
-    let e' : length replies ≡ length steps = cc in (h.0, explained_more next (after told s r) steps replies step reply e' h.1 k)
+explained_more next told steps replies step reply e = paired
+    (λ (ss : List Step) (rs : List Reply). (told : Observation) → AreExplained next told ss rs → IsExplainedIn next (after (told_by told ss rs) step reply).history (told_by told ss rs) step reply
+    → AreExplained next told (ss ++ step ∷ []) (rs ++ reply ∷ []))
+    (λ told h k. (k, tt))
+    (λ s ss r rs more told h k. (h.0, more (after told s r) h.1 k)) steps replies e told
 
-pub due_more : (told : Told) (steps : List Step) (replies : List Reply) (step : Step) (reply : Reply) → length replies ≡ length steps
+pub due_more : (told : Observation) (steps : List Step) (replies : List Reply) (step : Step) (reply : Reply) → length replies ≡ length steps
     → AreDue told steps replies → IsDue (told_by told steps replies) step reply → AreDue told (steps ++ step ∷ []) (replies ++ reply ∷ [])
-due_more told [] [] step reply e h k = (k, tt)
-due_more told [] (r ∷ replies) step reply e h k = absurd (cc)
-due_more told (s ∷ steps) [] step reply e h k = absurd (cc)
-due_more told (s ∷ steps) (r ∷ replies) step reply e h k =
-    let e' : length replies ≡ length steps = cc in (h.0, due_more (after told s r) steps replies step reply e' h.1 k)
+due_more told steps replies step reply e = paired
+    (λ (ss : List Step) (rs : List Reply). (told : Observation) → AreDue told ss rs → IsDue (told_by told ss rs) step reply → AreDue told (ss ++ step ∷ []) (rs ++ reply ∷ []))
+    (λ told h k. (k, tt))
+    (λ s ss r rs more told h k. (h.0, more (after told s r) h.1 k)) steps replies e told
 
 -- ---- the history goes on
 
@@ -58,9 +57,9 @@ did_goes_on : (did : Did) (now : ℕ) (L : History) → IsPrefix L (did_in did n
 did_goes_on (dids.Pinned stamp) now L = (pin_event now ∷ [], refl)
 did_goes_on did now L = prefix_self L
 
-request_goes_on : (reply : Reply) (story : Story) (L : History) → IsPrefix L (act_in Request reply story L)
+request_goes_on : (reply : Reply) (observed : ObservedActor) (L : History) → IsPrefix L (act_in Request reply observed L)
 request_goes_on (replies.Asked did end) (reading r) L = did_goes_on did r.bounds.now L
-request_goes_on reply story L = prefix_self L
+request_goes_on reply observed L = prefix_self L
 
 if_goes_on : (L more : History) (b : Bool) → IsPrefix L (if b then L ++ more else L)
 if_goes_on L more true = (more, refl)
@@ -69,31 +68,31 @@ if_goes_on L more false = prefix_self L
 changes_go_on : (changes : List Change) (stamp : ℕ) (L : History) → IsPrefix L (commit_in changes stamp L)
 changes_go_on changes stamp L = if_goes_on L (commit_event (state_at L (length L)) changes ∷ []) (nat_lt (length L) stamp)
 
-commit_goes_on : (reply : Reply) (story : Story) (L : History) → IsPrefix L (act_in Commit reply story L)
+commit_goes_on : (reply : Reply) (observed : ObservedActor) (L : History) → IsPrefix L (act_in Commit reply observed L)
 commit_goes_on (replies.At stamp) (writing w) L = changes_go_on w.changes stamp L
-commit_goes_on reply story L = prefix_self L
+commit_goes_on reply observed L = prefix_self L
 
-act_goes_on : (act : Act) (reply : Reply) (story : Story) (L : History) → IsPrefix L (act_in act reply story L)
-act_goes_on Request reply story L = request_goes_on reply story L
-act_goes_on Commit reply story L = commit_goes_on reply story L
-act_goes_on act reply story L = prefix_self L
+act_goes_on : (act : Act) (reply : Reply) (observed : ObservedActor) (L : History) → IsPrefix L (act_in act reply observed L)
+act_goes_on Request reply observed L = request_goes_on reply observed L
+act_goes_on Commit reply observed L = commit_goes_on reply observed L
+act_goes_on act reply observed L = prefix_self L
 
 keep_goes_on : (keep : Keep) (reply : Reply) (L : History) → IsPrefix L (keep_in keep reply L)
 keep_goes_on (keeps.Write change) (replies.At stamp) L = changes_go_on (change ∷ []) stamp L
 keep_goes_on (keeps.Pin now) (replies.At stamp) L = (pin_event now ∷ [], refl)
 keep_goes_on keep reply L = prefix_self L
 
-act_at_goes_on : (place : ℕ) (act : Act) (reply : Reply) (told : Told) (story : Option Story) → IsPrefix told.history (act_at place act reply told story).history
+act_at_goes_on : (place : ℕ) (act : Act) (reply : Reply) (told : Observation) (observed : Option ObservedActor) → IsPrefix told.history (act_at place act reply told observed).history
 act_at_goes_on place act reply told None = prefix_self told.history
-act_at_goes_on place act reply told (Some story) = act_goes_on act reply story told.history
+act_at_goes_on place act reply told (Some observed) = act_goes_on act reply observed told.history
 
-pub after_goes_on : (told : Told) (step : Step) (reply : Reply) → IsPrefix told.history (after told step reply).history
+pub after_goes_on : (told : Observation) (step : Step) (reply : Reply) → IsPrefix told.history (after told step reply).history
 after_goes_on told (Actor place act) reply = act_at_goes_on place act reply told (slice_get told.actors place)
 after_goes_on told (BeginIn place now staleness) reply =
     act_at_goes_on place (begin_at (floor_at told.floors place) now staleness) reply told (slice_get told.actors place)
 after_goes_on told (Keeper keep) reply = keep_goes_on keep reply told.history
 
-pub told_goes_on : (told : Told) (steps : List Step) (replies : List Reply) → IsPrefix told.history (told_by told steps replies).history
+pub told_goes_on : (told : Observation) (steps : List Step) (replies : List Reply) → IsPrefix told.history (told_by told steps replies).history
 told_goes_on told [] replies = prefix_self told.history
 told_goes_on told (s ∷ steps) [] = prefix_self told.history
 told_goes_on told (s ∷ steps) (r ∷ replies) =
@@ -103,9 +102,9 @@ told_goes_on told (s ∷ steps) (r ∷ replies) =
 -- ---- what is explained stays explained
 
 module _ (next : Next) (L M : History) (on : IsPrefix L M) where
-  receipt_later : (story : Story) (pin : Option Pin) → IsReceiptOfStory next L story pin → IsReceiptOfStory next M story pin
+  receipt_later : (observed : ObservedActor) (pin : Option Pin) → IsReceiptOfActor next L observed pin → IsReceiptOfActor next M observed pin
   receipt_later (reading r) pin h = explained_later next L M r.bounds pin r.answers on h
-  receipt_later story pin h = h
+  receipt_later observed pin h = h
 
   module _ (count : ℕ) where
     made_within : (w : Writing) (stamp : ℕ) → CommitMakes next L count w stamp → (stamp ≤ length L) × (count ≤ length L)
@@ -135,27 +134,27 @@ module _ (next : Next) (L M : History) (on : IsPrefix L M) where
               (sym (prefix_take L M stamp on two.0)) h.made;
         }
 
-    stamp_later : (story : Story) (stamp : ℕ) → IsCommitOf next L count story stamp → IsCommitOf next M count story stamp
+    stamp_later : (observed : ObservedActor) (stamp : ℕ) → IsCommitOf next L count observed stamp → IsCommitOf next M count observed stamp
     stamp_later (writing w) stamp h = commit_later w stamp h
-    stamp_later story stamp h = h
+    stamp_later observed stamp h = h
 
-    reply_later : (story : Story) (reply : Reply) → ReplyExplains next L count story reply → ReplyExplains next M count story reply
-    reply_later story (replies.Receipt pin) h = receipt_later story pin h
-    reply_later story (replies.At stamp) h = stamp_later story stamp h
-    reply_later story reply h = tt
+    reply_later : (observed : ObservedActor) (reply : Reply) → ReplyExplains next L count observed reply → ReplyExplains next M count observed reply
+    reply_later observed (replies.Receipt pin) h = receipt_later observed pin h
+    reply_later observed (replies.At stamp) h = stamp_later observed stamp h
+    reply_later observed reply h = tt
 
-    place_later : (reply : Reply) (story : Option Story) → MatchOption story (IsNoCommit reply) (λ s. ReplyExplains next L count s reply)
-        → MatchOption story (IsNoCommit reply) (λ s. ReplyExplains next M count s reply)
+    place_later : (reply : Reply) (observed : Option ObservedActor) → MatchOption observed (IsNoCommit reply) (λ s. ReplyExplains next L count s reply)
+        → MatchOption observed (IsNoCommit reply) (λ s. ReplyExplains next M count s reply)
     place_later reply None h = h
-    place_later reply (Some story) h = reply_later story reply h
+    place_later reply (Some observed) h = reply_later observed reply h
 
-  step_later : (told : Told) (step : Step) (reply : Reply) → IsExplainedIn next L told step reply → IsExplainedIn next M told step reply
+  step_later : (told : Observation) (step : Step) (reply : Reply) → IsExplainedIn next L told step reply → IsExplainedIn next M told step reply
   step_later told (Actor place act) reply h = place_later (length told.history) reply (slice_get told.actors place) h
   step_later told (BeginIn place now staleness) reply h = place_later (length told.history) reply (slice_get told.actors place) h
   step_later told (Keeper keep) reply h = h
 
 -- what is explained as it is told is explained in the whole history
-pub whole : (next : Next) (told : Told) (steps : List Step) (replies : List Reply) → AreExplained next told steps replies
+pub whole : (next : Next) (told : Observation) (steps : List Step) (replies : List Reply) → AreExplained next told steps replies
     → AreExplainedIn next (told_by told steps replies).history told steps replies
 whole next told [] replies h = tt
 whole next told (s ∷ steps) [] h = tt
@@ -168,7 +167,7 @@ whole next told (s ∷ steps) (r ∷ replies) h =
 
 -- ---- the loop over the steps
 
-module _ (next : Next) (start : Told) (steps : List Step) (i : ℕ) (replies : List Reply) (step : Step) (reply : Reply)
+module _ (next : Next) (start : Observation) (steps : List Step) (i : ℕ) (replies : List Reply) (step : Step) (reply : Reply)
     (within : i < length steps) (is : step ≡ get_or steps i step) (even : length replies ≡ i) where
   as_long : length replies ≡ length (take i steps)
   as_long = let less : i ≤ length steps = omega (arith, within) in let long = length-take-le i steps less in even ∙ sym long
@@ -176,26 +175,26 @@ module _ (next : Next) (start : Told) (steps : List Step) (i : ℕ) (replies : L
   next_steps : take (i + 1) steps ≡ take i steps ++ step ∷ []
   next_steps = ap (λ n. take n steps) (add-one i) ∙ take-suc steps i step within ∙ ap (λ s. take i steps ++ s ∷ []) (sym is)
 
-  pub loop_told : (now new : Told) → now ≡ told_by start (take i steps) replies → new ≡ after now step reply
+  pub loop_told : (now new : Observation) → now ≡ told_by start (take i steps) replies → new ≡ after now step reply
       → new ≡ told_by start (take (i + 1) steps) (replies ++ reply ∷ [])
-  loop_told now new h k = rw next_steps (k ∙ ap (λ (t : Told). after t step reply) h ∙ sym (told_more start (take i steps) replies step reply as_long))
+  loop_told now new h k = rw next_steps (k ∙ ap (λ (t : Observation). after t step reply) h ∙ sym (told_more start (take i steps) replies step reply as_long))
 
-  pub loop_due : (now : Told) → now ≡ told_by start (take i steps) replies → AreDue start (take i steps) replies → IsDue now step reply
+  pub loop_due : (now : Observation) → now ≡ told_by start (take i steps) replies → AreDue start (take i steps) replies → IsDue now step reply
       → AreDue start (take (i + 1) steps) (replies ++ reply ∷ [])
-  loop_due now h e k = rw next_steps (due_more start (take i steps) replies step reply as_long e (subst (λ (t : Told). IsDue t step reply) h k))
+  loop_due now h e k = rw next_steps (due_more start (take i steps) replies step reply as_long e (subst (λ (t : Observation). IsDue t step reply) h k))
 
-  pub loop_explained : (now new : Told) → now ≡ told_by start (take i steps) replies → new ≡ after now step reply → AreExplained next start (take i steps) replies
+  pub loop_explained : (now new : Observation) → now ≡ told_by start (take i steps) replies → new ≡ after now step reply → AreExplained next start (take i steps) replies
       → IsExplainedIn next new.history now step reply → AreExplained next start (take (i + 1) steps) (replies ++ reply ∷ [])
   loop_explained now new h k e x =
-      let now_after : IsExplainedIn next (after now step reply).history now step reply = subst (λ (t : Told). IsExplainedIn next t.history now step reply) k x in
+      let now_after : IsExplainedIn next (after now step reply).history now step reply = subst (λ (t : Observation). IsExplainedIn next t.history now step reply) k x in
       rw next_steps (explained_more next start (take i steps) replies step reply as_long e
-      (subst (λ (t : Told). IsExplainedIn next (after t step reply).history t step reply) h now_after))
+      (subst (λ (t : Observation). IsExplainedIn next (after t step reply).history t step reply) h now_after))
 
 pub length_more : (replies : List Reply) (reply : Reply) (i : ℕ) → length replies ≡ i → length (replies ++ reply ∷ []) ≡ i + 1
 length_more replies reply i e = length-append replies (reply ∷ []) ∙ ap (λ n. n + 1) e
 
 -- at the end of the loop
-pub loop_whole : (next : Next) (start : Told) (steps : List Step) (i : ℕ) (replies : List Reply) (now : Told) → length steps ≤ i → i ≤ length steps
+pub loop_whole : (next : Next) (start : Observation) (steps : List Step) (i : ℕ) (replies : List Reply) (now : Observation) → length steps ≤ i → i ≤ length steps
     → now ≡ told_by start (take i steps) replies → AreExplained next start (take i steps) replies → AreExplainedIn next now.history start steps replies
 loop_whole next start steps i replies now past within is e =
     let at : i ≡ length steps = omega (arith, past, within) in

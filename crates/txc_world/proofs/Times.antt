@@ -45,7 +45,7 @@ held_there x (y ∷ ys) (suc k, within, at) = go (y == x) refl (held_there x ys 
     go false is rest = rw is rest
 
 pub times_there : (x : ℕ) (xs : List ℕ) → Contains xs x → 0 < times x xs
-times_there x [] (k, within, at) = absurd (omega (arith, within))
+times_there x [] (k, within, at) = omega (arith, within)
 times_there x (y ∷ ys) (zero, within, at) =
     let same : y ≡ x = at in
     let all = times_on x y ys (eq-eqb y x same) in
@@ -59,7 +59,7 @@ times_there x (y ∷ ys) (suc k, within, at) =
 
 module _ {X : Type 0} (f : X → ℕ) where
   pub sum_set : (xs : List X) (i : ℕ) (old new : X) → slice_get xs i ≡ Some old → sum_by f (slice_set xs i new) + f old ≡ sum_by f xs + f new
-  sum_set [] i old new is = absurd (cc is)
+  sum_set [] i old new is = cc is
   sum_set (x ∷ xs) zero old new is =
       let same : x ≡ old = cc in
       let a = sum_by-cons f new xs in
@@ -73,6 +73,6 @@ module _ {X : Type 0} (f : X → ℕ) where
       omega (arith, rest, a, b)
 
   pub sum_at : (xs : List X) (i : ℕ) (x : X) → slice_get xs i ≡ Some x → f x ≤ sum_by f xs
-  sum_at [] i x is = absurd (cc is)
+  sum_at [] i x is = cc is
   sum_at (y ∷ ys) zero x is = let same : y ≡ x = cc in let a = sum_by-cons f y ys in let b = ap f same in omega (arith, a, b)
   sum_at (y ∷ ys) (suc i) x is = let rest = sum_at ys i x is in let a = sum_by-cons f y ys in omega (arith, rest, a)

@@ -15,7 +15,7 @@ use Rattle.txc_world.specs.Ports.{PortsValue, whole_of, KeepsRow}
 use Rattle.txc_world.specs.Asks.{IsAskedAt}
 use Rattle.txc_world.specs.declared.did.Did.{Did}
 use Rattle.txc_world.specs.declared.did.Did.TheVariants as dids
-use Rattle.txc_world.specs.Told.{after_end, did_in, reading, Reading}
+use Rattle.txc_world.specs.Observation.{after_end, did_in, reading, Reading}
 use Rattle.txc_world.specs.Actors.{counted, holds_any}
 use Rattle.txc_world.proofs.Whole.{part_kept}
 
@@ -47,6 +47,6 @@ counted_in members (dids.Hit reach) now L = go (holds_any reach members)
 counted_in members did now L = refl
 
 -- a call that ended before any request ended with a refusal, and tells no answer
-pub ended_story : (r : Reading) (result : Result (List ℕ) TxnError) → IsNoValue (turns.Ended result) → reading (record r { call = None }) ≡ reading (after_end (Some result) r)
-ended_story r (Ok value) none = absurd none
-ended_story r (Err error) none = refl
+pub ended_observed : (r : Reading) (result : Result (List ℕ) TxnError) → IsNoValue (turns.Ended result) → reading (record r { call = None }) ≡ reading (after_end (Some result) r)
+ended_observed r (Ok value) none = absurd none
+ended_observed r (Err error) none = refl

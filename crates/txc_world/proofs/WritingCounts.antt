@@ -23,7 +23,7 @@ use Rattle.txc_world.specs.declared.reply.Reply.{Reply}
 use Rattle.txc_world.specs.declared.reply.Reply.TheVariants as replies
 use Rattle.txc_world.specs.Ports.{PortsValue}
 use Rattle.txc_world.specs.Asks.{DoesTellFound, HoldLeads, QueryLeads}
-use Rattle.txc_world.specs.Books.{nothing, Account, ActCounts, CountRight, HasLost, IsFair}
+use Rattle.txc_world.specs.Holdings.{nothing, Account, ActCounts, CountRight, HasLost, IsFair}
 use Rattle.txc_world.specs.Losing.{IfDidLose, IfGone, IfLost, IfReplyLost, IfResultLost, IfTurnLost}
 use Rattle.txc_world.specs.Keeping.{CommitLeads}
 use Rattle.txc_world.specs.Writing.{FindLeadsRw, HasAskedRw}

@@ -22,7 +22,7 @@ use Rattle.txc_rw.specs.Leading.{RowsLead}
 use Rattle.txc_ports.specs.Refusals.{refused_request}
 use Rattle.txc_world.specs.Writing.{with_rows, FindLeadsRw, IsRead}
 use Rattle.txc_world.specs.declared.actor.OpenCall.{OpenCall}
-use Rattle.txc_world.specs.Told.{writing}
+use Rattle.txc_world.specs.Observation.{writing}
 use Rattle.txc_world.specs.Ports.{PortsValue}
 use Rattle.txc_world.specs.Asks.{QueryLeads}
 use Rattle.txc_world.specs.Actors.{told_by_turn, HasRwCall}

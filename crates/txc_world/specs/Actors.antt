@@ -45,10 +45,10 @@ use Rattle.txc_world.specs.Parts.{IsPartOf}
 use Rattle.txc_world.specs.Ports.{PortsValue}
 use Rattle.txc_ports.specs.Asking.{TurnAddsSuch, IsReplyTo}
 use Rattle.txc_world.specs.Asks.{DoesTell, FreshLeads, PortRequestLeads}
-use Rattle.txc_world.specs.Cast.{call_at_turn, ActorValue, CallValue, reads, resting, leaves}
+use Rattle.txc_world.specs.ActorValues.{call_at_turn, ActorValue, CallValue, reads, resting, leaves}
 use Rattle.txc_world.specs.Keeping.{GiveBackLeads}
 use Rattle.txc_world.specs.Losing.{IfLost, IfTurnLost}
-use Rattle.txc_world.specs.Told.{Story, idle, reading, writing, leaving}
+use Rattle.txc_world.specs.Observation.{ObservedActor, idle, reading, writing, leaving}
 
 -- a pin that is to be added is of the whole
 abbrev pub AddsPart : FrontValue → PortTurn → Type 0
@@ -226,21 +226,21 @@ HasGivenBack stamps old new = (given : Result (Unit {0}) UnknownPin) × GiveBack
 
 -- ---- how it is told
 
-abbrev pub story_of : {A C : Type 0} → Actor A C → Story
-story_of (Idle objects) = idle
-story_of (Reading o) = reading (record {
+abbrev pub observed_of : {A C : Type 0} → Actor A C → ObservedActor
+observed_of (Idle objects) = idle
+observed_of (Reading o) = reading (record {
   bounds = o.txn.core.bounds;
   call = option_map (λ c. c.key) o.call;
   answers = o.txn.core.recorded;
 })
-story_of (Writing o) = writing (record {
+observed_of (Writing o) = writing (record {
   base = o.core.base;
   call = option_map (λ c. c.key) o.call;
   answers = told_answers o.call o.core.answers;
   changes = o.core.changes;
 })
-story_of (Leaving objects stamp) = leaving stamp
+observed_of (Leaving objects stamp) = leaving stamp
 
-abbrev pub story_at : {A C : Type 0} → Option (Actor A C) → Story
-story_at None = idle
-story_at (Some actor) = story_of actor
+abbrev pub observed_at : {A C : Type 0} → Option (Actor A C) → ObservedActor
+observed_at None = idle
+observed_at (Some actor) = observed_of actor

@@ -13,11 +13,11 @@ use Rattle.txc_world.specs.declared.reply.Reply.TheVariants.{Asked, Aborted, Rec
 use Rattle.txc_world.specs.Ports.{PortsValue}
 use Rattle.txc_world.specs.Asks.{UnpinTold}
 use Rattle.txc_world.specs.Kept.{KeepLeads}
-use Rattle.txc_world.specs.Cast.{ActorValue, ReadingValue, WritingValue, resting, reads, writes, leaves}
+use Rattle.txc_world.specs.ActorValues.{ActorValue, ReadingValue, WritingValue, resting, reads, writes, leaves}
 use Rattle.txc_world.specs.Actors.{HasGivenBack, HasStarted, IsGivenUp, RequestLeads, TxnBeginLeads}
 use Rattle.txc_world.specs.Writing.{BeginRwLeads, CommitLeadsRw, HasFoundRw, HasStartedRw, RequestLeadsRw, WriteLeadsRw}
-use Rattle.txc_world.specs.Tidy.{purse_after, IsTidy, LosesNoSnapshot, Purse}
-use Rattle.txc_world.specs.Told.{after, begin_at, floor_at, IsDue, IsExplainedIn}
+use Rattle.txc_world.specs.Tidy.{in_hand_after, IsTidy, LosesNoSnapshot, InHand}
+use Rattle.txc_world.specs.Observation.{after, begin_at, floor_at, IsDue, IsExplainedIn}
 use Rattle.txc_world.specs.Worlds.{IsBalanced, IsTrueWorld, WorldValue}
 
 -- ---- a step of an actor
@@ -132,8 +132,8 @@ pub record IsWholeStep (next : Next) (old : WorldValue) (step : Step) (reply : R
   pub world : IsTrueWorld next new
   pub due : IsDue old.told step reply
   pub explained : IsExplainedIn next new.told.history old.told step reply
-  pub balanced : (purse : Purse) → IsBalanced old purse → IsTidy step reply purse
-      → IsBalanced new (purse_after step reply purse) × LosesNoSnapshot step reply
+  pub balanced : (in_hand : InHand) → IsBalanced old in_hand → IsTidy step reply in_hand
+      → IsBalanced new (in_hand_after step reply in_hand) × LosesNoSnapshot step reply
 
 -- the steps lead from the one world to the other: each to a world that is true, from which the next one leads on
 abbrev pub AreLed : Next → WorldValue → List Step → List Reply → WorldValue → Type 0

@@ -31,7 +31,7 @@ use Rattle.txc_ports.specs.Fronts.{front_of_reply as shown_by}
 use Rattle.txc_world.specs.declared.did.RowsFound.{RowsFound}
 use Rattle.txc_world.specs.declared.did.Did.{Did}
 use Rattle.txc_world.specs.declared.did.Did.TheVariants as dids
-use Rattle.txc_world.specs.Books.{AskCounts}
+use Rattle.txc_world.specs.Holdings.{AskCounts}
 use Rattle.txc_world.specs.Parts.{IsPartOf}
 use Rattle.txc_world.specs.NodeSteps.{LookupLeads, InsertLeads}
 use Rattle.txc_world.specs.Ports.{PortsValue, whole_of, KeepsRow, HasRefused, HasLedNode}

@@ -5,11 +5,11 @@ pub mod Asks
 pub mod Keeping
 pub mod Kept
 pub mod Making
-pub mod Told
-pub mod Cast
+pub mod Observation
+pub mod ActorValues
 pub mod Actors
 pub mod Losing
-pub mod Books
+pub mod Holdings
 pub mod Tidy
 pub mod Writing
 pub mod Worlds

@@ -11,43 +11,43 @@ use Rattle.txc_world.specs.declared.actor.Actor.{Actor}
 use Rattle.txc_world.specs.declared.settings.WorldSettings.{WorldSettings}
 use Rattle.txc_world.specs.declared.reply.Refusal.{Refusal}
 use Rattle.txc_world.specs.declared.reply.Refusal.TheVariants.{NoActor, NotOpen}
-use Rattle.txc_world.specs.Told.{Reading, Story, idle, reading, writing, leaving, Told}
+use Rattle.txc_world.specs.Observation.{Reading, ObservedActor, idle, reading, writing, leaving, Observation}
 use Rattle.txc_world.specs.Ports.{PortsValue, whole_of}
 use Rattle.txc_world.specs.Keeping.{stamps_of_pins}
-use Rattle.txc_world.specs.Cast.{actor_at, ActorValue}
-use Rattle.txc_world.specs.Actors.{story_at, IsActorThere}
-use Rattle.txc_world.specs.Books.{account_at, books_of, Books}
-use Rattle.txc_world.specs.Tidy.{AreBalanced, Purse}
+use Rattle.txc_world.specs.ActorValues.{actor_at, ActorValue}
+use Rattle.txc_world.specs.Actors.{observed_at, IsActorThere}
+use Rattle.txc_world.specs.Holdings.{account_at, holdings_of, Holdings}
+use Rattle.txc_world.specs.Tidy.{AreBalanced, InHand}
 
 -- its settings, its history, the stamps of the pins that its keeper has yet to add, the floor of each actor's
 -- session, and what each actor has open
-abbrev pub told_of : {A C : Type 0} → WorldSettings → PortsValue → List ℕ → List (Option (Actor A C)) → Told
+abbrev pub told_of : {A C : Type 0} → WorldSettings → PortsValue → List ℕ → List (Option (Actor A C)) → Observation
 told_of settings ports floors actors = record {
   settings = settings;
   history = ports.database.history;
   spare = map (λ p. p.stamp) ports.spare;
   floors = floors;
-  actors = map story_at actors;
+  actors = map observed_at actors;
 }
 
--- what callers see of a world: what is told of it, its books, its ports, and its actors
+-- what callers see of a world: what is told of it, its holdings, its ports, and its actors
 pub record WorldValue : Type 0 where
-  pub told : Told
-  pub books : Books
+  pub told : Observation
+  pub holdings : Holdings
   pub ports : PortsValue
   pub actors : List ActorValue
 
 abbrev pub value_of_world : {A C : Type 0} → WorldSettings → PortsValue → List ℕ → List (Option (Actor A C)) → WorldValue
 value_of_world settings ports floors actors = record {
   told = told_of settings ports floors actors;
-  books = books_of ports (map account_at actors);
+  holdings = holdings_of ports (map account_at actors);
   ports = ports;
   actors = map actor_at actors;
 }
 
--- each has what is its own, the keeper by its purse
-abbrev pub IsBalanced : WorldValue → Purse → Type 0
-IsBalanced world purse = AreBalanced world.told.spare world.books purse
+-- each has what is its own, the keeper by what it has in hand
+abbrev pub IsBalanced : WorldValue → InHand → Type 0
+IsBalanced world in_hand = AreBalanced world.told.spare world.holdings in_hand
 
 -- what is true of every world: it has the nodes of its settings, at least one; each actor has its pass
 -- through each, and its session; and no actor is in the middle of a step
@@ -81,7 +81,7 @@ pub record IsTrueWorld (next : Next) (w : WorldValue) : Type 0 where
 
 -- the refusal of the pins of an actor, if one is due: there is no such actor, or it has no read-only
 -- transaction open
-abbrev pub due_of_pins : Option Story → Option Refusal
+abbrev pub due_of_pins : Option ObservedActor → Option Refusal
 due_of_pins None = Some NoActor
 due_of_pins (Some idle) = Some NotOpen
 due_of_pins (Some (reading r)) = None

@@ -27,7 +27,7 @@ use Rattle.txc_world.specs.declared.reply.Refusal.TheVariants.{Database}
 use Rattle.txc_world.specs.Ports.{PortsValue}
 use Rattle.txc_world.specs.Asks.{DoesTellFound, HoldLeads, QueryLeads}
 use Rattle.txc_world.specs.Keeping.{CommitLeads}
-use Rattle.txc_world.specs.Cast.{call_at_turn, ActorValue, CallValue, WritingValue, resting, writes}
+use Rattle.txc_world.specs.ActorValues.{call_at_turn, ActorValue, CallValue, WritingValue, resting, writes}
 use Rattle.txc_world.specs.Actors.{IsGivenUp, IsNoted, IsToldQuery}
 
 -- a transaction began at the newest stamp, which is held, with the functions as they are; or the database

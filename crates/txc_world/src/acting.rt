@@ -8,12 +8,12 @@ ghost use Rattle.txc_ports.specs.Turns.{IsAsk};
 ghost use Rattle.txc_world.specs.Acted.{ActsAt, ActsThere, IsActed};
 ghost use Rattle.txc_world.specs.Actors.{counted, holds_any, AddsPart, CoreHasBegun, DropsNone, HasAsked, HasBegunWithin, IsActor, IsActorThere, IsNoted, IsOpenTxn};
 ghost use Rattle.txc_world.specs.Acts.{ActLeads, LeavingLeads, ReadingLeads, RestingLeads};
-ghost use Rattle.txc_world.specs.Cast.{actor_value, opened, reading_value, reads};
-ghost use Rattle.txc_world.specs.Books.{account_of_core, nothing, HasLost, IsFair};
+ghost use Rattle.txc_world.specs.ActorValues.{actor_value, opened, reading_value, reads};
+ghost use Rattle.txc_world.specs.Holdings.{account_of_core, nothing, HasLost, IsFair};
 ghost use Rattle.txc_world.specs.Losing.{IfDidLose, IfTurnLost};
 ghost use Rattle.txc_world.specs.Parts.{IsPartOf};
 ghost use Rattle.txc_world.specs.Ports.{whole_of, KeepsRow};
-ghost use Rattle.txc_world.specs.Told.{did_in};
+ghost use Rattle.txc_world.specs.Observation.{did_in};
 
 use crate::actor::{Actor, OpenCall, OpenTxn, put_back, take_out};
 use crate::asking::told;

@@ -3,7 +3,7 @@ use crate::ports::Ports;
 use txc_app::App;
 
 impl<A: App> Ports<A> {
-    ghost use Rattle.txc_world.specs.Books.{CountRight};
+    ghost use Rattle.txc_world.specs.Holdings.{CountRight};
 
     /// What the ports keep by themselves, and what their calls come to, stamp by stamp. It does nothing when
     /// it runs.

@@ -108,10 +108,7 @@ impl<A: App> Ports<A> {
         ensures keeps { KeepsRow self.old self.new }
         ensures same { self.new ≡ record self.old { cushion = self.new.cushion } }
     {
-        match self.cushion.give_back(stamps) {
-            Ok(()) => Ok(()),
-            Err(unknown) => Err(unknown),
-        }
+        self.cushion.give_back(stamps)
     }
 
     /// Takes the pins out that no transaction may use and whose moment is more than `age` before `now`.
@@ -147,10 +144,7 @@ impl<A: App> Ports<A> {
         ensures same { self.new ≡ self.old }
         ensures leads { QueryLeads query.now stamp self.old result }
     {
-        match self.database.query(alloc, query, stamp) {
-            Ok(found) => Ok(found),
-            Err(refusal) => Err(refusal),
-        }
+        self.database.query(alloc, query, stamp)
     }
 
     /// The answer of the query at the stamp, and what is told of it.

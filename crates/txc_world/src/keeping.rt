@@ -4,7 +4,7 @@ ghost use Rattle.txc_world.specs.Keeping.{stamps_of_pins};
 ghost use Rattle.txc_world.specs.Kept.{told_addition, IsKeeperStep, KeepLeads};
 ghost use Rattle.txc_world.specs.Ports.{KeepsRow};
 ghost use Rattle.txc_world.specs.Tidy.{KeepsBalance};
-ghost use Rattle.txc_world.specs.Told.{keep_in, spare_after, IsKeepDue, IsNoReceipt};
+ghost use Rattle.txc_world.specs.Observation.{keep_in, spare_after, IsKeepDue, IsNoReceipt};
 
 use crate::ports::Ports;
 use crate::reply::{Refusal, Reply};

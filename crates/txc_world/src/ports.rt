@@ -55,7 +55,7 @@ impl<A: App> Model for Ports<A> {
 impl<A: App> Ports<A> {
     ghost use Rattle.txc_ports.specs.Answers.{IsFresh};
     ghost use Rattle.txc_world.specs.Asks.{AddLeads, FindLeads, FreshLeads, HoldLeads, PinLeads, UnpinLeads};
-    ghost use Rattle.txc_world.specs.Books.{handed, nothing, GivesBack, IsFair, KeepsPins};
+    ghost use Rattle.txc_world.specs.Holdings.{handed, nothing, GivesBack, IsFair, KeepsPins};
     ghost use Rattle.txc_world.specs.Parts.{IsPartOf};
     ghost use Rattle.txc_world.specs.Ports.{whole_of, KeepsRow};
 
@@ -117,10 +117,7 @@ impl<A: App> Ports<A> {
         ensures leads { AddLeads pinned.now self.old self.new result }
         ensures keeps { KeepsRow self.old self.new }
     {
-        match self.cushion.add(pinned) {
-            Ok(()) => Ok(()),
-            Err(refusal) => Err(refusal),
-        }
+        self.cushion.add(pinned)
     }
 
     /// Takes one hold of the stamp away.
@@ -130,10 +127,7 @@ impl<A: App> Ports<A> {
         ensures history { self.new.database.history ≡ self.old.database.history }
         ensures keeps { KeepsRow self.old self.new }
     {
-        match self.database.unpin(stamp) {
-            Ok(()) => Ok(()),
-            Err(refusal) => Err(refusal),
-        }
+        self.database.unpin(stamp)
     }
 
     /// Holds the newest stamp.
@@ -143,10 +137,7 @@ impl<A: App> Ports<A> {
         ensures history { self.new.database.history ≡ self.old.database.history }
         ensures keeps { KeepsRow self.old self.new }
     {
-        match self.database.hold(alloc) {
-            Ok(base) => Ok(base),
-            Err(refusal) => Err(refusal),
-        }
+        self.database.hold(alloc)
     }
 
     /// The answer of the query at the stamp, with a front of the whole history.

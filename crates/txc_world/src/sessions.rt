@@ -1,6 +1,6 @@
 //! The sessions of actors.
 ghost use Rattle.std.specs.Prelude.{◌≡◌, ◌<◌, IfOk, map, slice_set, vec_len};
-ghost use Rattle.txc_world.specs.Told.{floor_at, floor_by};
+ghost use Rattle.txc_world.specs.Observation.{floor_at, floor_by};
 
 use crate::reply::Reply;
 use std::alloc::{AllocError, Global};

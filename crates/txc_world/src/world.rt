@@ -9,12 +9,12 @@ ghost use Rattle.txc_shared.specs.Runs.{IsNode};
 ghost use Rattle.txc_registry.specs.Objects.{AllIdle};
 ghost use Rattle.txc_world.specs.Acts.{AreLed, IsWholeStep};
 ghost use Rattle.txc_world.specs.Worlds.{due_of_pins, AreMembersOf, IsBalanced, IsTrueWorld};
-ghost use Rattle.txc_world.specs.Cast.{reads, resting, ReadingValue};
+ghost use Rattle.txc_world.specs.ActorValues.{reads, resting, ReadingValue};
 ghost use Rattle.txc_world.specs.Making.{AreNewPorts};
 ghost use Rattle.txc_world.specs.Sessions.{NoActorGoesBack};
 ghost use Rattle.txc_db.specs.Refusals.{IsWant};
-ghost use Rattle.txc_world.specs.Tidy.{empty_purse, purse_by, AreTidy, LoseNoSnapshot, Purse};
-ghost use Rattle.txc_world.specs.Told.{idle, reading, told_by, AreDue, AreExplained, AreExplainedIn, Reading};
+ghost use Rattle.txc_world.specs.Tidy.{nothing_in_hand, in_hand_by, AreTidy, LoseNoSnapshot, InHand};
+ghost use Rattle.txc_world.specs.Observation.{idle, reading, told_by, AreDue, AreExplained, AreExplainedIn, Reading};
 
 use crate::acting::act_at;
 use crate::actor::{Actor, idle_actors};
@@ -50,7 +50,7 @@ pub struct Members<'a> {
 /// database, one pincushion and the nodes.
 ///
 /// Contracts see what is told of it: its settings; its history; the stamps of the pins that the keeper has
-/// and did not add yet; the floor of each actor's session; and what each actor has open. They see its books too: the holds of the database, the
+/// and did not add yet; the floor of each actor's session; and what each actor has open. They see its holdings too: the holds of the database, the
 /// pins of the pincushion with their users, and what each actor has of both.
 #[derive(Drop)]
 pub struct World<A: App, C: Cacheable> {
@@ -91,7 +91,7 @@ impl<A: App, C: Cacheable> World<A, C> {
         ensures spare { IfOk result (λ world. world.told.spare ≡ []) }
         ensures floors { IfOk result (λ world. world.told.floors ≡ map (λ registry. 0) registries.items) }
         ensures actors { IfOk result (λ world. world.told.actors ≡ map (λ registry. idle) registries.items) }
-        ensures balanced { IfOk result (λ world. IsBalanced world empty_purse) }
+        ensures balanced { IfOk result (λ world. IsBalanced world nothing_in_hand) }
         ensures ports { IfOk result (λ world. AreNewPorts settings (vec_len registries) world.ports) }
         ensures idle { IfOk result (λ world. world.actors ≡ map (λ registry. resting registry) registries.items) }
         ensures refused { IfErr result IsWant }
@@ -273,11 +273,11 @@ impl<A: App, C: Cacheable> World<A, C> {
             AreExplainedIn A.next self.new.told.history self.old.told steps.now replies.items) }
         ensures due { IfOk result (λ replies. AreDue self.old.told steps.now replies.items) }
         ensures sessions { IfOk result (λ replies. NoActorGoesBack steps.now replies.items) }
-        ensures balanced { IfOk result (λ replies. (purse : Purse) → IsBalanced self.old purse
-            → AreTidy purse steps.now replies.items
-            → IsBalanced self.new (purse_by purse steps.now replies.items)) }
-        ensures tidy { IfOk result (λ replies. (purse : Purse) → IsBalanced self.old purse
-            → AreTidy purse steps.now replies.items → LoseNoSnapshot steps.now replies.items) }
+        ensures balanced { IfOk result (λ replies. (in_hand : InHand) → IsBalanced self.old in_hand
+            → AreTidy in_hand steps.now replies.items
+            → IsBalanced self.new (in_hand_by in_hand steps.now replies.items)) }
+        ensures tidy { IfOk result (λ replies. (in_hand : InHand) → IsBalanced self.old in_hand
+            → AreTidy in_hand steps.now replies.items → LoseNoSnapshot steps.now replies.items) }
         ensures each { IfOk result (λ replies. length replies.items ≡ length steps.now) }
         ensures unchanged { OnErr result (self.new ≡ self.old) }
     {

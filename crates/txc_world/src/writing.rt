@@ -8,10 +8,10 @@ ghost use Rattle.txc_rw.specs.Core.{answers_after, IsRw, IsRwIdle, IsRwTurn, IsW
 ghost use Rattle.txc_ports.specs.Turns.{IsAsk};
 ghost use Rattle.txc_world.specs.Acted.{IsActed};
 ghost use Rattle.txc_world.specs.Actors.{IsOpenRw};
-ghost use Rattle.txc_world.specs.Books.{HasLost};
+ghost use Rattle.txc_world.specs.Holdings.{HasLost};
 ghost use Rattle.txc_world.specs.Losing.{IfDidLose, IfResultLost};
 ghost use Rattle.txc_world.specs.Acts.{RestingLeads, WritingLeads};
-ghost use Rattle.txc_world.specs.Cast.{actor_value, writing_value};
+ghost use Rattle.txc_world.specs.ActorValues.{actor_value, writing_value};
 ghost use Rattle.txc_world.specs.Writing.{with_rows, FindLeadsRw, HasAskedRw, IsRead};
 
 use crate::acting::note;

@@ -62,7 +62,7 @@ loop-turn-preserved g c =
       functions = on.functions ∙ inv.functions;
       run = run_asked g.A.App.next g.J.Naming.database_history g.J.Naming.node_histories began c.args.key before after c.loop-turn.turn c.next-turn.result c.in-Ask.request c.ask-reply.result
           c.in-Ask.is c.ask-reply.ensures.answer c.ask-reply.ensures.row c.ask-reply.ensures.told c.ask-reply.ensures.left on inv.run;
-      missing = λ members none. absurd (cc (inv.missing members none, c.in-Ask.is));
+      missing = λ members none. cc (inv.missing members none, c.in-Ask.is);
     }
 
 pub loop-turn-smaller : goal.loop-turn-smaller

@@ -1,8 +1,8 @@
 use Rattle.std.proofs.Common.{arith, inr, ◌≡◌, ◌∙◌, ap, subst, ℕ, length, map}
 use Rattle.txc_registry.specs.Objects.{Objects}
-use Rattle.txc_world.specs.Cast.{resting}
+use Rattle.txc_world.specs.ActorValues.{resting}
 use Rattle.txc_world.specs.Making.{AreNewPorts}
-use Rattle.txc_world.specs.Told.{idle}
+use Rattle.txc_world.specs.Observation.{idle}
 use Rattle.txc_world.specs.declared.settings.WorldSettings.{WorldSettings}
 use Rattle.txc_modes.proofs.running.run_in_world.Goals as goal
 
@@ -23,7 +23,7 @@ returns-in-Ok-new g c =
         history = made.history;
         spare = made.spare;
         floors = made.floors ∙ ap (map (λ (objects : Objects). 0)) same;
-        stories = made.actors ∙ ap (map (λ (objects : Objects). idle)) same;
+        observed = made.actors ∙ ap (map (λ (objects : Objects). idle)) same;
         balanced = made.balanced;
         ports = subst (λ (s : WorldSettings). AreNewPorts s (length c.in-Ok.staff.registries) ports) c.world_settings.ensures
             (subst (λ (n : ℕ). AreNewPorts c.world_settings.result n ports) counted made.ports);

@@ -46,10 +46,10 @@ loop-turn-preserved g c =
           (subst (λ (r : Result Found DbError). IfOk r (IsFoundAt L core.base q)) is found).rows));
       base = ap (λ (w : RwValue). w.base) c.reply-turn.ensures.same ∙ inv.base;
       changes = ap (λ (w : RwValue). w.changes) c.reply-turn.ensures.same ∙ inv.changes;
-      missing = λ none. absurd (cc (inv.missing none, c.in-Ask.is));
-      missing_left = λ none. absurd (cc (inv.missing none, c.in-Ask.is));
+      missing = λ none. cc (inv.missing none, c.in-Ask.is);
+      missing_left = λ none. cc (inv.missing none, c.in-Ask.is);
       functions = c.reply-turn.ensures.functions ∙ inv.functions;
-      missing_same = λ none. absurd (cc (inv.missing none, c.in-Ask.is));
+      missing_same = λ none. cc (inv.missing none, c.in-Ask.is);
     }
 
 pub loop-turn-init : goal.loop-turn-init

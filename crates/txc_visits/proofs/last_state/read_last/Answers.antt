@@ -1,6 +1,6 @@
 use Rattle.std.proofs.Common.{subst, sym, rules}
 use Rattle.txc_visits.specs.declared.plan.Plan.{Plan}
-use Rattle.txc_visits.specs.Plans.{HaveHistoriesBy}
+use Rattle.txc_visits.specs.Histories.{HaveHistoriesBy}
 use Rattle.txc_visits.proofs.last_state.read_last.Goals as goal
 
 -- the foundation has this plan

@@ -2,7 +2,7 @@ use Rattle.std.proofs.Common.{◌≡◌, sym, subst, ap}
 use Rattle.txc_db.specs.History.{History}
 use Rattle.txc_cushion.specs.declared.pins.Pins.{Pins}
 use Rattle.txc_txn.specs.Core.{value_of, CoreHolds, CoreValue}
-use Rattle.txc_world.specs.Books.{account_of_core, handed, nothing, GivesBack, IsFair}
+use Rattle.txc_world.specs.Holdings.{account_of_core, handed, nothing, GivesBack, IsFair}
 use Rattle.txc_world.proofs.Fairness.{fair_fresh, fair_then}
 use Rattle.txc_world.proofs.Giving.{all_again}
 use Rattle.txc_world.proofs.acting.begun.Goals as goal

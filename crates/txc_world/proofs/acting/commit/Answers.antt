@@ -4,7 +4,7 @@ use Rattle.txc_world.specs.Ports.{PortsValue}
 use Rattle.txc_world.proofs.Explaining.{explained_later}
 use Rattle.txc_world.proofs.Fairness.{fair_ended}
 use Rattle.txc_world.specs.declared.reply.Reply.TheVariants.{Receipt}
-use Rattle.txc_world.specs.Cast.{resting}
+use Rattle.txc_world.specs.ActorValues.{resting}
 use Rattle.txc_world.specs.Keeping.{GiveBackLeads}
 use Rattle.txc_cushion.proofs.Counts.{give_back_counts}
 use Rattle.txc_world.proofs.acting.commit.Goals as goal

@@ -9,7 +9,7 @@ use Rattle.txc_world.proofs.Turning.{asked_at, counted_in, seen_next}
 use Rattle.txc_world.specs.Asks.{PortRequestLeads}
 use Rattle.txc_world.specs.Parts.{IsPartOf}
 use Rattle.txc_world.specs.Ports.{whole_of}
-use Rattle.txc_world.specs.Books.{account_of_core, HasLost}
+use Rattle.txc_world.specs.Holdings.{account_of_core, HasLost}
 use Rattle.txc_world.proofs.Fairness.{fair_gone_on, loss_counted, loss_port}
 use Rattle.txc_world.proofs.Losing.{drops_next, reply_lost, told_lost}
 use Rattle.txc_world.proofs.acting.go_on.Goals as goal

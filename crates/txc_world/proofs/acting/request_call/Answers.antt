@@ -4,15 +4,15 @@ use Rattle.txc_ports.specs.Turns.{PortTurn}
 use Rattle.txc_txn.specs.Core.{IsNoValue}
 use Rattle.txc_world.specs.declared.reply.Reply.TheVariants.{Ended}
 use Rattle.txc_world.specs.Actors.{HasCall, IsOpenCall}
-use Rattle.txc_world.specs.Books.{account_of_core, HasLost}
-use Rattle.txc_world.specs.Cast.{call_value, opened}
+use Rattle.txc_world.specs.Holdings.{account_of_core, HasLost}
+use Rattle.txc_world.specs.ActorValues.{call_value, opened}
 use Rattle.txc_world.specs.Losing.{IfTurnLost}
 use Rattle.txc_world.specs.Ports.{whole_of}
 use Rattle.txc_world.proofs.Fairness.{counts_itself}
 use Rattle.txc_world.proofs.Leading.{noted_seen}
 use Rattle.txc_world.proofs.Losing.{never_lost}
 use Rattle.txc_world.proofs.PortsLemmas.{keeps_itself}
-use Rattle.txc_world.proofs.Turning.{ended_story}
+use Rattle.txc_world.proofs.Turning.{ended_observed}
 use Rattle.txc_world.proofs.acting.request_call.Goals as goal
 
 pub returns-in-Ask-clause-acted : goal.returns-in-Ask-clause-acted
@@ -35,7 +35,7 @@ returns-in-Ended-clause-acted g c =
     let open_call : IsOpenCall whole core c.in-Some.field-0 = subst (HasCall whole core) (sym c.take.ensures.value ∙ c.in-Some.is) c.requires.fits.call in
     record {
       fits = search rules;
-      told = rw c.take.ensures.after (ended_story _ c.in-Ended.result (subst IsNoValue c.in-Ended.is open_call.no_value));
+      told = rw c.take.ensures.after (ended_observed _ c.in-Ended.result (subst IsNoValue c.in-Ended.is open_call.no_value));
       history = refl;
       due = rw (sym c.take.ensures.value ∙ c.in-Some.is) tt;
       explained = tt;

@@ -4,7 +4,7 @@ use Rattle.txc_txn.specs.Leading.{StartLeads}
 use Rattle.txc_world.specs.declared.actor.Actor.TheVariants.{Reading}
 use Rattle.txc_world.specs.declared.reply.Refusal.TheVariants.{MidCall}
 use Rattle.txc_world.specs.declared.step.Act.TheVariants.{Start}
-use Rattle.txc_world.specs.Cast.{call_at_turn, opened, reads}
+use Rattle.txc_world.specs.ActorValues.{call_at_turn, opened, reads}
 use Rattle.txc_world.specs.Actors.{IsOpenCall}
 use Rattle.txc_db.specs.Seen.{FrontValue}
 use Rattle.txc_txn.specs.Core.{CoreValue}

@@ -7,7 +7,7 @@ use Rattle.txc_rw.specs.declared.given.Given.{Given}
 use Rattle.txc_rw.specs.Core.{RwValue}
 use Rattle.txc_world.specs.declared.reply.Reply.TheVariants.{Answered, Refused}
 use Rattle.txc_world.specs.declared.reply.Refusal.TheVariants.{Transaction}
-use Rattle.txc_world.specs.Books.{HasLost}
+use Rattle.txc_world.specs.Holdings.{HasLost}
 use Rattle.txc_world.specs.Losing.{IfResultLost}
 use Rattle.txc_world.specs.Writing.{with_rows, FindLeadsRw, IsRead}
 use Rattle.txc_world.proofs.WritingCounts.{based, counts_based}

@@ -1,6 +1,6 @@
 use Rattle.std.proofs.Common.{ℕ, sym, subst, rules}
 use Rattle.txc_world.specs.declared.reply.Reply.TheVariants.{Based, Refused}
-use Rattle.txc_world.specs.Books.{nothing, ActCounts, HasLost}
+use Rattle.txc_world.specs.Holdings.{nothing, ActCounts, HasLost}
 use Rattle.txc_world.proofs.WritingCounts.{based, counts_begun, counts_unchanged, loss_hold}
 use Rattle.txc_world.specs.declared.reply.Refusal.TheVariants.{Database}
 use Rattle.txc_rw.proofs.Holding.{holds_at_first}

@@ -1,7 +1,7 @@
 use Rattle.std.proofs.Common.{ℕ, ap, refl, sym, subst, rules, arith}
 use Rattle.std.proofs.lemmas.Grind.{common_steps}
-use Rattle.txc_world.specs.Told.{leaving}
-use Rattle.txc_world.specs.Books.{HasLost}
+use Rattle.txc_world.specs.Observation.{leaving}
+use Rattle.txc_world.specs.Holdings.{HasLost}
 use Rattle.txc_world.specs.Losing.{IfGone}
 use Rattle.txc_world.specs.Ports.{PortsValue}
 use Rattle.txc_world.proofs.CommitLemmas.{explained_lent, explained_open}

@@ -1,7 +1,7 @@
 use Rattle.txc_db.specs.History.{state_at}
 use Rattle.txc_world.proofs.WritingLemmas.{answered_at, answered_rows, queried_so, right_answer}
 use Rattle.std.proofs.Common.{ℕ, subst}
-use Rattle.txc_world.specs.Books.{HasLost}
+use Rattle.txc_world.specs.Holdings.{HasLost}
 use Rattle.txc_world.specs.Losing.{IfDidLose}
 use Rattle.txc_world.proofs.WritingCounts.{based, loss_told}
 use Rattle.txc_world.proofs.writing.go_on.Goals as goal

@@ -2,9 +2,9 @@ use Rattle.std.proofs.Common.{Option, refl, ap, sym, ◌∙◌, rules}
 use Rattle.std.specs.Option.{option_map}
 use Rattle.txc_rows.specs.declared.query.Query.{Query}
 use Rattle.txc_world.specs.declared.actor.OpenCall.{OpenCall}
-use Rattle.txc_world.specs.Cast.{call_at_turn, call_value, opened}
+use Rattle.txc_world.specs.ActorValues.{call_at_turn, call_value, opened}
 use Rattle.txc_world.proofs.Leading.{noted_seen, some_there}
-use Rattle.txc_world.specs.Books.{HasLost}
+use Rattle.txc_world.specs.Holdings.{HasLost}
 use Rattle.txc_world.proofs.Losing.{noted_lost}
 use Rattle.txc_world.proofs.WritingCounts.{asked_lost, based, counts_based}
 use Rattle.txc_world.specs.declared.reply.Reply.TheVariants.{Asked}

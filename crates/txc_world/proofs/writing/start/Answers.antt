@@ -7,7 +7,7 @@ use Rattle.txc_call.specs.declared.error.CallError.TheVariants.{NoFunction}
 use Rattle.txc_ports.specs.declared.error.TxnError.TheVariants.{Call as CallRefused}
 use Rattle.txc_ports.specs.declared.turn.Turn.TheVariants as turns
 use Rattle.txc_rw.specs.Leading.{standing_of, RwCallLeads}
-use Rattle.txc_world.specs.Cast.{call_at_turn, opened, writes}
+use Rattle.txc_world.specs.ActorValues.{call_at_turn, opened, writes}
 use Rattle.txc_rw.specs.Core.{RwValue}
 use Rattle.txc_world.specs.declared.reply.Reply.TheVariants.{Started}
 use Rattle.txc_world.specs.Actors.{told_answers, IsRwCall}

@@ -1,9 +1,9 @@
 use Rattle.txc_world.proofs.WritingLemmas.{fits_with, holds_with, still_open}
 use Rattle.std.proofs.Common.{None, refl, ap, rules}
 use Rattle.txc_rw.specs.Core.{RwValue}
-use Rattle.txc_world.specs.Books.{HasLost}
+use Rattle.txc_world.specs.Holdings.{HasLost}
 use Rattle.txc_world.proofs.WritingCounts.{based, counts_based, loss_write}
-use Rattle.txc_world.specs.Cast.{writes}
+use Rattle.txc_world.specs.ActorValues.{writes}
 use Rattle.txc_world.proofs.PortsLemmas.{keeps_itself}
 use Rattle.txc_world.specs.declared.reply.Refusal.TheVariants.{Transaction}
 use Rattle.txc_world.specs.declared.reply.Reply.TheVariants.{Kept, Refused}

@@ -1,5 +1,5 @@
 use Rattle.std.proofs.Common.{◌≡◌, drop}
-use Rattle.txc_world.specs.Books.{handed, IsFair, KeepsPins}
+use Rattle.txc_world.specs.Holdings.{handed, IsFair, KeepsPins}
 use Rattle.txc_world.proofs.Giving.{GivesBackSome}
 use Rattle.txc_world.proofs.ports.Ports.give_back_pins.Given as goal
 

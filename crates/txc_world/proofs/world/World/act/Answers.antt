@@ -37,9 +37,9 @@ returns g c = record {
       explained_act c.self.inside.settings c.self.inside.ports c.self.inside.sessions.items c.self.inside.actors.items c.args.place c.act_at-reply.ensures.was
       c.act_at-reply.ensures.there g.A.App.next c.act_at-reply.new.ports c.args.doing.now c.act_at-reply.result c.args.self.now.told
       c.act_at-reply.ensures.acted.explained (ap (λ (w : WorldValue). w.told) c.self.view_is);
-  balanced = λ purse h tidy.
+  balanced = λ in_hand h tidy.
       world_balanced c.self.inside.settings c.self.inside.ports c.act_at-reply.new.ports c.self.inside.sessions.items c.note.new.sessions.items c.self.inside.actors.items c.args.place c.act_at-reply.ensures.was c.act_at-reply.ensures.is
-      c.act_at-reply.ensures.there c.act_at-reply.new.actors.items c.args.self.now _ c.act_at-reply.result purse
+      c.act_at-reply.ensures.there c.act_at-reply.new.actors.items c.args.self.now _ c.act_at-reply.result in_hand
       c.act_at-reply.ensures.others
       c.act_at-reply.ensures.acted.spare c.count_right.ensures c.act_at-reply.ensures.acted.counts c.self.view_is refl h;
 }

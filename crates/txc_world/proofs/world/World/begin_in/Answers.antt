@@ -1,7 +1,7 @@
 use Rattle.std.proofs.Common.{◌≡◌, ℕ, subst, rules}
 use Rattle.txc_world.specs.declared.step.Step.TheVariants.{Actor}
 use Rattle.txc_world.specs.Acts.{IsWholeStep}
-use Rattle.txc_world.specs.Told.{begin_at, floor_at}
+use Rattle.txc_world.specs.Observation.{begin_at, floor_at}
 use Rattle.txc_world.proofs.world.World.begin_in.Goals as goal
 
 pub returns : goal.returns

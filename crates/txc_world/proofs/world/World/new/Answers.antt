@@ -4,8 +4,8 @@ use Rattle.std.proofs.lemmas.Simd.{map-map}
 use Rattle.std.proofs.lemmas.List.Elements.{All-map}
 use Rattle.txc_world.specs.declared.actor.Actor.TheVariants.{Idle}
 use Rattle.txc_world.specs.Ports.{whole_of}
-use Rattle.txc_world.specs.Actors.{story_at, IsActorThere}
-use Rattle.txc_world.specs.Cast.{actor_at}
+use Rattle.txc_world.specs.Actors.{observed_at, IsActorThere}
+use Rattle.txc_world.specs.ActorValues.{actor_at}
 use Rattle.txc_world.proofs.Balancing.{new_balanced}
 use Rattle.txc_world.proofs.MakingLemmas.{memory_is_wanting}
 use Rattle.txc_world.proofs.world.World.new.Goals as goal
@@ -21,7 +21,7 @@ invariant_of-result g c = record {
 }
 
 pub returns-clause-actors : goal.returns-clause-actors
-returns-clause-actors g c = rw c.in_ok-actors.ensures (map-map story_at (λ r. Some (Idle r)) c.args.registries.items)
+returns-clause-actors g c = rw c.in_ok-actors.ensures (map-map observed_at (λ r. Some (Idle r)) c.args.registries.items)
 
 pub returns-clause-idle : goal.returns-clause-idle
 returns-clause-idle g c = rw c.in_ok-actors.ensures (map-map actor_at (λ r. Some (Idle r)) c.args.registries.items)

@@ -5,7 +5,7 @@ use Rattle.txc_cushion.specs.declared.pin.Pin.{Pin}
 use Rattle.txc_world.specs.Worlds.{AreMembersOf, WorldValue}
 use Rattle.txc_world.proofs.MemberLemmas.{members_there}
 use Rattle.txc_world.proofs.Leading.{seen_there}
-use Rattle.txc_world.specs.Cast.{reads, ReadingValue}
+use Rattle.txc_world.specs.ActorValues.{reads, ReadingValue}
 use Rattle.txc_world.specs.declared.actor.Actor.TheVariants.{Reading}
 use Rattle.txc_world.proofs.world.World.pins.Goals as goal
 

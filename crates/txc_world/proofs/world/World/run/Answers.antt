@@ -33,14 +33,14 @@ returns-clause-explained_in_the_end g c =
     c.loop-step-test.false c.loop-step.auto.step-index-end h.told h.explained
 
 pub returns-clause-balanced : goal.returns-clause-balanced
-returns-clause-balanced g c = λ purse h tidy.
+returns-clause-balanced g c = λ in_hand h tidy.
     (loop_tidy_end c.args.steps.now c.loop-step.step-index c.loop-step.replies.items c.loop-step-test.false c.loop-step.auto.step-index-end
-    c.args.self.now c.loop-step.self c.loop-step.invariant.tidy purse h tidy).0
+    c.args.self.now c.loop-step.self c.loop-step.invariant.tidy in_hand h tidy).0
 
 pub returns-clause-tidy : goal.returns-clause-tidy
-returns-clause-tidy g c = λ purse h tidy.
+returns-clause-tidy g c = λ in_hand h tidy.
     (loop_tidy_end c.args.steps.now c.loop-step.step-index c.loop-step.replies.items c.loop-step-test.false c.loop-step.auto.step-index-end
-    c.args.self.now c.loop-step.self c.loop-step.invariant.tidy purse h tidy).1
+    c.args.self.now c.loop-step.self c.loop-step.invariant.tidy in_hand h tidy).1
 
 pub returns-clause-leads : goal.returns-clause-leads
 returns-clause-leads g c =

@@ -50,20 +50,20 @@ pub record Writing : Type 0 where
 
 -- an actor has nothing open; or a read-only or a read-write transaction; or that has ended, and it has the hold
 -- of a stamp still to take away
-pub data Story : Type 0 where
-  idle : Story
-  reading : Reading → Story
-  writing : Writing → Story
-  leaving : ℕ → Story
+pub data ObservedActor : Type 0 where
+  idle : ObservedActor
+  reading : Reading → ObservedActor
+  writing : Writing → ObservedActor
+  leaving : ℕ → ObservedActor
 
 -- a world: its settings, its history, the stamps of the pins that the keeper has and did not add, the floor of
 -- each actor's session, and what each actor has open
-pub record Told : Type 0 where
+pub record Observation : Type 0 where
   pub settings : WorldSettings
   pub history : History
   pub spare : List ℕ
   pub floors : List ℕ
-  pub actors : List Story
+  pub actors : List ObservedActor
 
 -- ---- what an actor's step tells
 
@@ -90,29 +90,29 @@ writing_on (Some (Ok value)) w =
 writing_on (Some (Err error)) w = record w { call = None }
 
 -- given up, with this hold to take away
-abbrev pub given_up : Option ℕ → Story
+abbrev pub given_up : Option ℕ → ObservedActor
 given_up None = idle
 given_up (Some stamp) = leaving stamp
 
 -- what the actor has open after what it did and was replied
-abbrev pub story_after : Act → Reply → Story → Story
-story_after (BeginRo bounds) Begun story = reading (record { bounds = bounds; call = None; answers = [] })
-story_after BeginRw (Based base) story =
+abbrev pub observed_after : Act → Reply → ObservedActor → ObservedActor
+observed_after (BeginRo bounds) Begun observed = reading (record { bounds = bounds; call = None; answers = [] })
+observed_after BeginRw (Based base) observed =
     writing (record { base = base; call = None; answers = []; changes = [] })
-story_after (Start key) Started (reading r) = reading (record r { call = Some key })
-story_after (Start key) Started (writing w) = writing (record w { call = Some key })
-story_after Request (Asked did end) (reading r) = reading (after_end end r)
-story_after Request (Ended end) (reading r) = reading (after_end (Some end) r)
-story_after Request (Asked did end) (writing w) = writing (writing_on end w)
-story_after Request (Ended end) (writing w) = writing (writing_on (Some end) w)
-story_after Request (Asked did end) (leaving stamp) = idle
-story_after (Ask query) (Answered rows) (writing w) =
+observed_after (Start key) Started (reading r) = reading (record r { call = Some key })
+observed_after (Start key) Started (writing w) = writing (record w { call = Some key })
+observed_after Request (Asked did end) (reading r) = reading (after_end end r)
+observed_after Request (Ended end) (reading r) = reading (after_end (Some end) r)
+observed_after Request (Asked did end) (writing w) = writing (writing_on end w)
+observed_after Request (Ended end) (writing w) = writing (writing_on (Some end) w)
+observed_after Request (Asked did end) (leaving stamp) = idle
+observed_after (Ask query) (Answered rows) (writing w) =
     writing (record w { answers = w.answers ++ given.Rows query rows.items ∷ [] })
-story_after (Write change) Kept (writing w) = writing (record w { changes = w.changes ++ change ∷ [] })
-story_after Commit (Receipt pin) story = idle
-story_after Commit (At stamp) (writing w) = leaving w.base
-story_after Abort (Aborted left) story = given_up left
-story_after act reply story = story
+observed_after (Write change) Kept (writing w) = writing (record w { changes = w.changes ++ change ∷ [] })
+observed_after Commit (Receipt pin) observed = idle
+observed_after Commit (At stamp) (writing w) = leaving w.base
+observed_after Abort (Aborted left) observed = given_up left
+observed_after act reply observed = observed
 
 -- a pin that was replied with a stamp stands in the history
 abbrev pub did_in : Did → ℕ → History → History
@@ -124,10 +124,10 @@ abbrev pub commit_in : List Change → ℕ → History → History
 commit_in changes stamp L =
     if nat_lt (length L) stamp then L ++ commit_event (state_at L (length L)) changes ∷ [] else L
 
-abbrev pub act_in : Act → Reply → Story → History → History
+abbrev pub act_in : Act → Reply → ObservedActor → History → History
 act_in Request (Asked did end) (reading r) L = did_in did r.bounds.now L
 act_in Commit (At stamp) (writing w) L = commit_in w.changes stamp L
-act_in act reply story L = L
+act_in act reply observed L = L
 
 -- ---- what a step of the keeper tells
 
@@ -162,16 +162,16 @@ begin_at floor now staleness = BeginRo (record { now = now; staleness = stalenes
 -- ---- a whole list
 
 -- the actor's step tells nothing where there is no such actor
-abbrev pub act_at : ℕ → Act → Reply → Told → Option Story → Told
+abbrev pub act_at : ℕ → Act → Reply → Observation → Option ObservedActor → Observation
 act_at place act reply told None = told
-act_at place act reply told (Some story) = record told {
-  history = act_in act reply story told.history;
+act_at place act reply told (Some observed) = record told {
+  history = act_in act reply observed told.history;
   floors = slice_set told.floors place (floor_by reply (floor_at told.floors place));
-  actors = slice_set told.actors place (story_after act reply story);
+  actors = slice_set told.actors place (observed_after act reply observed);
 }
 
 -- what one step and its reply make of what was told before
-abbrev pub after : Told → Step → Reply → Told
+abbrev pub after : Observation → Step → Reply → Observation
 after told (Actor place act) reply = act_at place act reply told (slice_get told.actors place)
 after told (BeginIn place now staleness) reply =
     act_at place (begin_at (floor_at told.floors place) now staleness) reply told (slice_get told.actors place)
@@ -181,7 +181,7 @@ after told (Keeper keep) reply = record told {
 }
 
 -- what a list of steps and their replies make of it, one after another
-abbrev pub told_by : Told → List Step → List Reply → Told
+abbrev pub told_by : Observation → List Step → List Reply → Observation
 told_by told [] replies = told
 told_by told (step ∷ steps) [] = told
 told_by told (step ∷ steps) (reply ∷ replies) = told_by (after told step reply) steps replies
@@ -199,9 +199,9 @@ IsNoCommit (At stamp) = ⊥
 IsNoCommit reply = Unit {0}
 
 -- the receipt explains the answers of the actor's transaction within its bounds
-abbrev pub IsReceiptOfStory : Next → History → Story → Option Pin → Type 0
-IsReceiptOfStory next L (reading r) pin = Explains next L r.bounds pin r.answers
-IsReceiptOfStory next L story pin = ⊥
+abbrev pub IsReceiptOfActor : Next → History → ObservedActor → Option Pin → Type 0
+IsReceiptOfActor next L (reading r) pin = Explains next L r.bounds pin r.answers
+IsReceiptOfActor next L observed pin = ⊥
 
 -- What a commit that was replied this stamp made of a history of so many events, up to the stamp. No event
 -- was added, nothing changes in the newest state, and each answer is right there; or the event of the net
@@ -217,36 +217,36 @@ pub record CommitExplains (next : Next) (L : History) (count : ℕ) (w : Writing
   pub at_base : AreRightIn next (state_at L w.base) w.answers
   pub made : CommitMakes next L count w stamp
 
-abbrev pub IsCommitOf : Next → History → ℕ → Story → ℕ → Type 0
+abbrev pub IsCommitOf : Next → History → ℕ → ObservedActor → ℕ → Type 0
 IsCommitOf next L count (writing w) stamp = CommitExplains next L count w stamp
-IsCommitOf next L count story stamp = ⊥
+IsCommitOf next L count observed stamp = ⊥
 
 -- what is replied explains what was told of the actor, when the history had so many events
-abbrev pub ReplyExplains : Next → History → ℕ → Story → Reply → Type 0
-ReplyExplains next L count story (Receipt pin) = IsReceiptOfStory next L story pin
-ReplyExplains next L count story (At stamp) = IsCommitOf next L count story stamp
-ReplyExplains next L count story reply = Unit {0}
+abbrev pub ReplyExplains : Next → History → ℕ → ObservedActor → Reply → Type 0
+ReplyExplains next L count observed (Receipt pin) = IsReceiptOfActor next L observed pin
+ReplyExplains next L count observed (At stamp) = IsCommitOf next L count observed stamp
+ReplyExplains next L count observed reply = Unit {0}
 
 -- a receipt, or the stamp of a commit, is given to nobody but an actor, and explains its answers in the
 -- history
-abbrev pub IsExplainedIn : Next → History → Told → Step → Reply → Type 0
+abbrev pub IsExplainedIn : Next → History → Observation → Step → Reply → Type 0
 IsExplainedIn next L told (Actor place act) reply =
     MatchOption (slice_get told.actors place) (IsNoCommit reply)
-    (λ story. ReplyExplains next L (length told.history) story reply)
+    (λ observed. ReplyExplains next L (length told.history) observed reply)
 IsExplainedIn next L told (BeginIn place now staleness) reply =
     MatchOption (slice_get told.actors place) (IsNoCommit reply)
-    (λ story. ReplyExplains next L (length told.history) story reply)
+    (λ observed. ReplyExplains next L (length told.history) observed reply)
 IsExplainedIn next L told (Keeper keep) reply = IsNoReceipt reply
 
 -- each receipt and each commit explains in the history what was told before it
-abbrev pub AreExplainedIn : Next → History → Told → List Step → List Reply → Type 0
+abbrev pub AreExplainedIn : Next → History → Observation → List Step → List Reply → Type 0
 AreExplainedIn next L told [] replies = Unit {0}
 AreExplainedIn next L told (step ∷ steps) [] = Unit {0}
 AreExplainedIn next L told (step ∷ steps) (reply ∷ replies) =
     IsExplainedIn next L told step reply × AreExplainedIn next L (after told step reply) steps replies
 
 -- each explains it in the history as it was told by then
-abbrev pub AreExplained : Next → Told → List Step → List Reply → Type 0
+abbrev pub AreExplained : Next → Observation → List Step → List Reply → Type 0
 AreExplained next told [] replies = Unit {0}
 AreExplained next told (step ∷ steps) [] = Unit {0}
 AreExplained next told (step ∷ steps) (reply ∷ replies) =
@@ -261,11 +261,11 @@ due_by_call (Some key) with_call without_call = with_call
 due_by_call None with_call without_call = without_call
 
 -- the refusal of the world's own that is due to an actor, if one is
-abbrev pub due_refusal : Act → Story → Option Refusal
+abbrev pub due_refusal : Act → ObservedActor → Option Refusal
 due_refusal (BeginRo bounds) idle = None
-due_refusal (BeginRo bounds) story = Some AlreadyOpen
+due_refusal (BeginRo bounds) observed = Some AlreadyOpen
 due_refusal BeginRw idle = None
-due_refusal BeginRw story = Some AlreadyOpen
+due_refusal BeginRw observed = Some AlreadyOpen
 due_refusal Request (leaving stamp) = None
 due_refusal act idle = Some NotOpen
 due_refusal act (leaving stamp) = Some NotOpen
@@ -279,37 +279,37 @@ due_refusal (Write change) (reading r) = Some NotOpen
 due_refusal (Write change) (writing w) = due_by_call w.call (Some MidCall) None
 due_refusal Commit (reading r) = due_by_call r.call (Some MidCall) None
 due_refusal Commit (writing w) = due_by_call w.call (Some MidCall) None
-due_refusal Abort story = None
+due_refusal Abort observed = None
 
 -- What an actor's step is replied where no such refusal is due: what was asked for, or the refusal of what was
 -- asked.
-abbrev pub IsActReply : Act → Story → Reply → Type 0
-IsActReply (BeginRo bounds) story reply = (reply ≡ Begun) ⊎ (reply ≡ Refused refusals.Memory)
-IsActReply BeginRw story (Based base) = Unit {0}
-IsActReply BeginRw story (Refused (refusals.Database error)) = Unit {0}
-IsActReply (Start key) story reply = reply ≡ Started
+abbrev pub IsActReply : Act → ObservedActor → Reply → Type 0
+IsActReply (BeginRo bounds) observed reply = (reply ≡ Begun) ⊎ (reply ≡ Refused refusals.Memory)
+IsActReply BeginRw observed (Based base) = Unit {0}
+IsActReply BeginRw observed (Refused (refusals.Database error)) = Unit {0}
+IsActReply (Start key) observed reply = reply ≡ Started
 IsActReply Request (leaving stamp) (Asked did None) = Unit {0}
 IsActReply Request (leaving stamp) reply = ⊥
-IsActReply Request story (Asked did end) = Unit {0}
-IsActReply Request story (Ended end) = Unit {0}
-IsActReply (Ask query) story (Answered rows) = Unit {0}
-IsActReply (Ask query) story (Refused (refusals.Transaction error)) = Unit {0}
+IsActReply Request observed (Asked did end) = Unit {0}
+IsActReply Request observed (Ended end) = Unit {0}
+IsActReply (Ask query) observed (Answered rows) = Unit {0}
+IsActReply (Ask query) observed (Refused (refusals.Transaction error)) = Unit {0}
 IsActReply (Write change) (writing w) Kept = length w.changes < MAX_CHANGES
 IsActReply (Write change) (writing w) (Refused (refusals.Transaction error)) =
     IsWriteRefused (length w.changes) error
 IsActReply Commit (reading r) (Receipt pin) = Unit {0}
 IsActReply Commit (writing w) (At stamp) = Unit {0}
 IsActReply Commit (writing w) (Refused (refusals.Database error)) = Unit {0}
-IsActReply Abort story (Aborted left) = Unit {0}
-IsActReply act story reply = ⊥
+IsActReply Abort observed (Aborted left) = Unit {0}
+IsActReply act observed reply = ⊥
 
 -- the refusal that is due, and no other reply; or one that suits
 abbrev pub IsDueOr : Option Refusal → Type 0 → Reply → Type 0
 IsDueOr (Some refusal) Suits reply = reply ≡ Refused refusal
 IsDueOr None Suits reply = Suits
 
-abbrev pub IsActDue : Story → Act → Reply → Type 0
-IsActDue story act reply = IsDueOr (due_refusal act story) (IsActReply act story reply) reply
+abbrev pub IsActDue : ObservedActor → Act → Reply → Type 0
+IsActDue observed act reply = IsDueOr (due_refusal act observed) (IsActReply act observed reply) reply
 
 -- no such node; or no pin of the stamp to add
 abbrev pub due_keep : ℕ → List ℕ → Keep → Option Refusal
@@ -347,16 +347,16 @@ abbrev pub IsKeepDue : ℕ → List ℕ → Keep → Reply → Type 0
 IsKeepDue nodes spare keep reply = IsDueOr (due_keep nodes spare keep) (IsKeepReply keep reply) reply
 
 -- a step of nobody is refused; any other is replied what is due
-abbrev pub IsDue : Told → Step → Reply → Type 0
+abbrev pub IsDue : Observation → Step → Reply → Type 0
 IsDue told (Actor place act) reply =
-    MatchOption (slice_get told.actors place) (reply ≡ Refused NoActor) (λ story. IsActDue story act reply)
+    MatchOption (slice_get told.actors place) (reply ≡ Refused NoActor) (λ observed. IsActDue observed act reply)
 IsDue told (BeginIn place now staleness) reply =
     MatchOption (slice_get told.actors place) (reply ≡ Refused NoActor)
-    (λ story. IsActDue story (begin_at (floor_at told.floors place) now staleness) reply)
+    (λ observed. IsActDue observed (begin_at (floor_at told.floors place) now staleness) reply)
 IsDue told (Keeper keep) reply = IsKeepDue told.settings.nodes told.spare keep reply
 
 -- each step is replied what is due after those before it
-abbrev pub AreDue : Told → List Step → List Reply → Type 0
+abbrev pub AreDue : Observation → List Step → List Reply → Type 0
 AreDue told [] replies = Unit {0}
 AreDue told (step ∷ steps) [] = Unit {0}
 AreDue told (step ∷ steps) (reply ∷ replies) =

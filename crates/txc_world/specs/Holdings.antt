@@ -1,4 +1,4 @@
--- The books of a world: who has each hold of a stamp, and who uses each pin.
+-- The holdings of a world: who has each hold of a stamp, and who uses each pin.
 use Rattle.std.specs.Prelude.{◌≡◌, ℕ, ◌+◌, ◌<◌, ◌≤◌, List, [], ◌∷◌, Option, Some, None, map, sum_by, false}
 use Rattle.txc_db.specs.DatabaseValue.{IsSound}
 use Rattle.txc_db.specs.Laws.{OneHoldLess}
@@ -53,13 +53,13 @@ account_at (Some actor) = account_of actor
 
 -- the stamps that the database holds, one for each hold; the pins of the pincushion, with their users; and
 -- what each actor has
-pub record Books : Type 0 where
+pub record Holdings : Type 0 where
   pub holds : List ℕ
   pub entries : List PinEntry
   pub accounts : List Account
 
-abbrev pub books_of : PortsValue → List Account → Books
-books_of ports accounts = record {
+abbrev pub holdings_of : PortsValue → List Account → Holdings
+holdings_of ports accounts = record {
   holds = ports.database.holds;
   entries = ports.cushion.entries;
   accounts = accounts;
