@@ -8,10 +8,11 @@ use Rattle.txc_visits.specs.declared.error.OpenError.{OpenError}
 use Rattle.txc_visits.specs.declared.error.OpenError.TheVariants as opens
 use Rattle.txc_keeper.specs.declared.error.SiteError.{SiteError}
 use Rattle.txc_keeper.specs.declared.error.SiteError.TheVariants as sites
-use Rattle.txc_visits.specs.declared.plan.Plan.{Plan}
+use Rattle.txc_foundation.specs.declared.plan.Plan.{Plan}
 use Rattle.txc_site.specs.Opened.{IsOpeningRefused, IsOpenRefused}
-use Rattle.txc_visits.specs.Sites.{IsVisitRefused, IsClientRefused, IsDatabaseRefused, IsRegistryRefused, IsSiteRefused}
-use Rattle.txc_visits.specs.Plans.{IsPlan}
+use Rattle.txc_visits.specs.Visits.{IsVisitRefused}
+use Rattle.txc_foundation.specs.Sites.{IsClientRefused, IsDatabaseRefused, IsRegistryRefused, IsSiteRefused}
+use Rattle.txc_foundation.specs.Plans.{IsPlan}
 
 module _ (plan : Plan) (numbers : List ℕ) (sound : IsPlan plan) where
   pub database_so : (error : SiteError) → IsDatabaseRefused error → IsSiteRefused plan numbers error

@@ -13,7 +13,7 @@ use Rattle.txc_db.specs.Seen.{FrontValue}
 use Rattle.txc_stream.specs.Names.{Name}
 use Rattle.txc_site.specs.declared.error.GenerationError.{GenerationError}
 use Rattle.txc_site.specs.declared.error.GenerationError.TheVariants as generations
-use Rattle.txc_visits.specs.declared.plan.Plan.{Plan}
+use Rattle.txc_foundation.specs.declared.plan.Plan.{Plan}
 use Rattle.txc_site.specs.declared.returning.Generation.{Generation}
 use Rattle.txc_site.specs.Generations.{AreInTurn, ComeAfter, ComesAfter, GenerationsHaveEnded, HaveServed, IsEndRefused, IsGeneration, IsGenerationRefused, IsNextRefused, last_state}
 

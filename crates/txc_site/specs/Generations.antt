@@ -15,9 +15,9 @@ use Rattle.txc_rw.specs.Core.{RwValue}
 use Rattle.txc_site.specs.declared.error.GenerationError.{GenerationError}
 use Rattle.txc_site.specs.declared.error.GenerationError.TheVariants as generations
 use Rattle.txc_site.specs.declared.generations.Served.{Served}
-use Rattle.txc_visits.specs.declared.plan.Plan.{Plan}
+use Rattle.txc_foundation.specs.declared.plan.Plan.{Plan}
 use Rattle.txc_site.specs.declared.returning.Generation.{Generation}
-use Rattle.txc_visits.specs.Sites.{IsVisitRefused, HaveCome}
+use Rattle.txc_visits.specs.Visits.{IsVisitRefused, HaveCome}
 use Rattle.txc_visits.specs.Tended.{IsTendedAsPlanned}
 use Rattle.txc_ledger.specs.Writes.{IsWritten}
 

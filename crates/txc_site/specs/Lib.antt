@@ -10,6 +10,10 @@ pub use Rattle.txc_cushion.specs.declared.pin.Pin
 pub use Rattle.txc_db.specs.History
 pub use Rattle.txc_db.specs.Seen
 pub use Rattle.txc_definition.specs.Straight
+pub use Rattle.txc_foundation.specs.Histories
+pub use Rattle.txc_foundation.specs.Plans
+pub use Rattle.txc_foundation.specs.Sites
+pub use Rattle.txc_foundation.specs.declared.plan.Plan
 pub use Rattle.txc_keeper.specs.Keeping
 pub use Rattle.txc_keeper.specs.Keeps
 pub use Rattle.txc_keeper.specs.Room
@@ -34,7 +38,5 @@ pub use Rattle.txc_rw.specs.Txn as RwTxn
 pub use Rattle.txc_rw.specs.declared.given.Given
 pub use Rattle.txc_tags.specs.Keys
 pub use Rattle.txc_txn.specs.Core as TxnCore
-pub use Rattle.txc_visits.specs.Plans
-pub use Rattle.txc_visits.specs.Sites
 pub use Rattle.txc_visits.specs.Tended
-pub use Rattle.txc_visits.specs.declared.plan.Plan
+pub use Rattle.txc_visits.specs.Visits

@@ -9,9 +9,10 @@ use Rattle.txc_visits.specs.declared.error.OpenError.{OpenError}
 use Rattle.txc_visits.specs.declared.error.OpenError.TheVariants as opens
 use Rattle.txc_ledger.specs.declared.error.WriteError.{WriteError}
 use Rattle.txc_site.specs.declared.opening.Visited.{Visited}
-use Rattle.txc_visits.specs.declared.plan.Plan.{Plan}
-use Rattle.txc_visits.specs.Plans.{IsPlan}
-use Rattle.txc_visits.specs.Sites.{HaveCome, IsRegistryRefused, IsSiteRefused}
+use Rattle.txc_foundation.specs.declared.plan.Plan.{Plan}
+use Rattle.txc_foundation.specs.Plans.{IsPlan}
+use Rattle.txc_visits.specs.Visits.{HaveCome}
+use Rattle.txc_foundation.specs.Sites.{IsRegistryRefused, IsSiteRefused}
 use Rattle.txc_ledger.specs.Writes.{IsWritten, IsSiteWriteRefused}
 
 -- Over a database whose history is kept as the plan says, the opening was written in its first run.

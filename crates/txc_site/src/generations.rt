@@ -5,7 +5,7 @@ ghost use Rattle.txc_carry.specs.Rooms.{IsHistoryFor};
 ghost use Rattle.txc_db.specs.DatabaseValue.{front_of};
 ghost use Rattle.txc_site.specs.Generations.{HaveServed, IsGeneration, IsGenerationRefused, IsNextRefused, IsServed, last_state};
 ghost use Rattle.txc_site.specs.Opened.{IsOpenRefused};
-ghost use Rattle.txc_visits.specs.Plans.{IsPlan};
+ghost use Rattle.txc_foundation.specs.Plans.{IsPlan};
 
 use crate::error::GenerationError;
 use crate::opening::opened;
@@ -16,9 +16,10 @@ use std::thread::Threads;
 use txc_carry::carry;
 use txc_db::{DbCore, DbError, HistoryFront};
 use txc_definition::Definition;
+use txc_foundation::{Application, Plan};
 use txc_keeper::{Clock, CountedClock, SiteError};
 use txc_ledger::{Change, Written};
-use txc_visits::{Application, OpenError, Plan, Visits, over_new_histories};
+use txc_visits::{OpenError, Visits, over_new_histories};
 
 /// What a site came to in all its generations.
 #[derive(Drop)]

@@ -26,6 +26,7 @@ pub use txc_app::{Answer, App, Ask, Bytes};
 pub use txc_cushion::Pin;
 pub use txc_db::{Answered, DbError, HistoryFront, Naming};
 pub use txc_definition::{Definition, Function, InTurn, Or, Straight};
+pub use txc_foundation::{Application, MAX_NODES, Numbers, Plan, SiteClient};
 pub use txc_keeper::{
     Clock, CountedClock, Ended, Keeper, Keeping, Kept, KeptNode, MAX_TAKEN, SiteError, SystemClock,
     Tended, events_left, records_left,
@@ -40,6 +41,4 @@ pub use txc_shared::NodeError;
 pub use txc_stamp::Stamp;
 pub use txc_tags::{Key, KeyError, Table};
 pub use txc_txn::Receipt;
-pub use txc_visits::{
-    Application, LastError, LastState, MAX_NODES, Numbers, OpenError, Plan, SiteClient, Visitor,
-};
+pub use txc_visits::{LastError, LastState, OpenError, Visitor};

@@ -3,8 +3,8 @@ ghost use Rattle.std.specs.Prelude.{◌≡◌, Err, IfErr, IfOk, length, vec_len
 ghost use Rattle.txc_carry.specs.Rooms.{IsHistoryFor};
 ghost use Rattle.txc_db.specs.Shared.{IsDatabaseOf};
 ghost use Rattle.txc_site.specs.Opened.{IsOpeningRefused, IsOpenRefused, IsVisited};
-ghost use Rattle.txc_visits.specs.Plans.{IsPlan};
-ghost use Rattle.txc_visits.specs.Sites.{IsDatabaseRefused};
+ghost use Rattle.txc_foundation.specs.Plans.{IsPlan};
+ghost use Rattle.txc_foundation.specs.Sites.{IsDatabaseRefused};
 ghost use Rattle.txc_visits.specs.Tended.{IsTendedAsPlanned};
 ghost use Rattle.txc_ledger.specs.Writes.{IsWritten};
 
@@ -15,12 +15,11 @@ use std::thread::Threads;
 use txc_carry::new_database;
 use txc_db::{DbCore, Naming};
 use txc_definition::Definition;
+use txc_foundation::{Application, Numbers, Plan, registry};
 use txc_keeper::{Clock, CountedClock, SiteError, Tended};
 use txc_ledger::{Change, Ledger, Written, write_change};
 use txc_permits::PermitPool;
-use txc_visits::{
-    Application, LastState, Numbers, OpenError, Plan, Visitor, Visits, over_new_histories, registry,
-};
+use txc_visits::{LastState, OpenError, Visitor, Visits, over_new_histories};
 
 /// What a site came to.
 #[derive(Drop)]

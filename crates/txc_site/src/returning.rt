@@ -1,8 +1,9 @@
 use txc_app::App;
 use txc_db::HistoryFront;
 use txc_definition::Definition;
+use txc_foundation::Numbers;
 use txc_keeper::{SiteError, Tended};
-use txc_visits::{Numbers, Visitor};
+use txc_visits::Visitor;
 
 /// A generation of a site that has ended: each has a database and nodes of its own.
 #[derive(Drop)]

@@ -2,7 +2,7 @@
 use Rattle.std.proofs.Common.{◌≡◌, ◌∙◌, ℕ, ◌+◌, ◌<◌, List, [], ◌∷◌, ◌++◌, map, length, get_or, sym, ap, arith}
 use Rattle.std.proofs.lemmas.List.{map-append, get_or-map}
 use Rattle.std.proofs.lemmas.List.FromFn.{map-range_with_len_more, get_or-map-range_with_len, length-map-range_with_len}
-use Rattle.txc_visits.specs.Sites.{numbers_below}
+use Rattle.txc_visits.specs.Visits.{numbers_below}
 
 -- with the client of the next number there is one more
 pub one_number_more : {T : Type 0} (f : T → ℕ) (xs ys : List T) (x : T) (n : ℕ) → map f xs ≡ numbers_below n → f x ≡ n

@@ -1,5 +1,3 @@
-pub mod Crosses
 mod Guests
-mod Listing
-mod NodeHistories
+mod Places
 pub mod Tended

@@ -8,8 +8,8 @@ use Rattle.txc_keeper.specs.declared.keeping.Keeping.{Keeping}
 use Rattle.txc_keeper.specs.declared.keeping.Tended.{Tended}
 use Rattle.txc_keeper.specs.Refusals.{IsKeeperRefused}
 use Rattle.txc_keeper.specs.Tending.{IsTendedAs, IsTendedBy}
-use Rattle.txc_visits.specs.declared.plan.Plan.{Plan}
-use Rattle.txc_visits.specs.Plans.{nodes_of}
+use Rattle.txc_foundation.specs.declared.plan.Plan.{Plan}
+use Rattle.txc_foundation.specs.Plans.{nodes_of}
 use Rattle.txc_visits.specs.Tended.{IsTendedAsPlanned}
 
 -- a keeper of these nodes, which are those, is one of those

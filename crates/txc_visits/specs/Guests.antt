@@ -1,9 +1,10 @@
 -- Only private functions need this file: the clients of threads.
 use Rattle.std.specs.Prelude.{◌≡◌, ℕ, List, All, length, map}
 use Rattle.txc_stream.specs.Names.{Name}
-use Rattle.txc_visits.specs.declared.plan.Plan.{Plan}
+use Rattle.txc_foundation.specs.declared.plan.Plan.{Plan}
 use Rattle.txc_visits.specs.declared.visiting.Guest.{Guest}
-use Rattle.txc_visits.specs.Sites.{numbers_below, IsNewClient, SiteClientValue}
+use Rattle.txc_visits.specs.Visits.{numbers_below}
+use Rattle.txc_foundation.specs.Sites.{IsNewClient, SiteClientValue}
 
 -- each has the number of its place, and a new client of a site of this plan
 pub record AreGuests (histories : ℕ → Name) (plan : Plan) (guests : List (Guest SiteClientValue)) : Type 0 where

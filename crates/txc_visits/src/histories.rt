@@ -1,17 +1,13 @@
 //! A visit of threads over histories that are named for it.
 ghost use Rattle.std.specs.Prelude.{◌≡◌, ◌≤◌, IfErr, IfOk, length, vec_len};
 ghost use Rattle.txc_db.specs.Shared.{IsDatabaseOf};
-ghost use Rattle.txc_visits.specs.Sites.{IsVisitRefused, HaveCome};
-ghost use Rattle.txc_visits.specs.Plans.{IsPlan};
-ghost use Rattle.txc_visits.specs.Histories.{AreHistoriesOf, HaveHistoriesBy};
+ghost use Rattle.txc_visits.specs.Visits.{IsVisitRefused, HaveCome};
+ghost use Rattle.txc_foundation.specs.Plans.{IsPlan};
+ghost use Rattle.txc_foundation.specs.Histories.{AreHistoriesOf, HaveHistoriesBy};
 ghost use Rattle.txc_visits.specs.Tended.{IsTendedAsPlanned};
 
-use crate::application::Application;
 use crate::error::OpenError;
-use crate::foundation::Foundation;
 use crate::node_histories::new_histories;
-use crate::numbers::Numbers;
-use crate::plan::Plan;
 use crate::visiting::{Came, visit};
 use crate::visitor::Visitor;
 use std::alloc::Global;
@@ -20,6 +16,7 @@ use std::sync::Wait;
 use std::thread::Threads;
 use txc_db::{DbCore, Naming};
 use txc_definition::Definition;
+use txc_foundation::{Application, Foundation, Numbers, Plan};
 use txc_keeper::{Clock, SiteError, Tended};
 use txc_ledger::NodeHistory;
 use txc_permits::PermitPool;
@@ -109,7 +106,7 @@ where
         clock,
     )?;
     let Came { outputs, tended } = came;
-    let numbers = Numbers::of(&foundation.tallies).with_nodes(rt, &foundation.nodes);
+    let numbers = foundation.numbers(rt);
     Ok(Visits {
         outputs,
         tended,

@@ -1,24 +1,21 @@
 //! The state that a site leaves.
 ghost use Rattle.std.specs.Prelude.{◌≡◌, IfErr, IfOk, length, vec_len};
 ghost use Rattle.txc_db.specs.DatabaseValue.{front_of};
-ghost use Rattle.txc_visits.specs.Histories.{AreHistoriesOf, HaveHistoriesBy};
-ghost use Rattle.txc_visits.specs.Plans.{IsPlan};
+ghost use Rattle.txc_foundation.specs.Histories.{AreHistoriesOf, HaveHistoriesBy};
+ghost use Rattle.txc_foundation.specs.Plans.{IsPlan};
 ghost use Rattle.txc_pages.specs.Pages.{last_bounds};
-ghost use Rattle.txc_visits.specs.Sites.{IsLastRefused};
+ghost use Rattle.txc_visits.specs.Visits.{IsLastRefused};
 ghost use Rattle.txc_txn.specs.Core.{Explains};
 ghost use Rattle.txc_txn.specs.Sessions.{IsAtLeast};
 
-use crate::application::Application;
 use crate::error::LastError;
-use crate::foundation::Foundation;
 use crate::node_histories::new_histories;
-use crate::plan::Plan;
-use crate::visiting::client;
 use std::alloc::Global;
 use std::marker::{Brand, Model};
 use std::sync::Wait;
 use txc_db::{DbCore, Naming};
 use txc_definition::Definition;
+use txc_foundation::{Application, Foundation, Plan, new_client};
 use txc_ledger::NodeHistory;
 use txc_pages::{Page, Shown};
 use txc_permits::PermitPool;
@@ -35,7 +32,7 @@ pub struct LastState {
 impl Model for LastState {
     ghost use Rattle.txc_db.specs.DatabaseValue.{front_of};
     ghost use Rattle.txc_db.specs.Seen.{FrontValue};
-    ghost use Rattle.txc_visits.specs.Plans.{IsPlan};
+    ghost use Rattle.txc_foundation.specs.Plans.{IsPlan};
 
     ghost Value = { FrontValue };
 
@@ -112,7 +109,7 @@ where
 {
     let (foundation, committers) = Foundation::<A, J>::new(rt, alloc, plan, core, histories, 1)?;
     let mut pool = PermitPool::new(alloc, plan.permits)?;
-    let client = client::<A, D, J>(rt, alloc, &foundation, 0, &committers, &mut pool)?;
+    let client = new_client::<A, D, J>(rt, alloc, &foundation, 0, &committers, &mut pool)?;
     let bounds = Bounds::fresh_since(u64::MAX, u64::MAX, newest);
     let (shown, _client) = client.read(rt, alloc, bounds, page);
     match shown {

@@ -1,27 +1,17 @@
 //! Threads that visit a site, each by a client of its own.
 //!
-//! [`over_new_histories`] makes a site of a database by a [`Plan`], and starts the threads. A [`Visitor`] does what
-//! each of these does, by a [`SiteClient`], which reads pages and writes changes. What they leave can be read once
-//! all have ended ([`LastState`]).
+//! [`over_new_histories`] makes a site of a database by a plan, and starts the threads. A [`Visitor`] does what each of
+//! these does, by its client. What they leave can be read once all have ended ([`LastState`]).
 #![tactic(auto)]
 
-mod application;
-mod client;
 mod error;
-mod foundation;
 mod histories;
 mod last_state;
 mod node_histories;
-mod numbers;
-mod plan;
 mod visiting;
 mod visitor;
 
-pub use application::{Application, registry};
-pub use client::SiteClient;
 pub use error::{LastError, OpenError};
 pub use histories::{Visits, over_new_histories};
 pub use last_state::LastState;
-pub use numbers::Numbers;
-pub use plan::{MAX_NODES, Plan};
 pub use visitor::Visitor;

@@ -1,61 +1,25 @@
 //! The threads of a site, and their clients.
-ghost use Rattle.std.specs.Prelude.{◌≡◌, ◌<◌, All, IfErr, IfOk, map, vec_len};
-ghost use Rattle.txc_registry.specs.Objects.{numbers_of};
-ghost use Rattle.txc_visits.specs.Histories.{HaveHistoriesBy};
-ghost use Rattle.txc_visits.specs.Plans.{nodes_of, IsPlan};
-ghost use Rattle.txc_visits.specs.Sites.{IsVisitRefused, numbers_below, HaveCome, IsClientRefused, IsNewClient};
+ghost use Rattle.std.specs.Prelude.{◌≡◌, All, IfErr, IfOk, map, vec_len};
+ghost use Rattle.txc_foundation.specs.Histories.{HaveHistoriesBy};
+ghost use Rattle.txc_foundation.specs.Plans.{nodes_of, IsPlan};
+ghost use Rattle.txc_visits.specs.Visits.{IsVisitRefused, numbers_below, HaveCome};
+ghost use Rattle.txc_foundation.specs.Sites.{IsClientRefused, IsNewClient};
 ghost use Rattle.txc_visits.specs.Guests.{AreGuests};
 ghost use Rattle.txc_keeper.specs.Refusals.{IsKeeperRefused};
 ghost use Rattle.txc_visits.specs.Tended.{IsTendedAsPlanned};
 ghost use Rattle.txc_keeper.specs.Tending.{IsTendedBy};
 
-use crate::application::{Application, registry};
-use crate::client::SiteClient;
 use crate::error::OpenError;
-use crate::foundation::{Foundation, keep_until_ended};
-use crate::plan::Plan;
 use crate::visitor::Visitor;
 use std::alloc::Global;
 use std::sync::Wait;
 use std::thread::{self, Threads};
 use txc_db::Naming;
 use txc_definition::Definition;
+use txc_foundation::{Application, Foundation, Plan, SiteClient, new_client};
 use txc_keeper::{Clock, Keeping, Signal, SiteError, Tended};
 use txc_ledger::Committers;
 use txc_permits::PermitPool;
-
-/// The client of this number, with a pass of its own through each node.
-#[tactic(auto, using(txc_keeper::proofs::NoPass::no_pass))]
-pub(crate) fn client<'a, A: Application<D>, D: Definition, J: Naming>(
-    rt: &impl Wait,
-    alloc: Global,
-    foundation: &'a Foundation<A, J>,
-    number: usize,
-    committers: &Committers<J>,
-    pool: &mut PermitPool,
-) -> Result<SiteClient<'a, A, D, J>, SiteError>
-    requires plan { IsPlan foundation.now.plan }
-    requires stored_so { HaveHistoriesBy foundation.now.plan J.node_histories }
-    requires number { number < vec_len foundation.now.tallies }
-    ensures plan { IfOk result (λ client. client.plan ≡ foundation.now.plan) }
-    ensures new { IfOk result (IsNewClient J.node_histories) }
-    ensures reader { IfOk result (λ client. numbers_of client.reader.objects ≡ A.numbers) }
-    ensures writer { IfOk result (λ client. numbers_of client.writer ≡ A.numbers) }
-    ensures refused { IfErr result (IsClientRefused A.numbers) }
-{
-    let functions = registry::<A, D>(alloc, pool)?;
-    let reader = foundation.ledger.reader(
-        rt,
-        alloc,
-        &foundation.nodes,
-        functions,
-        foundation.plan.renew_after,
-    )?;
-    let writer = registry::<A, D>(alloc, pool)?;
-    let tally = &foundation.tallies[number];
-    let committer = committers.committer();
-    Ok(SiteClient::new(foundation, reader, writer, committer, tally))
-}
 
 /// The client of the thread of this number.
 #[derive(Drop)]
@@ -87,7 +51,7 @@ fn guests<'a, A: Application<D>, D: Definition, J: Naming>(
 {
     let mut guests = Vec::with_capacity(alloc, count)?;
     for number in 0..count {
-        let client = client(rt, alloc, foundation, number, committers, pool)?;
+        let client = new_client(rt, alloc, foundation, number, committers, pool)?;
         guests.push(Guest { number, client })?;
     }
     Ok(guests)
@@ -130,6 +94,32 @@ where
         Ok(outputs) => Ok(outputs),
         Err(_) => Err(OpenError::Threads),
     }
+}
+
+/// Keeps the site at this clock until the visitors have ended.
+#[tactic(auto, using(crate::proofs::Tended::tended_of))]
+fn keep_until_ended<A: App, J: Naming, C: Clock, R: Wait>(
+    rt: &R,
+    alloc: Global,
+    foundation: &Foundation<A, J>,
+    keeping: Keeping,
+    clock: &C,
+    ended: &Signal,
+) -> Result<Tended, SiteError>
+    ensures tended { IfOk result
+        (IsTendedBy J.database_history (nodes_of foundation.now.plan) (C.tells clock.now) keeping.age) }
+    ensures refused { IfErr result IsKeeperRefused }
+{
+    txc_keeper::keep_until_ended(
+        rt,
+        alloc,
+        &foundation.ledger,
+        &foundation.nodes,
+        &foundation.moment,
+        keeping,
+        clock,
+        ended,
+    )
 }
 
 /// What the guests came to, and what the site's own keeper did, where it has one.

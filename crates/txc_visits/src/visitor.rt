@@ -1,19 +1,19 @@
 ghost use Rattle.std.specs.Prelude.{IfSome, IsSome};
-ghost use Rattle.txc_visits.specs.Sites.{IsNewClient};
+ghost use Rattle.txc_foundation.specs.Sites.{IsNewClient};
 
-use crate::client::SiteClient;
 use std::alloc::Global;
 use std::sync::Wait;
 use txc_app::App;
 use txc_db::Naming;
 use txc_definition::Definition;
+use txc_foundation::SiteClient;
 
 /// What is done on each of the threads of a site. It is generic in what names the site's histories, so that
 /// nothing of one site is used with another.
 pub trait Visitor<A: App, D: Definition> {
     ghost use Rattle.std.specs.Prelude.{ℕ};
     ghost use Rattle.txc_stream.specs.Names.{Name};
-    ghost use Rattle.txc_visits.specs.declared.plan.Plan.{Plan};
+    ghost use Rattle.txc_foundation.specs.declared.plan.Plan.{Plan};
 
     /// What a thread comes to.
     type Output: Send + Drop;

@@ -1,7 +1,7 @@
 use Rattle.std.proofs.Common.{subst, sym, rules}
-use Rattle.txc_visits.specs.declared.plan.Plan.{Plan}
-use Rattle.txc_visits.specs.Histories.{HaveHistoriesBy}
-use Rattle.txc_visits.specs.Sites.{HaveCome}
+use Rattle.txc_foundation.specs.declared.plan.Plan.{Plan}
+use Rattle.txc_foundation.specs.Histories.{HaveHistoriesBy}
+use Rattle.txc_visits.specs.Visits.{HaveCome}
 use Rattle.txc_visits.specs.Tended.{IsTendedAsPlanned}
 use Rattle.txc_visits.proofs.histories.over_histories.Goals as goal
 

@@ -1,5 +1,5 @@
 use Rattle.std.proofs.Common.{arith}
-use Rattle.txc_visits.proofs.NodeHistories.{histories_by_place, stored_so_by_place}
+use Rattle.txc_visits.proofs.Places.{histories_by_place, stored_so_by_place}
 use Rattle.txc_visits.proofs.histories.over_new_histories.Goals as goal
 
 pub over_histories-requires-clause-histories : goal.over_histories-requires-clause-histories

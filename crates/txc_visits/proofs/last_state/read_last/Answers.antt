@@ -1,10 +1,10 @@
 use Rattle.std.proofs.Common.{subst, sym, rules}
-use Rattle.txc_visits.specs.declared.plan.Plan.{Plan}
-use Rattle.txc_visits.specs.Histories.{HaveHistoriesBy}
+use Rattle.txc_foundation.specs.declared.plan.Plan.{Plan}
+use Rattle.txc_foundation.specs.Histories.{HaveHistoriesBy}
 use Rattle.txc_visits.proofs.last_state.read_last.Goals as goal
 
 -- the foundation has this plan
-pub client-requires-clause-stored_so : goal.client-requires-clause-stored_so
-client-requires-clause-stored_so g c =
+pub new_client-requires-clause-stored_so : goal.new_client-requires-clause-stored_so
+new_client-requires-clause-stored_so g c =
     let asked : HaveHistoriesBy c.args.plan g.J.Naming.node_histories = search rules in
     subst (λ (plan : Plan). HaveHistoriesBy plan g.J.Naming.node_histories) (sym c.in_ok-foundation.ensures.plan) asked

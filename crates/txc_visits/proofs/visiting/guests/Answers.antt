@@ -1,7 +1,7 @@
 use Rattle.std.proofs.Common.{◌≡◌, refl, arith}
 use Rattle.std.proofs.lemmas.Grind.{common_steps}
 use Rattle.std.proofs.lemmas.List.Elements.{All-push, All-same}
-use Rattle.txc_visits.specs.Sites.{IsNewClient}
+use Rattle.txc_foundation.specs.Sites.{IsNewClient}
 use Rattle.txc_visits.proofs.Guests.{one_number_more}
 use Rattle.txc_visits.proofs.visiting.guests.Goals as goal
 

@@ -1,5 +1,6 @@
 use Rattle.std.proofs.Common.{◌≡◌, All, map, vec_len}
-use Rattle.txc_visits.specs.Sites.{numbers_below, IsNewClient}
+use Rattle.txc_visits.specs.Visits.{numbers_below}
+use Rattle.txc_foundation.specs.Sites.{IsNewClient}
 use Rattle.txc_visits.proofs.visiting.guests.Given as goal
 
 abbrev pub invariant-loop-number : goal.invariant-loop-number

@@ -1,7 +1,7 @@
 use denote.Param.{param}
 use Rattle.std.proofs.Common.{ℕ, ◌<◌, ◌∙◌, length, slice_index_or, ap, subst, arith}
 use Rattle.txc_db.proofs.Captured.{argument_send}
-use Rattle.txc_visits.proofs.Crosses.{site_client_send}
+use Rattle.txc_foundation.proofs.Crosses.{site_client_send}
 use Rattle.txc_visits.proofs.Guests.{number_at}
 use Rattle.txc_visits.proofs.visiting.Guest.TheSendSync as guest
 use Rattle.txc_visits.proofs.visiting.visit_each.Goals as goal

@@ -2,7 +2,7 @@ use denote.Param.{param}
 use denote.Param.Send.{shr_send}
 use Rattle.std.proofs.Crossing.{sync as heap_sync}
 use Rattle.txc_db.proofs.Captured.{closure6_send}
-use Rattle.txc_visits.proofs.Crosses.{foundation_sync}
+use Rattle.txc_foundation.proofs.Crosses.{foundation_sync}
 use Rattle.txc_keeper.proofs.clock.Signal.TheSendSync as signal
 use Rattle.txc_keeper.proofs.keeping.Keeping.TheSendSync as keeping
 use Rattle.txc_visits.proofs.visiting.visit_kept.Goals as goal

@@ -1,5 +1,5 @@
 use Rattle.std.proofs.Common.{arith}
-use Rattle.txc_visits.proofs.NodeHistories.{histories_by_place, stored_so_by_place}
+use Rattle.txc_visits.proofs.Places.{histories_by_place, stored_so_by_place}
 use Rattle.txc_visits.proofs.last_state.LastState.read.Goals as goal
 
 pub read_last-requires-clause-histories : goal.read_last-requires-clause-histories

@@ -1,7 +1,7 @@
 //! The functions of a site.
 ghost use Rattle.std.specs.Prelude.{◌≡◌, All, IfErr, IfOk, List, map, ℕ};
 ghost use Rattle.txc_registry.specs.Objects.{numbers_of, AllIdle};
-ghost use Rattle.txc_visits.specs.Sites.{IsRegistryRefused};
+ghost use Rattle.txc_foundation.specs.Sites.{IsRegistryRefused};
 
 use std::alloc::{AllocError, Global};
 use txc_app::App;

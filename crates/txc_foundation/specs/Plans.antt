@@ -5,8 +5,8 @@ use Rattle.txc_node.specs.declared.node.TheConstants.{MAX_CAPACITY, MAX_RECENT}
 use Rattle.txc_permits.specs.declared.pool.TheConstants.{MAX_PERMITS}
 use Rattle.txc_shared.specs.declared.settings.NodeSettings.{NodeSettings}
 use Rattle.txc_stream.specs.declared.row.TheConstants.{MAX_CAPACITY as MAX_ROOM}
-use Rattle.txc_visits.specs.declared.plan.Plan.{Plan}
-use Rattle.txc_visits.specs.declared.plan.TheConstants.{MAX_NODES}
+use Rattle.txc_foundation.specs.declared.plan.Plan.{Plan}
+use Rattle.txc_foundation.specs.declared.plan.TheConstants.{MAX_NODES}
 
 -- each number is within its limits
 abbrev pub IsPlan : Plan → Type 0

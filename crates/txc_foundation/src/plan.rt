@@ -1,7 +1,7 @@
 //! How a site is made.
 ghost use Rattle.std.specs.Prelude.{◌≡◌, ◌≤◌, ◌↔◌, IsTrue, IfSome};
 ghost use Rattle.txc_stream.specs.declared.row.TheConstants.{MAX_CAPACITY as MAX_ROOM};
-ghost use Rattle.txc_visits.specs.Plans.{IsPlan};
+ghost use Rattle.txc_foundation.specs.Plans.{IsPlan};
 
 use txc_keeper::Keeping;
 use txc_node::{MAX_CAPACITY, MAX_RECENT};

@@ -1,8 +1,8 @@
 use Rattle.std.proofs.Common.{◌≡◌, ◌+◌, length, map, vec_len}
 use Rattle.std.specs.List.{range_with_len}
-use Rattle.txc_visits.specs.Plans.{settings_of_node}
-use Rattle.txc_visits.specs.Histories.{AreHistoriesOf}
-use Rattle.txc_visits.proofs.foundation.nodes.Given as goal
+use Rattle.txc_foundation.specs.Plans.{settings_of_node}
+use Rattle.txc_foundation.specs.Histories.{AreHistoriesOf}
+use Rattle.txc_foundation.proofs.foundation.nodes.Given as goal
 
 abbrev pub invariant-loop-history : goal.invariant-loop-history
 invariant-loop-history g l = record {

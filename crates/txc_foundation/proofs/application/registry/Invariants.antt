@@ -1,7 +1,7 @@
 use Rattle.std.proofs.Common.{◌≡◌, ◌++◌, All, map}
 use Rattle.txc_definition.specs.contracts.function.FunctionCacheable.TheImpl as function
 use Rattle.txc_registry.specs.Activity.{idle}
-use Rattle.txc_visits.proofs.application.registry.Given as goal
+use Rattle.txc_foundation.proofs.application.registry.Given as goal
 
 abbrev pub invariant-loop-definition : goal.invariant-loop-definition
 invariant-loop-definition g l =

@@ -3,15 +3,18 @@ ghost use Rattle.std.specs.Prelude.{◌≡◌, ◌+◌, ◌<◌, ◌≤◌, [], 
 ghost use Rattle.txc_stream.specs.Names.{HasRow};
 ghost use Rattle.txc_node.specs.Counts.{AreCountsOf};
 ghost use Rattle.txc_client.specs.Ports.{CountsLeave, HaveGrown, IsCallAt};
-ghost use Rattle.txc_registry.specs.Objects.{AllIdle};
+ghost use Rattle.txc_registry.specs.Objects.{numbers_of, AllIdle};
 ghost use Rattle.txc_pages.specs.Pages.{IsLeftByRefused, IsPageRun, IsPageRefused};
 ghost use Rattle.txc_ledger.specs.Counted.{counted_again};
-ghost use Rattle.txc_visits.specs.Plans.{nodes_of};
+ghost use Rattle.txc_foundation.specs.Histories.{HaveHistoriesBy};
+ghost use Rattle.txc_foundation.specs.Plans.{nodes_of, IsPlan};
+ghost use Rattle.txc_foundation.specs.Sites.{IsClientRefused, IsNewClient};
 ghost use Rattle.txc_keeper.specs.Refusals.{IsKeeperRefused};
 ghost use Rattle.txc_ledger.specs.Writes.{AreConflicts, IsWritten, IsSiteWriteRefused};
 ghost use Rattle.txc_txn.specs.Core.{Explains};
 ghost use Rattle.txc_txn.specs.Sessions.{IsAtLeast};
 
+use crate::application::{Application, registry};
 use crate::foundation::Foundation;
 use crate::numbers::{Numbers, Tally};
 use std::alloc::Global;
@@ -22,9 +25,10 @@ use txc_client::Client;
 use txc_db::Naming;
 use txc_definition::{Definition, Function};
 use txc_keeper::{Keeper, SiteError};
-use txc_ledger::{Change, Committer, WriteError, Written, write_change};
+use txc_ledger::{Change, Committer, Committers, WriteError, Written, write_change};
 use txc_node::Counts;
 use txc_pages::{Page, ReadError, Shown, read_page};
+use txc_permits::PermitPool;
 use txc_ports::Bounds;
 use txc_registry::Registry;
 
@@ -40,7 +44,7 @@ pub struct SiteClient<'a, A: App, D: Definition, J: Naming> {
 
 impl<'a, A: App, D: Definition, J: Naming> Model for SiteClient<'a, A, D, J> {
     ghost use Rattle.txc_registry.specs.Objects.{AllIdle};
-    ghost use Rattle.txc_visits.specs.Sites.{SiteClientValue};
+    ghost use Rattle.txc_foundation.specs.Sites.{SiteClientValue};
 
     ghost Value = { SiteClientValue };
 
@@ -232,4 +236,37 @@ impl<'a, A: App, D: Definition, J: Naming> SiteClient<'a, A, D, J> {
     {
         self.reader.node_counts(rt, node)
     }
+}
+
+/// The client of this number, with a pass of its own through each node.
+#[tactic(auto, using(txc_keeper::proofs::NoPass::no_pass))]
+pub fn new_client<'a, A: Application<D>, D: Definition, J: Naming>(
+    rt: &impl Wait,
+    alloc: Global,
+    foundation: &'a Foundation<A, J>,
+    number: usize,
+    committers: &Committers<J>,
+    pool: &mut PermitPool,
+) -> Result<SiteClient<'a, A, D, J>, SiteError>
+    requires plan { IsPlan foundation.now.plan }
+    requires stored_so { HaveHistoriesBy foundation.now.plan J.node_histories }
+    requires number { number < vec_len foundation.now.tallies }
+    ensures plan { IfOk result (λ client. client.plan ≡ foundation.now.plan) }
+    ensures new { IfOk result (IsNewClient J.node_histories) }
+    ensures reader { IfOk result (λ client. numbers_of client.reader.objects ≡ A.numbers) }
+    ensures writer { IfOk result (λ client. numbers_of client.writer ≡ A.numbers) }
+    ensures refused { IfErr result (IsClientRefused A.numbers) }
+{
+    let functions = registry::<A, D>(alloc, pool)?;
+    let reader = foundation.ledger.reader(
+        rt,
+        alloc,
+        &foundation.nodes,
+        functions,
+        foundation.plan.renew_after,
+    )?;
+    let writer = registry::<A, D>(alloc, pool)?;
+    let tally = &foundation.tallies[number];
+    let committer = committers.committer();
+    Ok(SiteClient::new(foundation, reader, writer, committer, tally))
 }

@@ -1,29 +1,27 @@
 //! What a site stands on.
-ghost use Rattle.std.specs.Prelude.{◌≡◌, ◌≤◌, IfErr, IfOk, vec_len};
+ghost use Rattle.std.specs.Prelude.{◌≡◌, ◌≤◌, IfOk, vec_len};
 ghost use Rattle.txc_db.specs.Shared.{IsDatabaseOf};
-ghost use Rattle.txc_keeper.specs.Refusals.{IsKeeperRefused};
-ghost use Rattle.txc_keeper.specs.Tending.{IsTendedBy};
-ghost use Rattle.txc_visits.specs.Plans.{nodes_of, IsPlan};
-ghost use Rattle.txc_visits.specs.Histories.{AreHistoriesOf};
+ghost use Rattle.txc_foundation.specs.Plans.{nodes_of, IsPlan};
+ghost use Rattle.txc_foundation.specs.Histories.{AreHistoriesOf};
 
-use crate::numbers::Tally;
+use crate::numbers::{Numbers, Tally};
 use crate::plan::Plan;
 use std::alloc::{AllocError, Global};
 use std::sync::Wait;
 use txc_app::App;
 use txc_db::{DbCore, Naming};
-use txc_keeper::{Clock, Keeping, Moment, Signal, SiteError, Tended, retire};
+use txc_keeper::{Moment, retire};
 use txc_ledger::{Committers, Ledger, NodeHistory};
 use txc_shared::{NodeSettings, SharedNode};
 
 /// The database with its pincushion, and its nodes, as the plan says.
 #[derive(Drop)]
-pub(crate) struct Foundation<A: App, J: Naming> {
-    pub(crate) ledger: Ledger<J>,
-    pub(crate) nodes: Vec<SharedNode<A, J>>,
-    pub(crate) plan: Plan,
-    pub(crate) tallies: Vec<Tally>,
-    pub(crate) moment: Moment,
+pub struct Foundation<A: App, J: Naming> {
+    pub ledger: Ledger<J>,
+    pub nodes: Vec<SharedNode<A, J>>,
+    pub plan: Plan,
+    pub tallies: Vec<Tally>,
+    pub moment: Moment,
     ghost some: { 1 ≤ vec_len nodes },
     ghost planned: { nodes.items ≡ nodes_of plan },
 }
@@ -57,7 +55,7 @@ fn nodes<A: App, J: Naming>(
 impl<A: App, J: Naming> Foundation<A, J> {
     /// Puts the database and the nodes of these histories under their locks, for so many clients. Whoever is to
     /// commit gets a committer.
-    pub(crate) fn new(
+    pub fn new(
         rt: &impl Wait,
         alloc: Global,
         plan: Plan,
@@ -85,7 +83,7 @@ impl<A: App, J: Naming> Foundation<A, J> {
     }
 
     /// The database without its lock, once no thread has it any more. No pin is held but one that is lost.
-    pub(crate) fn into_core(self, rt: &impl Wait, alloc: Global) -> DbCore
+    pub fn into_core(self, rt: &impl Wait, alloc: Global) -> DbCore
         ensures { IsDatabaseOf J.database_history result }
     {
         let Foundation {
@@ -98,30 +96,10 @@ impl<A: App, J: Naming> Foundation<A, J> {
         let _ = retire(rt, alloc, &ledger, u64::MAX, 0);
         ledger.into_core()
     }
-}
 
-/// Keeps it at this clock until the visitors have ended.
-#[tactic(auto, using(crate::proofs::Tended::tended_of))]
-pub(crate) fn keep_until_ended<A: App, J: Naming, C: Clock, R: Wait>(
-    rt: &R,
-    alloc: Global,
-    foundation: &Foundation<A, J>,
-    keeping: Keeping,
-    clock: &C,
-    ended: &Signal,
-) -> Result<Tended, SiteError>
-    ensures tended { IfOk result
-        (IsTendedBy J.database_history (nodes_of foundation.now.plan) (C.tells clock.now) keeping.age) }
-    ensures refused { IfErr result IsKeeperRefused }
-{
-    txc_keeper::keep_until_ended(
-        rt,
-        alloc,
-        &foundation.ledger,
-        &foundation.nodes,
-        &foundation.moment,
-        keeping,
-        clock,
-        ended,
-    )
+    /// What its clients have done by then, and what its nodes were asked, by a new pass through each. A node that
+    /// refuses is left out.
+    pub fn numbers(&self, rt: &impl Wait) -> Numbers {
+        Numbers::of(&self.tallies).with_nodes(rt, &self.nodes)
+    }
 }

@@ -1,22 +1,15 @@
 -- Sites and their clients.
-use Rattle.std.specs.Prelude.{◌≡◌, ℕ, ◌<◌, List, [], All, length, map}
-use Rattle.std.specs.List.{range_with_len, slice_index_or}
+use Rattle.std.specs.Prelude.{◌≡◌, ℕ, List, [], All, map}
 use Rattle.txc_registry.specs.Objects.{Objects, HasTwice}
 use Rattle.txc_client.specs.Txn.{ClientValue}
 use Rattle.txc_db.specs.Refusals.{IsWant}
-use Rattle.txc_ledger.specs.declared.run_error.RunError.{RunError}
 use Rattle.txc_stream.specs.Names.{Name}
-use Rattle.txc_visits.specs.declared.plan.Plan.{Plan}
+use Rattle.txc_foundation.specs.declared.plan.Plan.{Plan}
 use Rattle.txc_keeper.specs.declared.error.SiteError.{SiteError}
 use Rattle.txc_keeper.specs.declared.error.SiteError.TheVariants as sites
-use Rattle.txc_visits.specs.declared.error.LastError.{LastError}
-use Rattle.txc_visits.specs.declared.error.LastError.TheVariants as lasts
-use Rattle.txc_visits.specs.declared.error.OpenError.{OpenError}
-use Rattle.txc_visits.specs.declared.error.OpenError.TheVariants as opens
 use Rattle.txc_keeper.specs.Refusals.{IsNoPass}
-use Rattle.txc_pages.specs.Pages.{IsPageRefused}
-use Rattle.txc_visits.specs.Histories.{HaveHistoriesBy}
-use Rattle.txc_visits.specs.Plans.{nodes_of, IsPlan}
+use Rattle.txc_foundation.specs.Histories.{HaveHistoriesBy}
+use Rattle.txc_foundation.specs.Plans.{nodes_of, IsPlan}
 
 -- a client of a site: the site's plan, the client that reads, what the objects do that a change calls, and how often a
 -- change was committed
@@ -35,15 +28,6 @@ pub record IsNewClient (named : ℕ → Name) (client : SiteClientValue) : Type 
   pub unseen : All (λ pass. pass.records ≡ []) client.reader.passes
   pub renew_after : client.reader.renew_after ≡ client.plan.renew_after
   pub commits : client.commits ≡ 0
-
--- the numbers of so many threads
-abbrev pub numbers_below : ℕ → List ℕ
-numbers_below count = map (λ number. number) (range_with_len 0 count)
-
--- each is what the thread of its place comes to
-abbrev pub HaveCome : {T : Type 0} → (ℕ → T → Type 0) → List T → Type 0
-HaveCome {T} gives outputs =
-    (number : ℕ) (d : T) → number < length outputs → gives number (slice_index_or outputs number d)
 
 -- ---- refusals
 
@@ -69,14 +53,3 @@ abbrev pub IsSiteRefused : Plan → List ℕ → SiteError → Type 0
 IsSiteRefused plan numbers sites.Plan = ¬ (IsPlan plan)
 IsSiteRefused plan numbers (sites.Database cause) = IsPlan plan × IsWant cause
 IsSiteRefused plan numbers error = IsPlan plan × IsClientRefused numbers error
-
--- of a page of the last state: as a client is, or as a page is
-abbrev pub IsLastRefused : List ℕ → (RunError → Type 0) → LastError → Type 0
-IsLastRefused numbers refuses (lasts.Site error) = IsClientRefused numbers error
-IsLastRefused numbers refuses (lasts.Page error) = IsPageRefused refuses error
-
--- of the visit: as a client is; or there was no memory for the threads
-abbrev pub IsVisitRefused : List ℕ → OpenError → Type 0
-IsVisitRefused numbers (opens.Site error) = IsClientRefused numbers error
-IsVisitRefused numbers (opens.Opening error) = ⊥
-IsVisitRefused numbers opens.Threads = Unit {0}

@@ -3,8 +3,8 @@ use Rattle.std.proofs.lemmas.Grind.{common_steps}
 use Rattle.std.proofs.lemmas.List.Elements.{All-rest}
 use Rattle.txc_definition.specs.contracts.function.FunctionCacheable.TheImpl as function
 use Rattle.txc_registry.specs.Objects.{HasTwice}
-use Rattle.txc_visits.proofs.Listing.{one_listed_more}
-use Rattle.txc_visits.proofs.application.registry.Goals as goal
+use Rattle.txc_foundation.proofs.Listing.{one_listed_more}
+use Rattle.txc_foundation.proofs.application.registry.Goals as goal
 
 pub loop-definition-preserved : goal.loop-definition-preserved
 loop-definition-preserved g c =

@@ -111,7 +111,7 @@ impl Numbers {
 
 /// What one client of a site counts, which the others read. Each number begins anew after 2^64.
 #[derive(Drop)]
-pub(crate) struct Tally {
+pub struct Tally {
     pages: AtomicU64,
     changes: AtomicU64,
     conflicts: AtomicU64,

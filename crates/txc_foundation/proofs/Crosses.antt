@@ -15,15 +15,15 @@ use Rattle.txc_definition.specs.contracts.function.Function as Function
 use Rattle.txc_definition.specs.contracts.function.FunctionCacheable.TheImpl as function
 use Rattle.txc_definition.proofs.function.Function.TheSendSync as function_crosses
 use Rattle.txc_client.proofs.Crosses.{client_send}
-use Rattle.txc_visits.specs.contracts.client.SiteClient as SiteClient
-use Rattle.txc_visits.specs.contracts.client.SiteClient.TheInside as inside
-use Rattle.txc_visits.specs.contracts.foundation.Foundation as Foundation
+use Rattle.txc_foundation.specs.contracts.client.SiteClient as SiteClient
+use Rattle.txc_foundation.specs.contracts.client.SiteClient.TheInside as inside
+use Rattle.txc_foundation.specs.contracts.foundation.Foundation as Foundation
 use Rattle.txc_ledger.proofs.Crosses.{ledger_sync}
 use Rattle.txc_ledger.proofs.ledger.Committer.TheSendSync as committer
 use Rattle.txc_keeper.proofs.clock.Moment.TheSendSync as moment
-use Rattle.txc_visits.proofs.numbers.Tally.TheSendSync as tally
-use Rattle.txc_visits.specs.contracts.numbers.Tally as Tally
-use Rattle.txc_visits.proofs.plan.Plan.TheSendSync as plan
+use Rattle.txc_foundation.proofs.numbers.Tally.TheSendSync as tally
+use Rattle.txc_foundation.specs.contracts.numbers.Tally as Tally
+use Rattle.txc_foundation.proofs.plan.Plan.TheSendSync as plan
 
 module _ (A J : RattleType) (a : app.Ghosts A.Denot) (g : naming.Ghosts J.Denot) where
   pub foundation_sync : IsSync (Foundation.the_row A J a g)

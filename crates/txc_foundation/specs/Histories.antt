@@ -4,7 +4,7 @@ use Rattle.txc_stream.specs.Names.{Name}
 use Rattle.txc_carry.specs.Rooms.{IsHistoryFor}
 use Rattle.txc_ledger.specs.declared.node_history.NodeHistory.{NodeHistory}
 use Rattle.txc_ledger.specs.Histories.{IsNew, history_name}
-use Rattle.txc_visits.specs.declared.plan.Plan.{Plan}
+use Rattle.txc_foundation.specs.declared.plan.Plan.{Plan}
 
 -- each history is new and the one named at its number, of which the first has this one
 abbrev pub AreHistoriesOf : (ℕ → Name) → ℕ → List NodeHistory → Type 0

@@ -1,8 +1,8 @@
 use Rattle.std.proofs.Common.{◌≡◌, ◌+◌, length, vec_len, ap, arith}
 use Rattle.std.proofs.lemmas.Grind.{common_steps}
-use Rattle.txc_visits.specs.Plans.{settings_of_node}
-use Rattle.txc_visits.proofs.NodeHistories.{one_node_more, one_history_less}
-use Rattle.txc_visits.proofs.foundation.nodes.Goals as goal
+use Rattle.txc_foundation.specs.Plans.{settings_of_node}
+use Rattle.txc_foundation.proofs.NodeHistories.{one_node_more, one_history_less}
+use Rattle.txc_foundation.proofs.foundation.nodes.Goals as goal
 
 pub loop-history-preserved : goal.loop-history-preserved
 loop-history-preserved g c =

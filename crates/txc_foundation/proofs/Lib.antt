@@ -1,0 +1,3 @@
+pub mod Crosses
+mod Listing
+mod NodeHistories
