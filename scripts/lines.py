@@ -55,6 +55,14 @@ def world_forms():
     return forms, told
 
 
+def batch_forms(world):
+    """The kinds after the names of a change and of a pin, as in a world, and after `job`, whose last word may stand again."""
+    source = (ROOT / "crates/txc_batch/specs/Orders.antt").read_text()
+    forms = {it.lower(): world[it.lower()][0] for it in re.findall(r"IsPreparing names\.(\w+) = Unit", source)}
+    moments, key = re.search(r"kinds_for (\(.*\)) word_kinds\.(\w+) words", source).groups()
+    return {**forms, "job": kinds_in(source, moments) + [key]}
+
+
 def faults(text):
     """What the text of SCRIPTS.md says otherwise than the tables."""
     found = []
@@ -73,4 +81,7 @@ def faults(text):
             first, *others = [" ".join([name, *words, *it]) if n == 0 else " ".join(it) for n, it in enumerate(parts_shown(text, part))]
             if told.get(name) != f"{first} ({', '.join(f'or {it}' for it in others)})":
                 found.append(f"docs/SCRIPTS.md: of `{name}` the form that is told is `{told.get(name)}`")
-    return found + [f"docs/SCRIPTS.md shows no line `{it}` of mode world" for it in world.keys() - {it[0] for it in shown}]
+    found += [f"docs/SCRIPTS.md shows no line `{it}` of mode world" for it in world.keys() - {it[0] for it in shown}]
+    table = text.partition("\n## Mode batch\n")[2].partition("\n| Line |")[2].partition("\n\n")[0]
+    jobs = {it.split()[0]: [KIND_OF[word] for word in it.split()[1:] if word != ".."] for it in re.findall(r"`([a-z]+ [^`]+)`", table)}
+    return found + ["docs/SCRIPTS.md: mode batch reads other lines than it shows"] * (jobs != batch_forms(world))

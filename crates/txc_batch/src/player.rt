@@ -30,13 +30,20 @@ impl<A: App, C: Cacheable> Script for BatchScript<A, C> {
         state: &mut Batch<A, C>,
         line: &[u8],
         text: &mut Vec<u8>,
-    ) -> Result<bool, Unanswered> {
+        why: &mut Unanswered,
+    ) -> Option<bool> {
         match read_order(alloc, state.jobs(), line) {
             Ok(order) => match state.obey(alloc, order, text) {
-                Ok(is_refused) => Ok(is_refused),
-                Err(_) => Err(Unanswered::Memory),
+                Ok(is_refused) => Some(is_refused),
+                Err(_) => {
+                    *why = Unanswered::Memory;
+                    None
+                }
             },
-            Err(reason) => Err(reason),
+            Err(reason) => {
+                *why = reason;
+                None
+            }
         }
     }
 

@@ -65,13 +65,20 @@ impl<A: App, C: Cacheable> Script for WorldScript<A, C> {
         state: &mut World<A, C>,
         line: &[u8],
         text: &mut Vec<u8>,
-    ) -> Result<bool, Unanswered> {
+        why: &mut Unanswered,
+    ) -> Option<bool> {
         match read_task(alloc, line) {
             Ok(task) => match do_task(alloc, state, task, text) {
-                Ok(is_refused) => Ok(is_refused),
-                Err(_) => Err(Unanswered::Memory),
+                Ok(is_refused) => Some(is_refused),
+                Err(_) => {
+                    *why = Unanswered::Memory;
+                    None
+                }
             },
-            Err(reason) => Err(reason),
+            Err(reason) => {
+                *why = reason;
+                None
+            }
         }
     }
 

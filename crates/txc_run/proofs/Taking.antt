@@ -1,5 +1,5 @@
 -- What lines gave is taken.
-use Rattle.std.proofs.Common.{◌≡◌, ◌++◌, Bool, true, false, List, ℕ, [], ◌∷◌, Option, Result, Ok, Err, IfErr, IfOk, sym, ap, subst, inr, ◌∙◌}
+use Rattle.std.proofs.Common.{◌≡◌, ◌++◌, Bool, true, false, List, ℕ, [], ◌∷◌, Option, Some, None, IfNone, IfSome, refl, sym, ap, subst, inr, ◌∙◌}
 use Rattle.std.specs.Prelude.{if◌then◌else◌}
 use Rattle.std.proofs.lemmas.List.{append-nil}
 use Rattle.txc_node.specs.Cache.{Cache}
@@ -10,15 +10,17 @@ use Rattle.txc_node.specs.declared.reply.Reply.{Reply}
 use Rattle.txc_node.specs.Steps.{is_refusal, MayReply}
 use Rattle.txc_settings.specs.declared.mode.Mode.TheVariants.{Node}
 use Rattle.txc_script.specs.Answers.{IsUnanswered}
+use Rattle.txc_script.specs.Forms.{IsOfForm, LineForm}
 use Rattle.txc_script.specs.Kinds.{Replied}
+use Rattle.txc_script.specs.LineFaults.{IsKindsFault, IsWrong}
 use Rattle.txc_script.specs.declared.unread.Unanswered.{Unanswered}
 use Rattle.txc_script.specs.declared.unread.Unanswered.TheVariants.{Wrong, Memory}
-use Rattle.txc_script.specs.declared.unread.Unread.{Unread}
-use Rattle.txc_script.specs.declared.unread.Unread.TheVariants as unread
+use Rattle.txc_script.proofs.Offered.{fault_asks_none}
 use Rattle.txc_run.specs.Counting.{Counts, counted_script}
+use Rattle.txc_run.specs.Lines.{node_forms}
 use Rattle.txc_run.specs.NodeScripts.{node_script}
 use Rattle.txc_run.specs.Reports.{IsReportOf, step_by, steps_in, steps_of}
-use Rattle.txc_run.specs.Steps.{IsFor, IsNoStep, MakesNone, MakesStep, Taking}
+use Rattle.txc_run.specs.Steps.{IsFor, MakesForm, MakesLine, Taking}
 use Rattle.txc_run.specs.declared.node.Counted.{Counted}
 use Rattle.txc_run.specs.declared.report.Report.{Report}
 use Rattle.txc_run.proofs.Reporting.{steps_more}
@@ -41,27 +43,29 @@ one_counted old new op reply kept counts given h =
     (counts (steps_of given) h)
 
 -- such a step was made, and its reply taken
-pub taken : {T E : Type 0} (takes : Taking T) (Is : Op → Type 0) (r : Result Bool E) (c next : Cache) (op : Op) (reply : Reply Shown) (function : Option ℕ) (old new : T) → Is op → MayReply c op reply next → IsFor function op reply
-    → IfOk r (λ refused. (o : Op) → IsFor function o reply → takes old o reply new) → IfOk r (λ refused. refused ≡ is_refusal reply) → IfOk r (MakesStep takes Is c next old new)
-taken takes Is (Ok refused) c next op reply function old new is may of after same = (op, is, reply, may, after op of, same)
-taken takes Is (Err e) c next op reply function old new is may of after same = tt
+pub taken : {T : Type 0} (takes : Taking T) (form : LineForm Op) (words : List (List ℕ)) (r : Option Bool) (why : Unanswered) (c next : Cache) (op : Op) (reply : Reply Shown) (function : Option ℕ) (old new : T) → IsOfForm form words op
+    → MayReply c op reply next → IsFor function op reply → IfSome r (λ refused. (o : Op) → IsFor function o reply → takes old o reply new) → IfSome r (λ refused. refused ≡ is_refusal reply) → IfNone r (why ≡ Memory)
+    → MakesForm takes form words c next old new r why
+taken takes form words (Some refused) why c next op reply function old new is may of after same memory = (op, is, reply, may, after op of, same)
+taken takes form words None why c next op reply function old new is may of after same memory =
+    subst (MakesForm takes form words c next old new None) (sym memory) tt
 
--- memory alone is refused for its reply
-pub memory_refused : {T : Type 0} (Is : Op → Type 0) (r : Result Bool Unread) (c next : Cache) (old new : T) → IfErr r (λ reason. reason ≡ unread.Memory) → IfErr r (MakesNone Is c next old new)
-memory_refused Is (Ok refused) c next old new h = tt
-memory_refused Is (Err reason) c next old new h = subst (MakesNone Is c next old new) (sym h) tt
+-- the words are no such step
+pub unread : {T : Type 0} (takes : Taking T) (form : LineForm Op) (words : List (List ℕ)) (why : Unanswered) (c : Cache) (old : T) → IsWrong (IsKindsFault form.kinds words) why → MakesForm takes form words c c old old None why
+unread takes form words (Wrong fault) c old wrong = (wrong, refl, refl)
+unread takes form words Memory c old wrong = tt
 
 -- ---- lines that name a step
 
-pub on_made : {X E : Type 0} (r : Result X E) (P Q : X → Type 0) → ((x : X) → P x → Q x) → IfOk r P → IfOk r Q
-on_made (Ok x) P Q f h = f x h
-on_made (Err e) P Q f h = tt
+pub on_made : {T : Type 0} (takes : Taking T) (line : List ℕ) (r : Option Bool) (why : Unanswered) (c next : Cache) (old new : T) (Q : Bool → Type 0) → MakesLine takes line c next old new r why
+    → ((refused : Bool) → MakesLine takes line c next old new (Some refused) why → Q refused) → IfSome r Q
+on_made takes line (Some refused) why c next old new Q h f = f refused h
+on_made takes line None why c next old new Q h f = tt
 
-pub node_unanswered : {T : Type 0} (r : Result Bool Unanswered) (c : Cache) (line : List ℕ) (next : Cache) (old new : T) → IfErr r (IsNoStep line c next old new)
-    → IfErr r (IsUnanswered (node_script Node) c line next)
-node_unanswered (Ok x) c line next old new h = tt
-node_unanswered (Err (Wrong fault)) c line next old new h = (h.0.0, h.0.1, h.1)
-node_unanswered (Err Memory) c line next old new h = inr tt
+pub node_unanswered : {T : Type 0} (takes : Taking T) (line : List ℕ) (r : Option Bool) (why : Unanswered) (c next : Cache) (old new : T) → MakesLine takes line c next old new r why → IfNone r (IsUnanswered (node_script Node) c line next why)
+node_unanswered takes line (Some x) why c next old new h = tt
+node_unanswered takes line None (Wrong fault) c next old new h = ((λ op. fault_asks_none node_forms line fault op h.0), h.1, h.0)
+node_unanswered takes line None Memory c next old new h = inr tt
 
 same_counted : (s : Counted) (node : Cache) (report : Report) → node ≡ s.node → report ≡ s.report → ◌≡◌ {A = Counted} (record { node = node; report = report }) s
 same_counted s node report n r =
@@ -69,8 +73,8 @@ same_counted s node report n r =
     let b : ◌≡◌ {A = Counted} (record { node = s.node; report = report }) s = ap (λ (x : Report). record s { report = x }) r in
     a ∙ b
 
-pub counted_unanswered : (r : Result Bool Unanswered) (s : Counted) (line : List ℕ) (node : Cache) (report : Report) → IfErr r (IsNoStep line s.node node s.report report)
-    → IfErr r (IsUnanswered counted_script s line (record { node = node; report = report }))
-counted_unanswered (Ok x) s line node report h = tt
-counted_unanswered (Err (Wrong fault)) s line node report h = (h.0.0, same_counted s node report h.0.1 h.0.2, h.1)
-counted_unanswered (Err Memory) s line node report h = inr tt
+pub counted_unanswered : (line : List ℕ) (r : Option Bool) (why : Unanswered) (s : Counted) (node : Cache) (report : Report) → MakesLine Counts line s.node node s.report report r why
+    → IfNone r (IsUnanswered counted_script s line (record { node = node; report = report }) why)
+counted_unanswered line (Some x) why s node report h = tt
+counted_unanswered line None (Wrong fault) s node report h = ((λ op. fault_asks_none node_forms line fault op h.0), same_counted s node report h.1 h.2, h.0)
+counted_unanswered line None Memory s node report h = inr tt

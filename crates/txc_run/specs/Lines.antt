@@ -1,8 +1,6 @@
 -- What the lines of a node's script are: the table of their forms.
 use Rattle.std.specs.Prelude.{ℕ, Bool, List, [], ◌∷◌, codes}
 use Rattle.txc_tags.specs.Keys.{Call}
-use Rattle.txc_tags.specs.Tags.{set_of}
-use Rattle.txc_tags.specs.TextSet.{tags_spelt}
 use Rattle.txc_tags.specs.declared.tag.Tag.{Tag}
 use Rattle.txc_node.specs.declared.op.Op.{Op}
 use Rattle.txc_node.specs.declared.op.Op.TheVariants.{Insert, Lookup, Event, Sweep}
@@ -20,7 +18,7 @@ abbrev pub insert_form : LineForm Op
 insert_form = record {
   name = codes "insert";
   kinds = Key ∷ Stamp ∷ Stamp ∷ Reach ∷ Tags ∷ Bytes ∷ [];
-  asks = λ said. insertion_said said.0 said.1.1.1.1.1.0 said.1.0 said.1.1.0 said.1.1.1.0 (set_of (tags_spelt said.1.1.1.1.0));
+  asks = λ said. insertion_said said.0 said.1.1.1.1.1.0 said.1.0 said.1.1.0 said.1.1.1.0 said.1.1.1.1.0;
 }
 
 -- a key, and the first and the last stamp that will do
@@ -36,7 +34,7 @@ abbrev pub event_form : LineForm Op
 event_form = record {
   name = codes "event";
   kinds = Stamp ∷ Tags ∷ [];
-  asks = λ said. Event said.0 (set_of (tags_spelt said.1.0));
+  asks = λ said. Event said.0 said.1.0;
 }
 
 -- a stamp

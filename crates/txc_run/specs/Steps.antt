@@ -1,16 +1,16 @@
 -- Only private functions need this file: steps that are made, and their replies, which are taken.
-use Rattle.std.specs.Prelude.{◌≡◌, ℕ, Bool, false, Option, List, ⊤}
+use Rattle.std.specs.Prelude.{◌≡◌, ℕ, Bool, false, Option, Some, None, List, ⊤}
 use Rattle.txc_node.specs.declared.hit.Shown.{Shown}
 use Rattle.txc_node.specs.declared.op.Op.{Op}
 use Rattle.txc_node.specs.declared.reply.Reply.{Reply}
 use Rattle.txc_node.specs.Cache.{Cache}
 use Rattle.txc_node.specs.Steps.{is_refusal, function_of, MayReply}
-use Rattle.txc_script.specs.LineFaults.{IsCommandFault}
+use Rattle.txc_script.specs.Forms.{IsOfForm, LineForm}
+use Rattle.txc_script.specs.LineFaults.{IsCommandFault, IsKindsFault}
 use Rattle.txc_script.specs.Words.{words_of}
+use Rattle.txc_script.specs.declared.line_fault.CommandFault.{CommandFault}
 use Rattle.txc_script.specs.declared.unread.Unanswered.{Unanswered}
-use Rattle.txc_script.specs.declared.unread.Unanswered.TheVariants as unanswered
-use Rattle.txc_script.specs.declared.unread.Unread.{Unread}
-use Rattle.txc_script.specs.declared.unread.Unread.TheVariants.{Malformed, Memory}
+use Rattle.txc_script.specs.declared.unread.Unanswered.TheVariants.{Wrong, Memory}
 use Rattle.txc_run.specs.Lines.{Spells, node_forms}
 
 -- the reply is to that function's step, unless it is a refusal
@@ -21,18 +21,20 @@ IsFor function op reply = is_refusal reply ≡ false → function ≡ function_o
 abbrev pub Taking : Type 0 → Type 1
 Taking T = T → Op → Reply Shown → T → Type 0
 
--- such a step was made: it has a reply, which was taken and is a refusal or none, and leaves that cache
-abbrev pub MakesStep : {T : Type 0} → Taking T → (Op → Type 0) → Cache → Cache → T → T → Bool → Type 0
-MakesStep takes Is c next old new refused = (op : Op) × Is op × (reply : Reply Shown) × MayReply c op reply next
-    × takes old op reply new × (refused ≡ is_refusal reply)
+-- Such a step was made: it has a reply, which was taken and is a refusal or none, and leaves that cache. Or there is no
+-- reply, and it is left why: this is wrong, and nothing changed; or a growth was refused.
+abbrev pub MakesStep : {T : Type 0} → Taking T → (Op → Type 0) → (CommandFault → Type 0) → Cache → Cache → T → T
+    → Option Bool → Unanswered → Type 0
+MakesStep takes Is IsFault c next old new (Some refused) why = (op : Op) × Is op × (reply : Reply Shown)
+    × MayReply c op reply next × takes old op reply new × (refused ≡ is_refusal reply)
+MakesStep takes Is IsFault c next old new None (Wrong fault) = IsFault fault × (next ≡ c) × (new ≡ old)
+MakesStep takes Is IsFault c next old new None Memory = ⊤
 
--- there is no such step, and nothing changed; or a growth was refused
-abbrev pub MakesNone : {T : Type 0} → (Op → Type 0) → Cache → Cache → T → T → Unread → Type 0
-MakesNone Is c next old new Malformed = ((op : Op) → Is op → ⊥) × (next ≡ c) × (new ≡ old)
-MakesNone Is c next old new Memory = ⊤
+-- that, of a step of this form, by the words after its name
+abbrev pub MakesForm : {T : Type 0} → Taking T → LineForm Op → List (List ℕ) → Cache → Cache → T → T
+    → Option Bool → Unanswered → Type 0
+MakesForm takes form words = MakesStep takes (IsOfForm form words) (IsKindsFault form.kinds words)
 
--- the line names no step, nothing changed, and this is wrong with its words; or a growth was refused
-abbrev pub IsNoStep : {T : Type 0} → List ℕ → Cache → Cache → T → T → Unanswered → Type 0
-IsNoStep line c next old new (unanswered.Wrong fault) =
-    MakesNone (Spells line) c next old new Malformed × IsCommandFault node_forms (words_of line) fault
-IsNoStep line c next old new unanswered.Memory = ⊤
+-- that, of the step that a line names
+abbrev pub MakesLine : {T : Type 0} → Taking T → List ℕ → Cache → Cache → T → T → Option Bool → Unanswered → Type 0
+MakesLine takes line = MakesStep takes (Spells line) (IsCommandFault node_forms (words_of line))

@@ -1,11 +1,9 @@
 //! Runs of a node's scripts: lines, replies and reports.
 #![tactic(auto)]
 
-mod finding;
 mod laws;
 mod node;
 mod output;
-mod reading;
 mod report;
 mod running;
 mod step;

@@ -36,8 +36,9 @@ impl Script for Replying {
         state: &mut NodeCore,
         line: &[u8],
         text: &mut Vec<u8>,
-    ) -> Result<bool, Unanswered> {
-        make_step(alloc, state, line, text)
+        why: &mut Unanswered,
+    ) -> Option<bool> {
+        make_step(alloc, state, line, text, why)
     }
 
     fn close(
@@ -67,8 +68,9 @@ impl Script for Counting {
         state: &mut Counted,
         line: &[u8],
         text: &mut Vec<u8>,
-    ) -> Result<bool, Unanswered> {
-        make_step(alloc, &mut state.node, line, &mut state.report)
+        why: &mut Unanswered,
+    ) -> Option<bool> {
+        make_step(alloc, &mut state.node, line, &mut state.report, why)
     }
 
     fn close(

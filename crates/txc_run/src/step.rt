@@ -1,172 +1,157 @@
 //! Steps of the node, whose replies are taken.
-ghost use Rattle.std.specs.Prelude.{◌≡◌, IfOk, IfErr, OnErr};
-ghost use Rattle.txc_script.specs.Forms.{IsOfForm};
-ghost use Rattle.txc_script.specs.Words.{words_of};
-ghost use Rattle.txc_run.specs.Lines.{Spells, event_form, insert_form, lookup_form, sweep_form};
-ghost use Rattle.txc_run.specs.Steps.{MakesStep, MakesNone, IsNoStep};
+ghost use Rattle.std.specs.Prelude.{◌≡◌, IfNone};
+ghost use Rattle.txc_script.specs.Excerpts.{excerpt_of};
+ghost use Rattle.txc_script.specs.Words.{words_left};
+ghost use Rattle.txc_script.specs.declared.line_fault.CommandFault.TheVariants.{Unknown};
+ghost use Rattle.txc_run.specs.Lines.{event_form, insert_form, lookup_form, sweep_form};
+ghost use Rattle.txc_run.specs.Steps.{MakesForm, MakesLine};
 
-use crate::finding::find_command_fault;
-use crate::reading::{read_event, read_insert, read_lookup, read_sweep};
 use crate::taker::Taker;
 use std::alloc::Global;
 use txc_node::{Entry, NodeCore, Refusal, Reply};
-use txc_script::{Unanswered, Unread, first_word};
+use txc_script::{CommandFault, Excerpt, Unanswered, WordsLeft, all_words, read_row};
+use txc_stamp::Stamp;
+use txc_tags::{Key, TagSet};
 
-/// Makes the insertion that the text after its name is, and takes its reply.
+/// Makes the insertion that the words after its name are, and takes its reply; else it leaves why it did not.
 #[inline(never)]
 fn make_insertion<T: Taker>(
     alloc: Global,
     node: &mut NodeCore,
-    text: &[u8],
+    words: WordsLeft<'_>,
     taker: &mut T,
-) -> Result<bool, Unread>
-    ensures after { IfOk result (MakesStep T.takes (IsOfForm insert_form (words_of text.now))
-        node.old node.new taker.old taker.new) }
-    ensures refused { IfErr result (MakesNone (IsOfForm insert_form (words_of text.now))
-        node.old node.new taker.old taker.new) }
-    ensures unchanged { OnErr result (T.text taker.new ≡ T.text taker.old) }
+    why: &mut Unanswered,
+) -> Option<bool>
+    ensures made { MakesForm T.takes insert_form (words_left words.entry)
+        node.old node.new taker.old taker.new result why.new }
+    ensures unchanged { IfNone result (T.text taker.new ≡ T.text taker.old) }
 {
-    let (key, value, lo, known, still, tags) = match read_insert(alloc, text) {
-        Ok(read) => read,
-        Err(Unread::Malformed) => return Err(Unread::Malformed),
-        Err(Unread::Memory) => return Err(Unread::Memory),
+    let (key, (lo, (known, (still, (tags, (value, ())))))) = match read_row::<
+        (Key, (Stamp, (Stamp, (bool, (TagSet, (Vec<u8>, ())))))),
+    >(alloc, words, why)
+    {
+        Some(row) => row,
+        None => return None,
     };
     let function = Some(key.function());
     match Entry::new(key, value, lo, known, still, tags) {
         Ok(entry) => match node.insert(entry) {
-            Ok(inserted) => taker.take(alloc, function, &Reply::Inserted(inserted)),
-            Err(_) => taker.take(alloc, function, &Reply::Refused(Refusal::Memory)),
+            Ok(inserted) => taker.take(alloc, function, &Reply::Inserted(inserted), why),
+            Err(_) => taker.take(alloc, function, &Reply::Refused(Refusal::Memory), why),
         },
-        Err(error) => taker.take(alloc, None, &Reply::Refused(Refusal::of_entry(error))),
+        Err(error) => taker.take(alloc, None, &Reply::Refused(Refusal::of_entry(error)), why),
     }
 }
 
-/// Makes the lookup that the text after its name is, and takes its reply.
+/// Makes the lookup that the words after its name are, and takes its reply.
 #[inline(never)]
 fn make_lookup<T: Taker>(
     alloc: Global,
     node: &mut NodeCore,
-    text: &[u8],
+    words: WordsLeft<'_>,
     taker: &mut T,
-) -> Result<bool, Unread>
-    ensures after { IfOk result (MakesStep T.takes (IsOfForm lookup_form (words_of text.now))
-        node.old node.new taker.old taker.new) }
-    ensures refused { IfErr result (MakesNone (IsOfForm lookup_form (words_of text.now))
-        node.old node.new taker.old taker.new) }
-    ensures unchanged { OnErr result (T.text taker.new ≡ T.text taker.old) }
+    why: &mut Unanswered,
+) -> Option<bool>
+    ensures made { MakesForm T.takes lookup_form (words_left words.entry)
+        node.old node.new taker.old taker.new result why.new }
+    ensures unchanged { IfNone result (T.text taker.new ≡ T.text taker.old) }
 {
-    let (key, lo, hi) = match read_lookup(text) {
-        Ok(read) => read,
-        Err(Unread::Malformed) => return Err(Unread::Malformed),
-        Err(Unread::Memory) => return Err(Unread::Memory),
+    let (key, (lo, (hi, ()))) = match read_row::<(Key, (Stamp, (Stamp, ())))>(alloc, words, why) {
+        Some(row) => row,
+        None => return None,
     };
     let function = Some(key.function());
     match node.lookup(&key, lo, hi) {
-        Ok(Some(hit)) => taker.take(alloc, function, &Reply::Hit(hit)),
-        Ok(None) => taker.take(alloc, function, &Reply::Miss),
-        Err(_) => taker.take(alloc, function, &Reply::Refused(Refusal::EmptyRange)),
+        Ok(Some(hit)) => taker.take(alloc, function, &Reply::Hit(hit), why),
+        Ok(None) => taker.take(alloc, function, &Reply::Miss, why),
+        Err(_) => taker.take(alloc, function, &Reply::Refused(Refusal::EmptyRange), why),
     }
 }
 
-/// Makes the event that the text after its name is, and takes its reply.
+/// Makes the event that the words after its name are, and takes its reply.
 #[inline(never)]
 fn make_event<T: Taker>(
     alloc: Global,
     node: &mut NodeCore,
-    text: &[u8],
+    words: WordsLeft<'_>,
     taker: &mut T,
-) -> Result<bool, Unread>
-    ensures after { IfOk result (MakesStep T.takes (IsOfForm event_form (words_of text.now))
-        node.old node.new taker.old taker.new) }
-    ensures refused { IfErr result (MakesNone (IsOfForm event_form (words_of text.now))
-        node.old node.new taker.old taker.new) }
-    ensures unchanged { OnErr result (T.text taker.new ≡ T.text taker.old) }
+    why: &mut Unanswered,
+) -> Option<bool>
+    ensures made { MakesForm T.takes event_form (words_left words.entry)
+        node.old node.new taker.old taker.new result why.new }
+    ensures unchanged { IfNone result (T.text taker.new ≡ T.text taker.old) }
 {
-    let (stamp, tags) = match read_event(alloc, text) {
-        Ok(read) => read,
-        Err(Unread::Malformed) => return Err(Unread::Malformed),
-        Err(Unread::Memory) => return Err(Unread::Memory),
+    let (stamp, (tags, ())) = match read_row::<(Stamp, (TagSet, ()))>(alloc, words, why) {
+        Some(row) => row,
+        None => return None,
     };
     match node.event(stamp, tags) {
-        Ok(count) => taker.take(alloc, None, &Reply::Closed(count)),
+        Ok(count) => taker.take(alloc, None, &Reply::Closed(count), why),
         Err(error) => taker.take(
             alloc,
             None,
             &Reply::Refused(Refusal::OutOfOrder(error.processed)),
+            why,
         ),
     }
 }
 
-/// Makes the sweep that the text after its name is, and takes its reply.
+/// Makes the sweep that the words after its name are, and takes its reply.
 #[inline(never)]
 fn make_sweep<T: Taker>(
     alloc: Global,
     node: &mut NodeCore,
-    text: &[u8],
+    words: WordsLeft<'_>,
     taker: &mut T,
-) -> Result<bool, Unread>
-    ensures after { IfOk result (MakesStep T.takes (IsOfForm sweep_form (words_of text.now))
-        node.old node.new taker.old taker.new) }
-    ensures refused { IfErr result (MakesNone (IsOfForm sweep_form (words_of text.now))
-        node.old node.new taker.old taker.new) }
-    ensures unchanged { OnErr result (T.text taker.new ≡ T.text taker.old) }
+    why: &mut Unanswered,
+) -> Option<bool>
+    ensures made { MakesForm T.takes sweep_form (words_left words.entry)
+        node.old node.new taker.old taker.new result why.new }
+    ensures unchanged { IfNone result (T.text taker.new ≡ T.text taker.old) }
 {
-    let horizon = match read_sweep(text) {
-        Ok(horizon) => horizon,
-        Err(Unread::Malformed) => return Err(Unread::Malformed),
-        Err(Unread::Memory) => return Err(Unread::Memory),
+    let (horizon, ()) = match read_row::<(Stamp, ())>(alloc, words, why) {
+        Some(row) => row,
+        None => return None,
     };
-    taker.take(alloc, None, &Reply::Swept(node.sweep(horizon)))
+    taker.take(alloc, None, &Reply::Swept(node.sweep(horizon)), why)
 }
 
-/// Makes the step that a line names, and takes its reply. Each kind of step is a function of its own, so that
-/// a line pays for the room of its own words alone.
-fn name_step<T: Taker>(
-    alloc: Global,
-    node: &mut NodeCore,
-    line: &[u8],
-    taker: &mut T,
-) -> Result<bool, Unread>
-    ensures after { IfOk result (MakesStep T.takes (Spells line.now)
-        node.old node.new taker.old taker.new) }
-    ensures refused { IfErr result (MakesNone (Spells line.now)
-        node.old node.new taker.old taker.new) }
-    ensures unchanged { OnErr result (T.text taker.new ≡ T.text taker.old) }
+/// Leaves that no line has this name.
+#[cold]
+#[inline(never)]
+fn leave_unknown(name: &[u8], why: &mut Unanswered)
+    ensures { why.new ≡ Unanswered.Wrong (Unknown (excerpt_of name.now)) }
 {
-    let Some((name, text)) = first_word(line) else {
-        return Err(Unread::Malformed);
-    };
-    if name == b"lookup".as_slice() {
-        return make_lookup(alloc, node, text, taker);
-    }
-    if name == b"insert".as_slice() {
-        return make_insertion(alloc, node, text, taker);
-    }
-    if name == b"event".as_slice() {
-        return make_event(alloc, node, text, taker);
-    }
-    if name == b"sweep".as_slice() {
-        return make_sweep(alloc, node, text, taker);
-    }
-    Err(Unread::Malformed)
+    *why = Unanswered::Wrong(CommandFault::Unknown(Excerpt::new(name)));
 }
 
-/// Makes the step that a line names, and takes its reply. Of a line that names none it answers what is wrong with its
-/// words.
+/// Makes the step that a line names, and takes its reply; else it leaves why it did not. Each kind of step is a
+/// function of its own, so that a line pays for the room of its own words alone.
 pub fn make_step<T: Taker>(
     alloc: Global,
     node: &mut NodeCore,
     line: &[u8],
     taker: &mut T,
-) -> Result<bool, Unanswered>
-    ensures after { IfOk result (MakesStep T.takes (Spells line.now)
-        node.old node.new taker.old taker.new) }
-    ensures refused { IfErr result (IsNoStep line.now node.old node.new taker.old taker.new) }
-    ensures unchanged { OnErr result (T.text taker.new ≡ T.text taker.old) }
+    why: &mut Unanswered,
+) -> Option<bool>
+    ensures made { MakesLine T.takes line.now
+        node.old node.new taker.old taker.new result why.new }
+    ensures unchanged { IfNone result (T.text taker.new ≡ T.text taker.old) }
 {
-    match name_step(alloc, node, line, taker) {
-        Ok(refused) => Ok(refused),
-        Err(Unread::Malformed) => Err(find_command_fault(alloc, line)),
-        Err(Unread::Memory) => Err(Unanswered::Memory),
+    let mut words = all_words(line);
+    let name = words.next();
+    if name == b"lookup".as_slice() {
+        return make_lookup(alloc, node, words, taker, why);
     }
+    if name == b"insert".as_slice() {
+        return make_insertion(alloc, node, words, taker, why);
+    }
+    if name == b"event".as_slice() {
+        return make_event(alloc, node, words, taker, why);
+    }
+    if name == b"sweep".as_slice() {
+        return make_sweep(alloc, node, words, taker, why);
+    }
+    leave_unknown(name, why);
+    None
 }

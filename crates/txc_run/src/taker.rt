@@ -1,5 +1,5 @@
 //! What takes the replies to steps.
-ghost use Rattle.std.specs.Prelude.{◌≡◌, ◌≤◌, ℕ, List, IfOk, IfErr, IfSome, OnErr};
+ghost use Rattle.std.specs.Prelude.{◌≡◌, ◌≤◌, ℕ, List, IfSome, IfNone, None};
 ghost use Rattle.txc_node.specs.Steps.{is_refusal, seen_reply};
 ghost use Rattle.txc_node.specs.declared.hit.Shown.{Shown};
 ghost use Rattle.txc_node.specs.declared.op.Op.{Op};
@@ -10,7 +10,7 @@ use crate::output::push_reply;
 use crate::report::Report;
 use std::alloc::Global;
 use txc_node::{Hit, Reply};
-use txc_script::Unread;
+use txc_script::Unanswered;
 use txc_tags::LAST_FUNCTION;
 
 /// Takes the replies to steps: a text, to which they are written, or a report, which counts them.
@@ -21,19 +21,32 @@ pub trait Taker {
     // What was written so far.
     ghost text: { Self → List ℕ };
 
-    /// Takes the reply to a step of that function, if it is of one. Returns whether it is a refusal.
+    /// Takes the reply to a step of that function, if it is of one. Returns whether it is a refusal; else it leaves that a
+    /// growth was refused.
     fn take(
         &mut self,
         alloc: Global,
         function: Option<u8>,
         reply: &Reply<Hit<'_>>,
-    ) -> Result<bool, Unread>
+        why: &mut Unanswered,
+    ) -> Option<bool>
         requires { IfSome function (λ f. f ≤ LAST_FUNCTION) }
-        ensures after { IfOk result (λ refused. (op : Op) → IsFor function op (seen_reply reply.now)
+        ensures after { IfSome result (λ refused. (op : Op) → IsFor function op (seen_reply reply.now)
             → takes self.old op (seen_reply reply.now) self.new) }
-        ensures refusal { IfOk result (λ refused. refused ≡ is_refusal (seen_reply reply.now)) }
-        ensures memory { IfErr result (λ reason. reason ≡ Unread.Memory) }
-        ensures unchanged { OnErr result (text self.new ≡ text self.old) };
+        ensures refusal { IfSome result (λ refused. refused ≡ is_refusal (seen_reply reply.now)) }
+        ensures memory { IfNone result (why.new ≡ Unanswered.Memory) }
+        ensures unchanged { IfNone result (text self.new ≡ text self.old) };
+}
+
+/// Leaves that a growth was refused.
+#[cold]
+#[inline(never)]
+fn out_of_memory(why: &mut Unanswered) -> Option<bool>
+    ensures none { result ≡ None }
+    ensures memory { why.new ≡ Unanswered.Memory }
+{
+    *why = Unanswered::Memory;
+    None
 }
 
 impl Taker for Vec<u8> {
@@ -50,9 +63,12 @@ impl Taker for Vec<u8> {
         alloc: Global,
         function: Option<u8>,
         reply: &Reply<Hit<'_>>,
-    ) -> Result<bool, Unread> {
-        push_reply(alloc, self, reply)?;
-        Ok(reply.is_refusal())
+        why: &mut Unanswered,
+    ) -> Option<bool> {
+        match push_reply(alloc, self, reply) {
+            Ok(()) => Some(reply.is_refusal()),
+            Err(_) => out_of_memory(why),
+        }
     }
 }
 
@@ -69,11 +85,14 @@ impl Taker for Report {
         alloc: Global,
         function: Option<u8>,
         reply: &Reply<Hit<'_>>,
-    ) -> Result<bool, Unread> {
+        why: &mut Unanswered,
+    ) -> Option<bool> {
         if reply.is_refusal() {
-            return Ok(true);
+            return Some(true);
         }
-        self.count(function, reply)?;
-        Ok(false)
+        match self.count(function, reply) {
+            Ok(()) => Some(false),
+            Err(_) => out_of_memory(why),
+        }
     }
 }

@@ -6,19 +6,22 @@ use Rattle.std.specs.declared.alloc.AllocError.{AllocError}
 use Rattle.std.proofs.lemmas.Bool.Decides.{nat_tests}
 use Rattle.std.proofs.lemmas.List.{append-nil, length-append}
 use Rattle.std.proofs.lemmas.List.Elements.{All-append, All-nil}
-use Rattle.txc_script.specs.Answers.{IsClosed, LineIsAnswered}
+use Rattle.txc_script.specs.Answers.{IsClosed, IsUnanswered, LineIsAnswered}
 use Rattle.txc_script.specs.Flows.{IsStoppedAt}
 use Rattle.txc_script.specs.Kinds.{ScriptKind, Given, Replied, Malformed, AreFirstLines, Closing, ClosesScript, Gives, IsMalformed, IsWholeScript, no_closing, is_malformed, is_refused, lines_text, malformed_text}
 use Rattle.txc_script.specs.Lines.{IsBlankOrComment, IsPlain}
 use Rattle.txc_script.specs.Progress.{Progress, progress_of, kept_of, AnswersAs, AnswersLast, AnswersLine, HasAnsweredLines, HasLast, IsAtLast, MayBreakOff}
 use Rattle.txc_script.specs.Runs.{Answers, Breaks, After, Within, AtEnd}
 use Rattle.txc_script.specs.Script.{AreLinesOf, BeginsWithLines, HasNoEnd}
+use Rattle.txc_script.specs.declared.line_fault.CommandFault.{CommandFault}
 use Rattle.txc_script.specs.declared.line_fault.MalformedLine.{MalformedLine}
 use Rattle.txc_script.specs.declared.piece.TheConstants.{MAX_KEPT}
 use Rattle.txc_script.specs.declared.running.Flow.{Flow}
 use Rattle.txc_script.specs.declared.running.Flow.TheVariants.{GoesOn, Stopped}
 use Rattle.txc_script.specs.declared.running.Replies.{Replies}
 use Rattle.txc_script.specs.declared.running.Running.{Running}
+use Rattle.txc_script.specs.declared.unread.Unanswered.{Unanswered}
+use Rattle.txc_script.specs.declared.unread.Unanswered.TheVariants.{Wrong, Memory}
 use Rattle.txc_script.proofs.EachLine.{all_read, any_more, begins_longer, begins_more, given_more, kept_append, kept_reads, no_end, none_read, nothing_kept, status_is, text_more, whole_reads, ReadsAs}
 
 -- ---- one line
@@ -57,6 +60,15 @@ line_answered kind s next old new refused number line plain h same = record {
   refused = same ∙ ap (λ (b : Bool). old.is_refused || b) h.is_refused;
   flow_is = refl;
 }
+
+-- a line was not answered; what is wrong with it was, which changed nothing
+pub unanswered_answered : {S A R : Type 0} (kind : ScriptKind S A R) (s next : S) (old new : Replies) (seen : List ℕ) (number : ℕ) (line : List ℕ) (why : Unanswered) (r : Result Flow AllocError) → (IsBlankOrComment line → ⊥)
+    → IsUnanswered kind s line next why → OnOk r ((fault : CommandFault) × (why ≡ Wrong fault)) → seen ≡ old.text.items → IfOk r (IsStoppedAt kind next number line) → OnOk r (new.text.items ≡ seen ++ malformed_text number)
+    → OnOk r (new.is_refused ≡ true) → IfOk r (AnswersLine kind s next old new number line)
+unanswered_answered kind s next old new seen number line (Wrong fault) r bare none wrong kept stops text refused =
+    malformed_answered kind s next old new seen number line r (asks_nothing kind s line bare none.0) none.1 kept stops text refused
+unanswered_answered kind s next old new seen number line Memory (Ok flow) bare none wrong kept stops text refused = let no = wrong.1 in cc
+unanswered_answered kind s next old new seen number line Memory (Err e) bare none wrong kept stops text refused = tt
 
 -- ---- a line that was answered
 

@@ -1,8 +1,7 @@
 -- The words of a text, as its parts between blanks.
-use Rattle.std.proofs.Common.{◌≡◌, ◌≢◌, ℕ, ◌+◌, ◌-◌, ◌<◌, ◌≤◌, Bool, true, false, zero, suc, List, [], ◌∷◌, ◌++◌, length, take, drop, get_or, Result, Ok, Err, OnErr, refl, sym, ap, subst, ◌∙◌, arith}
+use Rattle.std.proofs.Common.{◌≡◌, ◌≢◌, ℕ, ◌-◌, ◌<◌, ◌≤◌, Bool, true, false, zero, suc, List, [], ◌∷◌, ◌++◌, length, take, refl, sym, ap, ◌∙◌, arith}
 use Rattle.std.specs.List.{All, AllByRecursion, onto_first}
 use Rattle.std.proofs.lemmas.Bool.Decides.{nat_tests}
-use Rattle.std.proofs.lemmas.List.{drop_more, take_all, take-append-drop}
 use Rattle.std.proofs.lemmas.List.Elements.{All-cons, All-nil}
 use Rattle.std.proofs.lemmas.List.Splits.{slice_split_at, slice_split_none, join_with_byte-slice_split, length-slice_split}
 use Rattle.txc_script.specs.Words.{HasNoBlank, HasWords, is_blank, words_of}
@@ -43,50 +42,20 @@ all_parts (part ∷ parts) h = All-cons HasNoBlank part parts h.0 (all_parts par
 pub has_words : (text : List ℕ) → HasWords text (words_of text)
 has_words text = record { joined = sym (join_with_byte-slice_split 32 text); each_is_one = all_parts (words_of text) (bare_parts text) }
 
--- ---- texts of so many words
-
 pub some_word : (text : List ℕ) → 1 ≤ length (words_of text)
 some_word text = omega (arith, length-slice_split is_blank text)
-
--- a text whose first bytes are all and have no blank
-pub one_word_is : (text : List ℕ) (n : ℕ) → length text ≤ n → HasNoBlank (take n text) → words_of text ≡ text ∷ []
-one_word_is text n all bare = words_alone text (subst HasNoBlank (take_all n text all) bare)
-
--- a text with a blank is two words at least
-pub not_one_word : (text : List ℕ) (n : ℕ) → n < length text → HasNoBlank (take n text) → get_or text n 0 ≡ 32 → length (words_of text) ≡ 1 → ⊥
-not_one_word text n within bare here e =
-    let rest = drop (n + 1) text in
-    let split : text ≡ take n text ++ 32 ∷ rest = sym (take-append-drop n text) ∙ ap (λ (ys : List ℕ). take n text ++ ys) (drop_more text n 0 within ∙ ap (λ b. b ∷ rest) here) in
-    omega (arith, ap length (words_cut text (take n text) rest split bare), some_word rest, e)
-
--- a text without a blank is not more words
-pub no_more_words : (text : List ℕ) (n : ℕ) → 2 ≤ n → HasNoBlank text → length (words_of text) ≡ n → ⊥
-no_more_words text n l bare e = omega (arith, ap length (words_alone text bare), e)
-
--- a text of one word more than another
-pub word_before : (text w rest : List ℕ) (words : List (List ℕ)) → text ≡ w ++ 32 ∷ rest → HasNoBlank w → words_of rest ≡ words → words_of text ≡ w ∷ words
-word_before text w rest words e bare is = words_cut text w rest e bare ∙ ap (λ (ws : List (List ℕ)). w ∷ ws) is
-
-pub words_before : (text w rest : List ℕ) → text ≡ w ++ 32 ∷ rest → HasNoBlank w → length (words_of text) ≡ length (words_of rest) + 1
-words_before text w rest e bare = omega (arith, ap length (words_cut text w rest e bare))
-
-pub on_err : {T E : Type 0} (r : Result T E) (P : Type 0) → P → OnErr r P
-on_err (Ok x) P h = tt
-on_err (Err e) P h = h
-
--- the rest has not so many
-pub too_few : {T E : Type 0} (r : Result T E) (text w rest : List ℕ) (n : ℕ) → text ≡ w ++ 32 ∷ rest → HasNoBlank w → length (words_of rest) ≢ n → OnErr r (length (words_of text) ≢ n + 1)
-too_few r text w rest n e bare other = on_err r (length (words_of text) ≢ n + 1) (λ is. other (omega (arith, words_before text w rest e bare, is)))
-
--- the words after one are so many fewer
-pub fewer_words : (text w rest : List ℕ) (n : ℕ) → text ≡ w ++ 32 ∷ rest → HasNoBlank w → (length (words_of rest) ≡ n → ⊥) → length (words_of text) ≡ n + 1 → ⊥
-fewer_words text w rest n e bare other is = other (omega (arith, words_before text w rest e bare, is))
 
 -- ---- words that are taken one after the other
 
 pub some_left : (n : ℕ) (words : List (List ℕ)) → 0 < length (take n words) → 0 < n
 some_left zero words h = h
 some_left (suc n) words h = omega arith
+
+-- some are taken where some are asked for
+pub some_taken : (n : ℕ) (words : List (List ℕ)) → 0 < n → 1 ≤ length words → 0 < length (take n words)
+some_taken zero words h some = absurd (omega arith)
+some_taken (suc n) [] h some = absurd (omega arith)
+some_taken (suc n) (w ∷ words) h some = omega arith
 
 -- no more words are taken than are asked for
 pub taken_few : (n : ℕ) (words : List (List ℕ)) → length (take n words) ≤ n

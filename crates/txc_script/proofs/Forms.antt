@@ -1,21 +1,16 @@
 -- Lines of a table of forms.
-use Rattle.std.proofs.Common.{◌≡◌, ◌<◌, ℕ, suc, Bool, true, false, Some, None, Result, Ok, Err, IfErr, List, [], ◌∷◌, get_or, length, refl, sym, ap, subst, ◌∙◌, arith}
-use Rattle.std.specs.Prelude.{IsErr, IsErrAnd, if◌then◌else◌}
+use Rattle.std.proofs.Common.{◌≡◌, ◌<◌, ℕ, Bool, true, false, Some, None, List, [], ◌∷◌, get_or, sym, ap, subst, inl, inr, ◌∙◌, arith}
+use Rattle.std.specs.Prelude.{if◌then◌else◌}
 use Rattle.std.specs.List.{AllByRecursion, join_with_byte}
 use Rattle.std.specs.Str.{bytes_eq}
-use Rattle.std.proofs.lemmas.Slice.Eq.{bytes_eq-Decides}
-use Rattle.txc_script.specs.Forms.{AsksBy, IsOfForm, LineForm, form_named, kinds_after}
+use Rattle.txc_script.specs.Forms.{AsksBy, IsOfForm, LineForm, form_named}
+use Rattle.txc_script.specs.LineFaults.{IsCommandFault}
 use Rattle.txc_script.specs.Lines.{IsBlankOrComment, IsQuiet}
-use Rattle.txc_script.specs.SaidWords.{AllSaidOf, Mean, SayAll}
-use Rattle.txc_script.specs.Unread.{IsNone}
 use Rattle.txc_script.specs.Words.{words_of}
-use Rattle.txc_script.specs.declared.line_fault.WordKind.{WordKind}
-use Rattle.txc_script.specs.declared.said.Said.{Said}
-use Rattle.txc_script.specs.declared.unread.Unread.{Unread}
-use Rattle.txc_script.specs.declared.unread.Unread.TheVariants as reasons
+use Rattle.txc_script.specs.declared.line_fault.CommandFault.{CommandFault}
 use Rattle.txc_script.proofs.Blanks.{has_words}
 use Rattle.txc_script.proofs.Meanings.{AreSmall, values_known}
-use Rattle.txc_script.proofs.SaidKinds.{said_of}
+use Rattle.txc_script.proofs.SaidKinds.{mean_kinds, not_wrong}
 
 -- ---- forms by their names
 
@@ -35,50 +30,7 @@ form_has Has (f ∷ forms) name form all e =
     ] in
     go (bytes_eq name f.name) e
 
-is_named : {A : Type 0} (forms : List (LineForm A)) (name : List ℕ) (form : LineForm A) → form_named forms name ≡ Some form → name ≡ form.name
-is_named [] name form e = absurd (none_some form e)
-is_named {A} (f ∷ forms) name form e =
-    let go : (b : Bool) → bytes_eq name f.name ≡ b → (if b then Some f else form_named forms name) ≡ Some form → name ≡ form.name = λ b. elim b as (λ v. bytes_eq name f.name ≡ v → (if v then Some f else form_named forms name) ≡ Some form → name ≡ form.name) [
-      | true ↦ (λ is same. (bytes_eq-Decides name f.name).0 is ∙ ap (λ (g : LineForm A). g.name) (same_some f form same))
-      | false ↦ (λ is same. is_named forms name form same)
-    ] in
-    go (bytes_eq name f.name) refl e
-
--- a form that wants words of these kinds after a name
-has_form : {A : Type 0} (forms : List (LineForm A)) (name : List ℕ) (kinds : List WordKind) → kinds_after forms name ≡ Some kinds → (form : LineForm A) × (form_named forms name ≡ Some form) × (form.kinds ≡ kinds)
-has_form [] name kinds e = absurd (none_some kinds e)
-has_form {A} (f ∷ forms) name kinds e =
-    let Has : Bool → Type 0 = λ b. (form : LineForm A) × ((if b then Some f else form_named forms name) ≡ Some form) × (form.kinds ≡ kinds) in
-    let go : (b : Bool) → (if b then Some f.kinds else kinds_after forms name) ≡ Some kinds → Has b = λ b. elim b as (λ v. (if v then Some f.kinds else kinds_after forms name) ≡ Some kinds → Has v) [
-      | true ↦ (λ same. (f, refl, same_some f.kinds kinds same))
-      | false ↦ (λ same. has_form forms name kinds same)
-    ] in
-    go (bytes_eq name f.name) e
-
 -- ---- what a line asks for
-
--- words that say something ask for something
-pub good_words_ask : {A : Type 0} (forms : List (LineForm A)) (line name : List ℕ) (words : List (List ℕ)) (kinds : List WordKind) (given : List Said) → words_of line ≡ name ∷ words → kinds_after forms name ≡ Some kinds
-    → SayAll kinds words given → (asked : A) × AsksBy forms line asked
-good_words_ask forms line name words kinds given e known h =
-    let has = has_form forms name kinds known in
-    let named = is_named forms name has.0 has.1 in
-    let said = said_of has.0.kinds words given (subst (λ (ks : List WordKind). SayAll ks words given) (sym has.2) h) in (
-      has.0.asks said.0,
-      record {
-        form = has.0;
-        words = words;
-        named = subst (λ (n : List ℕ). form_named forms n ≡ Some has.0) named has.1;
-        are = e ∙ ap (λ (n : List ℕ). n ∷ words) named;
-        is = record { values = said.0; say = said.1; asks = refl };
-      },
-    )
-
-pub says_count : (kinds : List WordKind) (words : List (List ℕ)) (values : AllSaidOf kinds) → Mean kinds words values → length words ≡ length kinds
-says_count [] [] values h = refl
-says_count [] (word ∷ words) values h = absurd h
-says_count (kind ∷ kinds) [] values h = absurd h
-says_count (kind ∷ kinds) (word ∷ words) values h = ap suc (says_count kinds words values.1 h.1)
 
 pub of_words : {A : Type 0} (form : LineForm A) (words others : List (List ℕ)) (asked : A) → words ≡ others → IsOfForm form words asked → IsOfForm form others asked
 of_words form words others asked e h = subst (λ (ws : List (List ℕ)). IsOfForm form ws asked) e h
@@ -100,13 +52,12 @@ asks_none forms line name words asked none e h =
     let names : name ≡ h.form.name = cc in
     none_some h.form (sym none ∙ ap (form_named forms) names ∙ h.named)
 
--- one of one word, where each form has words after its name
-pub not_alone : {A : Type 0} (forms : List (LineForm A)) (line word : List ℕ) (asked : A) → AllByRecursion (λ (f : LineForm A). 0 < length f.kinds) forms → words_of line ≡ word ∷ [] → AsksBy forms line asked → ⊥
-not_alone {A} forms line word asked some e h =
-    let more = form_has (λ (f : LineForm A). 0 < length f.kinds) forms h.form.name h.form some h.named in
-    let counted = says_count h.form.kinds h.words h.is.values h.is.say in
-    let both : word ∷ [] ≡ h.form.name ∷ h.words = sym e ∙ h.are in
-    omega (arith, more, counted, ap length both)
+-- nothing is wrong with one that asks for something
+pub fault_asks_none : {A : Type 0} (forms : List (LineForm A)) (line : List ℕ) (fault : CommandFault) (asked : A) → IsCommandFault forms (words_of line) fault → AsksBy forms line asked → ⊥
+fault_asks_none forms line fault asked (inl (name, words, e, none, unknown)) h = asks_none forms line name words asked none e h
+fault_asks_none forms line fault asked (inr (form, words, e, known, wrong)) h =
+    let is = says_in forms form line words asked known e h in
+    not_wrong form.kinds words fault wrong (mean_kinds form.kinds words is.values is.say)
 
 -- no line asks for two things
 pub asks_one : {A : Type 0} (forms : List (LineForm A)) (line : List ℕ) (a b : A) → AllByRecursion (λ (f : LineForm A). AreSmall f.kinds) forms → AsksBy forms line a → AsksBy forms line b → a ≡ b
@@ -134,17 +85,3 @@ not_quiet {A} forms line asked letters quiet h =
     let letter = form_has (λ (f : LineForm A). 35 < get_or f.name 0 32) forms h.form.name h.form letters h.named in
     let first = begins_as h.form.name h.words line ((has_words line).joined ∙ ap (join_with_byte 32) h.are) in
     blank_or_comment line quiet.1 (subst (λ (n : ℕ). 35 < n) (sym first) letter)
-
--- ---- what is refused
-
--- what was refused as malformed is no such value
-pub none_of : {T V : Type 0} (r : Result T Unread) (Is : V → Type 0) → IsErr r × IsErrAnd r (λ reason. reason ≡ reasons.Malformed) → ((v : V) → Is v → ⊥) → IfErr r (IsNone Is)
-none_of (Ok x) Is h none = tt
-none_of (Err reason) Is h none = subst (IsNone Is) (sym h.1) none
-
--- what was refused as another value is none, where there would be such a value
-pub none_like : {T V W : Type 0} (r : Result T Unread) (e : Unread) (Is : V → Type 0) (Js : W → Type 0) → IsErr r × IsErrAnd r (λ x. x ≡ e) → IsNone Is e → ((w : W) → Js w → (v : V) × Is v)
-    → IfErr r (IsNone Js)
-none_like (Ok x) e Is Js h none there = tt
-none_like (Err x) reasons.Malformed Is Js h none there = subst (IsNone Js) (sym h.1) (λ w js. none (there w js).0 (there w js).1)
-none_like (Err x) reasons.Memory Is Js h none there = subst (IsNone Js) (sym h.1) tt

@@ -9,6 +9,9 @@ use Rattle.txc_stamp.specs.declared.stamp.TheConstants.{LAST_STAMP}
 use Rattle.txc_tags.specs.declared.key.TheConstants.{LAST_FUNCTION}
 use Rattle.txc_tags.specs.declared.tag.TheConstants.{LAST_TABLE}
 use Rattle.txc_tags.specs.declared.text.number.TheConstants.{LAST_NUMBER}
+use Rattle.txc_tags.specs.Tags.{set_of}
+use Rattle.txc_tags.specs.TextSet.{tags_spelt}
+use Rattle.txc_tags.specs.TextTag.{SpeltTag}
 use Rattle.txc_tags.proofs.Offered.{same_key_text, same_spelt_text}
 use Rattle.txc_node.specs.Texts.{digit_of, digits_of, hex_text}
 use Rattle.txc_script.specs.Hex.{IsBytes}
@@ -66,7 +69,7 @@ one_meaning : (kind : WordKind) (word : List ℕ) (a b : SaidOf kind) → IsSmal
 one_meaning Key word a b small h k = same_key_text a b h.0 k.0 (sym h.1 ∙ k.1)
 one_meaning Stamp word a b small h k = decimal_known LAST_STAMP a b (omega arith) h.0 k.0 (sym h.1 ∙ k.1)
 one_meaning Reach word a b small h k = still_known a b (sym h ∙ k)
-one_meaning Tags word a b small h k = same_spelt_text a b h.0 k.0 (sym h.1 ∙ k.1)
+one_meaning Tags word a b small h k = h.2 ∙ ap (λ (ts : List SpeltTag). set_of (tags_spelt ts)) (same_spelt_text h.0 k.0 h.1.0 k.1.0 (sym h.1.1 ∙ k.1.1)) ∙ sym k.2
 one_meaning Bytes word a b small h k = hex_known a b h.0 k.0 (sym h.1 ∙ k.1)
 one_meaning Table word a b small h k = decimal_known LAST_TABLE a b (omega arith) h.0 k.0 (sym h.1 ∙ k.1)
 one_meaning Id word a b small h k = decimal_known LAST_NUMBER a b (omega arith) h.0 k.0 (sym h.1 ∙ k.1)

@@ -1,8 +1,8 @@
 -- What crates above may use of the proofs: texts that are compared, the words of a text, what words say, the lines of a
 -- table of forms, and runs that read nothing.
 pub use Rattle.txc_script.proofs.Texts.{other_text, same_text}
-pub use Rattle.txc_script.proofs.Blanks.{words_alone, words_cut}
-pub use Rattle.txc_script.proofs.Forms.{asks_none, asks_one, good_words_ask, none_like, none_of, not_alone, not_quiet, of_words, says_in, says_count}
+pub use Rattle.txc_script.proofs.Blanks.{some_word}
+pub use Rattle.txc_script.proofs.Forms.{asks_one, fault_asks_none, not_quiet}
 pub use Rattle.txc_script.proofs.Meanings.{AreSmall}
 pub use Rattle.txc_script.proofs.Answering.{is_nothing, not_nothing}
 pub use Rattle.txc_script.proofs.Turning.{run_out_of_memory}

@@ -1,5 +1,5 @@
 -- Words that are read one after the other, and what they say.
-use Rattle.std.proofs.Common.{◌≡◌, ℕ, ◌+◌, suc, List, [], ◌∷◌, ◌++◌, Result, Ok, Err, IfErr, length, refl, sym, ap, subst, append_assoc, append-nil, ◌∙◌, arith}
+use Rattle.std.proofs.Common.{◌≡◌, ◌≤◌, ℕ, ◌+◌, suc, List, [], ◌∷◌, ◌++◌, Result, Ok, Err, IfErr, length, refl, sym, ap, subst, append_assoc, append-nil, ◌∙◌, arith}
 use Rattle.std.specs.Prelude.{IsErr, IsErrAnd}
 use Rattle.std.proofs.lemmas.List.{length-append}
 use Rattle.txc_script.specs.Excerpts.{excerpt_of}
@@ -59,17 +59,24 @@ said_of (kind ∷ kinds) (word ∷ words) (value ∷ values) h =
     ((first.0, rest.0), (first.1, rest.1), ap (λ (v : Said). v ∷ values) first.2 ∙ ap (λ (vs : List Said). said_by kind first.0 ∷ vs) rest.2)
 said_of kinds words values h = absurd h
 
-pub say_count : (kinds : List WordKind) (words : List (List ℕ)) (values : List Said) → SayAll kinds words values → length words ≡ length kinds
-say_count [] [] [] h = refl
-say_count (kind ∷ kinds) (word ∷ words) (value ∷ values) h = ap suc (say_count kinds words values h.1)
-say_count kinds words values h = absurd h
-
 -- ---- words that say something are of their kinds, and nothing is wrong with them
 
 are_of_kinds : (kinds : List WordKind) (words : List (List ℕ)) (values : List Said) → SayAll kinds words values → AreOfKinds kinds words
 are_of_kinds [] [] [] h = tt
 are_of_kinds (kind ∷ kinds) (word ∷ words) (value ∷ values) h = let first = meant kind word value h.0 in ((first.0, first.1), are_of_kinds kinds words values h.1)
 are_of_kinds kinds words values h = absurd h
+
+pub mean_kinds : (kinds : List WordKind) (words : List (List ℕ)) (values : AllSaidOf kinds) → Mean kinds words values → AreOfKinds kinds words
+mean_kinds [] [] values h = tt
+mean_kinds [] (word ∷ words) values h = absurd h
+mean_kinds (kind ∷ kinds) [] values h = absurd h
+mean_kinds (kind ∷ kinds) (word ∷ words) values h = ((values.0, h.0), mean_kinds kinds words values.1 h.1)
+
+are_as_many : (kinds : List WordKind) (words : List (List ℕ)) → AreOfKinds kinds words → length words ≡ length kinds
+are_as_many [] [] h = refl
+are_as_many [] (word ∷ words) h = absurd h
+are_as_many (kind ∷ kinds) [] h = absurd h
+are_as_many (kind ∷ kinds) (word ∷ words) h = ap suc (are_as_many kinds words h.1)
 
 word_at : (before : List WordKind) (good : List (List ℕ)) (kind : WordKind) (word : List ℕ) (kinds : List WordKind) (words : List (List ℕ)) → AreOfKinds before good
     → AreOfKinds (before ++ kind ∷ kinds) (good ++ word ∷ words) → IsOfKind kind word
@@ -78,16 +85,59 @@ word_at [] (g ∷ good) kind word kinds words h all = absurd h
 word_at (b ∷ before) [] kind word kinds words h all = absurd h
 word_at (b ∷ before) (g ∷ good) kind word kinds words h all = word_at before good kind word kinds words h.1 all.1
 
-pub none_bad : (kinds : List WordKind) (words : List (List ℕ)) (fault : WordFault) (values : List Said) → IsBadWord kinds words fault → SayAll kinds words values → ⊥
-none_bad kinds words fault values b say =
-    let here = subst (λ (ks : List WordKind). AreOfKinds ks words) b.kinds_are (are_of_kinds kinds words values say) in
+none_bad : (kinds : List WordKind) (words : List (List ℕ)) (fault : WordFault) → IsBadWord kinds words fault → AreOfKinds kinds words → ⊥
+none_bad kinds words fault b all =
+    let here = subst (λ (ks : List WordKind). AreOfKinds ks words) b.kinds_are all in
     let there = subst (λ (ws : List (List ℕ)). AreOfKinds (b.good_kinds ++ fault.kind ∷ b.other_kinds) ws) b.words_are here in
     b.is_bad (word_at b.good_kinds b.good fault.kind b.word b.other_kinds b.others b.are_good there)
 
+pub not_wrong : (kinds : List WordKind) (words : List (List ℕ)) (fault : CommandFault) → IsKindsFault kinds words fault → AreOfKinds kinds words → ⊥
+not_wrong kinds words (faults.Count wanted given) h all = h.2 (h.1 ∙ are_as_many kinds words all ∙ sym h.0)
+not_wrong kinds words (faults.Word fault) h all = none_bad kinds words fault h.1 all
+not_wrong kinds words fault h all = absurd h
+
 pub none_wrong : (kinds : List WordKind) (words : List (List ℕ)) (fault : CommandFault) (values : List Said) → IsKindsFault kinds words fault → SayAll kinds words values → ⊥
-none_wrong kinds words (faults.Count wanted given) values h say = h.2 (h.1 ∙ say_count kinds words values say ∙ sym h.0)
-none_wrong kinds words (faults.Word fault) values h say = none_bad kinds words fault values h.1 say
-none_wrong kinds words fault values h say = absurd h
+none_wrong kinds words fault values h say = not_wrong kinds words fault h (are_of_kinds kinds words values say)
+
+-- ---- words that are read each as what it says
+
+pub first_bad : (kind : WordKind) (kinds : List WordKind) (word : List ℕ) (words : List (List ℕ)) (fault : WordFault) → fault.number ≡ 1 → fault.kind ≡ kind → fault.text ≡ excerpt_of word → (IsOfKind kind word → ⊥) → StopsAt kind word fault.at
+    → IsBadWord (kind ∷ kinds) (word ∷ words) fault
+first_bad kind kinds word words fault first same text bad stops = record {
+  good_kinds = [];
+  good = [];
+  word = word;
+  other_kinds = kinds;
+  others = words;
+  kinds_are = ap (λ (k : WordKind). k ∷ kinds) (sym same);
+  words_are = refl;
+  are_good = tt;
+  is_bad = subst (λ (k : WordKind). IsOfKind k word → ⊥) (sym same) bad;
+  number = first;
+  text = text;
+  stops = subst (λ (k : WordKind). StopsAt k word fault.at) (sym same) stops;
+}
+
+pub later_bad : (kind : WordKind) (kinds : List WordKind) (word : List ℕ) (words : List (List ℕ)) (fault later : WordFault) → IsOfKind kind word → IsBadWord kinds words fault
+    → later.number ≡ fault.number + 1 → later.kind ≡ fault.kind → later.at ≡ fault.at → later.text ≡ fault.text → IsBadWord (kind ∷ kinds) (word ∷ words) later
+later_bad kind kinds word words fault later is b more same at text = record {
+  good_kinds = kind ∷ b.good_kinds;
+  good = word ∷ b.good;
+  word = b.word;
+  other_kinds = b.other_kinds;
+  others = b.others;
+  kinds_are = ap (λ (ks : List WordKind). kind ∷ ks) b.kinds_are ∙ ap (λ (k : WordKind). kind ∷ (b.good_kinds ++ k ∷ b.other_kinds)) (sym same);
+  words_are = ap (λ (ws : List (List ℕ)). word ∷ ws) b.words_are;
+  are_good = (is, b.are_good);
+  is_bad = subst (λ (k : WordKind). IsOfKind k b.word → ⊥) (sym same) b.is_bad;
+  number = omega (arith, more, b.number);
+  text = text ∙ b.text;
+  stops = subst (λ (k : WordKind). StopsAt k b.word later.at) (sym same) (subst (StopsAt fault.kind b.word) (sym at) b.stops);
+}
+
+-- fewer stand before it than there are
+pub bad_within : (kinds : List WordKind) (words : List (List ℕ)) (fault : WordFault) → IsBadWord kinds words fault → fault.number ≤ length words
+bad_within kinds words fault b = omega (arith, b.number, ap length b.words_are, length-append b.good (b.word ∷ b.others))
 
 -- ---- words that are read one after the other
 

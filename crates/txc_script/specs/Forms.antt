@@ -23,11 +23,6 @@ abbrev pub form_named : {A : Type 0} → List (LineForm A) → List ℕ → Opti
 form_named [] name = None
 form_named (form ∷ forms) name = if bytes_eq name form.name then Some form else form_named forms name
 
--- the kinds of the words that it wants after that name
-abbrev pub kinds_after : {A : Type 0} → List (LineForm A) → List ℕ → Option (List WordKind)
-kinds_after [] name = None
-kinds_after (form ∷ forms) name = if bytes_eq name form.name then Some form.kinds else kinds_after forms name
-
 -- the line is of a form of the table, and asks for this
 pub record AsksBy {A : Type 0} (forms : List (LineForm A)) (line : List ℕ) (asked : A) : Type 0 where
   pub form : LineForm A

@@ -9,7 +9,6 @@ pub mod Forms
 pub mod LineFaults
 pub mod SaidWords
 pub mod FunctionLines
-pub mod Unread
 pub mod Kinds
 pub mod Answers
 pub mod Runs

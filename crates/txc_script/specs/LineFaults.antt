@@ -5,20 +5,20 @@ use Rattle.txc_tags.specs.TextGrammar.{IsLongestPrefix}
 use Rattle.txc_tags.specs.TextKey.{key_text, IsKeyInRange}
 use Rattle.txc_tags.specs.TextSet.{AreSpeltInRange, spelt_tags_text}
 use Rattle.txc_script.specs.Excerpts.{excerpt_of}
-use Rattle.txc_script.specs.Forms.{LineForm, kinds_after}
+use Rattle.txc_script.specs.Forms.{LineForm, form_named}
 use Rattle.txc_script.specs.Lines.{IsPlain}
-use Rattle.txc_script.specs.SaidWords.{IsOfKind, SaysWord}
+use Rattle.txc_script.specs.SaidWords.{IsOfKind, Means, SaysWord}
 use Rattle.txc_script.specs.Words.{words_of}
 use Rattle.txc_script.specs.declared.line_fault.WordKind.{WordKind}
 use Rattle.txc_script.specs.declared.line_fault.WordKind.TheVariants.{Key, Tags}
 use Rattle.txc_script.specs.declared.line_fault.WordFault.{WordFault}
 use Rattle.txc_script.specs.declared.line_fault.CommandFault.{CommandFault}
 use Rattle.txc_script.specs.declared.line_fault.CommandFault.TheVariants.{Unknown, Count, Word}
-use Rattle.txc_script.specs.declared.finding.Unsaid.{Unsaid}
-use Rattle.txc_script.specs.declared.finding.Unsaid.TheVariants as unsaid
 use Rattle.txc_script.specs.declared.said.Said.{Said}
 use Rattle.txc_script.specs.declared.unread.Unanswered.{Unanswered}
 use Rattle.txc_script.specs.declared.unread.Unanswered.TheVariants.{Wrong, Memory}
+use Rattle.txc_script.specs.declared.unread.Unsaid.{Unsaid}
+use Rattle.txc_script.specs.declared.unread.Unsaid.TheVariants as unsaid
 
 -- ---- words
 
@@ -83,11 +83,11 @@ IsKindsFault kinds words fault = ⊥
 -- What is wrong with the words of a line that is of no form of a table: no form has its name; else it is in the words
 -- after that name.
 abbrev pub IsCommandFault : {A : Type 0} → List (LineForm A) → List (List ℕ) → CommandFault → Type 0
-IsCommandFault forms all fault =
-    ((name : List ℕ) × (words : List (List ℕ)) × (all ≡ name ∷ words) × (kinds_after forms name ≡ None)
+IsCommandFault {A} forms all fault =
+    ((name : List ℕ) × (words : List (List ℕ)) × (all ≡ name ∷ words) × (form_named forms name ≡ None)
     × (fault ≡ Unknown (excerpt_of name)))
-    ⊎ ((name : List ℕ) × (words : List (List ℕ)) × (kinds : List WordKind) × (all ≡ name ∷ words)
-    × (kinds_after forms name ≡ Some kinds) × IsKindsFault kinds words fault)
+    ⊎ ((form : LineForm A) × (words : List (List ℕ)) × (all ≡ form.name ∷ words)
+    × (form_named forms form.name ≡ Some form) × IsKindsFault form.kinds words fault)
 
 -- what is wrong is this, or a growth was refused
 abbrev pub IsWrong : (CommandFault → Type 0) → Unanswered → Type 0
@@ -96,8 +96,16 @@ IsWrong Is Memory = ⊤
 
 -- ---- only private functions need this
 
--- the word is of this kind, and a reader gives this; or it is of another, and goes wrong there; or a growth was refused
+-- there is no such value, and it goes wrong there; or a growth was refused
+abbrev pub SaysNone : {V : Type 0} → (V → Type 0) → (Option ℕ → Type 0) → Unsaid → Type 0
+SaysNone {V} Is Stops (unsaid.Bad at) = ((v : V) × Is v → ⊥) × Stops at
+SaysNone Is Stops unsaid.Memory = ⊤
+
+-- the word is of another kind, and goes wrong there; or a growth was refused
+abbrev pub IsUnsaid : WordKind → List ℕ → Unsaid → Type 0
+IsUnsaid kind word = SaysNone (Means kind word) (StopsAt kind word)
+
+-- the word is of this kind, and a reader gives this; or it is of another
 abbrev pub IsWordRead : WordKind → List ℕ → Result Said Unsaid → Type 0
 IsWordRead kind word (Ok given) = SaysWord kind word given
-IsWordRead kind word (Err (unsaid.Bad at)) = (IsOfKind kind word → ⊥) × StopsAt kind word at
-IsWordRead kind word (Err unsaid.Memory) = ⊤
+IsWordRead kind word (Err reason) = IsUnsaid kind word reason

@@ -4,11 +4,9 @@ use Rattle.txc_tags.specs.declared.key.TheConstants.{LAST_FUNCTION}
 use Rattle.txc_tags.specs.declared.tag.TheConstants.{LAST_TABLE}
 use Rattle.txc_tags.specs.declared.text.number.TheConstants.{LAST_NUMBER}
 use Rattle.txc_tags.specs.Keys.{Call}
-use Rattle.txc_tags.specs.TextGrammar.{IsTextOf}
-use Rattle.txc_tags.specs.TextSet.{AreSpeltInRange, spelt_tags_text}
-use Rattle.txc_tags.specs.TextTag.{SpeltTag}
+use Rattle.txc_tags.specs.declared.tag.Tag.{Tag}
 use Rattle.txc_script.specs.Hex.{IsHexWord}
-use Rattle.txc_script.specs.Lines.{IsKeyWord, IsNumberWord, IsStampWord, IsTextWord, change_named, query_named, still_text}
+use Rattle.txc_script.specs.Lines.{IsKeyWord, IsNumberWord, IsStampWord, IsTagsWord, IsTextWord, change_named, query_named, still_text}
 use Rattle.txc_script.specs.declared.line_fault.WordKind.{WordKind}
 use Rattle.txc_script.specs.declared.line_fault.WordKind.TheVariants as kinds
 use Rattle.txc_script.specs.declared.said.ChangeName.{ChangeName}
@@ -20,7 +18,7 @@ use Rattle.txc_script.specs.declared.said.Said.TheVariants as said
 abbrev pub SaidOf : WordKind → Type 0
 SaidOf kinds.Key = Call
 SaidOf kinds.Reach = Bool
-SaidOf kinds.Tags = List SpeltTag
+SaidOf kinds.Tags = List Tag
 SaidOf kinds.Bytes = List ℕ
 SaidOf (kinds.Text most) = List ℕ
 SaidOf kinds.QueryName = QueryName
@@ -32,7 +30,7 @@ abbrev pub Means : (kind : WordKind) → List ℕ → SaidOf kind → Type 0
 Means kinds.Key = IsKeyWord
 Means kinds.Stamp = IsStampWord
 Means kinds.Reach = λ word still. word ≡ still_text still
-Means kinds.Tags = IsTextOf AreSpeltInRange spelt_tags_text
+Means kinds.Tags = IsTagsWord
 Means kinds.Bytes = IsHexWord
 Means kinds.Table = IsNumberWord LAST_TABLE
 Means kinds.Id = IsNumberWord LAST_NUMBER

@@ -6,58 +6,16 @@ ghost use Rattle.txc_script.specs.Lines.{IsPlain, IsTextWord, change_named, quer
 ghost use Rattle.txc_script.specs.Words.{words_of};
 ghost use Rattle.txc_script.specs.LineFaults.{is_foreign, is_empty, kinds_for, IsWordRead};
 
-use crate::hex::read_hex;
 use crate::kind::Script;
 use crate::line::MAX_LINE_LEN;
 use crate::line_fault::{CommandFault, LineFault, WordKind};
 use crate::said::{ChangeName, QueryName, Said, TextWord};
-use crate::unread::Unread;
-use crate::word::{read_function, read_id, read_stamp, read_still, read_table};
+use crate::unread::Unsaid;
+use crate::word::{Word, read_function, read_id, read_table};
 use crate::words::{all_words, count_words};
 use std::alloc::Global;
-use txc_tags::{Key, SetError, TagSet, read_number};
-
-/// Why a word says nothing of its kind.
-#[derive(Debug, Drop)]
-pub enum Unsaid {
-    /// It is of another; where a key or tags go wrong.
-    Bad(Option<usize>),
-    /// A growth was refused.
-    Memory,
-}
-
-/// The key that the word is.
-fn read_key(word: &[u8]) -> Result<Said<'_>, Unsaid>
-    ensures { IsWordRead WordKind.Key word.now result }
-{
-    match Key::read(word) {
-        Ok(key) => Ok(Said::Key(key)),
-        Err(bad) => Err(Unsaid::Bad(Some(bad.at))),
-    }
-}
-
-/// Whether the word is tags.
-fn test_tags(alloc: Global, word: &[u8]) -> Result<Said<'_>, Unsaid>
-    ensures { IsWordRead WordKind.Tags word.now result }
-{
-    match TagSet::read(alloc, word) {
-        Ok(_) => Ok(Said::Other),
-        Err(SetError::BadTag(bad)) => Err(Unsaid::Bad(Some(bad.at))),
-        Err(SetError::Memory(_)) => Err(Unsaid::Memory),
-    }
-}
-
-/// Whether the word is the spelling of bytes.
-fn test_bytes(alloc: Global, word: &[u8]) -> Result<Said<'_>, Unsaid>
-    ensures { IsWordRead WordKind.Bytes word.now result }
-{
-    let _bytes = match read_hex(alloc, word) {
-        Ok(bytes) => bytes,
-        Err(Unread::Malformed) => return Err(Unsaid::Bad(None)),
-        Err(Unread::Memory) => return Err(Unsaid::Memory),
-    };
-    Ok(Said::Other)
-}
+use txc_stamp::Stamp;
+use txc_tags::{Key, TagSet, read_number};
 
 /// Whether the word has at most so many bytes, each of which prints.
 fn is_text(most: usize, word: &[u8]) -> bool
@@ -106,28 +64,37 @@ pub fn read_word(alloc: Global, kind: WordKind, word: &[u8]) -> Result<Said<'_>,
     ensures { IsWordRead kind word.now result }
 {
     match kind {
-        WordKind::Key => read_key(word),
-        WordKind::Tags => test_tags(alloc, word),
-        WordKind::Bytes => test_bytes(alloc, word),
-        WordKind::Stamp => match read_stamp(word) {
-            Ok(stamp) => Ok(Said::Stamp(stamp)),
-            Err(_) => Err(Unsaid::Bad(None)),
+        WordKind::Key => match <Key as Word>::read(alloc, word) {
+            Ok(key) => Ok(Said::Key(key)),
+            Err(unsaid) => Err(unsaid),
         },
-        WordKind::Reach => match read_still(word) {
+        WordKind::Stamp => match <Stamp as Word>::read(alloc, word) {
+            Ok(stamp) => Ok(Said::Stamp(stamp)),
+            Err(unsaid) => Err(unsaid),
+        },
+        WordKind::Reach => match <bool as Word>::read(alloc, word) {
             Ok(_) => Ok(Said::Other),
-            Err(_) => Err(Unsaid::Bad(None)),
+            Err(unsaid) => Err(unsaid),
+        },
+        WordKind::Tags => match <TagSet as Word>::read(alloc, word) {
+            Ok(_tags) => Ok(Said::Other),
+            Err(unsaid) => Err(unsaid),
+        },
+        WordKind::Bytes => match <Vec<u8> as Word>::read(alloc, word) {
+            Ok(_bytes) => Ok(Said::Other),
+            Err(unsaid) => Err(unsaid),
         },
         WordKind::Table => match read_table(word) {
-            Ok(table) => Ok(Said::Table(table)),
-            Err(_) => Err(Unsaid::Bad(None)),
+            Some(table) => Ok(Said::Table(table)),
+            None => Err(Unsaid::Bad(None)),
         },
         WordKind::Id => match read_id(word) {
-            Ok(id) => Ok(Said::Id(id)),
-            Err(_) => Err(Unsaid::Bad(None)),
+            Some(id) => Ok(Said::Id(id)),
+            None => Err(Unsaid::Bad(None)),
         },
         WordKind::Function => match read_function(word) {
-            Ok(function) => Ok(Said::Function(function)),
-            Err(_) => Err(Unsaid::Bad(None)),
+            Some(function) => Ok(Said::Function(function)),
+            None => Err(Unsaid::Bad(None)),
         },
         WordKind::Number(most) => match read_number(word, most) {
             Some(number) => Ok(Said::Number(number)),

@@ -1,11 +1,12 @@
 //! Bytes as hexadecimal digits.
-ghost use Rattle.std.specs.Prelude.{◌≡◌, ℕ, ◌<◌, List, [], ◌∷◌, IfOk, IfErr, IfSome, IfNone};
+ghost use Rattle.std.specs.Prelude.{◌≡◌, ℕ, ◌<◌, List, [], ◌∷◌, IfOk, IfErr, IfSome, IfNone, None};
 ghost use Rattle.std.specs.List.{flat_map};
 ghost use Rattle.txc_node.specs.Texts.{digit_of, digits_of};
 ghost use Rattle.txc_script.specs.Hex.{IsBytes, IsHexWord};
-ghost use Rattle.txc_script.specs.Unread.{IsNone};
+ghost use Rattle.txc_script.specs.LineFaults.{IsUnsaid, SaysNone};
+ghost use Rattle.txc_script.specs.declared.line_fault.WordKind.TheVariants as kinds;
 
-use crate::unread::Unread;
+use crate::unread::Unsaid;
 use std::alloc::Global;
 
 /// What stands in [`DIGITS`] for a byte that is no digit.
@@ -53,27 +54,27 @@ fn read_byte(high: u8, low: u8) -> Option<u8>
 }
 
 /// The bytes of which the text has the digits.
-fn read_digits(alloc: Global, text: &[u8]) -> Result<Vec<u8>, Unread>
+fn read_digits(alloc: Global, text: &[u8]) -> Result<Vec<u8>, Unsaid>
     ensures answer { IfOk result (λ v.
         IsBytes v.items × (flat_map digits_of v.items ≡ text.now)) }
-    ensures refused { IfErr result (IsNone (λ bytes.
-        IsBytes bytes × (flat_map digits_of bytes ≡ text.now))) }
+    ensures refused { IfErr result (SaysNone (λ bytes.
+        IsBytes bytes × (flat_map digits_of bytes ≡ text.now)) (λ at. at ≡ None)) }
 {
     let mut bytes = match Vec::with_capacity(alloc, text.len() / 2) {
         Ok(bytes) => bytes,
-        Err(_) => return Err(Unread::Memory),
+        Err(_) => return Err(Unsaid::Memory),
     };
     let mut rest = text;
     'digits: loop {
         match rest {
             [] => return Ok(bytes),
-            [_] => return Err(Unread::Malformed),
+            [_] => return Err(Unsaid::Bad(None)),
             [high, low, after @ ..] => {
                 match read_byte(*high, *low) {
-                    None => return Err(Unread::Malformed),
+                    None => return Err(Unsaid::Bad(None)),
                     Some(byte) => match bytes.push(byte) {
                         Ok(()) => rest = after,
-                        Err(_) => return Err(Unread::Memory),
+                        Err(_) => return Err(Unsaid::Memory),
                     },
                 }
             }
@@ -82,15 +83,15 @@ fn read_digits(alloc: Global, text: &[u8]) -> Result<Vec<u8>, Unread>
 }
 
 /// The bytes of which the text is the spelling: `-` for none, or two digits for each.
-pub fn read_hex(alloc: Global, text: &[u8]) -> Result<Vec<u8>, Unread>
+pub fn read_hex(alloc: Global, text: &[u8]) -> Result<Vec<u8>, Unsaid>
     ensures answer { IfOk result (λ v. IsHexWord text.now v.items) }
-    ensures refused { IfErr result (IsNone (IsHexWord text.now)) }
+    ensures refused { IfErr result (IsUnsaid kinds.Bytes text.now) }
 {
     if text == b"-".as_slice() {
         return Ok(Vec::new(alloc));
     }
     if text.is_empty() {
-        return Err(Unread::Malformed);
+        return Err(Unsaid::Bad(None));
     }
     read_digits(alloc, text)
 }

@@ -1,5 +1,5 @@
 //! Kinds of script.
-ghost use Rattle.std.specs.Prelude.{◌≡◌, false, List, ◌++◌, IfOk, IfErr, OnErr};
+ghost use Rattle.std.specs.Prelude.{◌≡◌, false, List, ◌++◌, IfOk, OnErr, IfSome, IfNone};
 ghost use Rattle.std.specs.List.{list_any};
 ghost use Rattle.txc_script.specs.Kinds.{ScriptKind, Given, is_malformed};
 ghost use Rattle.txc_script.specs.Answers.{LineIsAnswered, IsUnanswered, IsClosed};
@@ -21,20 +21,21 @@ pub trait Script {
     ghost kind: { Self → ScriptKind Self.State Self.Asked Self.Reply };
 
     /// Does what a line asks for that is neither empty nor a comment, and puts what is written of the reply
-    /// after the text. Returns whether that holds a refusal; of a line that asks for nothing, what is wrong with its
-    /// words. Out of memory, what the line asks for may be done in part.
+    /// after the text. Returns whether that holds a refusal. Else it leaves why: of a line that asks for nothing, what
+    /// is wrong with its words. Out of memory, what the line asks for may be done in part.
     fn answer(
         &self,
         alloc: Global,
         state: &mut Self::State,
         line: &[u8],
         text: &mut Vec<u8>,
-    ) -> Result<bool, Unanswered>
+        why: &mut Unanswered,
+    ) -> Option<bool>
         requires { IsPlain line.now }
-        ensures answered { IfOk result (LineIsAnswered (kind self.now) state.old line.now state.new
+        ensures answered { IfSome result (LineIsAnswered (kind self.now) state.old line.now state.new
             text.old.items text.new.items) }
-        ensures refused { IfErr result (IsUnanswered (kind self.now) state.old line.now state.new) }
-        ensures unchanged { OnErr result (text.new.items ≡ text.old.items) };
+        ensures refused { IfNone result (IsUnanswered (kind self.now) state.old line.now state.new why.new) }
+        ensures unchanged { IfNone result (text.new.items ≡ text.old.items) };
 
     /// Does what comes after all lines, none of which was malformed, and puts what is written of it after the
     /// text. Returns whether that holds a refusal.

@@ -5,10 +5,10 @@ ghost use Rattle.txc_script.specs.SaidWords.{SayAll};
 ghost use Rattle.txc_script.specs.Words.{words_left};
 
 use crate::excerpt::Excerpt;
-use crate::finding::{Unsaid, next_kind, read_word};
+use crate::finding::{next_kind, read_word};
 use crate::line_fault::{CommandFault, WordFault, WordKind};
 use crate::said::Said;
-use crate::unread::Unanswered;
+use crate::unread::{Unanswered, Unsaid};
 use crate::words::WordsLeft;
 use std::alloc::Global;
 

@@ -3,9 +3,12 @@ ghost use Rattle.std.specs.Prelude.{◌≡◌, true, false, ℕ, ◌+◌, ◌^�
 ghost use Rattle.std.specs.Io.KnownBytes.{Appends};
 ghost use Rattle.txc_script.specs.Script.{HasNoEnd};
 ghost use Rattle.txc_script.specs.Kinds.{IsFaultOf, malformed_text};
-ghost use Rattle.txc_script.specs.Lines.{ArePlain};
+ghost use Rattle.txc_script.specs.LineFaults.{IsWrong};
+ghost use Rattle.txc_script.specs.Lines.{ArePlain, IsPlain};
+ghost use Rattle.txc_script.specs.Words.{words_of};
 ghost use Rattle.txc_script.specs.Written.{AppendsPrefix};
 ghost use Rattle.txc_script.specs.Flows.{IsStoppedAt, status_after};
+ghost use Rattle.txc_script.specs.declared.line_fault.CommandFault.{CommandFault};
 ghost use Rattle.txc_script.specs.Progress.{progress_of, AnswersAs, AnswersLast, AnswersLine, HasAnsweredLines, HasLast, IsAtLast, IsKeptBeside, MayBreakOff};
 
 use crate::fault::{RunFault, Status};
@@ -18,6 +21,7 @@ use crate::unread::Unanswered;
 use crate::writer::write_text;
 use std::alloc::{AllocError, Global};
 use std::io::Write;
+use std::mem;
 
 /// Whether a run goes on after a line.
 #[derive(Debug, Drop)]
@@ -35,6 +39,8 @@ pub struct Replies {
     text: Vec<u8>,
     /// Whether one of them holds a refusal, or a line was malformed.
     is_refused: bool,
+    /// Why a line has none, if one has none. It stands here since it is large: a line that is answered makes no room for it.
+    why: Unanswered,
 }
 
 /// A run in progress, beside its state.
@@ -48,8 +54,6 @@ pub struct Running {
 }
 
 /// Answers a line with which this is wrong in this state, and which has this number.
-#[cold]
-#[inline(never)]
 fn answer_malformed<K: Script>(
     alloc: Global,
     kind: &K,
@@ -71,6 +75,55 @@ fn answer_malformed<K: Script>(
     Ok(Flow::Stopped(MalformedLine { number, fault }))
 }
 
+/// Answers a line whose bytes are not as they may be.
+#[cold]
+#[inline(never)]
+fn answer_bad_bytes<K: Script>(
+    alloc: Global,
+    kind: &K,
+    state: &K::State,
+    replies: &mut Replies,
+    number: u64,
+    line: &[u8],
+) -> Result<Flow, AllocError>
+    requires { IsPlain line.now → ⊥ }
+    ensures stopped { IfOk result (IsStoppedAt (K.kind kind.now) state.now number line.now) }
+    ensures text { OnOk result (replies.new.text.items ≡ replies.old.text.items ++ malformed_text number) }
+    ensures refused { OnOk result (replies.new.is_refused ≡ true) }
+    ensures unchanged { OnErr result (replies.new.text.items ≡ replies.old.text.items) }
+{
+    let fault = bad_bytes(kind, state, line);
+    answer_malformed(alloc, kind, state, replies, number, line, fault)
+}
+
+/// Answers a line that has no reply: why stands beside the replies. Where a growth was refused that is the answer.
+#[cold]
+#[inline(never)]
+fn answer_unanswered<K: Script>(
+    alloc: Global,
+    kind: &K,
+    state: &K::State,
+    replies: &mut Replies,
+    number: u64,
+    line: &[u8],
+) -> Result<Flow, AllocError>
+    requires plain { IsPlain line.now }
+    requires wrong { IsWrong ((K.kind kind.now).is_wrong state.now (words_of line.now)) replies.old.why }
+    ensures wrong { OnOk result ((fault : CommandFault) × (replies.old.why ≡ Unanswered.Wrong fault)) }
+    ensures stopped { IfOk result (IsStoppedAt (K.kind kind.now) state.now number line.now) }
+    ensures text { OnOk result (replies.new.text.items ≡ replies.old.text.items ++ malformed_text number) }
+    ensures refused { OnOk result (replies.new.is_refused ≡ true) }
+    ensures unchanged { OnErr result (replies.new.text.items ≡ replies.old.text.items) }
+{
+    match mem::replace(&mut replies.why, Unanswered::Memory) {
+        Unanswered::Wrong(fault) => {
+            let fault = bad_words(kind, state, line, fault);
+            answer_malformed(alloc, kind, state, replies, number, line, fault)
+        }
+        Unanswered::Memory => Err(AllocError),
+    }
+}
+
 /// Answers a line that has this number. Of its bytes it may be known that a line may have each.
 fn answer<K: Script>(
     alloc: Global,
@@ -88,22 +141,17 @@ fn answer<K: Script>(
     ensures unchanged { OnErr result (replies.new.text.items ≡ replies.old.text.items) }
 {
     if !is_plain(line, known_plain) {
-        let fault = bad_bytes(kind, state, line);
-        return answer_malformed(alloc, kind, state, replies, number, line, fault);
+        return answer_bad_bytes(alloc, kind, state, replies, number, line);
     }
     if is_quiet(line) {
         return Ok(Flow::GoesOn);
     }
-    match kind.answer(alloc, state, line, &mut replies.text) {
-        Ok(is_refused) => {
+    match kind.answer(alloc, state, line, &mut replies.text, &mut replies.why) {
+        Some(is_refused) => {
             replies.is_refused |= is_refused;
             Ok(Flow::GoesOn)
         }
-        Err(Unanswered::Wrong(fault)) => {
-            let fault = bad_words(kind, state, line, fault);
-            answer_malformed(alloc, kind, state, replies, number, line, fault)
-        }
-        Err(Unanswered::Memory) => Err(AllocError),
+        None => answer_unanswered(alloc, kind, state, replies, number, line),
     }
 }
 
@@ -119,6 +167,7 @@ impl Running {
         let replies = Replies {
             text: Vec::new(alloc),
             is_refused: false,
+            why: Unanswered::Memory,
         };
         Ok(Running {
             lines: 0,

@@ -1,87 +1,170 @@
-//! Words that are numbers, those of a reach, and tags.
-ghost use Rattle.std.specs.Prelude.{◌≡◌, ℕ, Bool, IfOk, IfErr};
+//! Words, each of its kind.
+ghost use Rattle.std.specs.Prelude.{◌≡◌, ℕ, IfOk, IfErr, IfSome, IfNone};
 ghost use Rattle.txc_tags.specs.declared.key.TheConstants.{LAST_FUNCTION};
 ghost use Rattle.txc_tags.specs.declared.tag.TheConstants.{LAST_TABLE};
 ghost use Rattle.txc_tags.specs.declared.text.number.TheConstants.{LAST_NUMBER};
-ghost use Rattle.txc_script.specs.Lines.{IsNumberWord, IsStampWord, IsTagsWord, still_text};
-ghost use Rattle.txc_script.specs.Unread.{IsNone};
+ghost use Rattle.txc_script.specs.LineFaults.{IsUnsaid};
+ghost use Rattle.txc_script.specs.Lines.{IsNumberWord};
+ghost use Rattle.txc_script.specs.SaidWords.{Means, SaidOf};
+ghost use Rattle.txc_script.specs.declared.line_fault.WordKind.{WordKind};
 
 use crate::function_number::FunctionNumber;
-use crate::unread::{Malformed, Unread};
+use crate::hex::read_hex;
+use crate::line_fault::WordKind;
+use crate::unread::Unsaid;
 use std::alloc::Global;
 use txc_stamp::{LAST_STAMP, Stamp};
-use txc_tags::{LAST_FUNCTION, LAST_NUMBER, LAST_TABLE, SetError, Table, TagSet, read_number};
+use txc_tags::{Key, LAST_FUNCTION, LAST_NUMBER, LAST_TABLE, SetError, Table, TagSet, read_number};
 
-/// A stamp's number.
-pub fn read_stamp(text: &[u8]) -> Result<Stamp, Malformed>
-    ensures answer { IfOk result (IsStampWord text.now) }
-    ensures refused { IfErr result (λ _. (n : ℕ) → IsStampWord text.now n → ⊥) }
-{
-    match read_number(text, u64::from(LAST_STAMP)) {
-        Some(number) => Ok(Stamp::after(number as usize)),
-        None => Err(Malformed),
+/// What a word of one kind says.
+pub trait Word: Drop {
+    // The kind.
+    ghost kind: { WordKind };
+
+    // What is said.
+    ghost said: { Self → SaidOf kind };
+
+    /// The kind.
+    fn kind() -> WordKind
+        ensures { result ≡ kind };
+
+    /// What the word says, if it is of the kind.
+    fn read(alloc: Global, word: &[u8]) -> Result<Self, Unsaid>
+        ensures answer { IfOk result (λ value. Means kind word.now (said value)) }
+        ensures refused { IfErr result (IsUnsaid kind word.now) };
+}
+
+impl Word for Key {
+    ghost use Rattle.txc_script.specs.declared.line_fault.WordKind.TheVariants as kinds;
+
+    ghost kind = { kinds.Key };
+
+    ghost said = { λ key. key };
+
+    fn kind() -> WordKind {
+        WordKind::Key
+    }
+
+    #[inline(always)]
+    fn read(alloc: Global, word: &[u8]) -> Result<Key, Unsaid> {
+        match Key::read(word) {
+            Ok(key) => Ok(key),
+            Err(bad) => Err(Unsaid::Bad(Some(bad.at))),
+        }
     }
 }
 
-/// An id or a group.
-pub fn read_id(word: &[u8]) -> Result<u32, Malformed>
-    ensures answer { IfOk result (IsNumberWord LAST_NUMBER word.now) }
-    ensures refused { IfErr result (λ _. (n : ℕ) → IsNumberWord LAST_NUMBER word.now n → ⊥) }
-{
-    match read_number(word, LAST_NUMBER) {
-        Some(number) => Ok(number as u32),
-        None => Err(Malformed),
-    }
-}
+impl Word for Stamp {
+    ghost use Rattle.txc_script.specs.declared.line_fault.WordKind.TheVariants as kinds;
 
-/// The number of a table.
-pub fn read_table(word: &[u8]) -> Result<Table, Malformed>
-    ensures answer { IfOk result (IsNumberWord LAST_TABLE word.now) }
-    ensures refused { IfErr result (λ _. (n : ℕ) → IsNumberWord LAST_TABLE word.now n → ⊥) }
-{
-    match read_number(word, u64::from(LAST_TABLE)) {
-        Some(number) => match Table::new(number as u8) {
-            Some(table) => Ok(table),
-            None => Err(Malformed),
-        },
-        None => Err(Malformed),
-    }
-}
+    ghost kind = { kinds.Stamp };
 
-/// The number of a function.
-pub fn read_function(word: &[u8]) -> Result<FunctionNumber, Malformed>
-    ensures answer { IfOk result (IsNumberWord LAST_FUNCTION word.now) }
-    ensures refused { IfErr result (λ _. (n : ℕ) → IsNumberWord LAST_FUNCTION word.now n → ⊥) }
-{
-    match read_number(word, u64::from(LAST_FUNCTION)) {
-        Some(number) => match FunctionNumber::new(number as u8) {
-            Some(function) => Ok(function),
-            None => Err(Malformed),
-        },
-        None => Err(Malformed),
+    ghost said = { λ stamp. stamp };
+
+    fn kind() -> WordKind {
+        WordKind::Stamp
+    }
+
+    #[inline(always)]
+    fn read(alloc: Global, word: &[u8]) -> Result<Stamp, Unsaid> {
+        match read_number(word, u64::from(LAST_STAMP)) {
+            Some(number) => Ok(Stamp::after(number as usize)),
+            None => Err(Unsaid::Bad(None)),
+        }
     }
 }
 
 /// `still`, or `closed`.
-pub fn read_still(text: &[u8]) -> Result<bool, Malformed>
-    ensures answer { IfOk result (λ still. text.now ≡ still_text still) }
-    ensures refused { IfErr result (λ _. (still : Bool) → text.now ≡ still_text still → ⊥) }
-{
-    match text {
-        b"still" => Ok(true),
-        b"closed" => Ok(false),
-        _ => Err(Malformed),
+impl Word for bool {
+    ghost use Rattle.txc_script.specs.declared.line_fault.WordKind.TheVariants as kinds;
+
+    ghost kind = { kinds.Reach };
+
+    ghost said = { λ still. still };
+
+    fn kind() -> WordKind {
+        WordKind::Reach
+    }
+
+    #[inline(always)]
+    fn read(alloc: Global, word: &[u8]) -> Result<bool, Unsaid> {
+        match word {
+            b"still" => Ok(true),
+            b"closed" => Ok(false),
+            _ => Err(Unsaid::Bad(None)),
+        }
     }
 }
 
 /// Tags in any order and with repeats.
-pub fn read_tags(alloc: Global, text: &[u8]) -> Result<TagSet, Unread>
-    ensures answer { IfOk result (IsTagsWord text.now) }
-    ensures refused { IfErr result (IsNone (IsTagsWord text.now)) }
+impl Word for TagSet {
+    ghost use Rattle.txc_script.specs.declared.line_fault.WordKind.TheVariants as kinds;
+
+    ghost kind = { kinds.Tags };
+
+    ghost said = { λ tags. tags };
+
+    fn kind() -> WordKind {
+        WordKind::Tags
+    }
+
+    #[inline(always)]
+    fn read(alloc: Global, word: &[u8]) -> Result<TagSet, Unsaid> {
+        match TagSet::read(alloc, word) {
+            Ok(tags) => Ok(tags),
+            Err(SetError::BadTag(bad)) => Err(Unsaid::Bad(Some(bad.at))),
+            Err(SetError::Memory(_)) => Err(Unsaid::Memory),
+        }
+    }
+}
+
+/// Bytes: `-` for none, or two digits for each.
+impl Word for Vec<u8> {
+    ghost use Rattle.txc_script.specs.declared.line_fault.WordKind.TheVariants as kinds;
+
+    ghost kind = { kinds.Bytes };
+
+    ghost said = { λ bytes. bytes.items };
+
+    fn kind() -> WordKind {
+        WordKind::Bytes
+    }
+
+    #[inline(always)]
+    fn read(alloc: Global, word: &[u8]) -> Result<Vec<u8>, Unsaid> {
+        read_hex(alloc, word)
+    }
+}
+
+/// An id or a group.
+pub fn read_id(word: &[u8]) -> Option<u32>
+    ensures answer { IfSome result (IsNumberWord LAST_NUMBER word.now) }
+    ensures refused { IfNone result ((n : ℕ) → IsNumberWord LAST_NUMBER word.now n → ⊥) }
 {
-    match TagSet::read(alloc, text) {
-        Ok(tags) => Ok(tags),
-        Err(SetError::BadTag(_)) => Err(Unread::Malformed),
-        Err(SetError::Memory(_)) => Err(Unread::Memory),
+    match read_number(word, LAST_NUMBER) {
+        Some(number) => Some(number as u32),
+        None => None,
+    }
+}
+
+/// The number of a table.
+pub fn read_table(word: &[u8]) -> Option<Table>
+    ensures answer { IfSome result (IsNumberWord LAST_TABLE word.now) }
+    ensures refused { IfNone result ((n : ℕ) → IsNumberWord LAST_TABLE word.now n → ⊥) }
+{
+    match read_number(word, u64::from(LAST_TABLE)) {
+        Some(number) => Table::new(number as u8),
+        None => None,
+    }
+}
+
+/// The number of a function.
+pub fn read_function(word: &[u8]) -> Option<FunctionNumber>
+    ensures answer { IfSome result (IsNumberWord LAST_FUNCTION word.now) }
+    ensures refused { IfNone result ((n : ℕ) → IsNumberWord LAST_FUNCTION word.now n → ⊥) }
+{
+    match read_number(word, u64::from(LAST_FUNCTION)) {
+        Some(number) => FunctionNumber::new(number as u8),
+        None => None,
     }
 }

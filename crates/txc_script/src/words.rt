@@ -1,21 +1,18 @@
 //! The words of a line.
-ghost use Rattle.std.specs.Prelude.{◌≡◌, ◌≢◌, ◌<◌, ◌≤◌, [], ◌∷◌, ◌++◌, count_by, length, take, IfOk, OnErr, IfSome, IfNone};
+ghost use Rattle.std.specs.Prelude.{◌≡◌, ◌<◌, ◌≤◌, [], ◌∷◌, ◌++◌, count_by, length, slice_index, take, IfSome, IfNone};
 ghost use Rattle.txc_script.specs.Words.{HasNoBlank, words_of, words_left, is_blank};
 
 use crate::scan::word_len;
-use crate::unread::Malformed;
 
-/// The word before the first blank, and what comes after that blank.
-pub fn first_word(text: &[u8]) -> Option<(&[u8], &[u8])>
-    ensures answer { IfSome result (λ w.
-        (text.now ≡ w.0.now ++ 32 ∷ w.1.now) × HasNoBlank w.0.now) }
-    ensures refused { IfNone result (HasNoBlank text.now) }
+/// The word before the first blank, which stands here, and what comes after that blank.
+#[inline(always)]
+fn cut_word(text: &[u8], end: usize) -> (&[u8], &[u8])
+    requires within { end < length text.now }
+    requires bare { HasNoBlank (take end text.now) }
+    requires blank { slice_index text.now end ≡ 32 }
+    ensures { (text.now ≡ result.0.now ++ 32 ∷ result.1.now) × HasNoBlank result.0.now }
 {
-    let end = word_len(text);
-    if end == text.len() {
-        return None;
-    }
-    Some((&text[..end], &text[end + 1..]))
+    (&text[..end], &text[end + 1..])
 }
 
 fn count_blanks(text: &[u8]) -> usize
@@ -24,7 +21,7 @@ fn count_blanks(text: &[u8]) -> usize
     text.iter().filter(|b| **b == b' ').count()
 }
 
-/// Words of a text that were not taken yet.
+/// Words of a text that were not taken yet: as many as there are, but no more than a number.
 #[derive(Clone, Copy, Debug)]
 pub struct WordsLeft<'a> {
     rest: &'a [u8],
@@ -45,67 +42,8 @@ pub fn all_words(text: &[u8]) -> WordsLeft<'_>
 {
     WordsLeft {
         rest: text,
-        count: count_words(text),
+        count: text.len() + 1,
     }
-}
-
-/// The one word that the text is.
-#[inline]
-pub fn one_word(text: &[u8]) -> Result<&[u8], Malformed>
-    ensures answer { IfOk result (λ word. words_of text.now ≡ word.now ∷ []) }
-    ensures refused { OnErr result (length (words_of text.now) ≢ 1) }
-{
-    if word_len(text) < text.len() {
-        return Err(Malformed);
-    }
-    Ok(text)
-}
-
-/// The two words that the text is.
-#[inline]
-pub fn two_words(text: &[u8]) -> Result<(&[u8], &[u8]), Malformed>
-    ensures answer { IfOk result (λ words. words_of text.now ≡ words.0.now ∷ words.1.now ∷ []) }
-    ensures refused { OnErr result (length (words_of text.now) ≢ 2) }
-{
-    let Some((first, rest)) = first_word(text) else {
-        return Err(Malformed);
-    };
-    let second = one_word(rest)?;
-    Ok((first, second))
-}
-
-/// The three words that the text is.
-#[inline]
-pub fn three_words(text: &[u8]) -> Result<(&[u8], &[u8], &[u8]), Malformed>
-    ensures answer { IfOk result (λ words.
-        words_of text.now ≡ words.0.now ∷ words.1.now ∷ words.2.now ∷ []) }
-    ensures refused { OnErr result (length (words_of text.now) ≢ 3) }
-{
-    let Some((first, rest)) = first_word(text) else {
-        return Err(Malformed);
-    };
-    let (second, third) = two_words(rest)?;
-    Ok((first, second, third))
-}
-
-/// The six words that the text is.
-#[inline]
-pub fn six_words(text: &[u8]) -> Result<(&[u8], &[u8], &[u8], &[u8], &[u8], &[u8]), Malformed>
-    ensures answer { IfOk result (λ words. words_of text.now
-        ≡ words.0.now ∷ words.1.now ∷ words.2.now ∷ words.3.now ∷ words.4.now ∷ words.5.now ∷ []) }
-    ensures refused { OnErr result (length (words_of text.now) ≢ 6) }
-{
-    let Some((first, rest)) = first_word(text) else {
-        return Err(Malformed);
-    };
-    let Some((second, rest)) = first_word(rest) else {
-        return Err(Malformed);
-    };
-    let Some((third, rest)) = first_word(rest) else {
-        return Err(Malformed);
-    };
-    let (fourth, fifth, sixth) = three_words(rest)?;
-    Ok((first, second, third, fourth, fifth, sixth))
 }
 
 impl<'a> WordsLeft<'a> {
@@ -120,21 +58,40 @@ impl<'a> WordsLeft<'a> {
         }
     }
 
+    /// How many there are.
+    pub fn len(self) -> usize
+        ensures { result ≡ length (words_left self.entry) }
+    {
+        self.count.min(count_words(self.rest))
+    }
+
+    /// The next word, if there is one.
+    #[inline(always)]
+    pub fn pop(&mut self) -> Option<&'a [u8]>
+        ensures answer { IfSome result (λ word. words_left self.old ≡ word.now ∷ words_left self.new) }
+        ensures refused { IfNone result (words_left self.old ≡ []) }
+    {
+        if self.count == 0 {
+            return None;
+        }
+        Some(self.next())
+    }
+
     /// The next word.
+    #[inline(always)]
     pub fn next(&mut self) -> &'a [u8]
         requires { 0 < length (words_left self.old) }
         ensures { words_left self.old ≡ result.now ∷ words_left self.new }
     {
-        match first_word(self.rest) {
-            Some((word, rest)) => {
-                self.rest = rest;
-                self.count -= 1;
-                word
-            }
-            None => {
-                self.count = 0;
-                self.rest
-            }
+        let text = self.rest;
+        let end = word_len(text);
+        if end == text.len() {
+            self.count = 0;
+            return text;
         }
+        let (word, rest) = cut_word(text, end);
+        self.rest = rest;
+        self.count -= 1;
+        word
     }
 }

@@ -163,14 +163,14 @@ module _ (P : ℕ → Type 0) where
   act_reads act reply observed new h = h
 
 -- what is set at a place is there
-set_there : (observed : List ObservedActor) (at : ℕ) (new observed : ObservedActor) → slice_get (slice_set observed at new) at ≡ Some observed → new ≡ observed
+set_there : (actors : List ObservedActor) (at : ℕ) (new observed : ObservedActor) → slice_get (slice_set actors at new) at ≡ Some observed → new ≡ observed
 set_there [] at new observed is = cc is
 set_there (s ∷ ss) zero new observed is = cc is
 set_there (s ∷ ss) (suc at) new observed is = set_there ss at new observed is
 
-set_reads : (P : ObservedActor → Type 0) (observed : List ObservedActor) (at place : ℕ) (new : ObservedActor) → (at ≡ place → P new)
-    → ((observed : ObservedActor) → slice_get observed place ≡ Some observed → P observed)
-    → (observed : ObservedActor) → slice_get (slice_set observed at new) place ≡ Some observed → P observed
+set_reads : (P : ObservedActor → Type 0) (actors : List ObservedActor) (at place : ℕ) (new : ObservedActor) → (at ≡ place → P new)
+    → ((observed : ObservedActor) → slice_get actors place ≡ Some observed → P observed)
+    → (observed : ObservedActor) → slice_get (slice_set actors at new) place ≡ Some observed → P observed
 set_reads P [] at place new own others observed is = others observed is
 set_reads P (s ∷ ss) zero zero new own others observed is = let same : new ≡ observed = cc is in subst P same (own refl)
 set_reads P (s ∷ ss) zero (suc place) new own others observed is = others observed is

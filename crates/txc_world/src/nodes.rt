@@ -95,7 +95,10 @@ pub(crate) fn advance<A: App>(
         return Err(NodeError::Broken);
     }
     let whole = database.front()?;
-    node.advance(alloc, pass, &whole)
+    match node.advance(alloc, pass, &whole) {
+        Ok(advanced) => Ok(advanced),
+        Err(refusal) => Err(refusal),
+    }
 }
 
 /// Lets the node drop the entries that end at the horizon or before it, and counts them.

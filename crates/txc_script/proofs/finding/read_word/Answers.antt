@@ -1,28 +1,22 @@
 use Rattle.std.proofs.Common.{◌≡◌, ℕ, List, None, refl, subst, sym, ◌∙◌}
-use Rattle.txc_script.specs.LineFaults.{StopsAt}
+use Rattle.txc_script.specs.LineFaults.{IsUnsaid, StopsAt}
 use Rattle.txc_script.specs.Lines.{IsTextWord}
 use Rattle.txc_script.specs.SaidWords.{IsOfKind}
 use Rattle.txc_script.specs.declared.line_fault.WordKind.{WordKind}
-use Rattle.txc_script.specs.declared.line_fault.WordKind.TheVariants.{Stamp, Table, Id, Function, Number, Text, QueryName, ChangeName}
+use Rattle.txc_script.specs.declared.line_fault.WordKind.TheVariants.{Table, Text, QueryName, ChangeName}
 use Rattle.txc_script.proofs.finding.read_word.Goals as goal
 
 bad : (kind k : WordKind) (word : List ℕ) → kind ≡ k → (IsOfKind k word → ⊥) × StopsAt k word None → (IsOfKind kind word → ⊥) × StopsAt kind word None
 bad kind k word is h = subst (λ (j : WordKind). (IsOfKind j word → ⊥) × StopsAt j word None) (sym is) h
 
 pub returns-in-Err : goal.returns-in-Err
-returns-in-Err c = bad c.args.kind Stamp c.args.word.now c.in-Stamp.is ((λ h. c.in-Err.ensures.refused h.0 h.1), refl)
+returns-in-Err c = subst (λ (k : WordKind). IsUnsaid k c.args.word.now c.in-Err.unsaid) (sym c.in-Key.is) c.in-Err.ensures.refused
 
-pub returns-in-Err-read_table : goal.returns-in-Err-read_table
-returns-in-Err-read_table c = bad c.args.kind Table c.args.word.now c.in-Table.is ((λ h. c.in-Err-read_table.ensures.refused h.0 h.1), refl)
-
-pub returns-in-Err-read_id : goal.returns-in-Err-read_id
-returns-in-Err-read_id c = bad c.args.kind Id c.args.word.now c.in-Id.is ((λ h. c.in-Err-read_id.ensures.refused h.0 h.1), refl)
-
-pub returns-in-Err-read_function : goal.returns-in-Err-read_function
-returns-in-Err-read_function c = bad c.args.kind Function c.args.word.now c.in-Function.is ((λ h. c.in-Err-read_function.ensures.refused h.0 h.1), refl)
+pub returns-in-Err-read-3 : goal.returns-in-Err-read-3
+returns-in-Err-read-3 c = subst (λ (k : WordKind). IsUnsaid k c.args.word.now c.in-Err-read-3.unsaid) (sym c.in-Tags.is) c.in-Err-read-3.ensures.refused
 
 pub returns-in-None : goal.returns-in-None
-returns-in-None c = bad c.args.kind (Number c.in-Number.most) c.args.word.now c.in-Number.is (c.in-None.ensures.refused, refl)
+returns-in-None c = bad c.args.kind Table c.args.word.now c.in-Table.is ((λ h. c.in-None.ensures.refused h.0 h.1), refl)
 
 pub returns-in-Text-2 : goal.returns-in-Text-2
 returns-in-Text-2 c = bad c.args.kind (Text c.in-Text.most) c.args.word.now c.in-Text.is ((λ h. let yes = c.is_text.ensures.1 (subst (IsTextWord c.in-Text.most) (sym h.1.1) h.1.0) in let no = c.if-is_text.false in cc), refl)

@@ -1,7 +1,7 @@
 use Rattle.std.proofs.Common.{Err, length, ap, arith, rules, refl, subst, sym, ◌∙◌}
 use Rattle.txc_script.specs.LineFaults.{IsWordRead, kinds_for}
 use Rattle.txc_script.specs.Words.{words_left}
-use Rattle.txc_script.specs.declared.finding.Unsaid.{Unsaid}
+use Rattle.txc_script.specs.declared.unread.Unsaid.{Unsaid}
 use Rattle.txc_script.proofs.SaidKinds.{all_read, bad_read, none_read, one_more_read}
 use Rattle.txc_script.proofs.WordFaults.{kinds_count, none_left}
 use Rattle.txc_script.proofs.reading.read_each.Goals as goal

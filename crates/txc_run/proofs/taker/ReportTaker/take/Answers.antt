@@ -4,7 +4,7 @@ use Rattle.txc_run.proofs.Reporting.{refusal_seen}
 use Rattle.txc_run.proofs.Taking.{one_counted}
 use Rattle.txc_run.proofs.taker.ReportTaker.take.Goals as goal
 
-pub returns-clause-after : goal.returns-clause-after
-returns-clause-after c op is given h =
+pub returns-in-Ok-clause-after : goal.returns-in-Ok-clause-after
+returns-in-Ok-clause-after c op is given h =
     let kept : is_refusal (seen_reply c.args.reply.now) ≡ false = refusal_seen c.args.reply.now ∙ sym c.is_refusal.ensures ∙ c.if-is_refusal.false in
-    one_counted c.args.self.now c.count.new.self op (seen_reply c.args.reply.now) kept (λ steps k. c.in_ok-count.ensures steps op (is kept) k) given h
+    one_counted c.args.self.now c.count.new.self op (seen_reply c.args.reply.now) kept (λ steps k. c.in-Ok.ensures steps op (is kept) k) given h
