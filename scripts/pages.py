@@ -113,7 +113,7 @@ def page(crate):
 
 # Which pages a reader wants who does so, in the order in which to read them. What no list names, who changes the library reads.
 READERS = {
-    "write a service": "txc_site txc_visits txc_pages txc_ledger txc_keeper txc_definition txc_app txc_rows txc_tags txc_stamp txc_client txc_rw txc_txn txc_ports",
+    "write a service": "txc_site txc_foundation txc_visits txc_pages txc_ledger txc_keeper txc_definition txc_app txc_rows txc_tags txc_stamp txc_client txc_rw txc_txn txc_ports",
     "use the cache or the database alone": "txc_node txc_db txc_carry txc_validity txc_stream",
     "ask what holds in every interleaving": "txc_world txc_shared txc_cushion",
     "run scripts and jobs": "txc_work txc_modes txc_settings txc_run txc_play txc_batch txc_script txc_words txc_arguments",
