@@ -1,3 +1,4 @@
 pub mod Crosses
 mod Listing
 mod NodeHistories
+pub mod Tended

@@ -1,6 +1,8 @@
 //! What a site stands on.
-ghost use Rattle.std.specs.Prelude.{◌≡◌, ◌≤◌, IfOk, vec_len};
+ghost use Rattle.std.specs.Prelude.{◌≡◌, ◌≤◌, IfErr, IfOk, vec_len};
 ghost use Rattle.txc_db.specs.Shared.{IsDatabaseOf};
+ghost use Rattle.txc_keeper.specs.Refusals.{IsKeeperRefused};
+ghost use Rattle.txc_keeper.specs.Tending.{IsTendedBy};
 ghost use Rattle.txc_foundation.specs.Plans.{nodes_of, IsPlan};
 ghost use Rattle.txc_foundation.specs.Histories.{AreHistoriesOf};
 
@@ -10,7 +12,7 @@ use std::alloc::{AllocError, Global};
 use std::sync::Wait;
 use txc_app::App;
 use txc_db::{DbCore, Naming};
-use txc_keeper::{Moment, retire};
+use txc_keeper::{Clock, Keeping, Moment, Signal, SiteError, Tended, retire};
 use txc_ledger::{Committers, Ledger, NodeHistory};
 use txc_shared::{NodeSettings, SharedNode};
 
@@ -102,4 +104,30 @@ impl<A: App, J: Naming> Foundation<A, J> {
     pub fn numbers(&self, rt: &impl Wait) -> Numbers {
         Numbers::of(&self.tallies).with_nodes(rt, &self.nodes)
     }
+}
+
+/// Keeps the site at this clock until the visitors have ended.
+#[tactic(auto, using(crate::proofs::Tended::tended_of))]
+pub fn keep_until_ended<A: App, J: Naming, C: Clock, R: Wait>(
+    rt: &R,
+    alloc: Global,
+    foundation: &Foundation<A, J>,
+    keeping: Keeping,
+    clock: &C,
+    ended: &Signal,
+) -> Result<Tended, SiteError>
+    ensures tended { IfOk result
+        (IsTendedBy J.database_history (nodes_of foundation.now.plan) (C.tells clock.now) keeping.age) }
+    ensures refused { IfErr result IsKeeperRefused }
+{
+    txc_keeper::keep_until_ended(
+        rt,
+        alloc,
+        &foundation.ledger,
+        &foundation.nodes,
+        &foundation.moment,
+        keeping,
+        clock,
+        ended,
+    )
 }

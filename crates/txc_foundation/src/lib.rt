@@ -12,6 +12,6 @@ mod plan;
 
 pub use application::{Application, registry};
 pub use client::{SiteClient, new_client};
-pub use foundation::Foundation;
+pub use foundation::{Foundation, keep_until_ended};
 pub use numbers::{Numbers, Tally};
 pub use plan::{MAX_NODES, Plan};

@@ -1,7 +1,6 @@
 -- What the own keeper of a site came to, by the site's plan.
-use Rattle.std.proofs.Common.{◌≡◌, ℕ, List, Option, Some, None, refl, sym, subst}
+use Rattle.std.proofs.Common.{◌≡◌, ℕ, Option, Some, None, refl, sym, subst}
 use Rattle.std.specs.Prelude.{Result, IfOk, IfErr}
-use Rattle.txc_shared.specs.declared.settings.NodeSettings.{NodeSettings}
 use Rattle.txc_stream.specs.Names.{Name}
 use Rattle.txc_keeper.specs.declared.error.SiteError.{SiteError}
 use Rattle.txc_keeper.specs.declared.keeping.Keeping.{Keeping}
@@ -11,11 +10,6 @@ use Rattle.txc_keeper.specs.Tending.{IsTendedAs, IsTendedBy}
 use Rattle.txc_foundation.specs.declared.plan.Plan.{Plan}
 use Rattle.txc_foundation.specs.Plans.{nodes_of}
 use Rattle.txc_visits.specs.Tended.{IsTendedAsPlanned}
-
--- a keeper of these nodes, which are those, is one of those
-pub tended_of : (row : Name) (nodes others : List NodeSettings) (tells : ℕ → Type 0) (age : ℕ) (result : Result Tended SiteError) → nodes ≡ others
-    → IfOk result (IsTendedBy row nodes tells age) → IfOk result (IsTendedBy row others tells age)
-tended_of row nodes others tells age result same h = subst (λ (all : List NodeSettings). IfOk result (IsTendedBy row all tells age)) same h
 
 -- what a site's own keeper came to, as its plan says
 module _ (plan : Plan) (tells : ℕ → Type 0) (row : Name) where

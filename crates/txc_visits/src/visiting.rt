@@ -16,7 +16,7 @@ use std::sync::Wait;
 use std::thread::{self, Threads};
 use txc_db::Naming;
 use txc_definition::Definition;
-use txc_foundation::{Application, Foundation, Plan, SiteClient, new_client};
+use txc_foundation::{Application, Foundation, Plan, SiteClient, keep_until_ended, new_client};
 use txc_keeper::{Clock, Keeping, Signal, SiteError, Tended};
 use txc_ledger::Committers;
 use txc_permits::PermitPool;
@@ -94,32 +94,6 @@ where
         Ok(outputs) => Ok(outputs),
         Err(_) => Err(OpenError::Threads),
     }
-}
-
-/// Keeps the site at this clock until the visitors have ended.
-#[tactic(auto, using(crate::proofs::Tended::tended_of))]
-fn keep_until_ended<A: App, J: Naming, C: Clock, R: Wait>(
-    rt: &R,
-    alloc: Global,
-    foundation: &Foundation<A, J>,
-    keeping: Keeping,
-    clock: &C,
-    ended: &Signal,
-) -> Result<Tended, SiteError>
-    ensures tended { IfOk result
-        (IsTendedBy J.database_history (nodes_of foundation.now.plan) (C.tells clock.now) keeping.age) }
-    ensures refused { IfErr result IsKeeperRefused }
-{
-    txc_keeper::keep_until_ended(
-        rt,
-        alloc,
-        &foundation.ledger,
-        &foundation.nodes,
-        &foundation.moment,
-        keeping,
-        clock,
-        ended,
-    )
 }
 
 /// What the guests came to, and what the site's own keeper did, where it has one.
