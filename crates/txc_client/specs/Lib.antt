@@ -3,3 +3,4 @@ pub mod Txn
 pub mod Run
 pub mod Laws
 pub mod Sessions
+pub mod Kept

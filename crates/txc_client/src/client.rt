@@ -9,8 +9,10 @@ ghost use Rattle.txc_registry.specs.Objects.{Objects};
 ghost use Rattle.txc_txn.specs.Core.{value_of, CoreHolds, IsCore, IsIdle};
 ghost use Rattle.txc_txn.specs.Kept.{IsTxn};
 ghost use Rattle.txc_client.specs.Ports.{CountsLeave, HaveGrown, IsCallAt};
+ghost use Rattle.txc_client.specs.Kept.{HasBegunKept};
 ghost use Rattle.txc_client.specs.Txn.{client_of, HasBegunCore};
 
+use crate::kept::KeptPins;
 use crate::ports::Ports;
 use crate::ro_txn::RoTxn;
 use std::alloc::{AllocError, Global};
@@ -106,6 +108,7 @@ impl<'a, A: App, C: Cacheable, J: Naming> Client<'a, A, C, J> {
             Ok(core) => Ok(RoTxn {
                 ports,
                 renew_after,
+                kept: 0,
                 txn: RunningTxn::new(core, registry),
             }),
             Err(error) => {
@@ -117,6 +120,60 @@ impl<'a, A: App, C: Cacheable, J: Naming> Client<'a, A, C, J> {
                 Err((error, client))
             }
         }
+    }
+
+    /// No pins yet, for transactions of this client that keep them for less than `most` milliseconds.
+    pub fn keeping(&self, most: u64) -> KeptPins<'a, J>
+        ensures { result ≡ record { most = most; handed = None } }
+    {
+        KeptPins::new(self.ports.cushion, most)
+    }
+
+    /// Begins a transaction with exactly those of the kept pins that its bounds allow, and the present. It is to
+    /// give back the pins alone that it adds: the others are to be kept as long as it is open. Where the kept
+    /// pins may not be used, they are given back first, and others handed out, as by [`Client::begin_ro`].
+    /// Out of memory, the client is returned.
+    pub fn begin_keeping(
+        self,
+        rt: &impl Wait,
+        alloc: Global,
+        bounds: Bounds,
+        kept: KeptPins<'a, J>,
+    ) -> (
+        Result<RoTxn<'a, A, C, J>, (AllocError, Client<'a, A, C, J>)>,
+        KeptPins<'a, J>,
+    )
+        ensures begun { IfOk result.0 (λ txn. HasBegunCore J.database_history bounds txn.txn.core) }
+        ensures kept { IfOk result.0 (λ txn. HasBegunKept J.database_history bounds kept result.1
+            txn.txn.core.pins.members txn.txn.core.seen) }
+        ensures most { result.1.most ≡ kept.most }
+        ensures meant { IfOk result.0 (λ txn. IsTxn A.next txn.txn) }
+        ensures client { IfOk result.0 (λ txn. client_of txn ≡ self.entry) }
+        ensures handed_back { IfErr result.0 (λ e. e.1 ≡ self.entry) }
+    {
+        let Client {
+            ports,
+            registry,
+            renew_after,
+        } = self;
+        let (begun, kept) = begun_keeping(rt, alloc, ports.len(), renew_after, bounds, kept);
+        let begun = match begun {
+            Ok(core) => Ok(RoTxn {
+                ports,
+                renew_after,
+                kept: core.members().len(),
+                txn: RunningTxn::new(core, registry),
+            }),
+            Err(error) => {
+                let client = Client {
+                    ports,
+                    registry,
+                    renew_after,
+                };
+                Err((error, client))
+            }
+        };
+        (begun, kept)
     }
 
     /// Begins a transaction in a session: one that reads nothing older than the session's floor. The session
@@ -224,8 +281,41 @@ fn begun<J: Naming>(
     }
 }
 
+// A core with the kept pins that are fresh for its bounds.
+fn begun_keeping<'a, J: Naming>(
+    rt: &impl Wait,
+    alloc: Global,
+    nodes: usize,
+    renew_after: u64,
+    bounds: Bounds,
+    kept: KeptPins<'a, J>,
+) -> (Result<TxnCore, AllocError>, KeptPins<'a, J>)
+    requires { 1 ≤ nodes }
+    ensures fits { IfOk result.0 (λ core. (next : Next) (objects : Objects) → AllIdle objects
+        → IsCore next objects (value_of core)) }
+    ensures holds { IfOk result.0 (λ core. (next : Next) (objects : Objects)
+        → CoreHolds next (value_of core).seen.history objects (value_of core)) }
+    ensures idle { IfOk result.0 (λ core. IsIdle (value_of core)) }
+    ensures renew_after { IfOk result.0 (λ core. (value_of core).renew_after ≡ renew_after) }
+    ensures nodes { IfOk result.0 (λ core. (value_of core).nodes ≡ nodes) }
+    ensures begun { IfOk result.0 (λ core. HasBegunCore J.database_history bounds (value_of core)) }
+    ensures kept { IfOk result.0 (λ core. HasBegunKept J.database_history bounds kept result.1
+        (value_of core).pins.members (value_of core).seen) }
+    ensures most { result.1.most ≡ kept.most }
+{
+    let (pins, kept) = kept.fresh(rt, alloc, bounds);
+    let pins = match pins {
+        Ok(pins) => pins,
+        Err(error) => return (Err(error), kept),
+    };
+    match TxnCore::begin(alloc, nodes, renew_after, bounds, pins) {
+        Ok(core) => (Ok(core), kept),
+        Err(_) => (Err(AllocError), kept),
+    }
+}
+
 // Gives the pins back one by one, which takes no memory.
-fn give_back_each<J: Naming>(rt: &impl Wait, cushion: &Pincushion<J>, pins: &Pins) {
+pub(crate) fn give_back_each<J: Naming>(rt: &impl Wait, cushion: &Pincushion<J>, pins: &Pins) {
     for pin in &pins.pins {
         let _ = cushion.give_back(rt, &[pin.stamp]);
     }

@@ -7,9 +7,11 @@
 mod calling;
 mod client;
 mod finding;
+mod kept;
 pub mod laws;
 mod ports;
 mod ro_txn;
 
 pub use client::Client;
+pub use kept::KeptPins;
 pub use ro_txn::RoTxn;

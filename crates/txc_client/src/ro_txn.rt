@@ -1,5 +1,5 @@
 //! Read-only transactions of clients.
-ghost use Rattle.std.specs.Prelude.{◌≡◌, ◌≢◌, ◌++◌, ◌∷◌, [], Err, IfOk, IsNone, OnErr};
+ghost use Rattle.std.specs.Prelude.{◌≡◌, ◌≢◌, ◌++◌, ◌∷◌, [], Err, IfOk, IsNone, OnErr, drop};
 ghost use mathlib.Core.List.{IsPrefix};
 ghost use Rattle.txc_registry.specs.Objects.{activity_of, AllIdle};
 ghost use Rattle.txc_call.specs.declared.error.CallError.TheVariants.{NoFunction};
@@ -17,11 +17,12 @@ use std::alloc::Global;
 use std::marker::Model;
 use std::sync::Wait;
 use txc_app::App;
-use txc_cushion::Pin;
+use txc_cushion::{Pin, Pincushion};
 use txc_db::{HistoryFront, Naming};
 use txc_node::Value;
 use txc_ports::{Recorded, TxnError};
 use txc_registry::Cacheable;
+use txc_stamp::Stamp;
 use txc_tags::Key;
 use txc_txn::{Receipt, RunningTxn};
 
@@ -32,6 +33,8 @@ use txc_txn::{Receipt, RunningTxn};
 pub struct RoTxn<'a, A: App, C: Cacheable, J: Naming> {
     pub(crate) ports: Ports<'a, A, J>,
     pub(crate) renew_after: u64,
+    // How many of the first pins that it took its client keeps.
+    pub(crate) kept: usize,
     pub(crate) txn: RunningTxn<A, C>,
 }
 
@@ -127,10 +130,11 @@ impl<'a, A: App, C: Cacheable, J: Naming> RoTxn<'a, A, C, J> {
         let RoTxn {
             ports,
             renew_after,
+            kept,
             txn,
         } = self;
-        let (receipt, give_back, registry) = txn.finish();
-        let _ = ports.cushion.give_back(rt, &give_back);
+        let (receipt, taken, registry) = txn.finish();
+        give_back_after(rt, ports.cushion, &taken, kept);
         let client = Client {
             ports,
             registry,
@@ -146,5 +150,25 @@ impl<'a, A: App, C: Cacheable, J: Naming> RoTxn<'a, A, C, J> {
         // It only read: what is left to do is the same, and its receipt is not asked for.
         let (_receipt, client) = self.commit(rt);
         client
+    }
+}
+
+// The stamps after the first ones, which are kept.
+fn stamps_after(taken: &[Stamp], kept: usize) -> &[Stamp]
+    ensures { result.now ≡ drop kept taken.now }
+{
+    taken.get(kept..).unwrap_or(&[])
+}
+
+// Gives back the pins after the first ones, which are kept. Where there are none, it takes no lock.
+fn give_back_after<J: Naming>(
+    rt: &impl Wait,
+    cushion: &Pincushion<J>,
+    taken: &[Stamp],
+    kept: usize,
+) {
+    let stamps = stamps_after(taken, kept);
+    if !stamps.is_empty() {
+        let _ = cushion.give_back(rt, stamps);
     }
 }
