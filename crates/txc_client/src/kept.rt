@@ -1,134 +1,18 @@
 //! Pins that a client keeps from one transaction to the next.
-ghost use Rattle.std.specs.Prelude.{◌≡◌, All, None, filter, map, IfErr, IfOk, IfSome};
+ghost use Rattle.std.specs.Prelude.{◌≡◌, All, None, map, IfErr, IfOk, IfSome};
 ghost use Rattle.txc_db.specs.History.{IsAllowed};
 ghost use Rattle.txc_cushion.specs.Cushion.{cushion_front, handed_out};
 ghost use Rattle.txc_cushion.specs.Refusals.{IsFirstUnused};
 ghost use Rattle.txc_cushion.specs.Shared.{CushionMayAnswer};
-ghost use Rattle.txc_client.specs.Kept.{is_fresh, fresh_of, may_be_used, HasBegunKept, IsHandedFor, IsKeptAfter};
+ghost use Rattle.txc_client.specs.Kept.{fresh_of, HasBegunKept, IsKeptAfter};
 
-use crate::client::give_back_each;
+use crate::handed::{Handed, hand_out};
 use std::alloc::{AllocError, Global};
 use std::marker::Model;
 use std::sync::Wait;
-use txc_cushion::{Pin, Pincushion, Pins, UnknownPin};
+use txc_cushion::{Pincushion, Pins, UnknownPin};
 use txc_db::Naming;
 use txc_ports::Bounds;
-use txc_stamp::Stamp;
-
-// Pins that were handed out, each with a user for them, and their stamps, by which they are given back.
-struct Handed {
-    pins: Pins,
-    stamps: Vec<Stamp>,
-    since: u64,
-}
-
-impl Model for Handed {
-    ghost use Rattle.std.specs.Prelude.{◌≡◌, map};
-    ghost use Rattle.txc_client.specs.Kept.{HandedValue};
-
-    ghost Value = { HandedValue };
-
-    ghost view = { λ h. record { pins = h.pins.pins.items; front = h.pins.front; since = h.since } };
-
-    ghost invariant = { λ h. h.stamps.items ≡ map (λ pin. pin.stamp) h.pins.pins.items };
-}
-
-// Whether a transaction with these bounds may use the pin.
-fn is_fresh(pin: Pin, bounds: Bounds) -> bool
-    ensures { result ≡ is_fresh bounds pin }
-{
-    !pin.is_older(bounds.staleness, bounds.now) && bounds.at_least <= pin.stamp
-}
-
-// The pins that are fresh.
-fn fresh_pins(alloc: Global, pins: &[Pin], bounds: Bounds) -> Result<Vec<Pin>, AllocError>
-    ensures { IfOk result (λ fresh. fresh.items ≡ filter (is_fresh bounds) pins.now) }
-{
-    pins.iter()
-        .filter(|pin| is_fresh(**pin, bounds))
-        .map(|pin| *pin)
-        .collect(alloc)
-}
-
-// The stamps of the pins.
-fn stamps_of(alloc: Global, pins: &[Pin]) -> Result<Vec<Stamp>, AllocError>
-    ensures { IfOk result (λ stamps. stamps.items ≡ map (λ pin. pin.stamp) pins.now) }
-{
-    pins.iter().map(|pin| pin.stamp).collect(alloc)
-}
-
-impl Handed {
-    // Whether a transaction may begin with them.
-    fn may_be_used(&self, most: u64, bounds: Bounds) -> bool
-        ensures { result ≡ may_be_used most bounds self.now }
-    {
-        self.since <= bounds.now
-            && u128::from(bounds.now) < u128::from(self.since) + u128::from(most)
-            && self
-                .pins
-                .pins
-                .iter()
-                .all(|pin| bounds.at_least <= pin.stamp)
-            && self.pins.pins.iter().any(|pin| is_fresh(*pin, bounds))
-    }
-
-    // Those that are fresh. It takes no lock, and no user is added: those of the kept pins are theirs too.
-    fn fresh(&self, alloc: Global, bounds: Bounds) -> Result<Pins, AllocError>
-        ensures pins { IfOk result (λ given. given.pins.items ≡ fresh_of bounds self.now) }
-        ensures front { IfOk result (λ given. given.front ≡ self.now.front) }
-        ensures allowed { IfOk result (λ given. All (λ pin. IsAllowed given.front.history pin.stamp bounds.now
-            bounds.staleness bounds.at_least) given.pins.items) }
-        ensures answer { IfOk result (CushionMayAnswer self.now.front.events (λ c given.
-            (given.pins.items ≡ handed_out c bounds.now bounds.staleness bounds.at_least)
-            × (given.front ≡ cushion_front c))) }
-    {
-        let pins = fresh_pins(alloc, &self.pins.pins, bounds)?;
-        let front = self.pins.front.again()?;
-        Ok(Pins { pins, front })
-    }
-
-    // Takes one user of each away. It takes no memory.
-    fn give_back<J: Naming>(self, rt: &impl Wait, cushion: &Pincushion<J>) -> Result<(), UnknownPin>
-        ensures refused { IfErr result (CushionMayAnswer J.database_history (λ c unknown.
-            IsFirstUnused c.entries (map (λ pin. pin.stamp) self.pins) unknown.stamp)) }
-    {
-        let Handed {
-            pins: _,
-            stamps,
-            since: _,
-        } = self;
-        cushion.give_back(rt, &stamps)
-    }
-}
-
-// Pins that the pincushion hands out for these bounds. Out of memory, they are given back.
-fn hand_out<J: Naming>(
-    rt: &impl Wait,
-    alloc: Global,
-    cushion: &Pincushion<J>,
-    bounds: Bounds,
-) -> Result<Handed, AllocError>
-    ensures named { IfOk result (λ handed. handed.front.events ≡ J.database_history) }
-    ensures handed { IfOk result (IsHandedFor J.database_history bounds) }
-{
-    let Bounds {
-        now,
-        staleness,
-        at_least,
-    } = bounds;
-    let pins = cushion.fresh(rt, alloc, now, staleness, at_least)?;
-    match stamps_of(alloc, &pins.pins) {
-        Ok(stamps) => Ok(Handed {
-            pins,
-            stamps,
-            since: now,
-        }),
-        Err(error) => {
-            give_back_each(rt, cushion, &pins);
-            Err(error)
-        }
-    }
-}
 
 // The pins that were kept, where they may be used; else these are given back, and others handed out.
 fn renewed<J: Naming>(

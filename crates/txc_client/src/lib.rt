@@ -7,6 +7,7 @@
 mod calling;
 mod client;
 mod finding;
+mod handed;
 mod kept;
 pub mod laws;
 mod ports;
