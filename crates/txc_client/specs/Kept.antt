@@ -52,11 +52,15 @@ pub record IsKeptAfter (events : Name) (asked : Bounds) (before : KeptValue) (af
   pub same : may_go_on before.most asked before.handed ≡ true → before.handed ≡ Some after
   pub anew : may_go_on before.most asked before.handed ≡ false → IsHandedFor events asked after
 
+-- so much is kept then
+pub record AreKept (events : Name) (asked : Bounds) (before after : KeptValue) : Type 0 where
+  pub handed : HandedValue
+  pub some : after.handed ≡ Some handed
+  pub since : IsKeptAfter events asked before handed
+
 -- a transaction has begun with exactly those of the kept pins that are fresh for its bounds, and has seen what
 -- their front shows
 pub record HasBegunKept (events : Name) (asked : Bounds) (before after : KeptValue) (pins : List Pin) (seen : FrontValue) : Type 0 where
-  pub handed : HandedValue
-  pub some : after.handed ≡ Some handed
-  pub kept : IsKeptAfter events asked before handed
-  pub members : pins ≡ fresh_of asked handed
-  pub seen : seen ≡ handed.front
+  pub kept : AreKept events asked before after
+  pub members : pins ≡ fresh_of asked kept.handed
+  pub seen : seen ≡ kept.handed.front

@@ -1,10 +1,10 @@
 //! Pins that a client keeps from one transaction to the next.
-ghost use Rattle.std.specs.Prelude.{◌≡◌, All, None, map, IfErr, IfOk, IfSome};
+ghost use Rattle.std.specs.Prelude.{◌≡◌, All, None, map, IfErr, IfOk, IfSome, MatchOption};
 ghost use Rattle.txc_db.specs.History.{IsAllowed};
 ghost use Rattle.txc_cushion.specs.Cushion.{cushion_front, handed_out};
 ghost use Rattle.txc_cushion.specs.Refusals.{IsFirstUnused};
 ghost use Rattle.txc_cushion.specs.Shared.{CushionMayAnswer};
-ghost use Rattle.txc_client.specs.Kept.{fresh_of, HasBegunKept, IsKeptAfter};
+ghost use Rattle.txc_client.specs.Kept.{HasBegunKept, IsKeptAfter};
 
 use crate::handed::{Handed, hand_out};
 use std::alloc::{AllocError, Global};
@@ -112,9 +112,9 @@ impl<'a, J: Naming> KeptPins<'a, J> {
 
     /// Gives them back, once the client begins no transaction with them any more. It takes no memory.
     pub fn give_back(self, rt: &impl Wait) -> Result<(), UnknownPin>
-        ensures refused { IfErr result (CushionMayAnswer J.database_history (λ c unknown.
-            IfSome self.handed (λ handed.
-            IsFirstUnused c.entries (map (λ pin. pin.stamp) handed.pins) unknown.stamp))) }
+        ensures refused { IfErr result (λ unknown. MatchOption self.handed ⊥ (λ handed.
+            CushionMayAnswer J.database_history (λ c stamp.
+            IsFirstUnused c.entries (map (λ pin. pin.stamp) handed.pins) stamp) unknown.stamp)) }
     {
         let KeptPins {
             cushion,

@@ -1,6 +1,7 @@
 //! The transactions of pages.
 ghost use Rattle.std.specs.Prelude.{◌≡◌, ◌≢◌, ◌++◌, ◌∷◌, [], Err, IfErr, IfOk, IsNone, OnErr};
 ghost use Rattle.txc_call.specs.declared.error.CallError.TheVariants.{NoFunction};
+ghost use Rattle.txc_client.specs.Kept.{HasBegunKept};
 ghost use Rattle.txc_client.specs.Run.{HasRun};
 ghost use Rattle.txc_client.specs.Txn.{IsValueAtMembers};
 ghost use Rattle.txc_registry.specs.Objects.{activity_of, AllIdle};
@@ -14,7 +15,7 @@ use std::alloc::{AllocError, Global};
 use std::marker::{Brand, Model, PhantomData};
 use std::sync::Wait;
 use txc_app::App;
-use txc_client::{Client, RoTxn};
+use txc_client::{Client, KeptPins, RoTxn};
 use txc_cushion::Pin;
 use txc_db::{HistoryFront, Naming};
 use txc_definition::{Definition, Function};
@@ -80,6 +81,37 @@ impl<'a, A: App, D: Definition, J: Naming, B: Begun> PageTxn<'a, A, D, J, B> {
             }),
             Err(refused) => Err(refused),
         }
+    }
+
+    /// The same with pins that the client keeps.
+    #[tactic(auto, using(crate::proofs::Pages::none_called))]
+    pub(crate) fn begin_keeping(
+        rt: &impl Wait,
+        alloc: Global,
+        client: Client<'a, A, Function<D>, J>,
+        bounds: Bounds,
+        kept: KeptPins<'a, J>,
+    ) -> (
+        Result<PageTxn<'a, A, D, J, B>, (AllocError, Client<'a, A, Function<D>, J>)>,
+        KeptPins<'a, J>,
+    )
+        requires client { client ≡ B.client }
+        requires bounds { bounds ≡ B.bounds }
+        ensures recorded { IfOk result.0 (λ txn. txn.txn.core.recorded ≡ []) }
+        ensures kept { IfOk result.0 (λ txn. HasBegunKept J.database_history B.bounds kept result.1
+            txn.txn.core.pins.members txn.txn.core.seen) }
+        ensures most { result.1.most ≡ kept.most }
+        ensures handed_back { IfErr result.0 (λ e. e.1 ≡ B.client) }
+    {
+        let (begun, kept) = client.begin_keeping(rt, alloc, bounds, kept);
+        let begun = match begun {
+            Ok(txn) => Ok(PageTxn {
+                txn,
+                of: PhantomData,
+            }),
+            Err(refused) => Err(refused),
+        };
+        (begun, kept)
     }
 
     /// The call's value: what it comes to without a cache at every pin that remains. Where it is refused, the

@@ -2,6 +2,7 @@
 ghost use Rattle.std.specs.Prelude.{◌≡◌, ◌+◌, ◌<◌, ◌≤◌, [], All, IfErr, IfOk, MatchOption, None, OnErr, OnOk, length, map, slice_get, vec_len};
 ghost use Rattle.txc_stream.specs.Names.{HasRow};
 ghost use Rattle.txc_node.specs.Counts.{AreCountsOf};
+ghost use Rattle.txc_client.specs.Kept.{AreKept};
 ghost use Rattle.txc_client.specs.Ports.{CountsLeave, HaveGrown, IsCallAt};
 ghost use Rattle.txc_registry.specs.Objects.{AllIdle};
 ghost use Rattle.txc_pages.specs.Pages.{IsLeftByRefused, IsPageRun, IsPageRefused};
@@ -18,13 +19,13 @@ use std::alloc::Global;
 use std::marker::Model;
 use std::sync::Wait;
 use txc_app::App;
-use txc_client::Client;
+use txc_client::{Client, KeptPins};
 use txc_db::Naming;
 use txc_definition::{Definition, Function};
 use txc_keeper::{Keeper, SiteError};
 use txc_ledger::{Change, Committer, WriteError, Written, write_change};
 use txc_node::Counts;
-use txc_pages::{Page, ReadError, Shown, read_page};
+use txc_pages::{Page, ReadError, Shown, read_page, read_page_keeping};
 use txc_ports::Bounds;
 use txc_registry::Registry;
 
@@ -125,6 +126,62 @@ impl<'a, A: App, D: Definition, J: Naming> SiteClient<'a, A, D, J> {
             tally,
         };
         (shown, client)
+    }
+
+    /// No pins yet, for pages of this client that keep them for less than `most` milliseconds.
+    pub fn keeping(&self, most: u64) -> KeptPins<'a, J>
+        ensures { result ≡ record { most = most; handed = None } }
+    {
+        self.reader.keeping(most)
+    }
+
+    /// Runs the page as [`SiteClient::read`] does, in a transaction that begins with those of the kept pins that its
+    /// bounds allow; or, where these may not be used, with others, which are kept from then on.
+    pub fn read_keeping<P: Page<A, D>, R: Wait>(
+        self,
+        rt: &R,
+        alloc: Global,
+        bounds: Bounds,
+        kept: KeptPins<'a, J>,
+        page: &P,
+    ) -> (Result<Shown<P::Output>, ReadError>, Self, KeptPins<'a, J>)
+        ensures shows { IfOk result.0 (λ shown.
+            P.shows page.now shown.receipt.answers.items shown.output) }
+        ensures explained { IfOk result.0 (λ shown. Explains A.next shown.receipt.seen.history bounds
+            shown.receipt.pin shown.receipt.answers.items) }
+        ensures not_before { IfOk result.0 (λ shown. IsAtLeast bounds.at_least shown.receipt.pin) }
+        ensures row { IfOk result.0 (λ shown. shown.receipt.seen.events ≡ J.database_history) }
+        ensures ran { IfOk result.0 (λ shown. IsPageRun A.next J.database_history J.node_histories self.entry.reader bounds
+            shown.receipt.answers.items result.1.reader) }
+        ensures kept { IfOk result.0 (λ shown. AreKept J.database_history bounds kept result.2) }
+        ensures most { result.2.most ≡ kept.most }
+        ensures refused { IfErr result.0 (IsPageRefused (P.refuses page.now)) }
+        ensures left { IfErr result.0 (λ error. IsLeftByRefused A.next J.database_history J.node_histories
+            self.entry.reader bounds error result.1.reader) }
+        ensures passes { HaveGrown self.entry.reader.passes result.1.reader.passes }
+        ensures functions { result.1.reader.objects ≡ self.entry.reader.objects }
+        ensures renew_after { result.1.reader.renew_after ≡ self.entry.reader.renew_after }
+        ensures plan { result.1.plan ≡ self.entry.plan }
+        ensures writer { result.1.writer ≡ self.entry.writer }
+        ensures commits { result.1.commits ≡ self.entry.commits }
+    {
+        let SiteClient {
+            foundation,
+            reader,
+            writer,
+            committer,
+            tally,
+        } = self;
+        let (shown, reader, kept) = read_page_keeping(rt, alloc, reader, bounds, kept, page);
+        tally.count_read(&shown);
+        let client = SiteClient {
+            foundation,
+            reader,
+            writer,
+            committer,
+            tally,
+        };
+        (shown, client, kept)
     }
 
     /// Runs the change in a read-write transaction, and commits that. After a conflict it runs the change
