@@ -56,7 +56,7 @@ class Run:
         """So many visitors, on threads of one process or in a process each."""
         start = int(time.time() * 1000) + AHEAD
         places = [range(count)] if threads else [[at] for at in range(count)]
-        words = [*kind.split(), str(count if threads else 1), str(start), str(given.milliseconds), str(given.nodes)]
+        words = [*kind.split(), str(count if threads else 1), str(start), str(given.milliseconds), str(given.nodes), str(given.events), str(given.most)]
         begun = [subprocess.Popen([program, *words], stdout=subprocess.PIPE, text=True,
                                   preexec_fn=lambda place=place: os.sched_setaffinity(0, place)) for place in places]
         self.pages = self.sleeps = self.switches = self.conflicts = 0
@@ -104,6 +104,8 @@ def main():
     words.add_argument("--kinds", nargs="+", default=KINDS)
     words.add_argument("--counts", nargs="+", type=int, default=[1, 2, 4])
     words.add_argument("--nodes", type=int, default=16)
+    words.add_argument("--events", type=int, default=1 << 18)
+    words.add_argument("--most", type=int, default=0)
     words.add_argument("--runs", type=int, default=7)
     words.add_argument("--milliseconds", type=int, default=500)
     words.add_argument("programs", nargs="*", metavar="PROGRAM")
