@@ -73,13 +73,29 @@ fn page<'a, J: Naming>(
     Ok(client)
 }
 
-/// A transaction of a client in a session, and one that is given up.
+/// A transaction with pins that are kept, and given back then.
+fn page_keeping<'a, J: Naming>(
+    rt: &impl Wait,
+    alloc: Global,
+    client: Client<'a, Program, Object, J>,
+) -> Client<'a, Program, Object, J> {
+    let kept = client.keeping(100);
+    let (begun, kept) = client.begin_keeping(rt, alloc, BOUNDS, kept);
+    let client = match begun {
+        Ok(txn) => txn.abort(rt),
+        Err((_, client)) => client,
+    };
+    let _ = kept.give_back(rt);
+    client
+}
+
+/// A transaction of a client in a session, one with pins that are kept, and one that is given up.
 pub fn pages<J: Naming>(
     rt: &impl Wait,
     alloc: Global,
     client: Client<'_, Program, Object, J>,
 ) -> Result<usize> {
-    let client = page(rt, alloc, client)?;
+    let client = page_keeping(rt, alloc, page(rt, alloc, client)?);
     let mut client = match client.begin_ro(rt, alloc, BOUNDS) {
         Ok(txn) => txn.abort(rt),
         Err((_, client)) => client,
