@@ -9,8 +9,8 @@
   GATE.md              the table of what the gate takes, from docs/gate.tsv
   FIGURES.md           the table of wrong bodies that were seen refused, from docs/refused.tsv
   EXAMPLES.md          from examples/
-  SCRIPTS.md           nothing of it; but the session of a world has to be that of its script, and the lines those of the tables by which
-                       they are read (scripts/lines.py)
+  SCRIPTS.md           how its lines are written, from the tables by which they are read (scripts/lines.py); the session of a world has to
+                       be that of its script
   CALLING.md           its code, from the tests
   EMBEDDING.md         its code, from tests/txc_first, the shop and the auction
 
@@ -127,9 +127,7 @@ def check_session(text):
 
 def scripts(text):
     check_session(text)
-    if found := lines.faults(text):
-        sys.exit("\n".join(found))
-    return text
+    return lines.written(text)
 
 
 def examples():

@@ -1,87 +1,89 @@
-"""The lines of scripts as docs/SCRIPTS.md shows them, held against the tables by which they are read.
+"""The lines of scripts in docs/SCRIPTS.md. How a line is written is made of the tables by which lines are read: in a table of lines the
+first cell of each row, and the rows of QUERY and CHANGE. The other cells are written by hand.
 
-A row of its tables of lines shows a name and words in capitals, or words that stand as they are. Of each mode the names are to be
-those of the table, and after each name as many words as the table wants, each of its kind. A form that is told on standard error
-is to be the one that is shown.
+In the tables of worlds what a word is called stands beside its kind. In that of nodes it heads the comment above the row.
 """
 import re
 
 from sources import ROOT
 
-# Of which kind a word in capitals is, in the names that the tables have for kinds.
-KINDS = {
-    "Stamp": "STAMP LO HI KNOWN HORIZON", "Key": "KEY", "Tags": "TAGS", "Bytes": "HEX", "Reach": "still closed", "place": "ACTOR NODE",
-    "Table": "TABLE", "Id": "ID GROUP FROM TO", "moment": "NOW STALENESS AGE", "Function": "FUNCTION", "Text": "BODY",
-    "QueryName": "by-id by-group all range", "ChangeName": "put remove",
-}  # fmt: skip
+# Of which kind a word of a node's line or of a job is, by what it is called.
+KINDS = {"Stamp": "STAMP LO HI KNOWN HORIZON", "Key": "KEY", "Tags": "TAGS", "Bytes": "HEX", "Reach": "still closed", "moment": "NOW STALENESS"}
 KIND_OF = {word: kind for kind, words in KINDS.items() for word in words.split()}
 
 
-def forms_shown(text, head):
-    """The lines that the first table of a section shows: the name, the words after it, and what more stands behind them, if anything."""
-    table = text.partition(f"\n{head}\n")[2].partition("\n| Line |")[2].partition("\n\n")[0]
-    firsts = [row.split("|")[1].strip() for row in table.split("\n") if row.startswith("| `")]
-    return [(form[1], form[2].split(), form[3]) for it in firsts if (form := re.fullmatch(r"`(\S+)((?: \S+)*)`(?: ([A-Z]+))?", it))]
-
-
-def parts_shown(text, part):
-    """The forms of a query or of a change, which stand in one cell."""
-    cell = re.search(rf"(?m)^\| {part} \| (.*) \|$", text)[1]
-    return [it.split() for it in re.findall(r"`([^`]+)`", cell)]
-
-
 def node_forms():
+    """Each line of mode node, by its name: as it is written, in each way."""
     source = (ROOT / "crates/txc_run/specs/Lines.antt").read_text()
-    found = re.findall(r'name = codes "(\w+)";\s+kinds = ((?:\w+ ∷ )+)\[\]', source)
-    return {name: kinds.split(" ∷ ")[:-1] for name, kinds in found}
-
-
-def kinds_in(source, term):
-    """The kinds that a term lists, or that an equation of the same file has for it."""
-    words = re.sub(r"[()]|\[\]|Some", "", term).strip()
-    whole = re.search(rf"(?m)^{re.escape(words)} = (.*)$", source)
-    return kinds_in(source, whole[1]) if whole else [it.split()[0] for it in words.split("∷") if it.strip()]
+    found = re.findall(r'\n-- ([A-Z]+(?: \w+)*).*\nabbrev pub \w+ : LineForm.*\n[^\n]*\{\s+name = codes "(\w+)";\s+kinds = ((?:\w+ ∷ )+)\[\]', source)
+    forms = {}
+    for words, name, kinds in found:
+        if [KIND_OF[it] for it in words.split()] != kinds.split(" ∷ ")[:-1]:
+            raise SystemExit(f"crates/txc_run/specs/Lines.antt: the words of `{name}` are not of the kinds of their names")
+        forms[name] = [f"{name} {words}"] + [f"{name} {words}".replace("still", "closed")] * ("still" in words.split())
+    return forms
 
 
 def world_forms():
-    """The kinds after each name, and the name of the first word of those whose second names a query or a change."""
-    source = (ROOT / "crates/txc_words/specs/Faults.antt").read_text()
-    names = dict(re.findall(r'name_text names\.(\w+) = codes "(\w+)"', (ROOT / "crates/txc_words/specs/Names.antt").read_text()))
+    """Each line of mode world, by its name, with what ends it, if anything does; and the forms of a query and of a change."""
+    source, names = ((ROOT / f"crates/{it}.antt").read_text() for it in ("txc_words/specs/Faults", "txc_words/specs/Names"))
+    words = (ROOT / "crates/txc_script/specs/Lines.antt").read_text()
+    ends = {"QUERY": [], "CHANGE": []}
+    rows = re.findall(r"\nparts_(\w+) (?:\w+\.)?(\w+) =\s+(.*)", source)
+    labels = lambda term: re.findall(r'codes "(\w+)"', term)
+    for of, name, term in rows:
+        if of.startswith("of_"):
+            text = re.search(rf'\n{of[3:]}_text \w+\.{name} = codes "([\w-]+)"', words)[1]
+            ends[of[3:].upper()].append(" ".join([text, *labels(term)]))
+    after = {name: term for of, name, term in rows if of == "after"}
+    lasts = {name: part.upper() for name, part in re.findall(r"kinds_after_name names\.(\w+) second = (query|change)_line", source)}
     forms = {}
-    for name, term in re.findall(r"kinds_after_name names\.(\w+) second = (.*)", source):
-        line = re.fullmatch(r"(query|change)_line ?(\w*) second", term)
-        forms[names[name]] = ([line[2] or "place"], line[1].upper()) if line else (kinds_in(source, term), None)
-    told = {names[name]: form for name, form in re.findall(r'usage_text names\.(\w+) =\s+codes "([^"]+)"', source)}
-    return forms, told
+    for name, text in re.findall(r'name_text names\.(\w+) = codes "(\w+)"', names):
+        term = after.get(name, after["name"])
+        if not term.startswith("parts_of_change"):
+            forms[text] = (" ".join([text, *labels(term)]), lasts.get(name))
+    return forms, ends
 
 
-def batch_forms(world):
-    """The kinds after the names of a change and of a pin, as in a world, and after `job`, whose last word may stand again."""
+def job_form():
+    """The line of a job, whose last word may stand again."""
     source = (ROOT / "crates/txc_batch/specs/Orders.antt").read_text()
-    forms = {it.lower(): world[it.lower()][0] for it in re.findall(r"IsPreparing names\.(\w+) = Unit", source)}
-    moments, key = re.search(r"kinds_for (\(.*\)) word_kinds\.(\w+) words", source).groups()
-    return {**forms, "job": kinds_in(source, moments) + [key]}
+    moments, key = re.search(r"kinds_for \((.*) ∷ \[\]\) word_kinds\.(\w+) words", source).groups()
+    return [*moments.split(" ∷ "), key]
 
 
-def faults(text):
-    """What the text of SCRIPTS.md says otherwise than the tables."""
-    found = []
-    node = node_forms()
-    for name, words, _ in forms_shown(text, "## Mode node"):
-        if [KIND_OF[it] for it in words] != node.get(name):
-            found.append(f"docs/SCRIPTS.md: mode node reads `{name}` with {node.get(name)} after it")
-    found += [f"docs/SCRIPTS.md shows no line `{it}` of mode node" for it in node.keys() - {it[0] for it in forms_shown(text, "## Mode node")}]
-    world, told = world_forms()
-    shown = forms_shown(text, "### The keeper's lines") + forms_shown(text, "### The actors' lines")
-    shown += [(it[0], it[1:], None) for it in parts_shown(text, "CHANGE")]
-    for name, words, part in shown:
-        if ([KIND_OF[it] for it in words], part) != world.get(name):
-            found.append(f"docs/SCRIPTS.md: mode world reads `{name}` with {world.get(name)} after it")
-        if part:
-            first, *others = [" ".join([name, *words, *it]) if n == 0 else " ".join(it) for n, it in enumerate(parts_shown(text, part))]
-            if told.get(name) != f"{first} ({', '.join(f'or {it}' for it in others)})":
-                found.append(f"docs/SCRIPTS.md: of `{name}` the form that is told is `{told.get(name)}`")
-    found += [f"docs/SCRIPTS.md shows no line `{it}` of mode world" for it in world.keys() - {it[0] for it in shown}]
-    table = text.partition("\n## Mode batch\n")[2].partition("\n| Line |")[2].partition("\n\n")[0]
-    jobs = {it.split()[0]: [KIND_OF[word] for word in it.split()[1:] if word != ".."] for it in re.findall(r"`([a-z]+ [^`]+)`", table)}
-    return found + ["docs/SCRIPTS.md: mode batch reads other lines than it shows"] * (jobs != batch_forms(world))
+def filled(text, head, forms):
+    """The text with the first cells of the table of this section made anew; each form has its row, and each row its form."""
+    before, heading, after = text.partition(f"\n{head}\n")
+    start, line, rest = after.partition("\n| Line |")
+    table, end, behind = rest.partition("\n\n")
+    left = {name: list(shown) for name, shown in forms.items()}
+
+    def row(found):
+        name = re.match(r"`?(\w+)", found[1])[1]
+        if not left.get(name):
+            raise SystemExit(f"docs/SCRIPTS.md: {head} shows a line `{name}` that is not read")
+        return f"\n| {left[name].pop(0)} |"
+
+    table = re.sub(r"\n\| (`[^|]*|CHANGE) \|", row, table)
+    if missing := [name for name, shown in left.items() if shown]:
+        raise SystemExit(f"docs/SCRIPTS.md: {head} shows no line {', '.join(missing)}")
+    return before + heading + start + line + table + end + behind
+
+
+def written(text):
+    """The text of SCRIPTS.md with each line as the tables have it."""
+    text = filled(text, "## Mode node", {name: [f"`{it}`" for it in shown] for name, shown in node_forms().items()})
+    forms, ends = world_forms()
+    shown = {name: [f"`{form}`{f' {last}' if last else ''}"] for name, (form, last) in forms.items()}
+    of_actor = {name for name, it in shown.items() if " ACTOR" in it[0]}
+    text = filled(text, "### The keeper's lines", {"CHANGE": ["CHANGE"], **{name: it for name, it in shown.items() if name not in of_actor}})
+    text = filled(text, "### The actors' lines", {name: it for name, it in shown.items() if name in of_actor})
+    for part, each in ends.items():
+        *first, last = [f"`{it}`" for it in each]
+        text = re.sub(rf"(?m)^\| {part} \| [^|]* \|$", lambda _: f"| {part} | {', '.join(first)} or {last} |", text)
+    early = [*ends["CHANGE"], forms["pin"][0]]
+    job = re.search(r"\n\| `job ([A-Z ]+) \.\.`", text)[1].split()
+    if [KIND_OF[it] for it in job] != job_form():
+        raise SystemExit("docs/SCRIPTS.md: mode batch reads another line `job` than it shows")
+    return re.sub(r"(?m)^\| `put TABLE .* \| as in mode world", lambda _: f"| {', '.join(f'`{it}`' for it in early)} | as in mode world", text)

@@ -5,11 +5,15 @@ use Rattle.txc_words.specs.RefusalTexts.{add_error_text, database_text}
 use Rattle.txc_batch.specs.declared.prepared.PrepareError.{PrepareError}
 use Rattle.txc_batch.specs.declared.prepared.PrepareError.TheVariants.{Database, Pincushion}
 
+-- why it was not made
+abbrev pub prepare_error_text : PrepareError → List ℕ
+prepare_error_text (Database error) = database_text error
+prepare_error_text (Pincushion error) = add_error_text error
+
 -- the newest stamp after it, or why it was not made
 abbrev pub prepared_text : Result ℕ PrepareError → List ℕ
 prepared_text (Ok stamp) = codes "at " ++ decimal stamp
-prepared_text (Err (Database error)) = codes "refused " ++ database_text error
-prepared_text (Err (Pincushion error)) = codes "refused " ++ add_error_text error
+prepared_text (Err error) = codes "refused " ++ prepare_error_text error
 
 -- it was not made
 abbrev pub is_refused_preparing : Result ℕ PrepareError → Bool

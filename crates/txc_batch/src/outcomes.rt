@@ -1,56 +1,48 @@
 //! What is written of the outcomes of jobs.
 ghost use Rattle.std.specs.Prelude.{◌≡◌, ◌≢◌, ◌++◌, Err, IfOk, OnOk, OnErr};
+ghost use Rattle.std.specs.Fmt.{WritesOnOk};
 ghost use Rattle.std.specs.List.{flat_map, list_any};
-ghost use Rattle.txc_batch.specs.OutcomeTexts.{batch_text, is_refused_batch, is_refused_outcome, result_text};
+ghost use Rattle.txc_batch.specs.OutcomeTexts.{batch_text, is_refused_batch, is_refused_outcome, outcome_text, result_text};
 
 use crate::ran::Ran;
 use std::alloc::{AllocError, Global};
 use std::fmt;
 use txc_words::write_transaction;
-use txc_work::{BatchError, Outcome, Receipted};
+use txc_work::{BatchError, Outcome};
 
-#[derive(Drop)]
-struct OfOutcome<'a>(&'a Outcome);
-
-impl fmt::Display for OfOutcome<'_> {
-    ghost use Rattle.std.specs.Prelude.{Some};
-    ghost use Rattle.txc_batch.specs.OutcomeTexts.{outcome_text};
-
-    ghost output = { λ o. Some (outcome_text o.0.now) };
-
-    fn fmt<W: fmt::Write>(&self, f: &mut fmt::Formatter<W>) -> fmt::Result {
-        match self.0 {
-            Outcome::Receipt(receipt) => {
-                for answer in &receipt.answers {
-                    let value = &answer.value;
-                    write!(f, " {value}")?;
-                }
-                Ok(())
+/// Writes the values of a job's calls, or the refusal of one.
+fn write_outcome<W: fmt::Write>(f: &mut fmt::Formatter<W>, outcome: &Outcome) -> fmt::Result
+    ensures { WritesOnOk W.write_str_gives f.old result (outcome_text outcome.now) f.new }
+{
+    match outcome {
+        Outcome::Receipt(receipt) => {
+            for answer in &receipt.answers {
+                let value = &answer.value;
+                write!(f, " {value}")?;
             }
-            Outcome::Refused(error) => {
-                f.write_str(" refused ")?;
-                write_transaction(f, error)
-            }
+            Ok(())
+        }
+        Outcome::Refused(error) => {
+            write!(f, " refused ")?;
+            write_transaction(f, error)
         }
     }
 }
 
-/// The lines of jobs.
-#[derive(Drop)]
-struct OfResults<'a>(&'a [Receipted]);
-
-impl fmt::Display for OfResults<'_> {
+/// The lines of its jobs.
+impl fmt::Display for Ran {
     ghost use Rattle.std.specs.Prelude.{Some};
     ghost use Rattle.std.specs.List.{flat_map};
     ghost use Rattle.txc_batch.specs.OutcomeTexts.{result_text};
 
-    ghost output = { λ r. Some (flat_map result_text r.0.now) };
+    ghost output = { λ ran. Some (flat_map result_text ran.results) };
 
     fn fmt<W: fmt::Write>(&self, f: &mut fmt::Formatter<W>) -> fmt::Result {
-        for told in self.0 {
+        for told in self.results() {
             let number = told.number;
-            let outcome = OfOutcome(&told.outcome);
-            write!(f, "job {number}{outcome}\n")?;
+            write!(f, "job {number}")?;
+            write_outcome(f, &told.outcome)?;
+            writeln!(f)?;
         }
         Ok(())
     }
@@ -66,20 +58,15 @@ fn is_refused(outcome: &Outcome) -> bool
 }
 
 /// Puts the lines of jobs after the text. Returns whether one of them holds a refusal.
-fn push_results(
-    alloc: Global,
-    text: &mut Vec<u8>,
-    results: &[Receipted],
-) -> Result<bool, AllocError>
-    ensures text { OnOk result (text.new.items ≡ text.old.items ++ flat_map result_text results.now) }
+fn push_results(alloc: Global, text: &mut Vec<u8>, ran: &Ran) -> Result<bool, AllocError>
+    ensures text { OnOk result (text.new.items ≡ text.old.items ++ flat_map result_text ran.now.results) }
     ensures refusal { IfOk result (λ refused.
-        refused ≡ list_any (λ told. is_refused_outcome told.outcome) results.now) }
+        refused ≡ list_any (λ told. is_refused_outcome told.outcome) ran.now.results) }
     ensures unchanged { OnErr result (text.new.items ≡ text.old.items) }
 {
-    let results_told = OfResults(results);
-    let lines = format!(in alloc; "{results_told}")?;
+    let lines = format!(in alloc; "{ran}")?;
     text.extend_from_slice(lines.as_bytes())?;
-    Ok(results.iter().any(|told| is_refused(&told.outcome)))
+    Ok(ran.results().iter().any(|told| is_refused(&told.outcome)))
 }
 
 /// Puts what a batch came to after the text. Returns whether that holds a refusal. Of a batch that was refused
@@ -95,7 +82,7 @@ pub fn push_batch(
     ensures unchanged { OnErr result (text.new.items ≡ text.old.items) }
 {
     match batch {
-        Ok(ran) => push_results(alloc, text, ran.results()),
+        Ok(ran) => push_results(alloc, text, ran),
         Err(BatchError::Missing(number)) => {
             let line = format!(in alloc; "refused J1 {number}\n")?;
             text.extend_from_slice(line.as_bytes())?;

@@ -9,7 +9,7 @@ use txc_db::DbError;
 use txc_stamp::Stamp;
 use txc_words::{write_add, write_database};
 
-/// Why a change was not made, or a pin.
+/// Why a change was not made, or a pin. It is printed as its code and the number that goes with it.
 #[derive(Clone, Copy, Debug, PartialEq, Eq)]
 pub enum PrepareError {
     Database(DbError),
@@ -17,27 +17,16 @@ pub enum PrepareError {
     Pincushion(AddError),
 }
 
-/// What a change or a pin is answered.
-#[derive(Drop)]
-struct OfPrepared<'a>(&'a Result<Stamp, PrepareError>);
-
-impl fmt::Display for OfPrepared<'_> {
+impl fmt::Display for PrepareError {
     ghost use Rattle.std.specs.Prelude.{Some};
-    ghost use Rattle.txc_batch.specs.PreparedTexts.{prepared_text};
+    ghost use Rattle.txc_batch.specs.PreparedTexts.{prepare_error_text};
 
-    ghost output = { λ p. Some (prepared_text p.0.now) };
+    ghost output = { λ e. Some (prepare_error_text e) };
 
     fn fmt<W: fmt::Write>(&self, f: &mut fmt::Formatter<W>) -> fmt::Result {
-        match self.0 {
-            Ok(stamp) => write!(f, "at {stamp}"),
-            Err(PrepareError::Database(cause)) => {
-                f.write_str("refused ")?;
-                write_database(f, cause)
-            }
-            Err(PrepareError::Pincushion(cause)) => {
-                f.write_str("refused ")?;
-                write_add(f, cause)
-            }
+        match self {
+            PrepareError::Database(cause) => write_database(f, cause),
+            PrepareError::Pincushion(cause) => write_add(f, cause),
         }
     }
 }
@@ -52,11 +41,16 @@ pub fn push_prepared(
     ensures refusal { IfOk result (λ refused. refused ≡ is_refused_preparing prepared.now) }
     ensures unchanged { OnErr result (text.new.items ≡ text.old.items) }
 {
-    let told = OfPrepared(prepared);
-    let line = format!(in alloc; "{told}\n")?;
-    text.extend_from_slice(line.as_bytes())?;
     match prepared {
-        Ok(_) => Ok(false),
-        Err(_) => Ok(true),
+        Ok(stamp) => {
+            let line = format!(in alloc; "at {stamp}\n")?;
+            text.extend_from_slice(line.as_bytes())?;
+            Ok(false)
+        }
+        Err(error) => {
+            let line = format!(in alloc; "refused {error}\n")?;
+            text.extend_from_slice(line.as_bytes())?;
+            Ok(true)
+        }
     }
 }

@@ -3,7 +3,7 @@ use Rattle.std.specs.Prelude.{◌≡◌, ⊤, ℕ, ◌<◌, ◌≤◌, length}
 use Rattle.txc_stamp.specs.declared.stamp.TheConstants.{MOST_STAMP}
 use Rattle.txc_stream.specs.Names.{Name, stored, unstored}
 
--- for how many events there is room: in a row, for one in each of its cells; else for as many as there are stamps
+-- for how many events there is room: in a row, for one in each of its cells; else for one for each stamp
 abbrev pub events_room : Name → ℕ
 events_room (stored cells) = length cells
 events_room (unstored number) = MOST_STAMP

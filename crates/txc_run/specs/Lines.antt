@@ -13,7 +13,7 @@ abbrev pub insertion_said : Call → List ℕ → ℕ → ℕ → Bool → List 
 insertion_said key value lo known still tags =
     Insert (record { key = key; value = value; reach = record { lo = lo; known = known; still = still }; tags = tags })
 
--- a key, the first and the last stamp at which its value is known to hold, whether it still does, tags, and the value
+-- KEY LO KNOWN still TAGS HEX: the value of a call is known to hold from LO to KNOWN, and still holds or does not
 abbrev pub insert_form : LineForm Op
 insert_form = record {
   name = codes "insert";
@@ -21,7 +21,7 @@ insert_form = record {
   asks = λ said. insertion_said said.0 said.1.1.1.1.1.0 said.1.0 said.1.1.0 said.1.1.1.0 said.1.1.1.1.0;
 }
 
--- a key, and the first and the last stamp that will do
+-- KEY LO HI: a call, and the first and the last stamp that will do
 abbrev pub lookup_form : LineForm Op
 lookup_form = record {
   name = codes "lookup";
@@ -29,7 +29,7 @@ lookup_form = record {
   asks = λ said. Lookup said.0 said.1.0 said.1.1.0;
 }
 
--- a stamp and tags
+-- STAMP TAGS
 abbrev pub event_form : LineForm Op
 event_form = record {
   name = codes "event";
@@ -37,7 +37,7 @@ event_form = record {
   asks = λ said. Event said.0 said.1.0;
 }
 
--- a stamp
+-- HORIZON: a stamp
 abbrev pub sweep_form : LineForm Op
 sweep_form = record { name = codes "sweep"; kinds = Stamp ∷ []; asks = λ said. Sweep said.0 }
 

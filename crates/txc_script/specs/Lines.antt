@@ -35,19 +35,29 @@ pub record IsTextWord (limit : ℕ) (word : List ℕ) : Type 0 where
   pub most : length word ≤ limit
   pub each : AllByRecursion (λ byte. (33 ≤ byte) × (byte ≤ 126)) word
 
+abbrev pub query_text : QueryName → List ℕ
+query_text queries.ById = codes "by-id"
+query_text queries.ByGroup = codes "by-group"
+query_text queries.All = codes "all"
+query_text queries.Range = codes "range"
+
 -- the name of a query that the word is
 abbrev pub query_named : List ℕ → Option QueryName
 query_named word =
-    if bytes_eq word (codes "by-id") then Some queries.ById
-    else (if bytes_eq word (codes "by-group") then Some queries.ByGroup
-    else (if bytes_eq word (codes "all") then Some queries.All
-    else (if bytes_eq word (codes "range") then Some queries.Range else None)))
+    if bytes_eq word (query_text queries.ById) then Some queries.ById
+    else (if bytes_eq word (query_text queries.ByGroup) then Some queries.ByGroup
+    else (if bytes_eq word (query_text queries.All) then Some queries.All
+    else (if bytes_eq word (query_text queries.Range) then Some queries.Range else None)))
+
+abbrev pub change_text : ChangeName → List ℕ
+change_text changes.Put = codes "put"
+change_text changes.Remove = codes "remove"
 
 -- the name of a change that the word is
 abbrev pub change_named : List ℕ → Option ChangeName
 change_named word =
-    if bytes_eq word (codes "put") then Some changes.Put
-    else (if bytes_eq word (codes "remove") then Some changes.Remove else None)
+    if bytes_eq word (change_text changes.Put) then Some changes.Put
+    else (if bytes_eq word (change_text changes.Remove) then Some changes.Remove else None)
 
 -- tags in any order and with repeats; the set is what adding them one after the other gives
 abbrev pub IsTagsWord : List ℕ → List Tag → Type 0

@@ -64,52 +64,30 @@ pub fn read_word(alloc: Global, kind: WordKind, word: &[u8]) -> Result<Said<'_>,
     ensures { IsWordRead kind word.now result }
 {
     match kind {
-        WordKind::Key => match <Key as Word>::read(alloc, word) {
-            Ok(key) => Ok(Said::Key(key)),
-            Err(unsaid) => Err(unsaid),
-        },
-        WordKind::Stamp => match <Stamp as Word>::read(alloc, word) {
-            Ok(stamp) => Ok(Said::Stamp(stamp)),
-            Err(unsaid) => Err(unsaid),
-        },
-        WordKind::Reach => match <bool as Word>::read(alloc, word) {
-            Ok(_) => Ok(Said::Other),
-            Err(unsaid) => Err(unsaid),
-        },
-        WordKind::Tags => match <TagSet as Word>::read(alloc, word) {
-            Ok(_tags) => Ok(Said::Other),
-            Err(unsaid) => Err(unsaid),
-        },
-        WordKind::Bytes => match <Vec<u8> as Word>::read(alloc, word) {
-            Ok(_bytes) => Ok(Said::Other),
-            Err(unsaid) => Err(unsaid),
-        },
-        WordKind::Table => match read_table(word) {
-            Some(table) => Ok(Said::Table(table)),
-            None => Err(Unsaid::Bad(None)),
-        },
-        WordKind::Id => match read_id(word) {
-            Some(id) => Ok(Said::Id(id)),
-            None => Err(Unsaid::Bad(None)),
-        },
-        WordKind::Function => match read_function(word) {
-            Some(function) => Ok(Said::Function(function)),
-            None => Err(Unsaid::Bad(None)),
-        },
-        WordKind::Number(most) => match read_number(word, most) {
-            Some(number) => Ok(Said::Number(number)),
-            None => Err(Unsaid::Bad(None)),
-        },
+        WordKind::Key => Ok(Said::Key(<Key as Word>::read(alloc, word)?)),
+        WordKind::Stamp => Ok(Said::Stamp(<Stamp as Word>::read(alloc, word)?)),
+        WordKind::Reach => {
+            let _still = <bool as Word>::read(alloc, word)?;
+            Ok(Said::Other)
+        }
+        WordKind::Tags => {
+            let _tags = <TagSet as Word>::read(alloc, word)?;
+            Ok(Said::Other)
+        }
+        WordKind::Bytes => {
+            let _bytes = <Vec<u8> as Word>::read(alloc, word)?;
+            Ok(Said::Other)
+        }
+        WordKind::Table => Ok(Said::Table(read_table(word).ok_or(Unsaid::Bad(None))?)),
+        WordKind::Id => Ok(Said::Id(read_id(word).ok_or(Unsaid::Bad(None))?)),
+        WordKind::Function => Ok(Said::Function(read_function(word).ok_or(Unsaid::Bad(None))?)),
+        WordKind::Number(most) => Ok(Said::Number(read_number(word, most).ok_or(Unsaid::Bad(
+            None,
+        ))?)),
         WordKind::Text(most) if is_text(most, word) => Ok(Said::Text(TextWord::new(word))),
         WordKind::Text(_) => Err(Unsaid::Bad(None)),
-        WordKind::QueryName => match query_name(word) {
-            Some(name) => Ok(Said::Query(name)),
-            None => Err(Unsaid::Bad(None)),
-        },
-        WordKind::ChangeName => match change_name(word) {
-            Some(name) => Ok(Said::Change(name)),
-            None => Err(Unsaid::Bad(None)),
-        },
+        WordKind::QueryName => Ok(Said::Query(query_name(word).ok_or(Unsaid::Bad(None))?)),
+        WordKind::ChangeName => Ok(Said::Change(change_name(word).ok_or(Unsaid::Bad(None))?)),
     }
 }
 

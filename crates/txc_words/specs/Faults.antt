@@ -1,5 +1,6 @@
 -- Of which kinds the words of lines are to be, and what is wrong with them.
-use Rattle.std.specs.Prelude.{◌≡◌, ◌<◌, ◌≤◌, ℕ, List, [], ◌∷◌, Option, Some, option_map, codes, length, take, MatchOption}
+use Rattle.std.specs.Prelude.{◌≡◌, ◌<◌, ◌≤◌, ℕ, List, [], ◌∷◌, ◌++◌, Option, Some, map, option_map, codes, length, take, MatchOption}
+use Rattle.std.specs.List.{flat_map}
 use Rattle.txc_rows.specs.declared.row.TheConstants.{MAX_BODY_LEN}
 use Rattle.txc_script.specs.LineFaults.{IsKindsFault}
 use Rattle.txc_script.specs.declared.line_fault.CommandFault.{CommandFault}
@@ -10,7 +11,8 @@ use Rattle.txc_script.specs.declared.said.QueryName as query_names
 use Rattle.txc_script.specs.declared.said.QueryName.TheVariants as queries
 use Rattle.txc_script.specs.declared.said.ChangeName as change_names
 use Rattle.txc_script.specs.declared.said.ChangeName.TheVariants as changes
-use Rattle.txc_script.specs.Lines.{change_named, query_named}
+use Rattle.txc_script.specs.Lines.{change_named, change_text, query_named, query_text}
+use Rattle.txc_words.specs.Names.{name_text}
 use Rattle.txc_words.specs.declared.name.LineName.{LineName}
 use Rattle.txc_words.specs.declared.name.LineName.TheVariants as names
 use Rattle.txc_tags.specs.declared.text.number.TheConstants.{LAST_NUMBER}
@@ -26,17 +28,47 @@ place = Number LAST_NUMBER
 abbrev pub moment : WordKind
 moment = Number LAST_MOMENT
 
--- the kinds of the words after the name of a query
-abbrev pub kinds_of_query : query_names.QueryName → List WordKind
-kinds_of_query queries.ById = Table ∷ Id ∷ []
-kinds_of_query queries.ByGroup = Table ∷ Id ∷ []
-kinds_of_query queries.All = Table ∷ []
-kinds_of_query queries.Range = Table ∷ Id ∷ Id ∷ []
+-- words after a line's name: what each is called where the line's form is told, and of which kind it is to be
+abbrev pub Parts : Type 0
+Parts = List (List ℕ × WordKind)
 
--- the kinds of the words after the name of a change
+abbrev pub kinds_of : Parts → List WordKind
+kinds_of parts = map (λ part. part.1) parts
+
+-- the words after the name of a query
+abbrev pub parts_of_query : query_names.QueryName → Parts
+parts_of_query queries.ById = (codes "TABLE", Table) ∷ (codes "ID", Id) ∷ []
+parts_of_query queries.ByGroup = (codes "TABLE", Table) ∷ (codes "GROUP", Id) ∷ []
+parts_of_query queries.All = (codes "TABLE", Table) ∷ []
+parts_of_query queries.Range = (codes "TABLE", Table) ∷ (codes "FROM", Id) ∷ (codes "TO", Id) ∷ []
+
+abbrev pub kinds_of_query : query_names.QueryName → List WordKind
+kinds_of_query query = kinds_of (parts_of_query query)
+
+-- the words after the name of a change
+abbrev pub parts_of_change : change_names.ChangeName → Parts
+parts_of_change changes.Put =
+    (codes "TABLE", Table) ∷ (codes "ID", Id) ∷ (codes "GROUP", Id) ∷ (codes "BODY", Text MAX_BODY_LEN) ∷ []
+parts_of_change changes.Remove = (codes "TABLE", Table) ∷ (codes "ID", Id) ∷ []
+
 abbrev pub kinds_of_change : change_names.ChangeName → List WordKind
-kinds_of_change changes.Put = Table ∷ Id ∷ Id ∷ Text MAX_BODY_LEN ∷ []
-kinds_of_change changes.Remove = Table ∷ Id ∷ []
+kinds_of_change change = kinds_of (parts_of_change change)
+
+-- the words after a line's name; of the three lines that end in a query or a change, those before it
+abbrev pub parts_after : LineName → Parts
+parts_after names.Put = parts_of_change changes.Put
+parts_after names.Remove = parts_of_change changes.Remove
+parts_after names.Pin = (codes "NOW", moment) ∷ []
+parts_after names.Query = (codes "STAMP", Stamp) ∷ []
+parts_after names.Ro =
+    (codes "ACTOR", place) ∷ (codes "NOW", moment) ∷ (codes "STALENESS", moment) ∷ (codes "STAMP", Stamp) ∷ []
+parts_after names.Session = (codes "ACTOR", place) ∷ (codes "NOW", moment) ∷ (codes "STALENESS", moment) ∷ []
+parts_after names.Call = (codes "ACTOR", place) ∷ (codes "KEY", Key) ∷ []
+parts_after names.Advance = (codes "NODE", place) ∷ []
+parts_after names.Sweep = (codes "NODE", place) ∷ (codes "STAMP", Stamp) ∷ []
+parts_after names.Tidy = (codes "NOW", moment) ∷ (codes "AGE", moment) ∷ []
+parts_after names.Counts = (codes "NODE", place) ∷ (codes "FUNCTION", Function) ∷ []
+parts_after name = (codes "ACTOR", place) ∷ []
 
 -- a word of this kind, and a query of this name, if it is one
 abbrev pub query_line : WordKind → List ℕ → Option (List WordKind)
@@ -49,40 +81,43 @@ change_line name = option_map (λ change. place ∷ ChangeName ∷ kinds_of_chan
 -- The kinds of the words after a line's name, the second of which is this one. In three lines that word names a
 -- query or a change, and the words are of no known kinds where it does not.
 abbrev pub kinds_after_name : LineName → List ℕ → Option (List WordKind)
-kinds_after_name names.Put second = Some (kinds_of_change changes.Put)
-kinds_after_name names.Remove second = Some (kinds_of_change changes.Remove)
-kinds_after_name names.Pin second = Some (moment ∷ [])
 kinds_after_name names.Query second = query_line Stamp second
-kinds_after_name names.Ro second = Some (place ∷ moment ∷ moment ∷ Stamp ∷ [])
-kinds_after_name names.Rw second = Some (place ∷ [])
-kinds_after_name names.Session second = Some (place ∷ moment ∷ moment ∷ [])
-kinds_after_name names.Call second = Some (place ∷ Key ∷ [])
-kinds_after_name names.Step second = Some (place ∷ [])
-kinds_after_name names.Finish second = Some (place ∷ [])
 kinds_after_name names.Ask second = query_line place second
 kinds_after_name names.Write second = change_line second
-kinds_after_name names.Pins second = Some (place ∷ [])
-kinds_after_name names.Commit second = Some (place ∷ [])
-kinds_after_name names.Abort second = Some (place ∷ [])
-kinds_after_name names.Advance second = Some (place ∷ [])
-kinds_after_name names.Sweep second = Some (place ∷ Stamp ∷ [])
-kinds_after_name names.Tidy second = Some (moment ∷ moment ∷ [])
-kinds_after_name names.Counts second = Some (place ∷ Function ∷ [])
+kinds_after_name name second = Some (kinds_of (parts_after name))
 
 -- the kinds of the first two words after the name of such a line
 abbrev pub first_kinds : LineName → List WordKind
-first_kinds names.Query = Stamp ∷ QueryName ∷ []
-first_kinds names.Ask = place ∷ QueryName ∷ []
-first_kinds names.Write = place ∷ ChangeName ∷ []
+first_kinds names.Query = kinds_of (parts_after names.Query) ++ QueryName ∷ []
+first_kinds names.Ask = kinds_of (parts_after names.Ask) ++ QueryName ∷ []
+first_kinds names.Write = kinds_of (parts_after names.Write) ++ ChangeName ∷ []
 first_kinds name = []
 
--- how such a line is written
+-- a name, and what the words after it are called
+abbrev pub form_text : List ℕ → Parts → List ℕ
+form_text name parts = name ++ flat_map (λ part. 32 ∷ part.0) parts
+
+abbrev pub query_forms : List (List ℕ)
+query_forms =
+    map (λ query. form_text (query_text query) (parts_of_query query))
+    (queries.ById ∷ queries.ByGroup ∷ queries.All ∷ queries.Range ∷ [])
+
+abbrev pub change_forms : List (List ℕ)
+change_forms =
+    map (λ change. form_text (change_text change) (parts_of_change change)) (changes.Put ∷ changes.Remove ∷ [])
+
+-- a line of this name that ends in the first of these forms, or in another one
+abbrev pub usage_by : LineName → List (List ℕ) → List ℕ
+usage_by name (first ∷ second ∷ others) =
+    form_text (name_text name) (parts_after name)
+    ++ (32 ∷ first ++ (codes " (or " ++ (second ++ (flat_map (λ form. codes ", or " ++ form) others ++ codes ")"))))
+usage_by name forms = []
+
+-- how a line is written that ends in a query or a change
 abbrev pub usage_text : LineName → List ℕ
-usage_text names.Query =
-    codes "query STAMP by-id TABLE ID (or by-group TABLE GROUP, or all TABLE, or range TABLE FROM TO)"
-usage_text names.Ask =
-    codes "ask ACTOR by-id TABLE ID (or by-group TABLE GROUP, or all TABLE, or range TABLE FROM TO)"
-usage_text names.Write = codes "write ACTOR put TABLE ID GROUP BODY (or remove TABLE ID)"
+usage_text names.Query = usage_by names.Query query_forms
+usage_text names.Ask = usage_by names.Ask query_forms
+usage_text names.Write = usage_by names.Write change_forms
 usage_text name = []
 
 -- the second of the words, or no bytes where there are fewer

@@ -91,8 +91,7 @@ fn query_kinds(name: &[u8]) -> Option<&'static [WordKind]>
     ensures refused { IfNone result (query_line WordKind.Stamp name.now ≡ None) }
 {
     match query_name(name) {
-        Some(QueryName::ById) => Some(QUERY_PAIR.as_slice()),
-        Some(QueryName::ByGroup) => Some(QUERY_PAIR.as_slice()),
+        Some(QueryName::ById | QueryName::ByGroup) => Some(QUERY_PAIR.as_slice()),
         Some(QueryName::All) => Some(QUERY_TABLE.as_slice()),
         Some(QueryName::Range) => Some(QUERY_RANGE.as_slice()),
         None => None,
@@ -105,8 +104,7 @@ fn ask_kinds(name: &[u8]) -> Option<&'static [WordKind]>
     ensures refused { IfNone result (query_line place name.now ≡ None) }
 {
     match query_name(name) {
-        Some(QueryName::ById) => Some(ASK_PAIR.as_slice()),
-        Some(QueryName::ByGroup) => Some(ASK_PAIR.as_slice()),
+        Some(QueryName::ById | QueryName::ByGroup) => Some(ASK_PAIR.as_slice()),
         Some(QueryName::All) => Some(ASK_TABLE.as_slice()),
         Some(QueryName::Range) => Some(ASK_RANGE.as_slice()),
         None => None,
@@ -143,13 +141,7 @@ pub fn kinds_after_name(name: LineName, second: &[u8]) -> Option<&'static [WordK
         LineName::Sweep => Some(SWEEP.as_slice()),
         LineName::Tidy => Some(TIDY.as_slice()),
         LineName::Counts => Some(COUNTS.as_slice()),
-        LineName::Rw => Some(ONLY_PLACE.as_slice()),
-        LineName::Step => Some(ONLY_PLACE.as_slice()),
-        LineName::Finish => Some(ONLY_PLACE.as_slice()),
-        LineName::Pins => Some(ONLY_PLACE.as_slice()),
-        LineName::Commit => Some(ONLY_PLACE.as_slice()),
-        LineName::Abort => Some(ONLY_PLACE.as_slice()),
-        LineName::Advance => Some(ONLY_PLACE.as_slice()),
+        _ => Some(ONLY_PLACE.as_slice()),
     }
 }
 

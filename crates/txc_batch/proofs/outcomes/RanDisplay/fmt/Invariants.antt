@@ -2,7 +2,7 @@ use Rattle.std.proofs.Common.{take}
 use Rattle.std.specs.List.{flat_map}
 use Rattle.std.specs.Fmt.{HasWritten, IsPlainFormatter}
 use Rattle.txc_batch.specs.OutcomeTexts.{result_text}
-use Rattle.txc_batch.proofs.outcomes.OfResultsDisplay.fmt.Given as goal
+use Rattle.txc_batch.proofs.outcomes.RanDisplay.fmt.Given as goal
 
 abbrev pub invariant-loop-told : goal.invariant-loop-told
 invariant-loop-told g l =

@@ -3,7 +3,7 @@ use Rattle.std.specs.List.{flat_map}
 use Rattle.std.specs.Fmt.{HasWritten, IsPlainFormatter}
 use Rattle.txc_node.specs.Texts.{hex_text}
 use Rattle.txc_ports.specs.declared.recorded.Recorded.{Recorded}
-use Rattle.txc_batch.proofs.outcomes.OfOutcomeDisplay.fmt.Given as goal
+use Rattle.txc_batch.proofs.outcomes.write_outcome.Given as goal
 
 abbrev pub invariant-loop-answer : goal.invariant-loop-answer
 invariant-loop-answer g l =
