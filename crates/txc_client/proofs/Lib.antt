@@ -9,4 +9,4 @@ pub mod Idle
 pub mod Standing
 pub mod Called
 pub mod Sessions
-pub mod Kept
+pub mod StillFresh

@@ -6,7 +6,8 @@ ghost use Rattle.txc_registry.specs.Objects.{AllIdle};
 ghost use Rattle.txc_app.specs.Eval.{Next};
 ghost use Rattle.txc_shared.specs.Refusals.{IsNewPassRefused, NodeMayRefuse};
 ghost use Rattle.txc_registry.specs.Objects.{Objects};
-ghost use Rattle.txc_txn.specs.Core.{value_of, CoreHolds, IsCore, IsIdle};
+ghost use Rattle.txc_db.specs.History.{IsAllowed};
+ghost use Rattle.txc_txn.specs.Core.{begun_core, value_of, CoreHolds, IsCore, IsIdle};
 ghost use Rattle.txc_txn.specs.Kept.{IsTxn};
 ghost use Rattle.txc_client.specs.Ports.{CountsLeave, HaveGrown, IsCallAt};
 ghost use Rattle.txc_client.specs.Kept.{HasBegunKept};
@@ -281,6 +282,31 @@ fn begun<J: Naming>(
     }
 }
 
+// A core with pins that its bounds allow. Out of memory, none of them is given back.
+fn begun_with(
+    alloc: Global,
+    nodes: usize,
+    renew_after: u64,
+    bounds: Bounds,
+    pins: Pins,
+) -> Result<TxnCore, AllocError>
+    requires some { 1 ≤ nodes }
+    requires allowed { All (λ pin. IsAllowed pins.front.history pin.stamp bounds.now bounds.staleness bounds.at_least)
+        pins.pins.items }
+    ensures fits { IfOk result (λ core. (next : Next) (objects : Objects) → AllIdle objects
+        → IsCore next objects (value_of core)) }
+    ensures holds { IfOk result (λ core. (next : Next) (objects : Objects)
+        → CoreHolds next (value_of core).seen.history objects (value_of core)) }
+    ensures idle { IfOk result (λ core. IsIdle (value_of core)) }
+    ensures answer { IfOk result (λ core. value_of core
+        ≡ begun_core nodes renew_after bounds pins (value_of core).call) }
+{
+    match TxnCore::begin(alloc, nodes, renew_after, bounds, pins) {
+        Ok(core) => Ok(core),
+        Err(_) => Err(AllocError),
+    }
+}
+
 // A core with the kept pins that are fresh for its bounds.
 fn begun_keeping<'a, J: Naming>(
     rt: &impl Wait,
@@ -304,13 +330,9 @@ fn begun_keeping<'a, J: Naming>(
     ensures most { result.1.most ≡ kept.most }
 {
     let (pins, kept) = kept.fresh(rt, alloc, bounds);
-    let pins = match pins {
-        Ok(pins) => pins,
-        Err(error) => return (Err(error), kept),
-    };
-    match TxnCore::begin(alloc, nodes, renew_after, bounds, pins) {
-        Ok(core) => (Ok(core), kept),
-        Err(_) => (Err(AllocError), kept),
+    match pins {
+        Ok(pins) => (begun_with(alloc, nodes, renew_after, bounds, pins), kept),
+        Err(error) => (Err(error), kept),
     }
 }
 

@@ -1,6 +1,6 @@
 use Rattle.std.proofs.Common.{◌≡◌, ◌∙◌, refl}
 use Rattle.txc_client.specs.Kept.{HandedValue, fresh_of}
-use Rattle.txc_client.proofs.Kept.{cushion_of, cushion_is, fresh_allowed, fresh_falls, fresh_few, fresh_shown, handed_are_fresh}
+use Rattle.txc_client.proofs.StillFresh.{cushion_of, cushion_is, fresh_allowed, fresh_falls, fresh_few, fresh_shown, handed_are_fresh}
 use Rattle.txc_client.proofs.handed.Handed.fresh.Goals as goal
 
 pub invariant_of-result : goal.invariant_of-result
