@@ -6,7 +6,7 @@ ghost use Rattle.txc_rows.specs.declared.query.Query.TheVariants.{ById};
 ghost use Rattle.txc_rows.specs.States.{State, answer};
 ghost use Rattle.txc_rows.specs.Values.{same_row};
 ghost use Rattle.txc_rows.specs.RowTags.{tags_of_row};
-ghost use Rattle.txc_rows.specs.Net.{key_before, changes_state, placed, settled, puts_of};
+ghost use Rattle.txc_rows.specs.Net.{change_table, change_id, key_before, changes_state, placed, settled, puts_of};
 
 use std::alloc::{AllocError, Global};
 use txc_rows::{Change, Row};

@@ -16,7 +16,6 @@ ghost use Rattle.txc_rw.specs.Outcomes.{IsCommitted};
 
 use crate::calling::{call_at, query_at};
 use crate::given::Given;
-use crate::laws::transactions_stay_right;
 use crate::rw_core::RwCore;
 use std::alloc::Global;
 use std::marker::Model;
@@ -66,6 +65,7 @@ impl<'a, J: Naming, A: App, C: Cacheable> Model for RwTxn<'a, J, A, C> {
 
 impl<'a, J: Naming, A: App, C: Cacheable> RwTxn<'a, J, A, C> {
     /// Begins a transaction at the newest stamp, which is held until it ends. A refusal returns the registry.
+    #[tactic(auto, using(crate::proofs::Holding::holds_at_first))]
     pub fn begin(
         rt: &impl Wait,
         alloc: Global,
@@ -78,7 +78,6 @@ impl<'a, J: Naming, A: App, C: Cacheable> RwTxn<'a, J, A, C> {
         ensures refused { IfErr result (λ e. MayRefuse J.database_history IsHoldRefused e.0) }
         ensures handed_back { IfErr result (λ e. e.1 ≡ registry) }
     {
-        transactions_stay_right();
         let held = match database.hold(rt, alloc) {
             Ok(held) => held,
             Err(error) => return Err((error, registry)),

@@ -11,7 +11,7 @@ use txc_app::laws::{carried_entries_are_true, true_entries_stay};
 use txc_db::{HistoryFront, Naming};
 use txc_node::Entry;
 use txc_shared::{Advanced, LeftNode, NodePass, SharedNode};
-use txc_stamp::{LAST_STAMP, Reach};
+use txc_stamp::{MOST_STAMP, Reach};
 
 /// What the nodes of a site left, for those of a site that goes on from the same state.
 #[derive(Drop)]
@@ -30,7 +30,7 @@ fn take_all<A: App, J: Naming>(rt: &impl Wait, alloc: Global, node: &SharedNode<
     let Ok(mut pass) = node.pass(rt) else {
         return;
     };
-    for _ in 0..LAST_STAMP {
+    for _ in 0..MOST_STAMP {
         let Ok(Advanced::Taken { .. }) = pass.advance(rt, alloc, node) else {
             return;
         };
