@@ -60,7 +60,7 @@ pub record AreKept (events : Name) (asked : Bounds) (before after : KeptValue) :
 
 -- a transaction has begun with exactly those of the kept pins that are fresh for its bounds, and has seen what
 -- their front shows
-pub record HasBegunKept (events : Name) (asked : Bounds) (before after : KeptValue) (pins : List Pin) (seen : FrontValue) : Type 0 where
+pub record HasBegunKept (events : Name) (asked : Bounds) (before after : KeptValue) (pins : List Pin) (front : FrontValue) : Type 0 where
   pub kept : AreKept events asked before after
   pub members : pins ≡ fresh_of asked kept.handed
-  pub seen : seen ≡ kept.handed.front
+  pub seen : front ≡ kept.handed.front

@@ -145,9 +145,9 @@ impl<'a, A: App, C: Cacheable, J: Naming> Client<'a, A, C, J> {
         KeptPins<'a, J>,
     )
         ensures begun { IfOk result.0 (λ txn. HasBegunCore J.database_history bounds txn.txn.core) }
-        ensures kept { IfOk result.0 (λ txn. HasBegunKept J.database_history bounds kept result.1
+        ensures kept { IfOk result.0 (λ txn. HasBegunKept J.database_history bounds kept.entry result.1
             txn.txn.core.pins.members txn.txn.core.seen) }
-        ensures most { result.1.most ≡ kept.most }
+        ensures most { result.1.most ≡ kept.entry.most }
         ensures meant { IfOk result.0 (λ txn. IsTxn A.next txn.txn) }
         ensures client { IfOk result.0 (λ txn. client_of txn ≡ self.entry) }
         ensures handed_back { IfErr result.0 (λ e. e.1 ≡ self.entry) }
@@ -157,7 +157,7 @@ impl<'a, A: App, C: Cacheable, J: Naming> Client<'a, A, C, J> {
             registry,
             renew_after,
         } = self;
-        let (begun, kept) = begun_keeping(rt, alloc, ports.len(), renew_after, bounds, kept);
+        let (begun, kept) = begun_keeping(rt, alloc, ports.len(), renew_after, &bounds, kept);
         let begun = match begun {
             Ok(core) => Ok(RoTxn {
                 ports,
@@ -287,11 +287,11 @@ fn begun_with(
     alloc: Global,
     nodes: usize,
     renew_after: u64,
-    bounds: Bounds,
+    bounds: &Bounds,
     pins: Pins,
 ) -> Result<TxnCore, AllocError>
     requires some { 1 ≤ nodes }
-    requires allowed { All (λ pin. IsAllowed pins.front.history pin.stamp bounds.now bounds.staleness bounds.at_least)
+    requires allowed { All (λ pin. IsAllowed pins.front.history pin.stamp bounds.now.now bounds.now.staleness bounds.now.at_least)
         pins.pins.items }
     ensures fits { IfOk result (λ core. (next : Next) (objects : Objects) → AllIdle objects
         → IsCore next objects (value_of core)) }
@@ -299,9 +299,9 @@ fn begun_with(
         → CoreHolds next (value_of core).seen.history objects (value_of core)) }
     ensures idle { IfOk result (λ core. IsIdle (value_of core)) }
     ensures answer { IfOk result (λ core. value_of core
-        ≡ begun_core nodes renew_after bounds pins (value_of core).call) }
+        ≡ begun_core nodes renew_after bounds.now pins (value_of core).call) }
 {
-    match TxnCore::begin(alloc, nodes, renew_after, bounds, pins) {
+    match TxnCore::begin(alloc, nodes, renew_after, *bounds, pins) {
         Ok(core) => Ok(core),
         Err(_) => Err(AllocError),
     }
@@ -313,7 +313,7 @@ fn begun_keeping<'a, J: Naming>(
     alloc: Global,
     nodes: usize,
     renew_after: u64,
-    bounds: Bounds,
+    bounds: &Bounds,
     kept: KeptPins<'a, J>,
 ) -> (Result<TxnCore, AllocError>, KeptPins<'a, J>)
     requires { 1 ≤ nodes }
@@ -324,10 +324,10 @@ fn begun_keeping<'a, J: Naming>(
     ensures idle { IfOk result.0 (λ core. IsIdle (value_of core)) }
     ensures renew_after { IfOk result.0 (λ core. (value_of core).renew_after ≡ renew_after) }
     ensures nodes { IfOk result.0 (λ core. (value_of core).nodes ≡ nodes) }
-    ensures begun { IfOk result.0 (λ core. HasBegunCore J.database_history bounds (value_of core)) }
-    ensures kept { IfOk result.0 (λ core. HasBegunKept J.database_history bounds kept result.1
+    ensures begun { IfOk result.0 (λ core. HasBegunCore J.database_history bounds.now (value_of core)) }
+    ensures kept { IfOk result.0 (λ core. HasBegunKept J.database_history bounds.now kept.entry result.1
         (value_of core).pins.members (value_of core).seen) }
-    ensures most { result.1.most ≡ kept.most }
+    ensures most { result.1.most ≡ kept.entry.most }
 {
     let (pins, kept) = kept.fresh(rt, alloc, bounds);
     match pins {

@@ -21,12 +21,12 @@ fn renewed<J: Naming>(
     cushion: &Pincushion<J>,
     most: u64,
     handed: Option<Handed>,
-    bounds: Bounds,
+    bounds: &Bounds,
 ) -> Result<Handed, AllocError>
     requires { IfSome handed (λ handed. handed.front.events ≡ J.database_history) }
     ensures named { IfOk result (λ handed. handed.front.events ≡ J.database_history) }
     ensures kept { IfOk result
-        (IsKeptAfter J.database_history bounds (record { most = most; handed = handed })) }
+        (IsKeptAfter J.database_history bounds.now (record { most = most; handed = handed })) }
 {
     match handed {
         Some(handed) => {
@@ -78,16 +78,16 @@ impl<'a, J: Naming> KeptPins<'a, J> {
         self,
         rt: &impl Wait,
         alloc: Global,
-        bounds: Bounds,
+        bounds: &Bounds,
     ) -> (Result<Pins, AllocError>, KeptPins<'a, J>)
-        ensures most { result.1.most ≡ self.most }
+        ensures most { result.1.most ≡ self.entry.most }
         ensures named { IfOk result.0 (λ given. given.front.events ≡ J.database_history) }
-        ensures allowed { IfOk result.0 (λ given. All (λ pin. IsAllowed given.front.history pin.stamp bounds.now
-            bounds.staleness bounds.at_least) given.pins.items) }
+        ensures allowed { IfOk result.0 (λ given. All (λ pin. IsAllowed given.front.history pin.stamp bounds.now.now
+            bounds.now.staleness bounds.now.at_least) given.pins.items) }
         ensures answer { IfOk result.0 (CushionMayAnswer J.database_history (λ c given.
-            (given.pins.items ≡ handed_out c bounds.now bounds.staleness bounds.at_least)
+            (given.pins.items ≡ handed_out c bounds.now.now bounds.now.staleness bounds.now.at_least)
             × (given.front ≡ cushion_front c))) }
-        ensures kept { IfOk result.0 (λ given. HasBegunKept J.database_history bounds self result.1
+        ensures kept { IfOk result.0 (λ given. HasBegunKept J.database_history bounds.now self.entry result.1
             given.pins.items given.front) }
     {
         let KeptPins {
@@ -112,7 +112,7 @@ impl<'a, J: Naming> KeptPins<'a, J> {
 
     /// Gives them back, once the client begins no transaction with them any more. It takes no memory.
     pub fn give_back(self, rt: &impl Wait) -> Result<(), UnknownPin>
-        ensures refused { IfErr result (λ unknown. MatchOption self.handed ⊥ (λ handed.
+        ensures refused { IfErr result (λ unknown. MatchOption self.entry.handed ⊥ (λ handed.
             CushionMayAnswer J.database_history (λ c stamp.
             IsFirstUnused c.entries (map (λ pin. pin.stamp) handed.pins) stamp) unknown.stamp)) }
     {

@@ -98,9 +98,9 @@ impl<'a, A: App, D: Definition, J: Naming, B: Begun> PageTxn<'a, A, D, J, B> {
         requires client { client ≡ B.client }
         requires bounds { bounds ≡ B.bounds }
         ensures recorded { IfOk result.0 (λ txn. txn.txn.core.recorded ≡ []) }
-        ensures kept { IfOk result.0 (λ txn. HasBegunKept J.database_history B.bounds kept result.1
+        ensures kept { IfOk result.0 (λ txn. HasBegunKept J.database_history B.bounds kept.entry result.1
             txn.txn.core.pins.members txn.txn.core.seen) }
-        ensures most { result.1.most ≡ kept.most }
+        ensures most { result.1.most ≡ kept.entry.most }
         ensures handed_back { IfErr result.0 (λ e. e.1 ≡ B.client) }
     {
         let (begun, kept) = client.begin_keeping(rt, alloc, bounds, kept);

@@ -77,8 +77,8 @@ pub fn read_page_keeping<'a, A: App, D: Definition, J: Naming, P: Page<A, D>, R:
     ensures row { IfOk result.0 (λ shown. shown.receipt.seen.events ≡ J.database_history) }
     ensures ran { IfOk result.0 (λ shown. IsPageRun A.next J.database_history J.node_histories client.entry bounds
         shown.receipt.answers.items result.1) }
-    ensures kept { IfOk result.0 (λ shown. AreKept J.database_history bounds kept result.2) }
-    ensures most { result.2.most ≡ kept.most }
+    ensures kept { IfOk result.0 (λ shown. AreKept J.database_history bounds kept.entry result.2) }
+    ensures most { result.2.most ≡ kept.entry.most }
     ensures refused { IfErr result.0 (IsPageRefused (P.refuses page.now)) }
     ensures left { IfErr result.0 (λ error.
         IsLeftByRefused A.next J.database_history J.node_histories client.entry bounds error result.1) }
@@ -113,8 +113,8 @@ fn read_begun_keeping<'a, A: App, D: Definition, J: Naming, P: Page<A, D>, B: Be
     ensures row { IfOk result.0 (λ shown. shown.receipt.seen.events ≡ J.database_history) }
     ensures ran { IfOk result.0 (λ shown. IsPageRun A.next J.database_history J.node_histories B.client B.bounds
         shown.receipt.answers.items result.1) }
-    ensures kept { IfOk result.0 (λ shown. AreKept J.database_history B.bounds kept result.2) }
-    ensures most { result.2.most ≡ kept.most }
+    ensures kept { IfOk result.0 (λ shown. AreKept J.database_history B.bounds kept.entry result.2) }
+    ensures most { result.2.most ≡ kept.entry.most }
     ensures refused { IfErr result.0 (IsPageRefused (P.refuses page.now)) }
     ensures left { IfErr result.0 (λ error.
         IsLeftByRefused A.next J.database_history J.node_histories B.client B.bounds error result.1) }

@@ -153,8 +153,8 @@ impl<'a, A: App, D: Definition, J: Naming> SiteClient<'a, A, D, J> {
         ensures row { IfOk result.0 (λ shown. shown.receipt.seen.events ≡ J.database_history) }
         ensures ran { IfOk result.0 (λ shown. IsPageRun A.next J.database_history J.node_histories self.entry.reader bounds
             shown.receipt.answers.items result.1.reader) }
-        ensures kept { IfOk result.0 (λ shown. AreKept J.database_history bounds kept result.2) }
-        ensures most { result.2.most ≡ kept.most }
+        ensures kept { IfOk result.0 (λ shown. AreKept J.database_history bounds kept.entry result.2) }
+        ensures most { result.2.most ≡ kept.entry.most }
         ensures refused { IfErr result.0 (IsPageRefused (P.refuses page.now)) }
         ensures left { IfErr result.0 (λ error. IsLeftByRefused A.next J.database_history J.node_histories
             self.entry.reader bounds error result.1.reader) }

@@ -10,5 +10,5 @@ use Rattle.txc_client.proofs.client.begun_with.Goals as goal
 pub returns-in-Ok-clause-holds : goal.returns-in-Ok-clause-holds
 returns-in-Ok-clause-holds c = λ next objects.
     c.in-Ok.ensures.holds next c.in-Ok.core.seen.history objects
-    (subst (λ (L : History). All (IsFresh L c.args.bounds) c.args.pins.pins.items) (sym (ap (λ (v : CoreValue). v.seen.history) c.in-Ok.ensures.answer))
-    (fresh_pins c.args.pins.front.history c.args.bounds c.args.pins.pins.items c.args.pins.shows c.requires.allowed))
+    (subst (λ (L : History). All (IsFresh L c.args.bounds.now) c.args.pins.pins.items) (sym (ap (λ (v : CoreValue). v.seen.history) c.in-Ok.ensures.answer))
+    (fresh_pins c.args.pins.front.history c.args.bounds.now c.args.pins.pins.items c.args.pins.shows c.requires.allowed))

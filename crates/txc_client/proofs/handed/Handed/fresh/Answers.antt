@@ -7,27 +7,27 @@ pub invariant_of-result : goal.invariant_of-result
 invariant_of-result c =
     let g = c.self.inside.pins in
     let h : HandedValue = record { pins = g.pins.items; front = g.front; since = c.self.inside.since } in
-    let pins : c.in_ok-pins.pins.items ≡ fresh_of c.args.bounds h = rw (← c.deref.ensures.value) c.in_ok-pins.ensures in
+    let pins : c.in_ok-pins.pins.items ≡ fresh_of c.args.bounds.now h = rw (← c.deref.ensures.value) c.in_ok-pins.ensures in
     record {
-      shows = rw (c.in_ok-front.ensures, pins) (fresh_shown h c.args.bounds g.shows g.falls g.few);
-      falls = rw pins (fresh_falls h c.args.bounds g.shows g.falls g.few);
-      few = rw pins (fresh_few h c.args.bounds g.shows g.falls g.few);
+      shows = rw (c.in_ok-front.ensures, pins) (fresh_shown h c.args.bounds.now g.shows g.falls g.few);
+      falls = rw pins (fresh_falls h c.args.bounds.now g.shows g.falls g.few);
+      few = rw pins (fresh_few h c.args.bounds.now g.shows g.falls g.few);
     }
 
 pub returns-clause-allowed : goal.returns-clause-allowed
 returns-clause-allowed c =
     let g = c.self.inside.pins in
     let h : HandedValue = record { pins = g.pins.items; front = g.front; since = c.self.inside.since } in
-    let pins : c.in_ok-pins.pins.items ≡ fresh_of c.args.bounds h = rw (← c.deref.ensures.value) c.in_ok-pins.ensures in
-    rw (c.in_ok-front.ensures, pins) (fresh_allowed h c.args.bounds g.shows g.falls g.few)
+    let pins : c.in_ok-pins.pins.items ≡ fresh_of c.args.bounds.now h = rw (← c.deref.ensures.value) c.in_ok-pins.ensures in
+    rw (c.in_ok-front.ensures, pins) (fresh_allowed h c.args.bounds.now g.shows g.falls g.few)
 
 pub returns-clause-answer : goal.returns-clause-answer
 returns-clause-answer c =
     let g = c.self.inside.pins in
     let h : HandedValue = record { pins = g.pins.items; front = g.front; since = c.self.inside.since } in
-    let pins : c.in_ok-pins.pins.items ≡ fresh_of c.args.bounds h = rw (← c.deref.ensures.value) c.in_ok-pins.ensures in (
+    let pins : c.in_ok-pins.pins.items ≡ fresh_of c.args.bounds.now h = rw (← c.deref.ensures.value) c.in_ok-pins.ensures in (
       cushion_of h,
       refl,
-      cushion_is h c.args.bounds g.shows g.falls g.few,
-      (pins ∙ handed_are_fresh h c.args.bounds g.shows g.falls g.few, c.in_ok-front.ensures),
+      cushion_is h c.args.bounds.now g.shows g.falls g.few,
+      (pins ∙ handed_are_fresh h c.args.bounds.now g.shows g.falls g.few, c.in_ok-front.ensures),
     )
