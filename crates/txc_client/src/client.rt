@@ -299,7 +299,7 @@ fn begun_with(
         → CoreHolds next (value_of core).seen.history objects (value_of core)) }
     ensures idle { IfOk result (λ core. IsIdle (value_of core)) }
     ensures answer { IfOk result (λ core. value_of core
-        ≡ begun_core nodes renew_after bounds.now pins (value_of core).call) }
+        ≡ begun_core nodes renew_after bounds.entry.now pins (value_of core).call) }
 {
     match TxnCore::begin(alloc, nodes, renew_after, *bounds, pins) {
         Ok(core) => Ok(core),
@@ -324,8 +324,8 @@ fn begun_keeping<'a, J: Naming>(
     ensures idle { IfOk result.0 (λ core. IsIdle (value_of core)) }
     ensures renew_after { IfOk result.0 (λ core. (value_of core).renew_after ≡ renew_after) }
     ensures nodes { IfOk result.0 (λ core. (value_of core).nodes ≡ nodes) }
-    ensures begun { IfOk result.0 (λ core. HasBegunCore J.database_history bounds.now (value_of core)) }
-    ensures kept { IfOk result.0 (λ core. HasBegunKept J.database_history bounds.now kept.entry result.1
+    ensures begun { IfOk result.0 (λ core. HasBegunCore J.database_history bounds.entry.now (value_of core)) }
+    ensures kept { IfOk result.0 (λ core. HasBegunKept J.database_history bounds.entry.now kept.entry result.1
         (value_of core).pins.members (value_of core).seen) }
     ensures most { result.1.most ≡ kept.entry.most }
 {

@@ -36,14 +36,14 @@ impl Model for Handed {
 
 // Whether a transaction with these bounds may use the pin.
 fn is_fresh(pin: Pin, bounds: &Bounds) -> bool
-    ensures { result ≡ is_fresh bounds.now pin }
+    ensures { result ≡ is_fresh bounds.entry.now pin }
 {
     !pin.is_older(bounds.staleness, bounds.now) && bounds.at_least <= pin.stamp
 }
 
 // The pins that are fresh.
 fn fresh_pins(alloc: Global, pins: &[Pin], bounds: &Bounds) -> Result<Vec<Pin>, AllocError>
-    ensures { IfOk result (λ fresh. fresh.items ≡ filter (is_fresh bounds.now) pins.now) }
+    ensures { IfOk result (λ fresh. fresh.items ≡ filter (is_fresh bounds.entry.now) pins.now) }
 {
     pins.iter()
         .filter(|pin| is_fresh(**pin, bounds))
@@ -61,7 +61,7 @@ fn stamps_of(alloc: Global, pins: &[Pin]) -> Result<Vec<Stamp>, AllocError>
 impl Handed {
     /// Whether a transaction may begin with them.
     pub(crate) fn may_be_used(&self, most: u64, bounds: &Bounds) -> bool
-        ensures { result ≡ may_be_used most bounds.now self.now }
+        ensures { result ≡ may_be_used most bounds.entry.now self.now }
     {
         self.since <= bounds.now
             && u128::from(bounds.now) < u128::from(self.since) + u128::from(most)
@@ -75,12 +75,12 @@ impl Handed {
 
     /// Those that are fresh. It takes no lock, and no user is added: those of the kept pins are theirs too.
     pub(crate) fn fresh(&self, alloc: Global, bounds: &Bounds) -> Result<Pins, AllocError>
-        ensures pins { IfOk result (λ given. given.pins.items ≡ fresh_of bounds.now self.now) }
+        ensures pins { IfOk result (λ given. given.pins.items ≡ fresh_of bounds.entry.now self.now) }
         ensures front { IfOk result (λ given. given.front ≡ self.now.front) }
-        ensures allowed { IfOk result (λ given. All (λ pin. IsAllowed given.front.history pin.stamp bounds.now.now
-            bounds.now.staleness bounds.now.at_least) given.pins.items) }
+        ensures allowed { IfOk result (λ given. All (λ pin. IsAllowed given.front.history pin.stamp bounds.entry.now.now
+            bounds.entry.now.staleness bounds.entry.now.at_least) given.pins.items) }
         ensures answer { IfOk result (CushionMayAnswer self.now.front.events (λ c given.
-            (given.pins.items ≡ handed_out c bounds.now.now bounds.now.staleness bounds.now.at_least)
+            (given.pins.items ≡ handed_out c bounds.entry.now.now bounds.entry.now.staleness bounds.entry.now.at_least)
             × (given.front ≡ cushion_front c))) }
     {
         let pins = fresh_pins(alloc, &self.pins.pins, bounds)?;
@@ -114,7 +114,7 @@ pub(crate) fn hand_out<J: Naming>(
     bounds: &Bounds,
 ) -> Result<Handed, AllocError>
     ensures named { IfOk result (λ handed. handed.front.events ≡ J.database_history) }
-    ensures handed { IfOk result (IsHandedFor J.database_history bounds.now) }
+    ensures handed { IfOk result (IsHandedFor J.database_history bounds.entry.now) }
 {
     let Bounds {
         now,

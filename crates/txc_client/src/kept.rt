@@ -26,7 +26,7 @@ fn renewed<J: Naming>(
     requires { IfSome handed (λ handed. handed.front.events ≡ J.database_history) }
     ensures named { IfOk result (λ handed. handed.front.events ≡ J.database_history) }
     ensures kept { IfOk result
-        (IsKeptAfter J.database_history bounds.now (record { most = most; handed = handed })) }
+        (IsKeptAfter J.database_history bounds.entry.now (record { most = most; handed = handed })) }
 {
     match handed {
         Some(handed) => {
@@ -82,12 +82,12 @@ impl<'a, J: Naming> KeptPins<'a, J> {
     ) -> (Result<Pins, AllocError>, KeptPins<'a, J>)
         ensures most { result.1.most ≡ self.entry.most }
         ensures named { IfOk result.0 (λ given. given.front.events ≡ J.database_history) }
-        ensures allowed { IfOk result.0 (λ given. All (λ pin. IsAllowed given.front.history pin.stamp bounds.now.now
-            bounds.now.staleness bounds.now.at_least) given.pins.items) }
+        ensures allowed { IfOk result.0 (λ given. All (λ pin. IsAllowed given.front.history pin.stamp bounds.entry.now.now
+            bounds.entry.now.staleness bounds.entry.now.at_least) given.pins.items) }
         ensures answer { IfOk result.0 (CushionMayAnswer J.database_history (λ c given.
-            (given.pins.items ≡ handed_out c bounds.now.now bounds.now.staleness bounds.now.at_least)
+            (given.pins.items ≡ handed_out c bounds.entry.now.now bounds.entry.now.staleness bounds.entry.now.at_least)
             × (given.front ≡ cushion_front c))) }
-        ensures kept { IfOk result.0 (λ given. HasBegunKept J.database_history bounds.now self.entry result.1
+        ensures kept { IfOk result.0 (λ given. HasBegunKept J.database_history bounds.entry.now self.entry result.1
             given.pins.items given.front) }
     {
         let KeptPins {
