@@ -28,7 +28,7 @@ use Rattle.txc_call.specs.declared.need.Need.{Need}
 use Rattle.txc_call.specs.declared.need.Need.TheVariants as needs
 use Rattle.txc_call.specs.declared.need.Outcome.{Outcome}
 use Rattle.txc_call.specs.Reaches.{InReach}
-use Rattle.txc_call.specs.Frames.{FramesHold, IsStack}
+use Rattle.txc_call.specs.Frames.{IsStack}
 use Rattle.txc_call.proofs.Offered.{finished}
 use Rattle.txc_call.specs.declared.reply.Reply.{Reply}
 use Rattle.txc_call.specs.declared.reply.Reply.TheVariants as replies
@@ -50,16 +50,6 @@ agree_fewer qs q s t h = λ p there. h p (Contains-append_left qs (q ∷ []) p t
 
 agree_last : (qs : List Query) (q : Query) (s t : State) → AgreeOn (qs ++ q ∷ []) s t → answer q t ≡ answer q s
 agree_last qs q s t h = h q (Contains-push qs q)
-
--- what is true of a transaction that has just begun
-pub holds_at_first : (next : Next) (L : History) (objects : Objects) (base : ℕ) (c : RwValue) → IsBegun base c → base ≤ length L → RwHolds next L objects c
-holds_at_first next L objects base c begun within = record {
-  within = subst (λ (b : ℕ). b ≤ length L) (sym begun.at_base) within;
-  answers = λ changes agree. subst (AreRightIn next (state_of changes)) (sym begun.answers) (All-nil (IsRightIn next (state_of changes)));
-  call = λ changes agree.
-      subst (λ (need : Option Need). NeedHolds next (committed changes) objects need c.call.frames) (sym begun.need)
-      (subst (FramesHold next (committed changes) objects) (sym begun.frames) tt);
-}
 
 -- ---- what is kept where the transaction moves on
 

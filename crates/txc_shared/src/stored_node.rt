@@ -543,7 +543,7 @@ fn copied_hit(
     hit: Option<Hit<'_>>,
     front: &HistoryFront,
 ) -> Result<Option<Answered<Shown>>, AllocError>
-    ensures answer { IfOk result (λ found. option_map (λ f. f.answer) found ≡ option_map seen hit) }
+    ensures answer { IfOk result (λ found. option_map (λ f. f.answer) found ≡ option_map seen hit.entry) }
     ensures front { IfOk result (λ found. IfSome found (λ f. f.front ≡ front.now)) }
 {
     let Some(hit) = hit else {
