@@ -3,6 +3,7 @@ use Rattle.std.specs.Prelude.{IfSome, slice_set}
 use Rattle.std.specs.Result.{result_unwrap_or}
 use Rattle.txc_app.specs.Claims.{IsTrueIn, entry_shown}
 use Rattle.txc_db.specs.declared.answered.Answered.{Answered}
+use Rattle.txc_node.specs.declared.hit.Shown.{Shown}
 use Rattle.txc_ports.specs.declared.request.PortRequest.{PortRequest}
 use Rattle.txc_ports.specs.declared.reply.PortReply.TheVariants as replies
 use Rattle.txc_ports.specs.Asking.{IsReplyTo, MayAsk}
@@ -29,9 +30,9 @@ returns-in-Query-clause-passes g c = have_grown_self c.args.self.now
 
 pub invariant_of-self : goal.invariant_of-self
 invariant_of-self g c = (
-  settings_stay c.self.inside.passes.items c.in-Lookup.node c.index_mut-pass.result.now c.lookup-found.new.self c.index_mut-pass.ensures.value (ap (λ (w : PassValue). w.settings) c.lookup-found.ensures.longer.is)
-      ∙ c.self.invariant.0,
-  c.self.invariant.1,
+  settings_stay c.self-in-Lookup.inside.passes.items c.in-Lookup.node c.index_mut-pass.result.now c.lookup-found.new.self c.index_mut-pass.ensures.value (ap (λ (w : PassValue). w.settings) c.lookup-found.ensures.longer.is)
+      ∙ c.self-in-Lookup.invariant.0,
+  c.self-in-Lookup.invariant.1,
 )
 
 pub returns-in-Lookup-clause-answer : goal.returns-in-Lookup-clause-answer
@@ -49,8 +50,8 @@ returns-in-Lookup-clause-row g c =
 
 pub returns-in-Lookup-clause-passes : goal.returns-in-Lookup-clause-passes
 returns-in-Lookup-clause-passes g c =
-    subst (λ (v : List PassValue). HaveGrown v (slice_set c.self.inside.passes.items c.in-Lookup.node c.lookup-found.new.self)) c.self.view_is
-    (one_has_grown c.self.inside.passes.items c.in-Lookup.node c.index_mut-pass.result.now c.lookup-found.new.self c.index_mut-pass.ensures.value c.lookup-found.ensures.longer)
+    subst (λ (v : List PassValue). HaveGrown v (slice_set c.self-in-Lookup.inside.passes.items c.in-Lookup.node c.lookup-found.new.self)) c.self-in-Lookup.view_is
+    (one_has_grown c.self-in-Lookup.inside.passes.items c.in-Lookup.node c.index_mut-pass.result.now c.lookup-found.new.self c.index_mut-pass.ensures.value c.lookup-found.ensures.longer)
 
 pub returns-in-Lookup-clause-left : goal.returns-in-Lookup-clause-left
 returns-in-Lookup-clause-left g c =
@@ -59,12 +60,12 @@ returns-in-Lookup-clause-left g c =
     let new = c.lookup-found.new.self in
     let made = c.lookup-found.ensures in
     let at = c.in-Lookup.node in
-    let passes = c.self.inside.passes.items in
+    let passes = c.self-in-Lookup.inside.passes.items in
     let leaves = λ (o : Option (Answered Shown)). LookupLeaves histories c.in-Lookup.key c.in-Lookup.lo c.in-Lookup.hi o in
     let may : at < length c.args.self.now = subst (MayAsk g.A.App.next g.J.Naming.database_history (length c.args.self.now) c.args.seen.now.history) c.in-Lookup.is c.requires.may in
-    let within : at < length passes = subst (λ (v : List PassValue). at < length v) (sym c.self.view_is) may in
+    let within : at < length passes = subst (λ (v : List PassValue). at < length v) (sym c.self-in-Lookup.view_is) may in
     let found = result_unwrap_or c.lookup-found.result None in
-    let called = subst (λ (v : List PassValue). IsCallAt at (leaves found) v (slice_set passes at new)) c.self.view_is
+    let called = subst (λ (v : List PassValue). IsCallAt at (leaves found) v (slice_set passes at new)) c.self-in-Lookup.view_is
     (called_at passes at (leaves found) old new within c.index_mut-pass.ensures.value made.longer
     (looked_up histories old new c.in-Lookup.key c.in-Lookup.lo c.in-Lookup.hi c.lookup-found.result made.made made.left made.refused)) in
     subst (λ (r : PortRequest). IsExchange (λ x. PassesAfter histories c.args.self.now x (slice_set passes at new)) r (replies.Lookup c.unwrap_or.result)) (sym c.in-Lookup.is)
