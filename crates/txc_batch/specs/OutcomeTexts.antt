@@ -3,7 +3,7 @@ use Rattle.std.specs.Prelude.{ℕ, Bool, true, false, List, [], ◌∷◌, ◌++
 use Rattle.std.specs.Fmt.{decimal}
 use Rattle.std.specs.List.{flat_map, list_any}
 use Rattle.txc_node.specs.Texts.{hex_text}
-use Rattle.txc_words.specs.RefusalTexts.{transaction_text}
+use Rattle.txc_ports.specs.Codes.{transaction_code}
 use Rattle.txc_work.specs.declared.error.BatchError.{BatchError}
 use Rattle.txc_work.specs.declared.error.BatchError.TheVariants.{Missing, Twice, Memory}
 use Rattle.txc_work.specs.declared.job.Outcome.{Outcome}
@@ -14,7 +14,7 @@ use Rattle.txc_batch.specs.Staffing.{RanValue}
 -- the value of each call, in order; or the refusal of one
 abbrev pub outcome_text : Outcome → List ℕ
 outcome_text (outcomes.Receipt receipt) = flat_map (λ r. codes " " ++ hex_text r.value) receipt.answers.items
-outcome_text (outcomes.Refused error) = codes " refused " ++ transaction_text error
+outcome_text (outcomes.Refused error) = codes " refused " ++ transaction_code error
 
 -- the line of a job
 abbrev pub result_text : Receipted → List ℕ

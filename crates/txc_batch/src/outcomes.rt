@@ -7,7 +7,6 @@ ghost use Rattle.txc_batch.specs.OutcomeTexts.{batch_text, is_refused_batch, is_
 use crate::ran::Ran;
 use std::alloc::{AllocError, Global};
 use std::fmt;
-use txc_words::write_transaction;
 use txc_work::{BatchError, Outcome};
 
 /// Writes the values of a job's calls, or the refusal of one.
@@ -24,7 +23,7 @@ fn write_outcome<W: fmt::Write>(f: &mut fmt::Formatter<W>, outcome: &Outcome) ->
         }
         Outcome::Refused(error) => {
             write!(f, " refused ")?;
-            write_transaction(f, error)
+            error.write_code(f)
         }
     }
 }

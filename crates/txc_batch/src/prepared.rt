@@ -7,7 +7,6 @@ use std::fmt;
 use txc_cushion::AddError;
 use txc_db::DbError;
 use txc_stamp::Stamp;
-use txc_words::{write_add, write_database};
 
 /// Why a change was not made, or a pin. It is printed as its code and the number that goes with it.
 #[derive(Clone, Copy, Debug, PartialEq, Eq)]
@@ -25,8 +24,8 @@ impl fmt::Display for PrepareError {
 
     fn fmt<W: fmt::Write>(&self, f: &mut fmt::Formatter<W>) -> fmt::Result {
         match self {
-            PrepareError::Database(cause) => write_database(f, cause),
-            PrepareError::Pincushion(cause) => write_add(f, cause),
+            PrepareError::Database(cause) => cause.write_code(f),
+            PrepareError::Pincushion(cause) => cause.write_code(f),
         }
     }
 }

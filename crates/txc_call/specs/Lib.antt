@@ -4,3 +4,4 @@ pub mod Needs
 pub mod Turns
 pub mod Calling
 pub mod Laws
+pub mod Codes

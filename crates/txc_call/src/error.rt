@@ -1,3 +1,7 @@
+ghost use Rattle.std.specs.Fmt.{WritesOnOk};
+ghost use Rattle.txc_call.specs.Codes.{call_code};
+
+use std::fmt;
 use thiserror::Error;
 
 /// Why a call ended without a value. Every object that ran for it is idle then.
@@ -30,4 +34,23 @@ pub enum CallError {
     /// A growth was refused.
     #[error("out of memory")]
     Memory,
+}
+
+impl CallError {
+    /// Writes its code, and the numbers that go with it.
+    pub fn write_code<W: fmt::Write>(&self, f: &mut fmt::Formatter<W>) -> fmt::Result
+        ensures { WritesOnOk W.write_str_gives f.old result (call_code self.now) f.new }
+    {
+        match self {
+            CallError::NoFunction(number) => write!(f, "K1 {number}"),
+            CallError::CallOrder(caller, called) => write!(f, "K2 {caller} {called}"),
+            CallError::AskLimit => write!(f, "K3"),
+            CallError::Budget => write!(f, "K4"),
+            CallError::Busy => write!(f, "K5"),
+            CallError::ObjectMemory => write!(f, "K6"),
+            CallError::ValueTooLong => write!(f, "K7"),
+            CallError::BadArguments(number) => write!(f, "K8 {number}"),
+            CallError::Memory => write!(f, "memory"),
+        }
+    }
 }

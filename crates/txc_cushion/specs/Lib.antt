@@ -4,3 +4,4 @@ pub mod Cushion
 pub mod Refusals
 pub mod Laws
 pub mod Shared
+pub mod Codes

@@ -1,4 +1,8 @@
+ghost use Rattle.std.specs.Fmt.{WritesOnOk};
+ghost use Rattle.txc_cushion.specs.Codes.{add_code};
+
 use std::alloc::AllocError;
+use std::fmt;
 use thiserror::Error;
 use txc_stamp::Stamp;
 
@@ -14,6 +18,19 @@ pub enum AddError {
     /// A growth was refused.
     #[error("out of memory")]
     Memory,
+}
+
+impl AddError {
+    /// Writes its code, and the numbers that go with it.
+    pub fn write_code<W: fmt::Write>(&self, f: &mut fmt::Formatter<W>) -> fmt::Result
+        ensures { WritesOnOk W.write_str_gives f.old result (add_code self.now) f.new }
+    {
+        match self {
+            AddError::Full => write!(f, "C2"),
+            AddError::Known(stamp) => write!(f, "C3 {stamp}"),
+            AddError::Memory => write!(f, "memory"),
+        }
+    }
 }
 
 impl From<AllocError> for AddError {

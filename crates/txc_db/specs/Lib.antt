@@ -12,3 +12,4 @@ pub mod NetWith
 pub mod Worked
 pub mod Shared
 pub mod Locked
+pub mod Codes

@@ -1,4 +1,8 @@
+ghost use Rattle.std.specs.Fmt.{WritesOnOk};
+ghost use Rattle.txc_db.specs.Codes.{database_code};
+
 use std::alloc::{AllocError, AllocFailed};
+use std::fmt;
 use thiserror::Error;
 use txc_rows::StoreError;
 use txc_stamp::Stamp;
@@ -35,6 +39,25 @@ pub enum DbError {
     /// The allocator had no memory.
     #[error("out of memory")]
     Memory,
+}
+
+impl DbError {
+    /// Writes its code, and the numbers that go with it.
+    pub fn write_code<W: fmt::Write>(&self, f: &mut fmt::Formatter<W>) -> fmt::Result
+        ensures { WritesOnOk W.write_str_gives f.old result (database_code self.now) f.new }
+    {
+        match self {
+            DbError::SnapshotGone(horizon) => write!(f, "B1 {horizon}"),
+            DbError::Conflict(stamp) => write!(f, "B2 {stamp}"),
+            DbError::Full => write!(f, "B3"),
+            DbError::Store(cause) => cause.write_code(f),
+            DbError::Broken => write!(f, "B5"),
+            DbError::NotPinned(stamp) => write!(f, "B6 {stamp}"),
+            DbError::FutureStamp(newest) => write!(f, "B7 {newest}"),
+            DbError::HoldsFull => write!(f, "B8"),
+            DbError::Memory => write!(f, "memory"),
+        }
+    }
 }
 
 impl From<StoreError> for DbError {

@@ -6,44 +6,20 @@ use Rattle.txc_stamp.specs.Texts.{reach_text}
 use Rattle.txc_tags.specs.TextSet.{tags_text}
 use Rattle.txc_node.specs.Texts.{hex_text}
 use Rattle.txc_ports.specs.declared.error.TxnError.{TxnError}
-use Rattle.txc_shared.specs.declared.error.NodeError.{NodeError}
-use Rattle.txc_shared.specs.declared.error.NodeError.TheVariants as nodes
 use Rattle.txc_shared.specs.declared.advanced.Advanced.{Advanced}
 use Rattle.txc_shared.specs.declared.advanced.Advanced.TheVariants as advances
 use Rattle.txc_script.specs.FunctionLines.{function_line}
 use Rattle.txc_world.specs.declared.did.Did.{Did}
 use Rattle.txc_world.specs.declared.did.Did.TheVariants as dids
 use Rattle.txc_world.specs.declared.did.RowsFound.{RowsFound}
-use Rattle.txc_world.specs.declared.reply.Refusal.{Refusal}
-use Rattle.txc_world.specs.declared.reply.Refusal.TheVariants as refusals
 use Rattle.txc_world.specs.declared.reply.Reply.{Reply}
 use Rattle.txc_world.specs.declared.reply.Reply.TheVariants as replies
 use Rattle.txc_play.specs.declared.printed.Printed.{Printed}
 use Rattle.txc_play.specs.declared.printed.Printed.TheVariants.{Replied, Ended, Members, Tidied, Counted}
-use Rattle.txc_words.specs.RefusalTexts.{add_error_text, database_text, transaction_text}
-
--- ---- refusals
-
-abbrev pub node_text : NodeError → List ℕ
-node_text nodes.HistoryFull = codes "H1"
-node_text nodes.Broken = codes "H2"
-node_text nodes.PassesFull = codes "H3"
-node_text nodes.EmptyRange = codes "N1"
-node_text nodes.Memory = codes "memory"
-
-abbrev pub world_refusal_text : Refusal → List ℕ
-world_refusal_text refusals.NoActor = codes "O1"
-world_refusal_text refusals.NotOpen = codes "O2"
-world_refusal_text refusals.AlreadyOpen = codes "O3"
-world_refusal_text refusals.NoRequest = codes "O4"
-world_refusal_text refusals.MidCall = codes "O5"
-world_refusal_text refusals.NoNode = codes "O6"
-world_refusal_text (refusals.Database cause) = database_text cause
-world_refusal_text (refusals.Pincushion cause) = add_error_text cause
-world_refusal_text (refusals.GiveBack unknown) = codes "C1 " ++ decimal unknown.stamp
-world_refusal_text (refusals.Node cause) = node_text cause
-world_refusal_text (refusals.Transaction cause) = transaction_text cause
-world_refusal_text refusals.Memory = codes "memory"
+use Rattle.txc_db.specs.Codes.{database_code}
+use Rattle.txc_cushion.specs.Codes.{add_code}
+use Rattle.txc_ports.specs.Codes.{transaction_code}
+use Rattle.txc_world.specs.Codes.{refusal_code}
 
 -- ---- rows
 
@@ -61,12 +37,12 @@ found_text found =
 
 abbrev pub end_text : Result (List ℕ) TxnError → List ℕ
 end_text (Ok value) = codes "value " ++ hex_text value
-end_text (Err error) = codes "refused " ++ transaction_text error
+end_text (Err error) = codes "refused " ++ transaction_code error
 
 abbrev pub did_text : Did → List ℕ
 did_text (dids.Pinned stamp) = codes "pinned " ++ decimal stamp
 did_text dids.Added = codes "added"
-did_text (dids.NotAdded error) = codes "refused " ++ add_error_text error
+did_text (dids.NotAdded error) = codes "refused " ++ add_code error
 did_text dids.Unpinned = codes "unpinned"
 did_text (dids.Hit reach) = codes "hit " ++ reach_text reach
 did_text dids.Miss = codes "miss"
@@ -74,7 +50,7 @@ did_text (dids.Rows found) = found_text found
 did_text (dids.Stored reach) = codes "stored " ++ reach_text reach
 did_text dids.Kept = codes "kept"
 did_text dids.Dropped = codes "dropped"
-did_text (dids.Refused error) = codes "refused " ++ database_text error
+did_text (dids.Refused error) = codes "refused " ++ database_code error
 
 -- what a port did, and behind it how the call ended, if it did; of a request that was refused and ended its
 -- call the call's refusal alone
@@ -109,7 +85,7 @@ world_reply_text (replies.Vacuumed horizon) = codes "horizon " ++ decimal horizo
 world_reply_text (replies.Rows found) = found_text found
 world_reply_text (replies.Advanced advanced) = advanced_text advanced
 world_reply_text (replies.Swept count) = codes "swept " ++ decimal count
-world_reply_text (replies.Refused refusal) = codes "refused " ++ world_refusal_text refusal
+world_reply_text (replies.Refused refusal) = codes "refused " ++ refusal_code refusal
 
 -- each after a blank
 abbrev pub stamps_text : List ℕ → List ℕ

@@ -1,51 +1,17 @@
 //! What is written of what lines of a world's script are answered.
 ghost use Rattle.std.specs.Prelude.{map};
 ghost use Rattle.std.specs.Fmt.{WritesOnOk};
-ghost use Rattle.txc_play.specs.TaskTexts.{asked_text, did_text, end_text, found_text, ids_text, node_text, stamps_text, world_refusal_text, world_reply_text};
+ghost use Rattle.txc_play.specs.TaskTexts.{asked_text, did_text, end_text, found_text, ids_text, stamps_text, world_reply_text};
 
 use crate::printed::Printed;
 use std::fmt;
-use txc_cushion::{Pin, UnknownPin};
+use txc_cushion::Pin;
 use txc_node::Value;
 use txc_ports::TxnError;
 use txc_rows::Row;
-use txc_shared::{Advanced, NodeError};
+use txc_shared::Advanced;
 use txc_stamp::Stamp;
-use txc_words::{write_add, write_database, write_transaction};
-use txc_world::{Did, Refusal, Reply, RowsFound};
-
-// ---- refusals: a code, and the numbers that go with it
-
-fn write_node<W: fmt::Write>(f: &mut fmt::Formatter<W>, error: &NodeError) -> fmt::Result
-    ensures { WritesOnOk W.write_str_gives f.old result (node_text error.now) f.new }
-{
-    match error {
-        NodeError::HistoryFull => write!(f, "H1"),
-        NodeError::Broken => write!(f, "H2"),
-        NodeError::PassesFull => write!(f, "H3"),
-        NodeError::EmptyRange => write!(f, "N1"),
-        NodeError::Memory => write!(f, "memory"),
-    }
-}
-
-fn write_refusal<W: fmt::Write>(f: &mut fmt::Formatter<W>, refusal: &Refusal) -> fmt::Result
-    ensures { WritesOnOk W.write_str_gives f.old result (world_refusal_text refusal.now) f.new }
-{
-    match refusal {
-        Refusal::NoActor => write!(f, "O1"),
-        Refusal::NotOpen => write!(f, "O2"),
-        Refusal::AlreadyOpen => write!(f, "O3"),
-        Refusal::NoRequest => write!(f, "O4"),
-        Refusal::MidCall => write!(f, "O5"),
-        Refusal::NoNode => write!(f, "O6"),
-        Refusal::Database(cause) => write_database(f, cause),
-        Refusal::Pincushion(cause) => write_add(f, cause),
-        Refusal::GiveBack(UnknownPin { stamp }) => write!(f, "C1 {stamp}"),
-        Refusal::Node(cause) => write_node(f, cause),
-        Refusal::Transaction(cause) => write_transaction(f, cause),
-        Refusal::Memory => write!(f, "memory"),
-    }
-}
+use txc_world::{Did, Reply, RowsFound};
 
 // ---- rows
 
@@ -99,7 +65,7 @@ fn write_end<W: fmt::Write>(f: &mut fmt::Formatter<W>, end: &Result<Value, TxnEr
         Ok(value) => write!(f, "value {value}"),
         Err(error) => {
             write!(f, "refused ")?;
-            write_transaction(f, error)
+            error.write_code(f)
         }
     }
 }
@@ -113,7 +79,7 @@ fn write_did<W: fmt::Write>(f: &mut fmt::Formatter<W>, did: &Did) -> fmt::Result
         Did::Added => write!(f, "added"),
         Did::NotAdded(error) => {
             write!(f, "refused ")?;
-            write_add(f, error)
+            error.write_code(f)
         }
         Did::Unpinned => write!(f, "unpinned"),
         Did::Hit(reach) => write!(f, "hit {reach}"),
@@ -124,7 +90,7 @@ fn write_did<W: fmt::Write>(f: &mut fmt::Formatter<W>, did: &Did) -> fmt::Result
         Did::Dropped => write!(f, "dropped"),
         Did::Refused(error) => {
             write!(f, "refused ")?;
-            write_database(f, error)
+            error.write_code(f)
         }
     }
 }
@@ -185,7 +151,7 @@ fn write_reply<W: fmt::Write>(f: &mut fmt::Formatter<W>, reply: &Reply) -> fmt::
         Reply::Swept(count) => write!(f, "swept {count}"),
         Reply::Refused(refusal) => {
             write!(f, "refused ")?;
-            write_refusal(f, refusal)
+            refusal.write_code(f)
         }
     }
 }

@@ -4,3 +4,4 @@ pub mod Fronts
 pub mod Exchanges
 pub mod Turns
 pub mod Asking
+pub mod Codes

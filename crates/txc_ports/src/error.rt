@@ -1,4 +1,8 @@
+ghost use Rattle.std.specs.Fmt.{WritesOnOk};
+ghost use Rattle.txc_ports.specs.Codes.{transaction_code};
+
 use std::alloc::AllocError;
+use std::fmt;
 use thiserror::Error;
 use txc_call::CallError;
 use txc_cushion::AddError;
@@ -28,6 +32,22 @@ pub enum TxnError {
     /// A growth was refused.
     #[error("out of memory")]
     Memory,
+}
+
+impl TxnError {
+    /// Writes its code, and the numbers that go with it.
+    pub fn write_code<W: fmt::Write>(&self, f: &mut fmt::Formatter<W>) -> fmt::Result
+        ensures { WritesOnOk W.write_str_gives f.old result (transaction_code self.now) f.new }
+    {
+        match self {
+            TxnError::Call(cause) => cause.write_code(f),
+            TxnError::Database(cause) => cause.write_code(f),
+            TxnError::SnapshotLost(horizon) => write!(f, "X3 {horizon}"),
+            TxnError::PinsFull => write!(f, "X4"),
+            TxnError::BufferFull => write!(f, "X5"),
+            TxnError::Memory => write!(f, "memory"),
+        }
+    }
 }
 
 impl From<CallError> for TxnError {

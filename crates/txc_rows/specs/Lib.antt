@@ -15,3 +15,4 @@ pub mod Indexed
 pub mod Kept
 pub mod Keeping
 pub mod Uses
+pub mod Codes

@@ -1,4 +1,8 @@
+ghost use Rattle.std.specs.Fmt.{WritesOnOk};
+ghost use Rattle.txc_rows.specs.Codes.{store_code};
+
 use std::alloc::{AllocError, AllocFailed};
+use std::fmt;
 use thiserror::Error;
 
 /// The most versions that may match a query.
@@ -19,6 +23,19 @@ pub enum StoreError {
     /// The allocator had no memory for the answer.
     #[error("out of memory")]
     Memory,
+}
+
+impl StoreError {
+    /// Writes its code, and the numbers that go with it.
+    pub fn write_code<W: fmt::Write>(&self, f: &mut fmt::Formatter<W>) -> fmt::Result
+        ensures { WritesOnOk W.write_str_gives f.old result (store_code self.now) f.new }
+    {
+        match self {
+            StoreError::TooManyRows => write!(f, "R2"),
+            StoreError::Memory => write!(f, "memory"),
+            _ => write!(f, "R3"),
+        }
+    }
 }
 
 impl From<sqlite::Error> for StoreError {

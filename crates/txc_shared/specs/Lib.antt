@@ -8,3 +8,4 @@ pub mod Planned
 pub mod Writers
 pub mod Locked
 pub mod Worked
+pub mod Codes

@@ -1,4 +1,8 @@
+ghost use Rattle.std.specs.Fmt.{WritesOnOk};
+ghost use Rattle.txc_shared.specs.Codes.{node_code};
+
 use std::alloc::{AllocError, AllocFailed};
+use std::fmt;
 use thiserror::Error;
 
 /// Why a call of a node was refused. After it the node is as it was, but where a call found it `Broken`.
@@ -19,6 +23,21 @@ pub enum NodeError {
     /// A growth was refused.
     #[error("out of memory")]
     Memory,
+}
+
+impl NodeError {
+    /// Writes its code, and the numbers that go with it.
+    pub fn write_code<W: fmt::Write>(&self, f: &mut fmt::Formatter<W>) -> fmt::Result
+        ensures { WritesOnOk W.write_str_gives f.old result (node_code self.now) f.new }
+    {
+        match self {
+            NodeError::HistoryFull => write!(f, "H1"),
+            NodeError::Broken => write!(f, "H2"),
+            NodeError::PassesFull => write!(f, "H3"),
+            NodeError::EmptyRange => write!(f, "N1"),
+            NodeError::Memory => write!(f, "memory"),
+        }
+    }
 }
 
 impl From<AllocError> for NodeError {

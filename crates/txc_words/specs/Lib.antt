@@ -1,4 +1,3 @@
 pub mod Names
 pub mod Faults
 pub mod Said
-pub mod RefusalTexts

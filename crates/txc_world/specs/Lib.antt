@@ -16,3 +16,4 @@ pub mod Worlds
 pub mod Acted
 pub mod Acts
 pub mod Sessions
+pub mod Codes

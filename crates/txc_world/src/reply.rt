@@ -1,6 +1,10 @@
 //! What the steps of a world are replied.
+ghost use Rattle.std.specs.Fmt.{WritesOnOk};
+ghost use Rattle.txc_world.specs.Codes.{refusal_code};
+
 use crate::did::{Did, RowsFound};
 use std::alloc::AllocError;
+use std::fmt;
 use thiserror::Error;
 use txc_cushion::{AddError, Pin, UnknownPin};
 use txc_db::DbError;
@@ -42,6 +46,28 @@ pub enum Refusal {
     /// A growth was refused.
     #[error("out of memory")]
     Memory,
+}
+
+impl Refusal {
+    /// Writes its code, and the numbers that go with it.
+    pub fn write_code<W: fmt::Write>(&self, f: &mut fmt::Formatter<W>) -> fmt::Result
+        ensures { WritesOnOk W.write_str_gives f.old result (refusal_code self.now) f.new }
+    {
+        match self {
+            Refusal::NoActor => write!(f, "O1"),
+            Refusal::NotOpen => write!(f, "O2"),
+            Refusal::AlreadyOpen => write!(f, "O3"),
+            Refusal::NoRequest => write!(f, "O4"),
+            Refusal::MidCall => write!(f, "O5"),
+            Refusal::NoNode => write!(f, "O6"),
+            Refusal::Database(cause) => cause.write_code(f),
+            Refusal::Pincushion(cause) => cause.write_code(f),
+            Refusal::GiveBack(UnknownPin { stamp }) => write!(f, "C1 {stamp}"),
+            Refusal::Node(cause) => cause.write_code(f),
+            Refusal::Transaction(cause) => cause.write_code(f),
+            Refusal::Memory => write!(f, "memory"),
+        }
+    }
 }
 
 impl From<AllocError> for Refusal {
