@@ -31,6 +31,7 @@ LEFT_OUT = {
     "txc_plain_tests run::run::a_reader_that_never_ends",
     "txc_script_tests batch::batch::a_reader_that_never_ends",
     "txc_script_tests world::world::a_reader_that_never_ends",
+    "txc_store_tests db::db::long::an_unstored_history_goes_on_where_a_stored_one_ends",
     "txc_store_tests db::pins::shared::users_and_pins_have_a_limit",
     "txc_store_tests txn::shared::locked::passes_have_a_limit",
 }

@@ -46,7 +46,7 @@ is_tag tag = nat_le tag.table LAST_TABLE && nat_le tag.kind 2
 abbrev pub interval_of : TxcReach → Interval
 interval_of reach = record { lo = reach.lo; known = reach.known; still = reach.is_still }
 
--- there is such a stamp
+-- a caller may name such a stamp
 abbrev pub is_stamp : ℕ → Bool
 is_stamp number = nat_le number LAST_STAMP
 

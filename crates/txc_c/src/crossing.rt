@@ -127,7 +127,7 @@ pub(crate) fn are_tags(tags: &[TxcTag]) -> bool
     tags.iter().all(|tag| tag.is_tag())
 }
 
-/// Whether there is such a stamp.
+/// Whether a caller may name such a stamp.
 fn is_stamp(number: u32) -> bool
     ensures { result ≡ is_stamp number }
 {

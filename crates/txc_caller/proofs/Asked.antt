@@ -1,6 +1,8 @@
 -- What comes of a transaction's requests at the plain ports.
-use Rattle.std.proofs.Common.{◌≡◌, ◌∙◌, inl, inr, ℕ, Result, Ok, Err, Option, Some, None, refl, ap}
-use Rattle.std.specs.Prelude.{IfSome}
+use Rattle.std.proofs.Common.{◌≡◌, ◌∙◌, inl, inr, ℕ, Result, Ok, Err, Option, Some, None, refl, sym, ap}
+use Rattle.std.specs.Prelude.{IfErr, IfOk, IfSome, OnOk}
+use Rattle.std.specs.Option.{option_map}
+use Rattle.std.specs.Result.{result_unwrap_or}
 use Rattle.txc_stream.specs.Names.{Name}
 use Rattle.txc_tags.specs.Keys.{Call}
 use Rattle.txc_rows.specs.declared.query.Query.{Query}
@@ -12,6 +14,7 @@ use Rattle.txc_db.specs.Seen.{FrontValue}
 use Rattle.txc_node.specs.declared.entry.Entry.{Entry}
 use Rattle.txc_node.specs.declared.hit.Shown.{Shown}
 use Rattle.txc_node.specs.declared.op.Op.{Op}
+use Rattle.txc_node.specs.Cache.{lookup_answer}
 use Rattle.txc_node.specs.declared.op.Op.TheVariants.{Lookup}
 use Rattle.txc_cushion.specs.declared.error.AddError.{AddError}
 use Rattle.txc_app.specs.Claims.{IsTrueIn, entry_shown}
@@ -19,7 +22,7 @@ use Rattle.txc_app.specs.Eval.{Next}
 use Rattle.txc_shared.specs.declared.error.NodeError.{NodeError}
 use Rattle.txc_shared.specs.declared.error.NodeError.TheVariants as errors
 use Rattle.txc_shared.specs.Nodes.{NodeValue, after_call}
-use Rattle.txc_shared.specs.Refusals.{IsNodeLeft}
+use Rattle.txc_shared.specs.Refusals.{IsLookupRefused, IsNodeLeft}
 use Rattle.txc_ports.specs.declared.kept.Kept.{Kept}
 use Rattle.txc_ports.specs.declared.request.PortRequest.TheVariants as requests
 use Rattle.txc_ports.specs.declared.reply.PortReply.TheVariants as replies
@@ -54,6 +57,20 @@ node_inserted old new seen entry None refused = node_left old new refused.0 refu
 -- the ports with the node after such a step
 pub ports_with_node : (p : CallerPorts) (node : NodeValue) → AreCallerPorts p → KeepsNode p.node node → AreCallerPorts (record p { node = node })
 ports_with_node p node are keeps = record { cushion = are.cushion; node = keeps.row ∙ are.node; pass = keeps.passes ∙ are.pass }
+
+-- a lookup, by what it returns
+pub looked_up : (key : Call) (lo hi : ℕ) (old new : NodeValue) (r : Result (Option (Answered Shown)) NodeError)
+    → OnOk r (new ≡ after_call old 0 (Lookup key lo hi)) → IfOk r (λ o. option_map (λ f. f.answer) o ≡ lookup_answer old.cache key lo hi)
+    → IfOk r (λ o. IfSome o (λ f. f.front ≡ old.seen)) → IfErr r (IsNodeLeft old new) → IfErr r (IsLookupRefused old lo hi)
+    → CallerLookupLeads key lo hi old new (result_unwrap_or r None)
+looked_up key lo hi old new (Ok (Some hit)) after answer front left refused = (after, sym answer, front)
+looked_up key lo hi old new (Ok None) after answer front left refused = inl (after, sym answer)
+looked_up key lo hi old new (Err e) after answer front left refused = inr (e, refused, left)
+
+-- what holds of what it found holds of what the node has
+pub found_so : (P : Answered Shown → Type 0) (r : Result (Option (Answered Shown)) NodeError) → IfOk r (λ o. IfSome o P) → IfSome (result_unwrap_or r None) P
+found_so P (Ok o) h = h
+found_so P (Err e) h = tt
 
 -- what a hit shows is of the row
 pub hit_row : (old new : NodeValue) (key : Call) (lo hi : ℕ) (hit : Option (Answered Shown)) (row : Name) → old.seen.events ≡ row → CallerLookupLeads key lo hi old new hit

@@ -1,57 +1,15 @@
 //! Steps at the node, for one thread.
-ghost use Rattle.std.specs.Prelude.{◌≡◌, IfSome};
-ghost use Rattle.txc_app.specs.Claims.{IsTrueIn, entry_shown};
-ghost use Rattle.txc_shared.specs.Passes.{shown_of_entry};
-ghost use Rattle.txc_caller.specs.Ports.{kept_as, CallerInsertLeads, CallerLookupLeads, CallerSweepLeads, KeepsNode};
+ghost use Rattle.std.specs.Prelude.{◌≡◌};
+ghost use Rattle.txc_app.specs.Claims.{IsTrueIn};
+ghost use Rattle.txc_caller.specs.Ports.{kept_as, CallerInsertLeads, CallerSweepLeads, KeepsNode};
 
 use std::alloc::Global;
 use txc_app::App;
-use txc_db::{Answered, HistoryFront};
-use txc_node::{Entry, Shown};
+use txc_db::HistoryFront;
+use txc_node::Entry;
 use txc_ports::Kept;
-use txc_shared::{Advanced, Finding, Insertion, NodeError, StoredNode};
+use txc_shared::{Advanced, Insertion, NodeError, StoredNode};
 use txc_stamp::Stamp;
-use txc_tags::Key;
-
-// What a finding shows of its call, with the history in which it is true.
-fn shown_by<A: App>(finding: Finding<A>) -> Answered<Shown>
-    ensures answer { result.answer ≡ shown_of_entry finding.entry }
-    ensures front { result.front ≡ finding.front }
-    ensures is_true { IsTrueIn A.next finding.front.history finding.entry }
-{
-    let Finding { entry, front, .. } = finding;
-    let Entry {
-        key: _,
-        value,
-        reach,
-        tags,
-    } = entry;
-    Answered {
-        answer: Shown { reach, value, tags },
-        front,
-    }
-}
-
-/// What the node has of the call at the stamps from `lo` to `hi`, both included. A node that refuses has
-/// nothing.
-pub(crate) fn look_up<A: App>(
-    alloc: Global,
-    node: &mut StoredNode<A>,
-    key: &Key,
-    lo: Stamp,
-    hi: Stamp,
-) -> Option<Answered<Shown>>
-    requires { node.old.passes ≡ 1 }
-    ensures leads { CallerLookupLeads key.now lo hi node.old node.new result }
-    ensures right { IfSome result (λ hit.
-        IsTrueIn A.next hit.front.history (entry_shown key.now hit.answer)) }
-{
-    match node.lookup(alloc, 0, key, lo, hi) {
-        Ok(Some(finding)) => Some(shown_by(finding)),
-        Ok(None) => None,
-        Err(_) => None,
-    }
-}
 
 // What a node keeps that made the insertion.
 fn kept_as(insertion: Insertion) -> Kept

@@ -1,6 +1,6 @@
 //! The plain ports of a caller, for one thread.
 ghost use Rattle.std.specs.Prelude.{◌≡◌, ◌≤◌, [], All, IfErr, IfOk, IfSome, OnErr, OnOk, length};
-ghost use Rattle.txc_app.specs.Claims.{IsTrueIn, entry_shown};
+ghost use Rattle.txc_app.specs.Claims.{IsTrueIn};
 ghost use Rattle.txc_cushion.specs.Cushion.{after_retire, handed_out, retired};
 ghost use Rattle.txc_db.specs.Calls.{IsCommitRefused, IsLeft, IsQueryRefused, IsVacuumRefused};
 ghost use Rattle.txc_db.specs.DatabaseValue.{after_commit, after_vacuum, newest, next_horizon};
@@ -11,7 +11,7 @@ ghost use Rattle.txc_db.specs.Seen.{FrontValue};
 ghost use Rattle.txc_node.specs.declared.node.TheConstants.{MAX_CAPACITY, MAX_RECENT};
 ghost use Rattle.txc_stream.specs.declared.row.TheConstants.{MAX_CAPACITY as MAX_ROW};
 ghost use Rattle.txc_shared.specs.Nodes.{start_of};
-ghost use Rattle.txc_caller.specs.Ports.{CallerAddLeads, CallerFindLeads, CallerInsertLeads, CallerLookupLeads, CallerPinLeads, CallerSweepLeads, CallerUnpinLeads, AreLetGo, AreGivenBack, HasRetired, IsLetGo};
+ghost use Rattle.txc_caller.specs.Ports.{CallerAddLeads, CallerFindLeads, CallerInsertLeads, CallerPinLeads, CallerSweepLeads, CallerUnpinLeads, AreLetGo, AreGivenBack, HasRetired, IsLetGo};
 
 use crate::nodes;
 use std::alloc::{AllocError, Global};
@@ -20,7 +20,7 @@ use txc_app::App;
 use txc_app::laws::found_rows_give_true_entries;
 use txc_cushion::{AddError, CushionCore, Pins};
 use txc_db::{Answered, DbCore, DbError, HistoryFront, Pinned};
-use txc_node::{Entry, Shown};
+use txc_node::Entry;
 use txc_ports::{Kept, PortReply, PortRequest};
 use txc_rows::{Change, Query, Row};
 use txc_shared::{NodeError, NodeSettings, StoredNode};
@@ -141,17 +141,6 @@ impl<A: App> Ports<A> {
                 return;
             }
         }
-    }
-
-    // What the node has of the call at the stamps from `lo` to `hi`, both included.
-    fn look_up(&mut self, alloc: Global, key: &Key, lo: Stamp, hi: Stamp) -> Option<Answered<Shown>>
-        ensures same { self.new ≡ record self.old { node = self.new.node } }
-        ensures leads { CallerLookupLeads key.now lo hi self.old.node self.new.node result }
-        ensures right { IfSome result (λ hit.
-            IsTrueIn A.next hit.front.history (entry_shown key.now hit.answer)) }
-        ensures row { IfSome result (λ hit. hit.front.events ≡ self.old.database.events) }
-    {
-        nodes::look_up(alloc, &mut self.node, key, lo, hi)
     }
 
     // Gives the node an entry to keep.
@@ -345,6 +334,7 @@ impl<A: App> Ports<A> {
         PortReply::Unpin(unpinned)
     }
 
+    // A node that refuses has nothing.
     fn ask_lookup(
         &mut self,
         alloc: Global,
@@ -357,8 +347,7 @@ impl<A: App> Ports<A> {
             self.old self.new result }
     {
         let _node = node;
-        let hit = self.look_up(alloc, key, lo, hi);
-        PortReply::Lookup(hit)
+        PortReply::Lookup(self.node.lookup(alloc, 0, key, lo, hi).unwrap_or(None))
     }
 
     fn ask_query(&mut self, alloc: Global, query: &Query, stamp: Stamp) -> PortReply

@@ -1,6 +1,6 @@
 -- Where a history is kept, and what it has room for.
 use Rattle.std.specs.Prelude.{ℕ, Option, Some, None}
-use Rattle.txc_stamp.specs.declared.stamp.TheConstants.{LAST_STAMP}
+use Rattle.txc_stamp.specs.declared.stamp.TheConstants.{MOST_STAMP}
 use Rattle.txc_stream.specs.Names.{Name, HasRow}
 use Rattle.txc_db.specs.Room.{HasCapacity}
 
@@ -12,4 +12,4 @@ IsHistoryFor None name = ¬ (HasRow name)
 -- for how many events the history of a database has room that is kept so
 abbrev pub room_for : Option ℕ → ℕ
 room_for (Some room) = room
-room_for None = LAST_STAMP
+room_for None = MOST_STAMP

@@ -2,19 +2,27 @@
 use Rattle.txc_stream.specs.Names.{Name}
 use Rattle.std.proofs.Common.{◌≡◌, ℕ, ◌<◌, List, length, get_or, set, Option, Some, None, Result, Ok, Err, IfOk, OnOk, IfErr, refl, sym, subst, inl, inr}
 use Rattle.std.specs.Option.{option_map}
+use Rattle.std.specs.Prelude.{IfSome}
+use Rattle.std.specs.Result.{result_unwrap_or}
 use Rattle.std.proofs.lemmas.Option.{slice_get_read}
 use Rattle.txc_tags.specs.Keys.{Call}
 use Rattle.txc_db.specs.declared.answered.Answered.{Answered}
+use Rattle.txc_db.specs.Seen.{FrontValue}
+use Rattle.txc_app.specs.Eval.{Next}
+use Rattle.txc_app.specs.Claims.{IsTrueIn, entry_shown}
 use Rattle.txc_node.specs.declared.entry.Entry.{Entry}
 use Rattle.txc_node.specs.declared.hit.Shown.{Shown}
 use Rattle.txc_node.specs.declared.op.Op.TheVariants.{Lookup}
-use Rattle.txc_node.specs.declared.reply.Reply.TheVariants.{Hit}
+use Rattle.txc_node.specs.Steps.{found_reply}
 use Rattle.txc_node.specs.Counts.{Totals, AreCountsOf}
 use Rattle.txc_shared.specs.declared.error.NodeError.{NodeError}
 use Rattle.txc_shared.specs.declared.insertion.Insertion.{Insertion}
-use Rattle.txc_shared.specs.Passes.{PassValue, shown_of_entry, GrowsByOthers, HasFound, HasGrown, HasInserted, HasMade, IsPassLeft}
+use Rattle.txc_shared.specs.Passes.{PassValue, GrowsByOthers, HasGrown, HasInserted, HasMade, IsPassLeft}
 use Rattle.txc_shared.specs.Refusals.{IsCountRefused, IsLookupRefused, IsRefusedThrough, IsStepRefused, NodeMayRefuse}
 use Rattle.txc_ports.specs.declared.kept.Kept.{Kept}
+use Rattle.txc_ports.specs.declared.request.PortRequest.TheVariants as requests
+use Rattle.txc_ports.specs.declared.reply.PortReply.TheVariants as replies
+use Rattle.txc_ports.specs.Asking.{IsOfRow, IsReplyTo}
 use Rattle.txc_client.specs.Ports.{kept_by, CountsLeave, InsertLeaves, IsCallAt, LookupLeaves}
 
 pub called_at : (ps : List PassValue) (node : ℕ) (call : PassValue → PassValue → Type 0) (old new : PassValue) → node < length ps → old ≡ get_or ps node old
@@ -29,27 +37,13 @@ kept_of (Err e) = None
 
 module _ (node_histories : ℕ → Name) (old new : PassValue) where
   -- a lookup, by what it returns
-  module _ {F : Type 0} (r : Result (Option F) NodeError) (entry_of : F → Entry) (key : Call) (lo hi : ℕ)
-      (found : IfOk r (λ o. HasFound old new (Lookup key lo hi) (option_map entry_of o)))
-      (left : IfErr r (IsPassLeft (node_histories old.settings.number) old new))
-      (refused : IfErr r (NodeMayRefuse node_histories (λ n. IsRefusedThrough (λ m. IsLookupRefused m lo hi) n old))) where
-    pub lookup_hit : (f : F) (hit : Answered Shown) → r ≡ Ok (Some f) → hit.answer ≡ shown_of_entry (entry_of f) → LookupLeaves node_histories key lo hi (Some hit) old new
-    lookup_hit f hit is shown =
-        inl (subst (λ (s : Shown). HasMade old new (Lookup key lo hi) (Hit s)) (sym shown)
-        (subst (λ (q : Result (Option F) NodeError). IfOk q (λ o. HasFound old new (Lookup key lo hi) (option_map entry_of o))) is found))
-
-    pub lookup_miss : r ≡ Ok None → LookupLeaves node_histories key lo hi None old new
-    lookup_miss is = inl (subst (λ (q : Result (Option F) NodeError). IfOk q (λ o. HasFound old new (Lookup key lo hi) (option_map entry_of o))) is found)
-
-    pub lookup_refused : (e : NodeError) → r ≡ Err e → LookupLeaves node_histories key lo hi None old new
-    lookup_refused e is = inr (
-      refl,
-      record {
-        error = e;
-        reason = subst (λ (q : Result (Option F) NodeError). IfErr q (NodeMayRefuse node_histories (λ n. IsRefusedThrough (λ m. IsLookupRefused m lo hi) n old))) is refused;
-        left = subst (λ (q : Result (Option F) NodeError). IfErr q (IsPassLeft (node_histories old.settings.number) old new)) is left;
-      },
-    )
+  pub looked_up : (key : Call) (lo hi : ℕ) (r : Result (Option (Answered Shown)) NodeError)
+      → IfOk r (λ o. HasMade old new (Lookup key lo hi) (found_reply (option_map (λ f. f.answer) o))) → IfErr r (IsPassLeft (node_histories old.settings.number) old new)
+      → IfErr r (NodeMayRefuse node_histories (λ n. IsRefusedThrough (λ m. IsLookupRefused m lo hi) n old))
+      → LookupLeaves node_histories key lo hi (result_unwrap_or r None) old new
+  looked_up key lo hi (Ok (Some hit)) made left refused = inl made
+  looked_up key lo hi (Ok None) made left refused = inl made
+  looked_up key lo hi (Err e) made left refused = inr (refl, record { error = e; reason = refused; left = left })
 
   -- an insertion, by what it returns
   pub inserted : (entry : Entry) (r : Result Insertion NodeError) → IfOk r (HasInserted old new entry) → IfErr r (IsPassLeft (node_histories old.settings.number) old new)
@@ -73,3 +67,20 @@ module _ (node_histories : ℕ → Name) (old new : PassValue) where
     reason = subst (λ (q : Result Totals NodeError). IfErr q (NodeMayRefuse node_histories (λ n. IsRefusedThrough IsCountRefused n old))) is refused;
     left = subst (λ (q : Result Totals NodeError). IfErr q (IsPassLeft (node_histories old.settings.number) old new)) is left;
   }
+
+-- what holds of what a lookup found holds of what the node has
+pub found_so : (P : Answered Shown → Type 0) (r : Result (Option (Answered Shown)) NodeError) → IfOk r (λ o. IfSome o P) → IfSome (result_unwrap_or r None) P
+found_so P (Ok o) h = h
+found_so P (Err e) h = tt
+
+-- a hit that is true of the call, and of the row, as the reply to a lookup
+pub right_hit : (next : Next) (node : ℕ) (key : Call) (lo hi : ℕ) (hit : Option (Answered Shown)) → IfSome hit (λ h. IsTrueIn next h.front.history (entry_shown key h.answer))
+    → IsReplyTo next (requests.Lookup node key lo hi) (replies.Lookup hit)
+right_hit next node key lo hi (Some hit) right = right
+right_hit next node key lo hi None right = tt
+
+pub row_of_hit : (row : Name) (hit : Option (Answered Shown)) → IfSome hit (λ h. h.front.events ≡ row) → IsOfRow row (replies.Lookup hit)
+row_of_hit row (Some hit) of = λ front is.
+    let same : hit.front ≡ front = cc in
+    subst (λ (f : FrontValue). f.events ≡ row) same of
+row_of_hit row None of = λ front is. cc is

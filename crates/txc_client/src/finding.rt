@@ -7,13 +7,13 @@ ghost use Rattle.txc_ports.specs.Asking.{IsFoundOver};
 
 use std::alloc::Global;
 use std::sync::Wait;
-use txc_app::laws::found_rows_give_true_entries;
 use txc_db::{Answered, Database, DbError, Naming};
 use txc_rows::Query;
 use txc_stamp::Stamp;
 use txc_validity::Found;
 
 // The answer of the query at the stamp, with the history in which it holds.
+#[tactic(auto, using(txc_app::proofs::Claims::found_rows_hold))]
 pub(crate) fn find<J: Naming>(
     rt: &impl Wait,
     alloc: Global,
@@ -27,6 +27,5 @@ pub(crate) fn find<J: Naming>(
     ensures row { IfOk result (λ found. found.front.events ≡ J.database_history) }
     ensures refused { IfErr result (MayRefuse J.database_history (λ d. IsQueryRefused d query.now stamp)) }
 {
-    found_rows_give_true_entries();
     database.query(rt, alloc, query, stamp)
 }

@@ -1,5 +1,5 @@
 //! The locked ports that a transaction asks, one call for each request.
-ghost use Rattle.std.specs.Prelude.{◌≡◌, ◌≤◌, ◌<◌, ◌⊎◌, [], get_or, map, All, Any, IfErr, IfOk, IfSome, length};
+ghost use Rattle.std.specs.Prelude.{◌≡◌, ◌≤◌, ◌<◌, ◌⊎◌, [], get_or, map, All, Any, IfErr, IfOk, length};
 ghost use Rattle.txc_shared.specs.Refusals.{IsNewPassRefused, NodeMayRefuse};
 
 use crate::finding::find;
@@ -8,12 +8,10 @@ use std::marker::Model;
 use std::sync::Wait;
 use txc_app::App;
 use txc_cushion::Pincushion;
-use txc_db::{Answered, Database, HistoryFront, Naming};
-use txc_node::{Counts, Entry, Shown};
+use txc_db::{Database, HistoryFront, Naming};
+use txc_node::{Counts, Entry};
 use txc_ports::{Kept, PortReply, PortRequest};
-use txc_shared::{Finding, Insertion, NodeError, NodePass, SharedNode};
-use txc_stamp::Stamp;
-use txc_tags::Key;
+use txc_shared::{Insertion, NodeError, NodePass, SharedNode};
 
 /// A database, its pincushion, and nodes that take its events, with a pass through each node. Contracts see
 /// the passes.
@@ -39,8 +37,8 @@ impl<'a, A: App, J: Naming> Model for Ports<'a, A, J> {
 }
 
 impl<'a, A: App, J: Naming> Ports<'a, A, J> {
-    ghost use Rattle.txc_app.specs.Claims.{IsTrueIn, entry_shown};
-    ghost use Rattle.txc_client.specs.Ports.{CountsLeave, HaveGrown, InsertLeaves, IsCallAt, LookupLeaves, PassesAfter};
+    ghost use Rattle.txc_app.specs.Claims.{IsTrueIn};
+    ghost use Rattle.txc_client.specs.Ports.{CountsLeave, HaveGrown, InsertLeaves, IsCallAt, PassesAfter};
     ghost use Rattle.txc_client.specs.Run.{IsToldSo};
     ghost use Rattle.txc_ports.specs.Asking.{IsOfRow, IsReplyTo, MayAsk};
     ghost use Rattle.txc_ports.specs.Exchanges.{IsExchange};
@@ -98,32 +96,6 @@ impl<'a, A: App, J: Naming> Ports<'a, A, J> {
         }
     }
 
-    // What the node has of the call. A node that refuses has nothing.
-    fn look_up(
-        &mut self,
-        rt: &impl Wait,
-        alloc: Global,
-        node: usize,
-        key: &Key,
-        lo: Stamp,
-        hi: Stamp,
-    ) -> Option<Answered<Shown>>
-        requires { node < length self.old }
-        ensures answer { IfSome result (λ hit.
-            IsTrueIn A.next hit.front.history (entry_shown key.now hit.answer)) }
-        ensures row { IfSome result (λ hit. hit.front.events ≡ J.database_history) }
-        ensures passes { HaveGrown self.old self.new }
-        ensures left { IsCallAt node (LookupLeaves J.node_histories key.now lo hi result) self.old self.new }
-    {
-        let nodes = self.nodes;
-        let pass = &mut self.passes[node];
-        match pass.lookup(rt, alloc, &nodes[node], key, lo, hi) {
-            Ok(Some(finding)) => Some(shown_by(finding)),
-            Ok(None) => None,
-            Err(_) => None,
-        }
-    }
-
     // Gives the node an entry to keep. A node that refuses keeps nothing.
     fn insert(
         &mut self,
@@ -147,7 +119,8 @@ impl<'a, A: App, J: Naming> Ports<'a, A, J> {
         }
     }
 
-    /// Asks what the transaction asks, in one call. It has seen that much of the history.
+    /// Asks what the transaction asks, in one call. It has seen that much of the history. A node that refuses has
+    /// nothing.
     pub(crate) fn ask(
         &mut self,
         rt: &impl Wait,
@@ -173,7 +146,10 @@ impl<'a, A: App, J: Naming> Ports<'a, A, J> {
             }
             PortRequest::Unpin(stamp) => PortReply::Unpin(self.database.unpin(rt, stamp)),
             PortRequest::Lookup { node, key, lo, hi } => {
-                PortReply::Lookup(self.look_up(rt, alloc, node, &key, lo, hi))
+                let nodes = self.nodes;
+                let pass = &mut self.passes[node];
+                let found = pass.lookup(rt, alloc, &nodes[node], &key, lo, hi);
+                PortReply::Lookup(found.unwrap_or(None))
             }
             PortRequest::Query { query, stamp } => {
                 PortReply::Query(find(rt, alloc, self.database, &query, stamp))
@@ -185,8 +161,6 @@ impl<'a, A: App, J: Naming> Ports<'a, A, J> {
     }
 }
 
-ghost use Rattle.txc_app.specs.Claims.{IsTrueIn};
-ghost use Rattle.txc_shared.specs.Passes.{shown_of_entry};
 ghost use Rattle.txc_client.specs.Ports.{kept_by};
 
 // A pass through each of the nodes, in order.
@@ -214,24 +188,5 @@ fn kept_by(insertion: Insertion) -> Kept
     match insertion {
         Insertion::Stored(reach) => Kept::Stored(reach),
         Insertion::Kept => Kept::Earlier,
-    }
-}
-
-// What a finding shows of its call, with the history in which it is true.
-fn shown_by<A: App>(finding: Finding<A>) -> Answered<Shown>
-    ensures answer { result.answer ≡ shown_of_entry finding.entry }
-    ensures front { result.front ≡ finding.front }
-    ensures is_true { IsTrueIn A.next finding.front.history finding.entry }
-{
-    let Finding { entry, front, .. } = finding;
-    let Entry {
-        key: _,
-        value,
-        reach,
-        tags,
-    } = entry;
-    Answered {
-        answer: Shown { reach, value, tags },
-        front,
     }
 }

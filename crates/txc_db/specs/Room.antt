@@ -1,12 +1,12 @@
 -- What a history of events has room for, and what it keeps.
 use Rattle.std.specs.Prelude.{◌≡◌, ⊤, ℕ, ◌<◌, ◌≤◌, length}
-use Rattle.txc_stamp.specs.declared.stamp.TheConstants.{LAST_STAMP}
+use Rattle.txc_stamp.specs.declared.stamp.TheConstants.{MOST_STAMP}
 use Rattle.txc_stream.specs.Names.{Name, stored, unstored}
 
 -- for how many events there is room: in a row, for one in each of its cells; else for one for each stamp
 abbrev pub events_room : Name → ℕ
 events_room (stored cells) = length cells
-events_room (unstored number) = LAST_STAMP
+events_room (unstored number) = MOST_STAMP
 
 -- it is stored in a row with so many cells
 abbrev pub HasCapacity : Name → ℕ → Type 0

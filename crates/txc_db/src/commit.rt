@@ -21,7 +21,7 @@ use crate::db_core::DbCore;
 use crate::error::DbError;
 use crate::history::History;
 use crate::net::Net;
-use crate::settled::{add_puts, add_rows, id_of, makes_another, settle, table_of};
+use crate::settled::{add_puts, add_rows, makes_another, settle};
 use std::alloc::Global;
 use txc_rows::{
     Change, Query, Row, net_changes_are_differences, states_are_maps, versions_keep_states,
@@ -69,7 +69,7 @@ impl DbCore {
         ensures few { IsOk result → matching_of self.old (row_query change.now) ≤ MAX_MATCHING }
         ensures refused { IfErr result (IsReadRefused self.old (row_query change.now)) }
     {
-        let rows = self.rows_now(alloc, table_of(change), id_of(change))?;
+        let rows = self.rows_now(alloc, change.table(), change.id())?;
         if makes_another(change, &rows) {
             add_rows(&mut net.tags, &rows)?;
             net.changes.push(change.copy(alloc)?)?;

@@ -1,5 +1,5 @@
 //! The database for one thread, which its lock holds too.
-ghost use Rattle.std.specs.Prelude.{◌≡◌, ◌+◌, ◌≤◌, ◌∷◌, [], ◌↔◌, true, false, length, Ok, Err, IfOk, OnOk, OnErr, IfErr, IfSome, IsOk, IsTrue, MatchOption};
+ghost use Rattle.std.specs.Prelude.{◌≡◌, ◌+◌, ◌≤◌, ◌∷◌, [], ◌↔◌, true, false, length, Ok, Err, IfOk, OnOk, OnErr, IfErr, ◌⊎◌, IsOk, IsTrue, MatchOption};
 ghost use mathlib.Core.List.{IsPrefix};
 ghost use Rattle.txc_rows.specs.RowTags.{query_tag};
 ghost use Rattle.txc_validity.specs.Answers.{IsAnswer};
@@ -152,10 +152,12 @@ impl DbCore {
         self.told.front()
     }
 
-    /// A handle of the tags of its last event, for who posts it; none where the history is stored, none has come, or
-    /// memory is refused.
-    pub fn last_tags(&self) -> Option<Arc<TagSet>>
-        ensures { IfSome result (λ tags. arc_value tags ≡ tags_at self.now.history (newest self.now)) }
+    /// A handle of the tags of its last event, for who posts it; none where the history is stored, or each event was
+    /// vacuumed.
+    pub(crate) fn last_tags(&self) -> Result<Option<Arc<TagSet>>, AllocError>
+        ensures { IfOk result (λ tags. MatchOption tags
+            (HasRow self.now.events ⊎ (newest self.now ≤ self.now.horizon))
+            (λ tags. arc_value tags ≡ tags_at self.now.history (newest self.now))) }
     {
         self.told.last_tags()
     }

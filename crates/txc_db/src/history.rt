@@ -1,7 +1,7 @@
 //! The history of a database, and who lengthens it.
-ghost use Rattle.std.specs.Prelude.{◌≡◌, ◌+◌, ◌<◌, ◌≤◌, ◌++◌, ◌∷◌, [], true, false, length, max, IfOk, IfSome, OnOk, OnErr};
+ghost use Rattle.std.specs.Prelude.{◌≡◌, ◌+◌, ◌<◌, ◌≤◌, ◌++◌, ◌∷◌, [], true, false, length, max, ◌⊎◌, IfOk, OnOk, OnErr, MatchOption};
 ghost use Rattle.std.specs.Arc.{arc_value};
-ghost use Rattle.txc_stamp.specs.declared.stamp.TheConstants.{LAST_STAMP};
+ghost use Rattle.txc_stamp.specs.declared.stamp.TheConstants.{MOST_STAMP};
 ghost use Rattle.txc_stream.specs.Names.{stored, unstored, HasRow};
 ghost use Rattle.txc_rows.specs.RowTags.{tags_between};
 ghost use Rattle.txc_db.specs.Facts.{commit, net_of};
@@ -83,7 +83,7 @@ impl History {
     /// How many events it has.
     pub(crate) fn len(&self) -> usize
         ensures shown { result ≡ length self.now.history }
-        ensures most { result ≤ LAST_STAMP }
+        ensures most { result ≤ MOST_STAMP }
     {
         self.front.len()
     }
@@ -99,7 +99,7 @@ impl History {
     pub(crate) fn is_full(&self) -> bool
         ensures full { result ≡ true → length self.now.history ≡ events_room self.now.events }
         ensures room { result ≡ false → length self.now.history < events_room self.now.events }
-        ensures next { result ≡ false → length self.now.history < LAST_STAMP }
+        ensures next { result ≡ false → length self.now.history < MOST_STAMP }
     {
         self.front.is_full()
     }
@@ -146,22 +146,21 @@ impl History {
         self.kept_tags(number)
     }
 
-    /// A handle of the tags of its last event, where they are kept and not stored.
-    pub(crate) fn last_tags(&self) -> Option<Arc<TagSet>>
-        ensures { IfSome result (λ tags.
-            arc_value tags ≡ tags_at self.now.history (length self.now.history)) }
+    /// A handle of the tags of its last event; none where it is stored, or keeps the tags of no event.
+    pub(crate) fn last_tags(&self) -> Result<Option<Arc<TagSet>>, AllocError>
+        ensures { IfOk result (λ tags. MatchOption tags
+            (HasRow self.now.events ⊎ (length self.now.history ≤ self.now.first))
+            (λ tags. arc_value tags ≡ tags_at self.now.history (length self.now.history))) }
     {
         let Some(window) = &self.window else {
-            return None;
+            return Ok(None);
         };
         let events = self.front.len();
         if window.first() >= events {
-            return None;
+            return Ok(None);
         }
-        match Arc::try_clone(self.kept_tags(events)) {
-            Ok(tags) => Some(tags),
-            Err(_) => None,
-        }
+        let tags = Arc::try_clone(self.kept_tags(events))?;
+        Ok(Some(tags))
     }
 
     // Makes room for the tags of one event more, where they are kept.

@@ -2,7 +2,7 @@
 ghost use Rattle.std.specs.Prelude.{◌≡◌, ◌+◌, ◌<◌, ◌≤◌, ◌⊎◌, ◌++◌, ◌∷◌, [], true, false, length, Some, IfOk, OnOk, IfErr, IsTrue, ◌↔◌, MatchOption};
 ghost use Rattle.std.specs.Arc.{arc_value};
 ghost use mathlib.Core.List.{IsPrefix};
-ghost use Rattle.txc_stamp.specs.declared.stamp.TheConstants.{LAST_STAMP};
+ghost use Rattle.txc_stamp.specs.declared.stamp.TheConstants.{LAST_STAMP, MOST_STAMP};
 ghost use Rattle.txc_stream.specs.Names.{stored, HasRow};
 ghost use Rattle.txc_rows.specs.RowTags.{tags_between};
 ghost use Rattle.txc_db.specs.History.{AreTagged, state_after_event, state_at, tags_at, event_at};
@@ -13,7 +13,7 @@ use crate::event::Event;
 use std::alloc::AllocError;
 use std::marker::Model;
 use std::sync::Arc;
-use txc_stamp::{LAST_STAMP, Stamp};
+use txc_stamp::{MOST_STAMP, Stamp};
 use txc_stream::{EventRow, Front};
 
 /// A prefix of the history of a database, as somebody has seen it. Each event in it stands beside its tags.
@@ -125,7 +125,8 @@ impl HistoryFront {
     pub fn len(&self) -> usize
         ensures shown { result ≡ length self.now.history }
         ensures room { result ≤ events_room self.now.events }
-        ensures most { result ≤ LAST_STAMP }
+        ensures most { result ≤ MOST_STAMP }
+        ensures stored { HasRow self.now.events → result ≤ LAST_STAMP }
     {
         self.front.len()
     }
@@ -140,11 +141,12 @@ impl HistoryFront {
     /// For how many events its history has room.
     pub fn room(&self) -> usize
         ensures room { result ≡ events_room self.now.events }
-        ensures most { result ≤ LAST_STAMP }
+        ensures most { result ≤ MOST_STAMP }
+        ensures stored { HasRow self.now.events → result ≤ LAST_STAMP }
     {
         match &self.row {
             Some(row) => row.capacity(),
-            None => LAST_STAMP as usize,
+            None => MOST_STAMP as usize,
         }
     }
 
@@ -152,7 +154,7 @@ impl HistoryFront {
     pub(crate) fn is_full(&self) -> bool
         ensures full { result ≡ true → length self.now.history ≡ events_room self.now.events }
         ensures room { result ≡ false → length self.now.history < events_room self.now.events }
-        ensures next { result ≡ false → length self.now.history < LAST_STAMP }
+        ensures next { result ≡ false → length self.now.history < MOST_STAMP }
     {
         self.front.len() >= self.room()
     }

@@ -236,7 +236,8 @@ fn post<J: Naming>(core: &DbCore, poster: &mut EventPoster<J>, slip: EventSlip<J
     let history = core.history();
     history.is_tagged();
     let _events = history.len();
-    poster.post(slip, core.last_tags(), history.front().again())
+    let tags = core.last_tags().unwrap_or(None);
+    poster.post(slip, tags, history.front().again())
 }
 
 /// The refusal of a commit. A conflict takes the front with it.

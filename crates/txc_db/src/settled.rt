@@ -6,41 +6,17 @@ ghost use Rattle.txc_rows.specs.declared.query.Query.TheVariants.{ById};
 ghost use Rattle.txc_rows.specs.States.{State, answer};
 ghost use Rattle.txc_rows.specs.Values.{same_row};
 ghost use Rattle.txc_rows.specs.RowTags.{tags_of_row};
-ghost use Rattle.txc_rows.specs.Net.{change_table, change_id, same_key, key_before, changes_state, placed, settled, puts_of};
+ghost use Rattle.txc_rows.specs.Net.{change_table, change_id, key_before, changes_state, placed, settled, puts_of};
 
 use std::alloc::{AllocError, Global};
 use txc_rows::{Change, Row};
-use txc_tags::{Table, Tag, TagSet};
-
-pub(crate) fn table_of(change: &Change) -> Table
-    ensures { result ≡ change_table change.now }
-{
-    match change {
-        Change::Put(row) => row.table(),
-        Change::Remove(table, _) => *table,
-    }
-}
-
-pub(crate) fn id_of(change: &Change) -> u32
-    ensures { result ≡ change_id change.now }
-{
-    match change {
-        Change::Put(row) => row.id(),
-        Change::Remove(_, id) => *id,
-    }
-}
-
-fn is_same_key(one: &Change, other: &Change) -> bool
-    ensures { result ≡ same_key one.now other.now }
-{
-    table_of(one) == table_of(other) && id_of(one) == id_of(other)
-}
+use txc_tags::{Tag, TagSet};
 
 fn is_key_before(one: &Change, other: &Change) -> bool
     ensures { result ≡ key_before one.now other.now }
 {
-    let (table, other_table) = (table_of(one), table_of(other));
-    table < other_table || table == other_table && id_of(one) < id_of(other)
+    let (table, other_table) = (one.table(), other.table());
+    table < other_table || table == other_table && one.id() < other.id()
 }
 
 /// Where the change belongs among those that settle later ones, or none where one of them has its table and
@@ -51,7 +27,7 @@ fn place_of(change: &Change, settled: &[Change]) -> Option<usize>
         × (insert settled.now at change.now ≡ placed change.now settled.now)) }
 {
     for (at, other) in settled.iter().enumerate() {
-        if is_same_key(change, other) {
+        if change.has_same_key(other) {
             return None;
         }
         if is_key_before(change, other) {

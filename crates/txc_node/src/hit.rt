@@ -1,6 +1,6 @@
 //! What a lookup lends.
 ghost use Rattle.std.specs.Prelude.{◌≡◌, ◌≤◌, IfOk};
-ghost use Rattle.txc_stamp.specs.declared.stamp.TheConstants.{LAST_STAMP};
+ghost use Rattle.txc_stamp.specs.declared.stamp.TheConstants.{MOST_STAMP};
 
 use crate::value::Value;
 use std::alloc::{AllocError, Global};
@@ -17,7 +17,7 @@ pub struct Hit<'a> {
     /// What it depends on.
     pub tags: &'a TagSet,
     ghost ordered: { stored.now.lo ≤ last },
-    ghost bounded: { last ≤ LAST_STAMP },
+    ghost bounded: { last ≤ MOST_STAMP },
 }
 
 /// What a hit shows: a value that holds on a reach, and what it depends on.

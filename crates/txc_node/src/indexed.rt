@@ -11,6 +11,7 @@ ghost use Rattle.txc_node.specs.Indexed.{IndexesTags, IsFound, IsListed, KeepsLi
 use crate::closing::Closing;
 use crate::entry::Entry;
 use crate::keyed::KeyedEntries;
+use crate::leaving::Leaving;
 use crate::place::Place;
 use crate::stored::{Stored, in_reach, split};
 use crate::sweeping::Sweep;
@@ -155,6 +156,14 @@ impl IndexedEntries {
         ensures { result ≡ length self.now.entries }
     {
         self.entries.len()
+    }
+
+    /// The entries alone, of a node that ends.
+    pub(crate) fn leave(self) -> Leaving
+        ensures { result ≡ self.entries }
+    {
+        let IndexedEntries { entries, tags: _ } = self;
+        entries.leave()
     }
 
     /// The entries by themselves.

@@ -14,6 +14,7 @@ ghost use Rattle.txc_node.specs.Indexed.{AreOf, Closes, HoldsApart, IndexesTags,
 use crate::closing::Closing;
 use crate::entry::Entry;
 use crate::key_index::KeyIndex;
+use crate::leaving::Leaving;
 use crate::place::Place;
 use crate::stored::{Stored, join, join_some};
 use crate::sweeping::Sweep;
@@ -107,6 +108,14 @@ impl KeyedEntries {
         ensures apart { HoldsApart self.now }
     {
         self.cache.len()
+    }
+
+    /// The entries alone, of a node that ends.
+    pub(crate) fn leave(self) -> Leaving
+        ensures { result ≡ self.entries }
+    {
+        let KeyedEntries { cache, keys: _ } = self;
+        Leaving { cache }
     }
 
     /// The entry of the key whose span meets the stamps from `lo` to `hi`, and that lasts longest; and how

@@ -7,11 +7,12 @@ ghost use Rattle.txc_node.specs.contracts.node.NodeCore.{the_row};
 ghost use Rattle.txc_node.specs.declared.entry.Entry.{Entry};
 ghost use Rattle.txc_node.specs.Cache.{ends_no_earlier, shown_of, empty_cache, empty_cache_at, found, lookup_answer, after_lookup, is_kept, after_insert, outcome, after_event, closed_count, after_sweep, swept_count};
 ghost use Rattle.txc_node.specs.Hit.{seen};
-ghost use Rattle.txc_node.specs.Indexed.{IsFound, IsSearchOf, entries_under, shown_as};
+ghost use Rattle.txc_node.specs.Indexed.{IsFound, IsSearchOf, shown_as};
 
 use crate::entry::Entry;
 use crate::hit::Hit;
 use crate::indexed::IndexedEntries;
+use crate::leaving::Leaving;
 use crate::place::Place;
 use crate::replay::replay_for;
 use crate::search::Search;
@@ -65,7 +66,6 @@ pub struct NodeCore {
     entries: IndexedEntries,
     processed: Stamp,
     recent: HeapCircularBuffer<TagSet>,
-    looked: u64,
 }
 
 impl Model for NodeCore {
@@ -168,8 +168,19 @@ impl NodeCore {
             entries,
             processed: from,
             recent,
-            looked: 0,
         })
+    }
+
+    /// Its entries, once it is not wanted any more. It takes no memory.
+    pub fn leave(self) -> Leaving
+        ensures { result ≡ self.entries }
+    {
+        let NodeCore {
+            entries,
+            processed: _,
+            recent: _,
+        } = self;
+        entries.leave()
     }
 
     /// The stamp of the last event that was taken.
@@ -193,30 +204,9 @@ impl NodeCore {
         self.len() == 0
     }
 
-    /// How many entries the last lookup looked at to take a key or a span: what
-    /// [`NodeCore::lookup_counted`] returns, and 0 where its stamps were refused, or before any lookup.
-    pub fn looked(&self) -> u64 {
-        self.looked
-    }
-
-    /// Answers and refuses as [`NodeCore::lookup`] does, and changes nothing. It takes no memory.
-    pub fn find(&self, key: &Key, lo: Stamp, hi: Stamp) -> Result<Option<Hit<'_>>, EmptyRange>
-        ensures only_if { OnOk result (lo ≤ hi) }
-        ensures refused { OnErr result (hi < lo) }
-        ensures answer { IfOk result (λ r. option_map seen r ≡ lookup_answer self.now key.now lo hi) }
-    {
-        check_range(lo, hi)?;
-        let entries = self.entries.keyed();
-        let (found, _) = entries.best(self.processed, key, lo, hi);
-        let Some(found) = found else {
-            return Ok(None);
-        };
-        let place = Place::new(key, found.reach.lo());
-        Ok(hit_of(entries.get(&place), self.processed))
-    }
-
-    /// Searches for the entry that [`NodeCore::lookup`] lends, and changes nothing. [`NodeCore::hit`] lends it
-    /// then, and [`NodeCore::mark_used`] does the rest of the lookup. It takes no memory.
+    /// Searches for the entry that [`NodeCore::lookup`] lends, and changes nothing: it looks at those of the key,
+    /// however many others there are. [`NodeCore::hit`] lends it then, and [`NodeCore::mark_used`] does the rest of the
+    /// lookup. It takes no memory.
     pub fn search(&self, key: &Key, lo: Stamp, hi: Stamp) -> Result<Search, EmptyRange>
         ensures only_if { OnOk result (lo ≤ hi) }
         ensures refused { OnErr result (hi < lo) }
@@ -251,26 +241,22 @@ impl NodeCore {
         requires { IsSearchOf self.old key.now search.now }
         ensures { self.new ≡ after_lookup self.old key.now search.now.lo search.now.hi }
     {
-        self.looked = search.looked;
         if let Some(found) = search.found {
             self.entries.bring_first(key, found);
         }
     }
 
-    // Looks an entry up and moves it to the front, and says whether there is one, and how many entries were
-    // looked at.
-    fn touch(&mut self, key: &Key, lo: Stamp, hi: Stamp) -> Result<(bool, u64), EmptyRange>
+    // Looks an entry up and moves it to the front, and says whether there is one.
+    fn touch(&mut self, key: &Key, lo: Stamp, hi: Stamp) -> Result<bool, EmptyRange>
         ensures only_if { OnOk result (lo ≤ hi) }
         ensures refused { OnErr result (hi < lo) }
         ensures unchanged { OnErr result (self.new ≡ self.old) }
         ensures after { OnOk result (self.new ≡ after_lookup self.old key.now lo hi) }
-        ensures is_hit { IfOk result (λ r. r.0 ≡ is_some (found self.old key.now lo hi)) }
-        ensures looked { IfOk result (λ r. r.1 ≡ length (entries_under key.now self.old.entries)) }
+        ensures is_hit { IfOk result (λ r. r ≡ is_some (found self.old key.now lo hi)) }
     {
-        self.looked = 0;
         let search = self.search(key, lo, hi)?;
         self.mark_used(key, &search);
-        Ok((search.found.is_some(), search.looked))
+        Ok(search.found.is_some())
     }
 
     /// Looks up the call of `key` at the stamps from `lo` to `hi`, both included. Of the entries of the key
@@ -286,31 +272,9 @@ impl NodeCore {
             (λ _. new ≡ after_lookup self.old key.now lo hi)
             (λ _. new ≡ self.old))) }
     {
-        let (is_hit, _) = self.touch(key, lo, hi)?;
+        let is_hit = self.touch(key, lo, hi)?;
         let processed = self.processed;
         Ok(hit_first(&self.entries, processed, is_hit))
-    }
-
-    /// Does what [`NodeCore::lookup`] does, and returns beside its answer how many entries it looked at to
-    /// take a key or a span: those of the key, however many others there are.
-    pub fn lookup_counted(
-        &mut self,
-        key: &Key,
-        lo: Stamp,
-        hi: Stamp,
-    ) -> Result<(Option<Hit<'_>>, u64), EmptyRange>
-        ensures only_if { OnOk result (lo ≤ hi) }
-        ensures refused { OnErr result (hi < lo) }
-        ensures answer { IfOk result (λ r. option_map seen r.0 ≡ lookup_answer self.old key.now lo hi) }
-        ensures looked { IfOk result (λ r. r.1 ≡ length (entries_under key.now self.old.entries)) }
-        // after an Ok the node is that after the lookup, and after an Err as it was
-        ensures* after { sem 𝓛 (Rests the_row self.entry (λ new. MatchResult result
-            (λ _. new ≡ after_lookup self.old key.now lo hi)
-            (λ _. new ≡ self.old))) }
-    {
-        let (is_hit, looked) = self.touch(key, lo, hi)?;
-        let processed = self.processed;
-        Ok((hit_first(&self.entries, processed, is_hit), looked))
     }
 
     /// Takes the next event: closes, just below it, the still valid entries that were known below it and

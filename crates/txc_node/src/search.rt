@@ -8,5 +8,6 @@ pub struct Search {
     pub lo: Stamp,
     pub hi: Stamp,
     pub(crate) found: Option<Found>,
-    pub(crate) looked: u64,
+    /// How many entries it looked at to take a key or a span.
+    pub looked: u64,
 }

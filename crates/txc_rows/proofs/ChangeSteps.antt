@@ -13,7 +13,7 @@ use Rattle.sqlite.proofs.Callers.{one_permutation}
 use Rattle.sqlite_trees.specs.declared.memory.MemStore.{MemStore}
 use Rattle.sqlite.specs.Tree.{IsAscending}
 use Rattle.sqlite_trees.proofs.ListLemmas.{filter-map, filter_none, all_both, all-append, ascending-map, IsPermutation-filter}
-use Rattle.txc_stamp.specs.declared.stamp.TheConstants.{LAST_STAMP}
+use Rattle.txc_stamp.specs.declared.stamp.TheConstants.{MOST_STAMP}
 use Rattle.txc_rows.specs.Values.{RowValue, IsRow}
 use Rattle.txc_rows.specs.States.{is_at}
 use Rattle.txc_rows.specs.Versions.{is_current, removed, put}
@@ -27,11 +27,11 @@ use Rattle.txc_rows.proofs.PutLemmas.{empty_of, key_is, key_turned, one_turned, 
 
 -- ---- one change
 
-module _ (t i s place : ℕ) (low : s ≤ LAST_STAMP) (latest replaced : List Placed) (apart : AreWellPlaced latest replaced) (below : AreBelow place (latest ++ replaced)) where
+module _ (t i s place : ℕ) (low : s ≤ MOST_STAMP) (latest replaced : List Placed) (apart : AreWellPlaced latest replaced) (below : AreBelow place (latest ++ replaced)) where
   pub removed_all : AreAll (removed t i s (versions_by_place (latest ++ replaced))) (place + 1) replaced (map (closed_placed t i s) latest)
   removed_all = record { apart = ended_apart t i s low latest replaced apart; written = removed_written t i s place low latest replaced apart below }
 
-pub put_all : (row : RowValue) (s place : ℕ) → s ≤ LAST_STAMP → IsRow row → (latest replaced : List Placed) → AreWellPlaced latest replaced → AreBelow place (latest ++ replaced)
+pub put_all : (row : RowValue) (s place : ℕ) → s ≤ MOST_STAMP → IsRow row → (latest replaced : List Placed) → AreWellPlaced latest replaced → AreBelow place (latest ++ replaced)
     → AreAll (put row s (versions_by_place (latest ++ replaced))) (place + 1) (put_replaced row (map (closed_placed row.table row.id s) latest) replaced) (put_latest place row s (map (closed_placed row.table row.id s) latest))
 put_all row s place low is latest replaced apart below =
     let ended = map (closed_placed row.table row.id s) latest in
@@ -265,7 +265,7 @@ module _ (row : RowValue) (s place : ℕ) (old first mid : Held MemStore) (repla
       go true = others_ended row.table row.id s (latest_in old) x h off
       go false = h
 
-  pub put_step : s ≤ LAST_STAMP → IsRow row → (end : Held MemStore) → HasLatest (put_latest place row s (latest_in mid)) end
+  pub put_step : s ≤ MOST_STAMP → IsRow row → (end : Held MemStore) → HasLatest (put_latest place row s (latest_in mid)) end
       → HasWritten (put row s (versions_of replaced old)) (place + 1) (replaced ++ map (λ x. closed_placed x.version.row.table x.version.row.id s x) (option_to_list o)) end
   put_step low is end puts =
       let went : map (λ x. closed_placed x.version.row.table x.version.row.id s x) (option_to_list o) ≡ filter (has_key row.table row.id row.group) (map (closed_placed row.table row.id s) (latest_in old))

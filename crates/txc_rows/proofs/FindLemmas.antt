@@ -72,21 +72,21 @@ module _ (t i from : ℕ) (latest : List Placed) (rows : List Row) (reads : AreP
   row_asked : asked (ById t i) from latest ≡ map version_of (filter (is_row_left t i from) latest)
   row_asked = asked_left (ById t i) from (map version_of latest) ∙ filter-map (is_asked (ById t i) from) version_of latest
 
-  pub row_finding : (old new : List Versioned) (placed : List Placed) → length old ≤ MAX_MATCHING → length rows ≤ MAX_MATCHING - length old → placed ≡ map placed_from rows → new ≡ old ++ map version_of placed
+  pub row_finding : (old new : List Versioned) → length old ≤ MAX_MATCHING → length rows ≤ MAX_MATCHING - length old → new ≡ old ++ map version_of (map placed_from rows)
       → IsFinding (ById t i) from latest old new
-  row_finding old new placed low few is are = record {
-    more = map version_of placed;
-    same = rw (row_asked, is) (IsPermutation-map version_of _ _ reads.same);
+  row_finding old new low few are = record {
+    more = map version_of (map placed_from rows);
+    same = rw row_asked (IsPermutation-map version_of _ _ reads.same);
     are = are;
-    few = omega (arith, low, few, ap length are, length-append old (map version_of placed), length-map placed version_of, ap length is, length-map rows placed_from);
+    few = omega (arith, low, few, ap length are, length-append old (map version_of (map placed_from rows)), length-map (map placed_from rows) version_of, length-map rows placed_from);
   }
 
   pub row_many : (old : List Versioned) → length old ≤ MAX_MATCHING → MAX_MATCHING - length old < length rows → MAX_MATCHING < length old + length (asked (ById t i) from latest)
   row_many old low many =
       omega (arith, low, many, ap length row_asked, length-map (filter (is_row_left t i from) latest) version_of, length_permutation _ _ reads.same, length-map rows placed_from)
 
-  pub row_among : (placed : List Placed) → placed ≡ map placed_from rows → AreAmong latest placed
-  row_among placed is = rw is (all-permutation (λ x. Contains latest x) _ _ reads.same (all-filter (λ x. Contains latest x) (is_row_left t i from) latest (each latest (λ x h. contains_it latest x h))))
+  pub row_among : AreAmong latest (map placed_from rows)
+  row_among = all-permutation (λ x. Contains latest x) _ _ reads.same (all-filter (λ x. Contains latest x) (is_row_left t i from) latest (each latest (λ x h. contains_it latest x h)))
     where
       each : (xs : List Placed) → ((x : Placed) → IsIn x xs → Contains latest x) → AllByRecursion (λ x. Contains latest x) xs
       each [] on = tt

@@ -8,7 +8,7 @@ use Rattle.std.specs.List.Sorted.{IsPermutation}
 use Rattle.std.proofs.lemmas.List.Sorted.{IsPermutation-refl, IsPermutation-trans, IsPermutation-sym, IsPermutation-cons, IsPermutation-append_left, IsPermutation-append_right, IsPermutation-append_comm}
 use Rattle.sqlite.specs.Tree.{IsAscending}
 use Rattle.sqlite_trees.proofs.ListLemmas.{map-map, all_of, all_weaker, all_both, all-filter, all-append, all-map, all-permutation, ascending-append, ascending-map, ascending_weaker, IsPermutation-same, filter_none}
-use Rattle.txc_stamp.specs.declared.stamp.TheConstants.{LAST_STAMP}
+use Rattle.txc_stamp.specs.declared.stamp.TheConstants.{MOST_STAMP}
 use Rattle.txc_rows.specs.Values.{RowValue, IsRow}
 use Rattle.txc_rows.specs.States.{is_at}
 use Rattle.txc_rows.specs.Versions.{is_current, closed, removed}
@@ -67,7 +67,7 @@ still_one t i s x y h at current = closed_dead t i s y.version (h at (alive (is_
     alive true e f = absurd (let g = f in cc)
     alive false e f = f
 
-pub ended_apart : (t i s : ℕ) → s ≤ LAST_STAMP → (latest earlier : List Placed) → AreWellPlaced latest earlier → AreWellPlaced (map (closed_placed t i s) latest) earlier
+pub ended_apart : (t i s : ℕ) → s ≤ MOST_STAMP → (latest earlier : List Placed) → AreWellPlaced latest earlier → AreWellPlaced (map (closed_placed t i s) latest) earlier
 ended_apart t i s low latest earlier h =
     let all = ended_all t i s latest earlier h.ended in
     record {
@@ -203,7 +203,7 @@ module _ (place s : ℕ) (row : RowValue) where
         all-permutation (λ x. x.place < place + 1) _ _ (IsPermutation-sym _ _ permutes)
         (all-append (λ x. x.place < place + 1) (latest ++ earlier) (new ∷ []) (higher place (latest ++ earlier) low) (omega arith, tt))
 
-    module _ (none : HasNoCurrent row.table row.id latest) (is : IsRow row) (stamp : s ≤ LAST_STAMP) where
+    module _ (none : HasNoCurrent row.table row.id latest) (is : IsRow row) (stamp : s ≤ MOST_STAMP) where
       own_key : (xs : List Placed) → HaveOwnKeys xs → HaveOwnKeys (map (renewed place row s) xs)
       own_key xs own = ascending-map _ (renewed place row s) xs (ascending_weaker _ _ still xs own)
         where
@@ -253,7 +253,7 @@ module _ (place s : ℕ) (row : RowValue) where
 
 -- ---- one change
 
-pub removed_written : (t i s place : ℕ) → s ≤ LAST_STAMP → (latest earlier : List Placed) → AreWellPlaced latest earlier → AreBelow place (latest ++ earlier)
+pub removed_written : (t i s place : ℕ) → s ≤ MOST_STAMP → (latest earlier : List Placed) → AreWellPlaced latest earlier → AreBelow place (latest ++ earlier)
     → AreWritten (removed t i s (versions_by_place (latest ++ earlier))) (place + 1) (map (closed_placed t i s) latest ++ earlier)
 removed_written t i s place low latest earlier h below = record {
   versions_are = ended_versions t i s latest earlier h.ended;

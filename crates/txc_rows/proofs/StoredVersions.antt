@@ -2,7 +2,7 @@
 use Rattle.std.proofs.Common.{◌≡◌, ◌≢◌, ℕ, ◌≤◌, List, [], ◌∷◌, filter, Bool, true, false, cond, ◌&&◌, ◌==◌, Option, None, Some, is_none, refl, arith}
 use borrow.Author.Tests.{eqb-true, eq-eqb}
 use Rattle.sqlite_trees.proofs.ListLemmas.{all_of, all_weaker, all-append, all-filter, all-map}
-use Rattle.txc_stamp.specs.declared.stamp.TheConstants.{LAST_STAMP}
+use Rattle.txc_stamp.specs.declared.stamp.TheConstants.{MOST_STAMP}
 use Rattle.txc_rows.specs.declared.version.Versioned.{Versioned}
 use Rattle.txc_rows.specs.declared.query.Change.{Change}
 use Rattle.txc_rows.specs.declared.query.Change.TheVariants.{Put, Remove}
@@ -27,10 +27,10 @@ hit_is t i v e =
 pub hit_from : (t i : ℕ) (v : Versioned) → v.row.table ≡ t → v.row.id ≡ i → v.died ≡ None → is_at t i v.row && is_current v ≡ true
 hit_from t i v a b c = rw (eq-eqb _ _ a, eq-eqb _ _ b, c) refl
 
-pub holdable_closed : (t i s : ℕ) → s ≤ LAST_STAMP → (v : Versioned) → IsStorable v → IsStorable (closed t i s v)
+pub holdable_closed : (t i s : ℕ) → s ≤ MOST_STAMP → (v : Versioned) → IsStorable v → IsStorable (closed t i s v)
 holdable_closed t i s low v is = record { row = is.row; born = is.born; died = λ d e. go (is_at t i v.row && is_current v) d e }
   where
-    go : (b : Bool) → (d : ℕ) → cond b (Some s) v.died ≡ Some d → d ≤ LAST_STAMP
+    go : (b : Bool) → (d : ℕ) → cond b (Some s) v.died ≡ Some d → d ≤ MOST_STAMP
     go true d e = let same : s ≡ d = cc in omega arith
     go false d e = is.died d e
 
@@ -42,7 +42,7 @@ closed_dead t i s v dead = go (is_at t i v.row && is_current v)
     go true e = cc
     go false e = dead e
 
-held_removed : (t i s : ℕ) → s ≤ LAST_STAMP → (vs : List Versioned) → AreHeld vs → AreHeld (removed t i s vs)
+held_removed : (t i s : ℕ) → s ≤ MOST_STAMP → (vs : List Versioned) → AreHeld vs → AreHeld (removed t i s vs)
 held_removed t i s low vs h = record {
   each = all-map IsStorable (closed t i s) vs (all_weaker IsStorable _ (holdable_closed t i s low) vs h.each);
   ended = pairs_mapped HasEnded (closed t i s) (λ v w dead a b. closed_dead t i s v (dead a b)) vs h.ended;
@@ -56,7 +56,7 @@ none_current s row v a b = go (is_at row.table row.id v.row && is_current v) ref
     go true hit e = cc
     go false off e = let hit = hit_from row.table row.id v a b e in cc
 
-held_put : (s : ℕ) → s ≤ LAST_STAMP → (row : RowValue) → IsRow row → (vs : List Versioned) → AreHeld vs → AreHeld (put row s vs)
+held_put : (s : ℕ) → s ≤ MOST_STAMP → (row : RowValue) → IsRow row → (vs : List Versioned) → AreHeld vs → AreHeld (put row s vs)
 held_put s low row is vs h =
     let new : Versioned = record { row = row; born = s; died = None } in
     let before = held_removed row.table row.id s low vs h in

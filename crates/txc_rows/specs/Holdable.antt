@@ -1,7 +1,7 @@
 -- The versions that a store can hold.
 use Rattle.std.specs.Prelude.{◌≡◌, ◌≢◌, ◌≤◌, ℕ, List, Some, None}
 use Rattle.std.specs.List.{AllByRecursion}
-use Rattle.txc_stamp.specs.declared.stamp.TheConstants.{LAST_STAMP}
+use Rattle.txc_stamp.specs.declared.stamp.TheConstants.{MOST_STAMP}
 use Rattle.txc_rows.specs.declared.version.Versioned.{Versioned}
 use Rattle.txc_rows.specs.declared.query.Change.{Change}
 use Rattle.txc_rows.specs.declared.query.Change.TheVariants.{Put, Remove}
@@ -11,8 +11,8 @@ use Rattle.txc_rows.specs.Versions.{Pairwise}
 -- a row, and stamps that can be
 pub record IsStorable (v : Versioned) : Type 0 where
   pub row : IsRow v.row
-  pub born : v.born ≤ LAST_STAMP
-  pub died : (d : ℕ) → v.died ≡ Some d → d ≤ LAST_STAMP
+  pub born : v.born ≤ MOST_STAMP
+  pub died : (d : ℕ) → v.died ≡ Some d → d ≤ MOST_STAMP
 
 -- of two versions of a table and id the one before has died
 abbrev pub HasEnded : Versioned → Versioned → Type 0
@@ -25,5 +25,5 @@ pub record AreHeld (vs : List Versioned) : Type 0 where
 
 -- the change writes what can be held
 abbrev pub IsWritable : ℕ → Change → Type 0
-IsWritable stamp (Put row) = (stamp ≤ LAST_STAMP) × IsRow row
-IsWritable stamp (Remove table id) = stamp ≤ LAST_STAMP
+IsWritable stamp (Put row) = (stamp ≤ MOST_STAMP) × IsRow row
+IsWritable stamp (Remove table id) = stamp ≤ MOST_STAMP

@@ -3,7 +3,7 @@ use Rattle.std.specs.Prelude.{◌≡◌, ◌≢◌, ◌<◌, ◌≤◌, ⊤, ℕ
 use Rattle.std.specs.declared.cmp.Ordering.{Ordering}
 use Rattle.std.specs.Ordering.{nat_cmp, ordering_then}
 use Rattle.std.specs.List.{AllByRecursion}
-use Rattle.txc_stamp.specs.declared.stamp.TheConstants.{LAST_STAMP}
+use Rattle.txc_stamp.specs.declared.stamp.TheConstants.{MOST_STAMP}
 use Rattle.txc_rows.specs.declared.version.Versioned.{Versioned}
 use Rattle.txc_rows.specs.declared.query.Query.{Query}
 use Rattle.txc_rows.specs.declared.query.Change.{Change}
@@ -91,8 +91,8 @@ purged horizon = filter (λ v. not (has_died_by horizon v))
 -- a row that stands for some stamps
 pub record IsVersion (v : Versioned) : Type 0 where
   pub row : IsRow v.row
-  pub born : v.born ≤ LAST_STAMP
-  pub life : (d : ℕ) → v.died ≡ Some d → (v.born < d) × (d ≤ LAST_STAMP)
+  pub born : v.born ≤ MOST_STAMP
+  pub life : (d : ℕ) → v.died ≡ Some d → (v.born < d) × (d ≤ MOST_STAMP)
 
 -- of two versions of a table and id the one before died by the other's birth, and where it died then they
 -- differ

@@ -1,9 +1,10 @@
 //! Versions from the rows that the store shows.
 
-ghost use Rattle.std.specs.Prelude.{◌≡◌, ◌≤◌, IfOk, IfErr, Some, map};
+ghost use Rattle.std.specs.Prelude.{◌≡◌, ◌≤◌, ◌++◌, IfOk, IfErr, OnOk, Some, map};
 ghost use Rattle.std.specs.List.{AllByRecursion};
-ghost use Rattle.txc_stamp.specs.declared.stamp.TheConstants.{LAST_STAMP};
+ghost use Rattle.txc_stamp.specs.declared.stamp.TheConstants.{MOST_STAMP};
 ghost use Rattle.txc_rows.specs.Values.{IsBody};
+ghost use Rattle.txc_rows.specs.Placed.{version_of, AreAmong};
 ghost use Rattle.txc_rows.specs.Stored.{placed_from, version_shown};
 ghost use Rattle.txc_rows.specs.Kept.{IsPlacedRow, IsShown};
 
@@ -16,7 +17,7 @@ use txc_stamp::Stamp;
 use txc_tags::Table;
 
 fn death_from(number: Option<u32>) -> Option<Stamp>
-    requires { (d : _) → number ≡ Some d → d ≤ LAST_STAMP }
+    requires { (d : _) → number ≡ Some d → d ≤ MOST_STAMP }
     ensures { result ≡ number }
 {
     match number {
@@ -52,25 +53,25 @@ fn version_from(table: Table, shown: &sqlite::Row) -> Result<Versioned, sqlite::
     })
 }
 
-/// The versions of a table that the rows show.
-pub(crate) fn versions_from(
-    alloc: Global,
+/// The versions of a table that the rows show come to the found ones.
+pub(crate) fn add_shown(
     table: Table,
     rows: &[sqlite::Row],
-) -> Result<Vec<Versioned>, StoreError>
+    found: &mut Vec<Versioned>,
+) -> Result<(), StoreError>
     requires { AllByRecursion (IsShown table) rows.now }
-    ensures answer { IfOk result (λ vs. vs.items ≡ map (version_shown table) rows.now) }
+    ensures found { OnOk result (found.new.items ≡ found.old.items ++ map (version_shown table) rows.now) }
     ensures refused { IfErr result (λ e. e ≡ StoreError.Memory) }
 {
-    let mut versions = Vec::new(alloc);
+    found.reserve(rows.len())?;
     for shown in rows {
         // What is stored can be read back, where there is memory for it.
         let Ok(version) = version_from(table, shown) else {
             return Err(StoreError::Memory);
         };
-        versions.push(version)?;
+        found.push(version)?;
     }
-    Ok(versions)
+    Ok(())
 }
 
 fn placed_from(table: Table, row: &sqlite::Row) -> Result<Placed, sqlite::Error>
@@ -109,4 +110,27 @@ pub(crate) fn all_placed_from(
         };
     }
     Ok(placed)
+}
+
+/// The versions of a table that the rows are come to the found ones, and are known.
+pub(crate) fn add_known(
+    alloc: Global,
+    table: Table,
+    rows: &[sqlite::Row],
+    known: &mut Vec<Placed>,
+    found: &mut Vec<Versioned>,
+) -> Result<(), StoreError>
+    requires { AllByRecursion (IsPlacedRow table) rows.now }
+    ensures known { (latest : _) → AreAmong latest known.old.items → AreAmong latest (map placed_from rows.now) → AreAmong latest known.new.items }
+    ensures found { OnOk result (found.new.items ≡ found.old.items ++ map version_of (map placed_from rows.now)) }
+    ensures refused { IfErr result (λ e. e ≡ StoreError.Memory) }
+{
+    for row in rows {
+        let Ok(placed) = placed_from(table, row) else {
+            return Err(StoreError::Memory);
+        };
+        found.push(placed.version.copy(alloc)?)?;
+        known.push(placed)?;
+    }
+    Ok(())
 }

@@ -1,6 +1,7 @@
 ghost use Rattle.std.specs.Prelude.{◌≡◌, IfOk};
 ghost use Rattle.txc_rows.specs.States.{query_table, matches};
 ghost use Rattle.txc_rows.specs.RowTags.{query_tag};
+ghost use Rattle.txc_rows.specs.Net.{change_table, change_id, same_key};
 
 use crate::row::Row;
 use std::alloc::{AllocError, Global};
@@ -77,5 +78,32 @@ impl Change {
             Change::Put(row) => Ok(Change::Put(row.copy(alloc)?)),
             Change::Remove(table, id) => Ok(Change::Remove(*table, *id)),
         }
+    }
+
+    /// The table whose row it changes.
+    pub fn table(&self) -> Table
+        ensures { result ≡ change_table self.now }
+    {
+        match self {
+            Change::Put(row) => row.table(),
+            Change::Remove(table, _) => *table,
+        }
+    }
+
+    /// The id of the row that it changes.
+    pub fn id(&self) -> u32
+        ensures { result ≡ change_id self.now }
+    {
+        match self {
+            Change::Put(row) => row.id(),
+            Change::Remove(_, id) => *id,
+        }
+    }
+
+    /// Whether both change the row of one table and id.
+    pub fn has_same_key(&self, other: &Change) -> bool
+        ensures { result ≡ same_key self.now other.now }
+    {
+        self.table() == other.table() && self.id() == other.id()
     }
 }

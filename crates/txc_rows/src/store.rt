@@ -1,6 +1,6 @@
 //! The store of row versions.
 
-ghost use Rattle.std.specs.Prelude.{◌≡◌, ◌++◌, ℕ, ◌+◌, ◌^◌, ◌<◌, ◌≤◌, [], Ok, IfOk, IfErr, OnOk, OnErr, length, filter, map};
+ghost use Rattle.std.specs.Prelude.{◌≡◌, ℕ, ◌+◌, ◌^◌, ◌<◌, ◌≤◌, [], Ok, IfOk, IfErr, OnOk, OnErr, length, filter, map};
 ghost use Rattle.std.specs.List.Sorted.{IsPermutation, IsSorted};
 ghost use Rattle.txc_rows.specs.Versions.{suits, current, purged, after_net, version_cmp};
 ghost use Rattle.txc_rows.specs.declared.query.Query.TheVariants.{ById};
@@ -13,7 +13,7 @@ ghost use Rattle.txc_rows.specs.StoreErrors.{IsStoreRefusal};
 ghost use Rattle.txc_rows.specs.declared.store_error.TheConstants.{MAX_MATCHING};
 
 use crate::counts::Counts;
-use crate::decode::{all_placed_from, versions_from};
+use crate::decode::{add_known, add_shown};
 use crate::placed::Placed;
 use crate::query::{Change, Query};
 use crate::reads::{read, read_placed};
@@ -23,13 +23,13 @@ use crate::store_error::{MAX_MATCHING, StoreError};
 use crate::version::Versioned;
 use crate::writes::write_all;
 use sqlite::{Connection, MemStore};
-use std::alloc::{AllocError, Global};
+use std::alloc::Global;
 use std::marker::Model;
 use txc_stamp::Stamp;
 use txc_tags::Table;
 
 /// Where so many last versions are known, they are forgotten for others.
-const MOST_KNOWN: usize = 1024;
+const MOST_KNOWN: usize = 256;
 
 /// Row versions in a store in memory: the last of each table, id and group in a table of SQLite, and those that later ones
 /// replaced beside it. Contracts see the list of its versions, the earliest put first.
@@ -129,7 +129,6 @@ fn make_room(
 /// The last versions that match, of those that did not die before the stamp, come to the found ones.
 fn find(
     conn: &mut Connection<MemStore>,
-    alloc: Global,
     query: &Query,
     from: u32,
     found: &mut Vec<Versioned>,
@@ -145,36 +144,17 @@ fn find(
     if rows.len() > MAX_MATCHING - found.len() {
         return Err(StoreError::TooManyRows);
     }
-    let mut more = versions_from(alloc, query.table(), &rows)?;
-    found.append(&mut more)?;
-    Ok(())
+    add_shown(query.table(), &rows, found)
 }
 
-/// Copies of the versions come to the found ones.
-fn add_copies(
-    alloc: Global,
-    placed: &[Placed],
-    found: &mut Vec<Versioned>,
-) -> Result<(), StoreError>
-    ensures found { OnOk result (found.new.items ≡ found.old.items ++ map version_of placed.now) }
-    ensures refused { IfErr result (λ e. e ≡ StoreError.Memory) }
+/// Where many are known, they are known no longer.
+fn forget_many(known: &mut Vec<Placed>)
+    ensures { (latest : _) → AreAmong latest known.old.items → AreAmong latest known.new.items }
 {
-    for one in placed {
-        found.push(one.version.copy(alloc)?)?;
+    if known.len() < MOST_KNOWN {
+        return;
     }
-    Ok(())
-}
-
-/// The versions are known with the others, or in place of them where those are many.
-fn add_known(known: &mut Vec<Placed>, more: Vec<Placed>) -> Result<(), AllocError>
-    ensures { (latest : _) → AreAmong latest known.old.items → AreAmong latest more.items → AreAmong latest known.new.items }
-{
-    if known.len() >= MOST_KNOWN {
-        *known = more;
-        return Ok(());
-    }
-    let mut more = more;
-    known.append(&mut more)
+    known.clear();
 }
 
 /// The last versions of a table and id that did not die before the stamp come to the found ones, and are known.
@@ -200,10 +180,8 @@ fn find_row(
     if rows.len() > MAX_MATCHING - found.len() {
         return Err(StoreError::TooManyRows);
     }
-    let placed = all_placed_from(alloc, table, &rows)?;
-    add_copies(alloc, &placed, found)?;
-    add_known(known, placed)?;
-    Ok(())
+    forget_many(known);
+    add_known(alloc, table, &rows, known, found)
 }
 
 /// The last versions that match, as `find` has them. Those of one row are known from then on.
@@ -226,7 +204,7 @@ fn find_known(
 {
     match *query {
         Query::ById(table, id) => find_row(conn, known, alloc, table, id, from, found),
-        _ => find(conn, alloc, query, from, found),
+        _ => find(conn, query, from, found),
     }
 }
 
@@ -257,7 +235,7 @@ fn find_all(
         → MAX_MATCHING < length (filter (suits query.now) (left_from from (versions_of replaced.now conn.old))) }
 {
     let mut found = Vec::new(alloc);
-    find(conn, alloc, query, from, &mut found)?;
+    find(conn, query, from, &mut found)?;
     replaced.find(alloc, query, from, &mut found)?;
     sort(&mut found)?;
     Ok(found)

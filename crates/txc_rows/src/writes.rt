@@ -4,7 +4,7 @@ ghost use Rattle.std.specs.Prelude.{◌≡◌, ◌++◌, ◌∷◌, ◌==◌, []
 ghost use Rattle.std.specs.List.{AllByRecursion, Contains};
 ghost use Rattle.std.specs.List.Sorted.{IsPermutation};
 ghost use Rattle.sqlite.specs.Tree.{IsAscending};
-ghost use Rattle.txc_stamp.specs.declared.stamp.TheConstants.{LAST_STAMP};
+ghost use Rattle.txc_stamp.specs.declared.stamp.TheConstants.{MOST_STAMP};
 ghost use Rattle.txc_rows.specs.Values.{IsRow};
 ghost use Rattle.txc_rows.specs.States.{is_at};
 ghost use Rattle.txc_rows.specs.Versions.{put, after_write, after_net};
@@ -61,7 +61,7 @@ fn add_latest(
     requires inside { tx.old.conn.now.in_transaction ≡ true }
     ensures same_reference { tx.new.conn.ghost_name ≡ tx.old.conn.ghost_name }
     ensures row { IsRow row.now }
-    ensures stamp { stamp ≤ LAST_STAMP }
+    ensures stamp { stamp ≤ MOST_STAMP }
     ensures step { IsStep (HasLatest (latest_in tx.old.conn.now ++ new_placed place row.now stamp ∷ []))
         tx.old.conn.now tx.new.conn.now result }
 {
@@ -90,7 +90,7 @@ fn end_version(
     requires inside { tx.old.conn.now.in_transaction ≡ true }
     requires current { IsAscending IsOneCurrent (latest_in tx.old.conn.now) }
     ensures same_reference { tx.new.conn.ghost_name ≡ tx.old.conn.ghost_name }
-    ensures stamp { stamp ≤ LAST_STAMP }
+    ensures stamp { stamp ≤ MOST_STAMP }
     ensures step { IsStep (HasLatest (map (closed_placed table id stamp) (latest_in tx.old.conn.now)))
         tx.old.conn.now tx.new.conn.now result }
 {
@@ -112,7 +112,7 @@ fn renew_latest(
     requires keys { HaveOwnKeys (latest_in tx.old.conn.now) }
     ensures same_reference { tx.new.conn.ghost_name ≡ tx.old.conn.ghost_name }
     ensures row { IsRow row.now }
-    ensures stamp { stamp ≤ LAST_STAMP }
+    ensures stamp { stamp ≤ MOST_STAMP }
     ensures step { IsStep (HasLatest (map (renewed place row.now stamp) (latest_in tx.old.conn.now)))
         tx.old.conn.now tx.new.conn.now result }
 {
@@ -286,7 +286,7 @@ fn put_version(
         ≡ (length (filter (has_key row.now.table row.now.id row.now.group) (latest_in tx.old.conn.now)) == 0) }
     ensures same_reference { tx.new.conn.ghost_name ≡ tx.old.conn.ghost_name }
     ensures row { OnOk result (IsRow row.now) }
-    ensures stamp { OnOk result (stamp ≤ LAST_STAMP) }
+    ensures stamp { OnOk result (stamp ≤ MOST_STAMP) }
     ensures step { IsStep (HasLatest (put_latest place row.now stamp (latest_in tx.old.conn.now)))
         tx.old.conn.now tx.new.conn.now result }
 {

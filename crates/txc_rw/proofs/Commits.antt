@@ -9,6 +9,9 @@ use Rattle.txc_rows.specs.States.{answer}
 use Rattle.txc_db.specs.History.{History, state_at}
 use Rattle.txc_db.specs.Refusals.{NoneMatches}
 use Rattle.txc_db.specs.Laws.{EventTagsAreSound, StatesStay}
+use Rattle.txc_rows.proofs.Rising.{changes_state}
+use Rattle.txc_rows.proofs.RowTagLemmas.{tags_sound}
+use Rattle.txc_db.proofs.Histories.{event_tags_sound}
 use Rattle.txc_db.specs.Shared.{IsQuietIn, IsEventIn}
 use Rattle.txc_app.specs.Eval.{Next}
 use Rattle.txc_registry.specs.Objects.{Objects}
@@ -31,6 +34,10 @@ module _ (sound : EventTagsAreSound) (L : History) (qs : List Query) (base last 
 
   pub agree_at : base ≤ last → AgreeOn qs (state_at L base) (state_at L last)
   agree_at known = λ q there. same_answer q there (last - base) last (omega (arith, known)) (omega arith)
+
+-- an event whose tags do not match leaves the answers that they cover
+pub event_tags_are_sound : EventTagsAreSound
+event_tags_are_sound = event_tags_sound changes_state tags_sound
 
 pub quiet_commits_are_right : EventTagsAreSound → (next : Next) (L : History) (objects : Objects) (c : RwValue) (stamp : ℕ) → RwHolds next L objects c
     → IsQuietIn L c.base (tags_read c) c.changes stamp → HasChangedNothing next L c.changes c.answers stamp

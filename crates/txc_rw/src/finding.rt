@@ -6,12 +6,13 @@ ghost use Rattle.txc_rw.specs.Core.{IsFoundAt};
 
 use std::alloc::Global;
 use std::sync::Wait;
-use txc_db::{Answered, Database, DbError, HistoryFront, Naming, states_stay};
+use txc_db::{Answered, Database, DbError, HistoryFront, Naming};
 use txc_rows::Query;
 use txc_stamp::Stamp;
 use txc_validity::Found;
 
 // What the database finds for the query at a stamp that was seen.
+#[tactic(auto, using(txc_db::proofs::Histories::states_stay))]
 pub(crate) fn find<J: Naming>(
     rt: &impl Wait,
     alloc: Global,
@@ -25,7 +26,6 @@ pub(crate) fn find<J: Naming>(
     ensures answer { IfOk result (IsFoundAt seen.now.history stamp query.now) }
     ensures refused { IfErr result (MayRefuse J.database_history (λ d. IsQueryRefused d query.now stamp)) }
 {
-    states_stay();
     let Answered { answer, front } = database.query(rt, alloc, query, stamp)?;
     seen.agree(&front);
     Ok(answer)

@@ -1,8 +1,6 @@
 //! What the definitions come to. Each is a lemma: it has no code.
 ghost use Rattle.txc_rw.specs.Laws.{AnswersAreRight, CommitsAreRight, EventCommitsAreRight, HoldsAtFirst, HoldsInLonger, QuietCommitsAreRight, TagsCoverQueries};
 
-use txc_db::tags_are_sound;
-
 /// What is true of a transaction that has just begun, and stays true while the history grows.
 pub fn transactions_stay_right()
     ensures first { HoldsAtFirst }
@@ -21,6 +19,4 @@ pub fn answers_are_right()
     ensures quiet { QuietCommitsAreRight }
     ensures event { EventCommitsAreRight }
     ensures committed { CommitsAreRight }
-{
-    tags_are_sound();
-}
+{}

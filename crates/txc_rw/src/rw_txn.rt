@@ -16,7 +16,7 @@ ghost use Rattle.txc_rw.specs.Outcomes.{IsCommitted};
 
 use crate::calling::{call_at, query_at};
 use crate::given::Given;
-use crate::laws::{answers_are_right, transactions_stay_right};
+use crate::laws::transactions_stay_right;
 use crate::rw_core::RwCore;
 use std::alloc::Global;
 use std::marker::Model;
@@ -232,7 +232,6 @@ impl<'a, J: Naming, A: App, C: Cacheable> RwTxn<'a, J, A, C> {
             IsSharedCommitRefused d c.base (tags_read c) c.changes) e.1) }
         ensures handed_back { IfErr result (λ e. e.0 ≡ self.entry) }
     {
-        answers_are_right();
         let base = self.core.base();
         let tags = self.core.tags();
         let changes = self.core.changes();

@@ -8,3 +8,4 @@ pub mod Passes
 pub mod Locking
 pub mod Crosses
 pub mod Worked
+pub mod Left

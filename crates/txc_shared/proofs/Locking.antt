@@ -1,25 +1,21 @@
 -- What calls under the lock leave of the node, and what they show a pass.
 use Rattle.std.proofs.Common.{◌≡◌, ℕ, ◌+◌, ◌<◌, ◌≤◌, List, [], ◌∷◌, ◌++◌, length, false, Option, Some, None, sym, ap, subst, ◌∙◌, arith}
 use Rattle.std.specs.Prelude.{IfSome}
-use Rattle.std.specs.Option.{option_map}
 use mathlib.Core.List.{IsPrefix}
 use Rattle.txc_stream.proofs.Offered.{prefix_trans, prefix_push, longer_is}
 use Rattle.txc_stream.specs.Names.{Name}
-use Rattle.txc_tags.specs.Keys.{Call}
 use Rattle.txc_tags.specs.declared.tag.Tag.{Tag}
 use Rattle.txc_db.specs.History.{History, tags_at}
 use Rattle.txc_db.specs.Seen.{FrontValue, taken_at_start}
-use Rattle.txc_node.specs.declared.entry.Entry.{Entry}
 use Rattle.txc_node.specs.declared.hit.Shown.{Shown}
 use Rattle.txc_node.specs.declared.op.Op.{Op}
 use Rattle.txc_node.specs.declared.op.Op.TheVariants as ops
 use Rattle.txc_node.specs.declared.reply.Reply.{Reply}
 use Rattle.txc_node.specs.declared.reply.Reply.TheVariants as replies
 use Rattle.txc_node.specs.declared.record.Record.{Record}
-use Rattle.txc_node.specs.Cache.{Cache, found}
-use Rattle.txc_node.specs.Steps.{found_reply, step_reply}
+use Rattle.txc_node.specs.Cache.{Cache}
+use Rattle.txc_node.specs.Steps.{step_reply}
 use Rattle.txc_app.specs.Eval.{Next}
-use Rattle.txc_app.specs.Claims.{entry_shown}
 use Rattle.txc_shared.specs.declared.advanced.Advanced.{Advanced}
 use Rattle.txc_shared.specs.declared.advanced.Advanced.TheVariants.{Taken, Idle}
 use Rattle.txc_shared.specs.declared.settings.NodeSettings.{NodeSettings}
@@ -27,7 +23,7 @@ use Rattle.txc_shared.specs.Runs.{IsNode}
 use Rattle.txc_shared.specs.Laws.{EventsAreTaken}
 use Rattle.txc_shared.specs.Histories.{cache_after, records_of, events_of, next_record, IsLegal}
 use Rattle.txc_shared.specs.Nodes.{NodeValue, IsHistoryFull, start_of, after_call, seeing, next_event, HasTags, HasAdvanced}
-use Rattle.txc_shared.specs.Passes.{PassValue, IsLegalOver, HasSeen, GrowsByOthers, HasMade, HasFound, HasTaken}
+use Rattle.txc_shared.specs.Passes.{PassValue, IsLegalOver, HasSeen, GrowsByOthers, HasMade, HasTaken}
 use Rattle.txc_shared.specs.Locked.{IsAhead, IsAdmitted}
 use Rattle.txc_shared.proofs.Histories.{records_of-append}
 use Rattle.txc_shared.proofs.Passes.{legal_as, legal_over, none_left}
@@ -120,12 +116,6 @@ has_taken events row next n m p q Idle begun h a node begins s =
       subst (GrowsByOthers p.pass p.records) (sym (s.records ∙ records)) (others_did p.pass p.records n.records h.ahead.records h.turn),
       none_left row q m.from (from ∙ (begun ∙ ap (taken_at_start row) (sym from))) (omega (arith, count, taken, made, shown, long)) legal,
     )
-
--- a lookup that found these entries
-pub has_found : (old new : PassValue) (key : Call) (op : Op) (shown : Option Shown) (found : Option Entry) → found ≡ option_map (entry_shown key) shown
-    → HasMade old new op (found_reply shown) → HasFound old new op found
-has_found old new key op None found is h = subst (HasFound old new op) (sym is) h
-has_found old new key op (Some s) found is h = subst (HasFound old new op) (sym is) h
 
 -- ---- refusals
 

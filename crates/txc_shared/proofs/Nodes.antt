@@ -2,12 +2,14 @@
 use Rattle.std.proofs.Common.{◌≡◌, ℕ, ◌+◌, ◌≤◌, List, [], ◌∷◌, ◌++◌, length, length-append, Bool, true, false, Option, None, Some, refl, sym, ap, subst, ◌∙◌, arith}
 use Rattle.std.proofs.lemmas.Bool.Decides.{nat_tests}
 use Rattle.std.specs.Option.{option_map}
+use Rattle.std.specs.Prelude.{IfSome}
 use mathlib.Core.List.{IsPrefix}
 use Rattle.txc_tags.specs.declared.tag.Tag.{Tag}
 use Rattle.txc_tags.specs.Keys.{Call}
 use Rattle.txc_db.specs.History.{History, tags_at}
 use Rattle.txc_db.specs.Laws.{TagsStay}
 use Rattle.txc_db.specs.Seen.{FrontValue}
+use Rattle.txc_db.specs.declared.answered.Answered.{Answered}
 use Rattle.txc_node.specs.declared.value.TheConstants.{MAX_VALUE_LEN}
 use Rattle.txc_node.specs.declared.entry.Entry.{Entry}
 use Rattle.txc_node.specs.declared.hit.Shown.{Shown}
@@ -15,15 +17,14 @@ use Rattle.txc_node.specs.declared.op.Op.{Op}
 use Rattle.txc_node.specs.declared.op.Op.TheVariants.{Insert, Lookup, Event, Sweep}
 use Rattle.txc_node.specs.declared.record.Record.{Record}
 use Rattle.txc_node.specs.Cache.{Cache, lookup_answer}
-use Rattle.txc_node.specs.Steps.{found_reply, refusal_of, step_reply, after_step}
+use Rattle.txc_node.specs.Steps.{refusal_of, step_reply, after_step}
 use Rattle.txc_node.proofs.Offered.{entry_is_made}
 use Rattle.txc_app.specs.Eval.{Next}
 use Rattle.txc_app.specs.Claims.{IsTrueIn, entry_shown}
 use Rattle.txc_shared.specs.Histories.{next_record}
-use Rattle.txc_shared.specs.Runs.{IsNode}
+use Rattle.txc_shared.specs.Runs.{IsNode, IsTrueCache}
 use Rattle.txc_shared.specs.Nodes.{LogValue, NodeValue, after_call, seeing, HasTags}
-use Rattle.txc_shared.specs.Passes.{reply_of_found}
-use Rattle.txc_shared.specs.Laws.{MayStep, NodeGoesOn, NodeBreaks}
+use Rattle.txc_shared.specs.Laws.{AnswersAreTrue, MayStep, NodeGoesOn, NodeBreaks}
 
 module _ (next : Next) (L : History) (start : Cache) where
   node_as : (rs all : List Record) (c d : Cache) (b e : Bool) → all ≡ rs → d ≡ c → e ≡ b → IsNode next L start rs c b → IsNode next L start all d e
@@ -71,18 +72,13 @@ tags_in_longer stay L M number tags begins h =
     within : number ≤ length (L ++ begins.0)
     within = let long = length-append L begins.0 in let h = h.0 in omega (arith, long, h)
 
--- what a lookup found is replied as it is shown
-pub found_replied : (key : Call) (shown : Option Shown) → reply_of_found (option_map (entry_shown key) shown) ≡ found_reply shown
-found_replied key None = refl
-found_replied key (Some s) = refl
-
--- so is what a search found, whose cache and stamps are those of the lookup
-pub searched_replied : (c d : Cache) (key : Call) (lo hi from to : ℕ) (found : Option Entry) → found ≡ option_map (entry_shown key) (lookup_answer d key from to) → c ≡ d → from ≡ lo → to ≡ hi
-    → reply_of_found found ≡ found_reply (lookup_answer c key lo hi)
-searched_replied c d key lo hi from to found is same first last =
-    let here : option_map (entry_shown key) (lookup_answer d key from to) ≡ option_map (entry_shown key) (lookup_answer c key lo hi) =
-    λ i. option_map (entry_shown key) (lookup_answer (sym same i) key (first i) (last i)) in
-    ap reply_of_found (is ∙ here) ∙ found_replied key (lookup_answer c key lo hi)
+-- what a lookup found in a true cache is true in the front beside it
+pub found_true : AnswersAreTrue → (next : Next) (c : Cache) (key : Call) (lo hi : ℕ) (seen : FrontValue) (found : Option (Answered Shown))
+    → IsTrueCache next seen.history c → option_map (λ f. f.answer) found ≡ lookup_answer c key lo hi → IfSome found (λ f. f.front ≡ seen)
+    → IfSome found (λ f. IsTrueIn next f.front.history (entry_shown key f.answer))
+found_true are_true next c key lo hi seen None right is front = tt
+found_true are_true next c key lo hi seen (Some f) right is front =
+    subst (λ (s : FrontValue). IsTrueIn next s.history (entry_shown key f.answer)) (sym front) (are_true next seen.history c key lo hi f.answer right (sym is))
 
 -- the value of a node that made a step, by its fields
 pub called : (n : NodeValue) (seen : FrontValue) (pass : ℕ) (op : Op) (r : Record) (log : LogValue) (cache : Cache)

@@ -1,5 +1,5 @@
 -- Passes through a node, and what their calls leave.
-use Rattle.std.specs.Prelude.{◌≡◌, ◌⊎◌, ℕ, ◌+◌, ◌<◌, ◌≤◌, List, [], ◌∷◌, ◌++◌, length, Option, Some, None}
+use Rattle.std.specs.Prelude.{◌≡◌, ◌⊎◌, ℕ, ◌+◌, ◌<◌, ◌≤◌, List, [], ◌∷◌, ◌++◌, length}
 use mathlib.Core.List.{IsPrefix}
 use Rattle.txc_stream.specs.Names.{Name, stored, unstored}
 use Rattle.txc_tags.specs.declared.tag.Tag.{Tag}
@@ -82,20 +82,6 @@ pub record HasNextRecord (pass : ℕ) (old new : List Record) (op : Op) (reply :
 -- its own next record is of this step and reply
 abbrev pub HasMade : PassValue → PassValue → Op → Reply Shown → Type 0
 HasMade old new op reply = HasNextRecord old.pass old.records new.records op reply
-
--- what a hit showed of the entry
-abbrev pub shown_of_entry : Entry → Shown
-shown_of_entry e = record { reach = e.reach; value = e.value; tags = e.tags }
-
--- what a lookup that found this is replied
-abbrev pub reply_of_found : Option Entry → Reply Shown
-reply_of_found None = replies.Miss
-reply_of_found (Some e) = replies.Hit (shown_of_entry e)
-
--- it looked up and found the entry, or nothing
-abbrev pub HasFound : PassValue → PassValue → Op → Option Entry → Type 0
-HasFound old new op None = HasMade old new op replies.Miss
-HasFound old new op (Some e) = HasMade old new op (replies.Hit (shown_of_entry e))
 
 -- it inserted the entry, and was answered so
 pub record HasInserted (old new : PassValue) (e : Entry) (insertion : Insertion) : Type 0 where

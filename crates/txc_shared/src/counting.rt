@@ -2,15 +2,13 @@
 ghost use Rattle.std.specs.Prelude.{◌≡◌, ◌+◌, ◌^◌, ◌<◌, ◌≤◌, ◌++◌, ◌∷◌, [], List, IfSome};
 ghost use Rattle.std.specs.Option.{option_map};
 ghost use Rattle.txc_tags.specs.declared.key.TheConstants.{LAST_FUNCTION};
-ghost use Rattle.txc_node.specs.Steps.{function_of};
+ghost use Rattle.txc_node.specs.Steps.{found_reply, function_of};
 ghost use Rattle.txc_node.specs.Counts.{AreCountsOf};
 ghost use Rattle.txc_node.specs.declared.record.Record.{Record};
-ghost use Rattle.txc_shared.specs.Passes.{reply_of_found};
 ghost use Rattle.txc_shared.specs.Locked.{DoCountAlike};
 
-use crate::finding::Finding;
-use txc_app::App;
-use txc_node::{Counts, Reply};
+use txc_db::Answered;
+use txc_node::{Counts, Reply, Shown};
 
 /// Counts a step of that function by a reply that counts as the step's own does. It takes no memory.
 #[inline(always)]
@@ -25,8 +23,8 @@ pub(crate) fn count_step<H>(counts: &mut Counts, function: Option<u8>, reply: &R
 }
 
 /// What counts as the reply to a lookup that found this does. Nothing is copied.
-pub(crate) fn reply_without_copies<A: App>(found: &Option<Finding<A>>) -> Reply<()>
-    ensures { DoCountAlike result (reply_of_found (option_map (λ f. f.entry) found.now)) }
+pub(crate) fn reply_without_copies(found: &Option<Answered<Shown>>) -> Reply<()>
+    ensures { DoCountAlike result (found_reply (option_map (λ f. f.answer) found.now)) }
 {
     match found {
         Some(_) => Reply::Hit(()),

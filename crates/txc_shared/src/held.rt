@@ -6,17 +6,18 @@ ghost use Rattle.txc_db.specs.Seen.{taken_at_start};
 ghost use Rattle.txc_node.specs.declared.op.Op.TheVariants.{Lookup, Insert, Sweep};
 ghost use Rattle.txc_node.specs.declared.reply.Reply.TheVariants.{Swept};
 ghost use Rattle.txc_node.specs.Counts.{AreCountsOf};
-ghost use Rattle.txc_app.specs.Claims.{IsTrueIn};
+ghost use Rattle.txc_node.specs.Steps.{found_reply};
+ghost use Rattle.txc_app.specs.Claims.{IsTrueIn, entry_shown};
 ghost use Rattle.txc_shared.specs.Nodes.{NodeValue, IsHistoryFull, after_call, seeing, HasAdvanced};
-ghost use Rattle.txc_shared.specs.Passes.{PassValue, HasGrown, HasSeen, DoAgree, GrowsByOthers, HasFound, HasMade, HasInserted, HasTaken, IsPassLeft};
+ghost use Rattle.txc_shared.specs.Passes.{PassValue, HasGrown, HasSeen, DoAgree, GrowsByOthers, HasMade, HasInserted, HasTaken, IsPassLeft};
 ghost use Rattle.txc_shared.specs.Refusals.{IsLookupRefused, IsStepRefused, IsTakingRefused, IsCountRefused, IsNodeLeft, IsRefusedThrough, IsNewPassRefused};
 ghost use Rattle.txc_shared.specs.Locked.{IsAhead, IsAdmitted, LiesUnderLock};
 
 use crate::advanced::Advanced;
 use crate::error::NodeError;
-use crate::finding::Finding;
 use crate::insertion::Insertion;
 use crate::laws::legal_histories;
+use crate::left_node::LeftNode;
 use crate::log::MAX_PASSES;
 use crate::node_pass::NodePass;
 use crate::settings::NodeSettings;
@@ -25,8 +26,8 @@ use std::alloc::Global;
 use std::marker::Model;
 use std::sync::Wait;
 use txc_app::App;
-use txc_db::{Event, Feed, HistoryFront, Naming};
-use txc_node::{Counts, Entry, Record};
+use txc_db::{Answered, Event, Feed, HistoryFront, Naming};
+use txc_node::{Counts, Entry, Record, Shown};
 use txc_stamp::Stamp;
 use txc_stream::{prefix_of_itself, prefix_of_prefix};
 use txc_tags::Key;
@@ -59,6 +60,14 @@ impl<A: App, J: Naming> Held<A, J> {
         ensures { result ≡ node }
     {
         Held { node, feed }
+    }
+
+    /// What the node holds, once no thread has it any more.
+    pub(crate) fn leave(self) -> LeftNode<A>
+        ensures { result.seen.events ≡ J.database_history }
+    {
+        let Held { node, feed: _ } = self;
+        node.leave()
     }
 
     // Whether the node agrees with what a pass says of it.
@@ -190,15 +199,16 @@ impl<A: App, J: Naming> Held<A, J> {
         key: &Key,
         lo: Stamp,
         hi: Stamp,
-    ) -> Result<Option<Finding<A>>, NodeError>
+    ) -> Result<Option<Answered<Shown>>, NodeError>
         ensures named { self.old.name ≡ J.node_histories self.old.settings.number }
         ensures after { OnOk result (self.new ≡ after_call self.old pass.old.pass (Lookup key.now lo hi)) }
         ensures unchanged { IfErr result (IsNodeLeft self.old self.new) }
         ensures refused { IfErr result (IsRefusedThrough (λ n. IsLookupRefused n lo hi) self.old pass.old) }
         ensures longer { HasGrown pass.old pass.new }
-        ensures found { IfOk result (λ found.
-            HasFound pass.old pass.new (Lookup key.now lo hi) (option_map (λ f. f.entry) found)) }
-        ensures key { IfOk result (λ found. IfSome found (λ f. f.entry.key ≡ key.now)) }
+        ensures made { IfOk result (λ found.
+            HasMade pass.old pass.new (Lookup key.now lo hi) (found_reply (option_map (λ f. f.answer) found))) }
+        ensures right { IfOk result (λ found. IfSome found (λ f.
+            IsTrueIn A.next f.front.history (entry_shown key.now f.answer))) }
         ensures front { IfOk result (λ found. IfSome found (λ f. f.front.events ≡ J.database_history)) }
         ensures shown { IfOk result (λ found. IfSome found (λ f. IsPrefix f.front.history pass.new.history)) }
         ensures left { IfErr result (IsPassLeft (J.node_histories pass.old.settings.number) pass.old pass.new) }

@@ -5,11 +5,11 @@
 mod advanced;
 mod counting;
 mod error;
-mod finding;
 mod held;
 mod history;
 mod insertion;
 pub mod laws;
+mod left_node;
 mod log;
 mod node_front;
 mod node_pass;
@@ -21,8 +21,8 @@ mod stored_node;
 
 pub use advanced::Advanced;
 pub use error::NodeError;
-pub use finding::Finding;
 pub use insertion::Insertion;
+pub use left_node::LeftNode;
 pub use log::MAX_PASSES;
 pub use node_front::NodeFront;
 pub use node_pass::{NodePass, audit, meet};

@@ -3,12 +3,11 @@ ghost use Rattle.std.specs.Prelude.{◌≡◌, IfOk};
 ghost use Rattle.std.specs.Option.{option_map};
 ghost use Rattle.txc_stream.specs.Names.{Name};
 ghost use Rattle.txc_node.specs.declared.record.Record.{Record};
-ghost use Rattle.txc_shared.specs.Passes.{reply_of_found};
+ghost use Rattle.txc_node.specs.Steps.{found_reply};
 ghost use Rattle.txc_shared.specs.Locked.{record_in, Suits, AwaitsReply};
 
-use crate::finding::Finding;
 use std::alloc::{AllocError, Global};
-use txc_app::App;
+use txc_db::Answered;
 use txc_node::{Record, Reply, Shown};
 use txc_stream::Draft;
 
@@ -38,14 +37,14 @@ impl Prepared {
 
     /// The record of a lookup that will find this. Only a stored one takes memory.
     #[inline(always)]
-    pub(crate) fn with_found<A: App>(
+    pub(crate) fn with_found(
         self,
         alloc: Global,
-        found: &Option<Finding<A>>,
+        found: &Option<Answered<Shown>>,
     ) -> Result<Prepared, AllocError>
         ensures suits { IfOk result (λ next. (name : Name) → Suits name self → Suits name next) }
         ensures answered { IfOk result (λ next. (r : Record) → AwaitsReply r self
-            → reply_of_found (option_map (λ f. f.entry) found.now) ≡ r.reply → record_in next ≡ r) }
+            → found_reply (option_map (λ f. f.answer) found.now) ≡ r.reply → record_in next ≡ r) }
     {
         match self {
             Prepared::Stored(mut next) => {
@@ -65,15 +64,15 @@ fn set_reply(next: &mut Record, reply: Reply<Shown>)
 }
 
 // What a lookup that found this is replied.
-fn reply_to<A: App>(alloc: Global, found: &Option<Finding<A>>) -> Result<Reply<Shown>, AllocError>
-    ensures { IfOk result (λ reply. reply ≡ reply_of_found (option_map (λ f. f.entry) found.now)) }
+fn reply_to(alloc: Global, found: &Option<Answered<Shown>>) -> Result<Reply<Shown>, AllocError>
+    ensures { IfOk result (λ reply. reply ≡ found_reply (option_map (λ f. f.answer) found.now)) }
 {
-    let Some(finding) = found else {
+    let Some(found) = found else {
         return Ok(Reply::Miss);
     };
     Ok(Reply::Hit(Shown {
-        reach: finding.entry.reach,
-        value: finding.entry.value.copy(alloc)?,
-        tags: finding.entry.tags.copy(alloc)?,
+        reach: found.answer.reach,
+        value: found.answer.value.copy(alloc)?,
+        tags: found.answer.tags.copy(alloc)?,
     }))
 }

@@ -6,16 +6,17 @@ ghost use Rattle.txc_stream.specs.Names.{stored, unstored, HasRow};
 ghost use Rattle.txc_node.specs.declared.op.Op.TheVariants.{Lookup, Sweep};
 ghost use Rattle.txc_node.specs.declared.reply.Reply.TheVariants.{Swept};
 ghost use Rattle.txc_node.specs.Counts.{AreCountsOf};
-ghost use Rattle.txc_app.specs.Claims.{IsTrueIn};
-ghost use Rattle.txc_shared.specs.Passes.{IsLegalOver, HasGrown, GrowsByOthers, HasFound, HasMade, HasInserted, HasTaken, IsPassLeft};
+ghost use Rattle.txc_node.specs.Steps.{found_reply};
+ghost use Rattle.txc_app.specs.Claims.{IsTrueIn, entry_shown};
+ghost use Rattle.txc_shared.specs.Passes.{IsLegalOver, HasGrown, GrowsByOthers, HasMade, HasInserted, HasTaken, IsPassLeft};
 ghost use Rattle.txc_shared.specs.Refusals.{IsLookupRefused, IsStepRefused, IsTakingRefused, IsCountRefused, IsRefusedThrough, IsNewPassRefused, NodeMayRefuse};
 
 use crate::advanced::Advanced;
 use crate::error::NodeError;
-use crate::finding::Finding;
 use crate::held::Held;
 use crate::history::History;
 use crate::insertion::Insertion;
+use crate::left_node::LeftNode;
 use crate::log::MAX_PASSES;
 use crate::node_front::NodeFront;
 use crate::node_pass::NodePass;
@@ -25,9 +26,9 @@ use std::alloc::{AllocError, Global};
 use std::marker::Model;
 use std::sync::{Mutex, Wait};
 use txc_app::App;
-use txc_db::{Database, HistoryFront, Naming};
+use txc_db::{Answered, Database, HistoryFront, Naming};
 use txc_lock::lock_soon;
-use txc_node::{Counts, Entry, MAX_CAPACITY, MAX_RECENT, Record};
+use txc_node::{Counts, Entry, MAX_CAPACITY, MAX_RECENT, Record, Shown};
 use txc_stamp::Stamp;
 use txc_stream::{EventRow, Pen};
 use txc_tags::Key;
@@ -133,6 +134,23 @@ impl<A: App, J: Naming> SharedNode<A, J> {
         lock_soon(rt, &self.lock).pass(self.settings)
     }
 
+    /// What the node holds, once no thread has it any more. It takes no memory.
+    pub fn leave(self) -> LeftNode<A>
+        ensures number { result.number ≡ self.number }
+        ensures seen { result.seen.events ≡ J.database_history }
+    {
+        let SharedNode {
+            settings,
+            start: _,
+            lock,
+        } = self;
+        let left = lock.into_inner().leave();
+        LeftNode {
+            number: settings.number,
+            ..left
+        }
+    }
+
     /// The row of its records, where they are stored, which anybody reads without the lock. Whoever appends to
     /// it breaks the node; tests do.
     pub fn row(&self) -> Option<&EventRow<Record>>
@@ -175,12 +193,13 @@ impl<J: Naming> NodePass<J> {
         key: &Key,
         lo: Stamp,
         hi: Stamp,
-    ) -> Result<Option<Finding<A>>, NodeError>
+    ) -> Result<Option<Answered<Shown>>, NodeError>
         ensures longer { HasGrown self.old self.new }
         ensures legal { IsLegalOver J.database_history self.new.history self.new.settings self.new.records }
-        ensures found { IfOk result (λ found.
-            HasFound self.old self.new (Lookup key.now lo hi) (option_map (λ f. f.entry) found)) }
-        ensures key { IfOk result (λ found. IfSome found (λ f. f.entry.key ≡ key.now)) }
+        ensures made { IfOk result (λ found.
+            HasMade self.old self.new (Lookup key.now lo hi) (found_reply (option_map (λ f. f.answer) found))) }
+        ensures right { IfOk result (λ found. IfSome found (λ f.
+            IsTrueIn A.next f.front.history (entry_shown key.now f.answer))) }
         ensures front { IfOk result (λ found. IfSome found (λ f. f.front.events ≡ J.database_history)) }
         ensures shown { IfOk result (λ found. IfSome found (λ f. IsPrefix f.front.history self.new.history)) }
         ensures left { IfErr result (IsPassLeft (J.node_histories self.old.settings.number) self.old self.new) }

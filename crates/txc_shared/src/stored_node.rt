@@ -3,7 +3,7 @@ ghost use Rattle.std.specs.Prelude.{◌≡◌, ◌+◌, ◌<◌, ◌≤◌, ◌�
 ghost use Rattle.txc_stream.specs.Names.{stored, unstored, HasRow};
 ghost use Rattle.std.specs.Option.{option_map};
 ghost use Rattle.txc_node.specs.Cache.{lookup_answer, outcome, swept_count};
-ghost use Rattle.txc_node.specs.Indexed.{IsSearchOf};
+ghost use Rattle.txc_node.specs.Hit.{seen};
 ghost use Rattle.txc_node.specs.Counts.{AreCountsOf};
 ghost use Rattle.txc_node.specs.declared.op.Op.TheVariants.{Insert, Lookup, Sweep};
 ghost use Rattle.txc_app.specs.Claims.{IsTrueIn, entry_shown};
@@ -16,10 +16,10 @@ ghost use Rattle.txc_shared.specs.Locked.{IsRoomRefused, CanGrow};
 use crate::advanced::Advanced;
 use crate::counting::{count_step, reply_without_copies};
 use crate::error::NodeError;
-use crate::finding::Finding;
 use crate::history::History;
 use crate::insertion::Insertion;
 use crate::laws::{answers_are_true, nodes_go_on};
+use crate::left_node::LeftNode;
 use crate::log::{Log, MAX_PASSES};
 use crate::node_front::NodeFront;
 use crate::settings::NodeSettings;
@@ -27,8 +27,8 @@ use std::alloc::{AllocError, Global};
 use std::marker::{Model, PhantomData};
 use txc_app::App;
 use txc_app::laws::true_entries_stay;
-use txc_db::{Event, HistoryFront, states_stay};
-use txc_node::{Counts, Entry, MAX_CAPACITY, MAX_RECENT, NodeCore, Op, Record, Reply, Search};
+use txc_db::{Answered, Event, HistoryFront, states_stay};
+use txc_node::{Counts, Entry, Hit, MAX_CAPACITY, MAX_RECENT, NodeCore, Op, Record, Reply, Shown};
 use txc_stamp::Stamp;
 use txc_stream::{EventRow, Pen};
 use txc_tags::{Key, TagSet};
@@ -182,6 +182,33 @@ impl<A: App> StoredNode<A> {
         self.from
     }
 
+    /// What it holds, once it is not wanted any more. It takes no memory.
+    pub fn leave(self) -> LeftNode<A>
+        ensures number { result.number ≡ self.settings.number }
+        ensures entries { result.entries ≡ self.cache.entries }
+        ensures processed { result.processed ≡ self.cache.processed }
+        ensures seen { result.seen ≡ self.seen }
+    {
+        let StoredNode {
+            settings,
+            from: _,
+            core,
+            log: _,
+            counts: _,
+            seen,
+            broken: _,
+            of: _,
+        } = self;
+        let processed = core.processed();
+        LeftNode {
+            number: settings.number,
+            entries: core.leave(),
+            processed,
+            seen,
+            of: PhantomData,
+        }
+    }
+
     /// A front that shows its records.
     pub fn front(&self) -> &NodeFront
         ensures { result.now ≡ record { name = self.now.name; records = self.now.records } }
@@ -298,35 +325,7 @@ impl<A: App> StoredNode<A> {
         self.log.start()
     }
 
-    // What a lookup finds, by its search.
-    fn find(
-        &self,
-        alloc: Global,
-        key: &Key,
-        search: &Search,
-    ) -> Result<Option<Finding<A>>, AllocError>
-        requires { IsSearchOf self.now.cache key.now search.now }
-        ensures found { IfOk result (λ found.
-            option_map (λ f. f.entry) found
-            ≡ option_map (entry_shown key.now) (lookup_answer self.now.cache key.now search.now.lo search.now.hi)) }
-        ensures front { IfOk result (λ found. IfSome found (λ f. f.front ≡ self.now.seen)) }
-    {
-        answers_are_true();
-        let found = self.core.hit(key, search);
-        let Some(hit) = found else {
-            return Ok(None);
-        };
-        let entry = Entry {
-            key: key.copy(),
-            value: hit.value.copy(alloc)?,
-            reach: hit.reach(),
-            tags: hit.tags.copy(alloc)?,
-        };
-        let front = self.seen.again()?;
-        Ok(Some(Finding::new(entry, front)))
-    }
-
-    /// Looks up the call of `key` at the stamps from `lo` to `hi`, both included. The finding is true in
+    /// Looks up the call of `key` at the stamps from `lo` to `hi`, both included. What it finds is true in
     /// the front beside it, which is what the node has seen.
     pub fn lookup(
         &mut self,
@@ -335,18 +334,20 @@ impl<A: App> StoredNode<A> {
         key: &Key,
         lo: Stamp,
         hi: Stamp,
-    ) -> Result<Option<Finding<A>>, NodeError>
+    ) -> Result<Option<Answered<Shown>>, NodeError>
         requires { pass < self.old.passes }
         ensures after { OnOk result (self.new ≡ after_call self.old pass (Lookup key.now lo hi)) }
-        ensures found { IfOk result (λ found.
-            option_map (λ f. f.entry) found
-            ≡ option_map (entry_shown key.now) (lookup_answer self.old.cache key.now lo hi)) }
+        ensures answer { IfOk result (λ found.
+            option_map (λ f. f.answer) found ≡ lookup_answer self.old.cache key.now lo hi) }
+        ensures right { IfOk result (λ found. IfSome found (λ f.
+            IsTrueIn A.next f.front.history (entry_shown key.now f.answer))) }
         ensures front { IfOk result (λ found. IfSome found (λ f. f.front ≡ self.old.seen)) }
         ensures only_if { OnOk result (CanRecord self.old × (lo ≤ hi)) }
         ensures left { IfErr result (IsNodeLeft self.old self.new) }
         ensures refused { IfErr result (IsLookupRefused self.old lo hi) }
     {
         nodes_go_on();
+        answers_are_true();
         self.check_whole()?;
         if hi < lo {
             return Err(NodeError::EmptyRange);
@@ -355,19 +356,19 @@ impl<A: App> StoredNode<A> {
         let Ok(search) = self.core.search(key, lo, hi) else {
             unreachable!();
         };
-        let finding = self.find(alloc, key, &search)?;
+        let found = copied_hit(alloc, self.core.hit(key, &search), &self.seen)?;
         let prepared = self
             .log
             .prepare_lookup(alloc, pass, key, lo, hi, &self.core)?;
-        let next = prepared.with_found(alloc, &finding)?;
+        let next = prepared.with_found(alloc, &found)?;
         self.core.mark_used(key, &search);
-        let reply = reply_without_copies(&finding);
+        let reply = reply_without_copies(&found);
         count_step(&mut self.counts, Some(key.function()), &reply);
         if !self.log.append(pass, next) {
             self.broken = true;
             return Err(NodeError::Broken);
         }
-        Ok(finding)
+        Ok(found)
     }
 
     /// Inserts an entry, which is true in what the front shows. The node keeps the longer of that front and
@@ -534,6 +535,23 @@ impl<A: App> StoredNode<A> {
         }
         Ok(dropped)
     }
+}
+
+// A copy of what the cache lends of an entry, with a front of the same.
+fn copied_hit(
+    alloc: Global,
+    hit: Option<Hit<'_>>,
+    front: &HistoryFront,
+) -> Result<Option<Answered<Shown>>, AllocError>
+    ensures answer { IfOk result (λ found. option_map (λ f. f.answer) found ≡ option_map seen hit) }
+    ensures front { IfOk result (λ found. IfSome found (λ f. f.front ≡ front.now)) }
+{
+    let Some(hit) = hit else {
+        return Ok(None);
+    };
+    let answer = hit.copy(alloc)?;
+    let front = front.again()?;
+    Ok(Some(Answered { answer, front }))
 }
 
 // The tags of an event, where there is one.

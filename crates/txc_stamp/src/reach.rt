@@ -1,7 +1,7 @@
 ghost use Rattle.std.specs.Prelude.{◌≡◌, ◌+◌, ◌-◌, ◌<◌, ◌≤◌, ◌↔◌, IfOk, OnOk, IfErr, IsTrue};
 ghost use Rattle.txc_stamp.specs.Interval.{end_at, span_of, shown, closed_at, Holds, meet_of};
 ghost use Rattle.txc_stamp.specs.Refusals.{IsReachRefusal};
-ghost use Rattle.txc_stamp.specs.declared.stamp.TheConstants.{LAST_STAMP};
+ghost use Rattle.txc_stamp.specs.declared.stamp.TheConstants.{LAST_STAMP, MOST_STAMP};
 
 use crate::error::StampError;
 use crate::span::Span;
@@ -104,7 +104,7 @@ impl Reach {
     /// The end of its span.
     pub fn end(self, processed: Stamp) -> u32
         ensures answer { result ≡ end_at processed self }
-        ensures bound { result ≤ LAST_STAMP + 1 }
+        ensures bound { result ≤ MOST_STAMP + 1 }
     {
         self.shown(processed).known.number() + 1
     }
@@ -125,7 +125,7 @@ impl Reach {
     /// The reach with another last stamp at which the result is known to hold.
     pub fn with_known(self, known: u32) -> Reach
         requires ordered { self.lo ≤ known }
-        requires bound { known ≤ LAST_STAMP }
+        requires bound { known ≤ MOST_STAMP }
         ensures { result ≡ record self { known = known } }
     {
         Reach {

@@ -1,7 +1,7 @@
 ghost use Rattle.std.specs.Prelude.{◌≡◌, ◌+◌, ◌<◌, ◌≤◌, ◌↔◌, IfOk, OnOk, IfErr, IsTrue};
 ghost use Rattle.txc_stamp.specs.Interval.{IsWithin};
 ghost use Rattle.txc_stamp.specs.Refusals.{IsSpanRefusal};
-ghost use Rattle.txc_stamp.specs.declared.stamp.TheConstants.{LAST_STAMP};
+ghost use Rattle.txc_stamp.specs.declared.stamp.TheConstants.{LAST_STAMP, MOST_STAMP};
 
 use crate::error::StampError;
 use crate::stamp::{LAST_STAMP, Stamp};
@@ -18,13 +18,13 @@ pub struct Span {
 impl Model for Span {
     ghost use Rattle.std.specs.Prelude.{◌+◌, ◌<◌, ◌≤◌};
     ghost use Rattle.txc_stamp.specs.Interval.{Bounds};
-    ghost use Rattle.txc_stamp.specs.declared.stamp.TheConstants.{LAST_STAMP};
+    ghost use Rattle.txc_stamp.specs.declared.stamp.TheConstants.{MOST_STAMP};
 
     ghost Value = { Bounds };
 
     ghost view = { λ s. record { lo = s.lo; end = s.end } };
 
-    ghost invariant = { λ s. (s.lo < s.end) × (s.end ≤ LAST_STAMP + 1) };
+    ghost invariant = { λ s. (s.lo < s.end) × (s.end ≤ MOST_STAMP + 1) };
 
     ghost inverse = { λ b. record { lo = b.lo; end = b.end } };
 }
@@ -57,7 +57,7 @@ impl Span {
     /// The stamp after the last one, which may be one more than there are stamps.
     pub fn end(self) -> u32
         ensures answer { result ≡ self.end }
-        ensures bound { self.end ≤ LAST_STAMP + 1 }
+        ensures bound { self.end ≤ MOST_STAMP + 1 }
     {
         self.end
     }

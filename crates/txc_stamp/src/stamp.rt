@@ -1,12 +1,16 @@
-ghost use Rattle.std.specs.Prelude.{◌≡◌, ◌≤◌, IfOk, OnOk, IfErr};
+ghost use Rattle.std.specs.Prelude.{◌≡◌, ◌+◌, ◌≤◌, IfOk, OnOk, IfErr, MatchOption};
 ghost use Rattle.txc_stamp.specs.Refusals.{IsStampRefusal};
 
 use crate::error::StampError;
 use std::fmt;
 use std::marker::Model;
 
-/// The greatest stamp.
+/// The greatest stamp of a stored history, and of those that are made of a number. Only a history that is not stored
+/// goes on after it.
 pub const LAST_STAMP: u32 = 1_048_576;
+
+/// The greatest stamp of any history.
+pub const MOST_STAMP: u32 = 4_294_967_294;
 
 /// The state after that many events of the history; a contract sees the number.
 #[derive(Clone, Copy, Debug, PartialEq, Eq, PartialOrd, Ord, Hash)]
@@ -16,13 +20,13 @@ pub struct Stamp {
 
 impl Model for Stamp {
     ghost use Rattle.std.specs.Prelude.{ℕ, ◌≤◌};
-    ghost use Rattle.txc_stamp.specs.declared.stamp.TheConstants.{LAST_STAMP};
+    ghost use Rattle.txc_stamp.specs.declared.stamp.TheConstants.{MOST_STAMP};
 
     ghost Value = { ℕ };
 
     ghost view = { λ s. s.number };
 
-    ghost invariant = { λ s. s.number ≤ LAST_STAMP };
+    ghost invariant = { λ s. s.number ≤ MOST_STAMP };
 
     ghost inverse = { λ n. record { number = n } };
 }
@@ -45,7 +49,7 @@ impl Stamp {
 
     /// The state after so many events, for a caller who knows that there are so few.
     pub fn after(events: usize) -> Stamp
-        requires { events ≤ LAST_STAMP }
+        requires { events ≤ MOST_STAMP }
         ensures { result ≡ events }
     {
         Stamp {
@@ -56,9 +60,21 @@ impl Stamp {
     /// The number of events before it.
     pub fn number(self) -> u32
         ensures answer { result ≡ self }
-        ensures bound { self ≤ LAST_STAMP }
+        ensures bound { self ≤ MOST_STAMP }
     {
         self.number
+    }
+
+    /// The stamp after one event more, if there is one.
+    pub fn next(self) -> Option<Stamp>
+        ensures { MatchOption result (self ≡ MOST_STAMP) (λ next. next ≡ self + 1) }
+    {
+        if self.number == MOST_STAMP {
+            return None;
+        }
+        Some(Stamp {
+            number: self.number + 1,
+        })
     }
 }
 

@@ -4,6 +4,7 @@ use std::alloc::Global;
 use std::sync::Wait;
 use txc_db::Naming;
 use txc_functions::Program;
+use txc_node::{Entry, Shown};
 use txc_shared::{NodePass, SharedNode, audit, meet};
 use txc_site::records_left;
 use txc_stamp::Stamp;
@@ -32,7 +33,14 @@ fn find<J: Naming>(
     let Some(found) = one.lookup(rt, alloc, node, &key, Stamp::ZERO, Stamp::ZERO)? else {
         return Ok(());
     };
-    other.insert(rt, alloc, node, found.entry, &found.front)?;
+    let Shown { reach, value, tags } = found.answer;
+    let entry = Entry {
+        key,
+        value,
+        reach,
+        tags,
+    };
+    other.insert(rt, alloc, node, entry, &found.front)?;
     Ok(())
 }
 

@@ -1,6 +1,6 @@
 -- What comes of a call that begins, and of each reply.
 use Rattle.std.specs.Prelude.{◌≡◌, ◌≢◌, ◌⊎◌, ℕ, ◌<◌, [], Option, Some, None, IsNone, IsSome, Ok, Err}
-use Rattle.txc_stamp.specs.declared.stamp.TheConstants.{LAST_STAMP}
+use Rattle.txc_stamp.specs.declared.stamp.TheConstants.{MOST_STAMP}
 use Rattle.txc_tags.specs.Keys.{Call}
 use Rattle.txc_rows.specs.declared.query.Query.{Query}
 use Rattle.txc_node.specs.declared.entry.Entry.{Entry}
@@ -34,7 +34,7 @@ use Rattle.txc_ports.specs.Turns.{PortTurn, IsAsk}
 -- the present is to be pinned, but its pin would have to be beyond the last stamp
 pub record IsBeyond (c : CoreValue) : Type 0 where
   pub due : choice_of c.bounds.now c.renew_after c.pins ≡ Present
-  pub beyond : LAST_STAMP < least_present c.bounds c.pins.members
+  pub beyond : MOST_STAMP < least_present c.bounds c.pins.members
 
 -- out of memory, or no pin of the present can be had for a query
 abbrev pub IsWanting : Option Need → CoreValue → TxnError → Type 0

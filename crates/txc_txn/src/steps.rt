@@ -1,7 +1,7 @@
 //! The steps of a core between two requests.
 ghost use Rattle.std.specs.Prelude.{◌≡◌, ◌≢◌, ◌<◌, ◌++◌, ◌∷◌, [], ◌↔◌, All, IsErr, IsSome, OnOk, MatchOption};
 ghost use Rattle.std.specs.Prelude.{None, Some, Err, true, false, vec_len, vec_capacity};
-ghost use Rattle.txc_stamp.specs.declared.stamp.TheConstants.{LAST_STAMP};
+ghost use Rattle.txc_stamp.specs.declared.stamp.TheConstants.{MOST_STAMP};
 ghost use Rattle.txc_tags.specs.Keys.{Call};
 ghost use Rattle.txc_rows.specs.declared.query.Query.{Query};
 ghost use Rattle.txc_db.specs.History.{History};
@@ -39,14 +39,14 @@ impl TxnCore {
 
     // The least stamp that a pin of the present may have; none beyond the last stamp.
     fn least_present(&self) -> Option<Stamp>
-        ensures answer { MatchOption result (LAST_STAMP < least_present self.now.bounds self.now.pins.members)
+        ensures answer { MatchOption result (MOST_STAMP < least_present self.now.bounds self.now.pins.members)
             (λ stamp. stamp ≡ least_present self.now.bounds self.now.pins.members) }
         ensures first { self.now.pins.members ≡ [] → IsSome result }
     {
         match self.pins.members().first() {
             None => Some(self.bounds.at_least),
             Some(newest) => {
-                let next = Stamp::new(newest.stamp.number() + 1).ok()?;
+                let next = newest.stamp.next()?;
                 Some(next.max(self.bounds.at_least))
             }
         }

@@ -5,7 +5,8 @@ use anyhow::Result;
 use std::alloc::Global;
 use txc_db::DbCore;
 use txc_functions::Program;
-use txc_shared::{Finding, NodeSettings, StoredNode};
+use txc_node::{Entry, Shown};
+use txc_shared::{NodeSettings, StoredNode};
 use txc_stamp::Stamp;
 use txc_stream::{EventRow, Pen};
 use txc_tags::Key;
@@ -31,8 +32,14 @@ fn find(alloc: Global, node: &mut StoredNode<Program>) -> Result<bool> {
     let Some(found) = node.lookup(alloc, pass, &key, Stamp::ZERO, Stamp::ZERO)? else {
         return Ok(false);
     };
-    let found = Finding::<Program>::new(found.entry, found.front);
-    node.insert(alloc, pass, found.entry, &found.front)?;
+    let Shown { reach, value, tags } = found.answer;
+    let entry = Entry {
+        key,
+        value,
+        reach,
+        tags,
+    };
+    node.insert(alloc, pass, entry, &found.front)?;
     Ok(true)
 }
 

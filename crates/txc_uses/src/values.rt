@@ -52,10 +52,12 @@ fn counted(alloc: Global, reply: Reply<Hit<'_>>) -> Result<(u64, bool)> {
 pub fn misses(alloc: Global) -> Result<(u64, bool)> {
     let mut node = NodeCore::new(alloc, 8, 4)?;
     let key = Key::read(b"f1(7)")?;
-    match node.lookup_counted(&key, Stamp::ZERO, Stamp::after(1))? {
-        (Some(hit), _) => counted(alloc, Reply::Hit(hit)),
-        (None, looked) => Ok((looked.max(node.looked()), node.is_empty())),
+    let search = node.search(&key, Stamp::ZERO, Stamp::after(1))?;
+    if let Some(hit) = node.hit(&key, &search) {
+        return counted(alloc, Reply::Hit(hit));
     }
+    node.mark_used(&key, &search);
+    Ok((search.looked, node.is_empty()))
 }
 
 /// What a version answers, and what is written of it.

@@ -40,7 +40,7 @@ pub struct Plan {
     /// How many calls of functions may run at once, from 1 to [`txc_permits::MAX_PERMITS`].
     pub permits: u64,
     /// How many commits and pins are stored, where anybody can read them: from 1 to [`txc_stream::MAX_CAPACITY`].
-    /// Without a number none is, and there is room for one for each stamp, [`txc_stamp::LAST_STAMP`] of them.
+    /// Without a number none is, and there is room for one for each stamp, [`txc_stamp::MOST_STAMP`] of them.
     pub events: Option<usize>,
     /// How many records of each node are stored, where anybody can read them: from 1 to
     /// [`txc_stream::MAX_CAPACITY`]. Without a number none is, and a node's history has no end.

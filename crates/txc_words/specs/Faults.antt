@@ -88,9 +88,9 @@ kinds_after_name name second = Some (kinds_of (parts_after name))
 
 -- the kinds of the first two words after the name of such a line
 abbrev pub first_kinds : LineName → List WordKind
-first_kinds names.Query = Stamp ∷ QueryName ∷ []
-first_kinds names.Ask = place ∷ QueryName ∷ []
-first_kinds names.Write = place ∷ ChangeName ∷ []
+first_kinds names.Query = kinds_of (parts_after names.Query) ++ QueryName ∷ []
+first_kinds names.Ask = kinds_of (parts_after names.Ask) ++ QueryName ∷ []
+first_kinds names.Write = kinds_of (parts_after names.Write) ++ ChangeName ∷ []
 first_kinds name = []
 
 -- a name, and what the words after it are called

@@ -47,12 +47,6 @@ for_this P x h y is = let same : x ≡ y = cc in subst P same h
 for_none : {X : Type 0} (P : X → Type 0) → ForSome None P
 for_none P y is = cc is
 
--- what a node shows that is not broken is part of the whole
-pub shown_part : (whole : FrontValue) (node : NodeValue) (hit : Option (Answered Shown)) → (node.broken ≡ false → IsPartOf whole node.seen)
-    → IfSome hit (λ h. h.front ≡ node.seen) → IfSome hit (λ h. node.broken ≡ false) → IfSome hit (λ h. IsPartOf whole h.front)
-shown_part whole node (Some hit) seen front unbroken = subst (IsPartOf whole) (sym front) (seen unbroken)
-shown_part whole node None seen front unbroken = tt
-
 module _ (next : Next) (pass : ℕ) (seen : FrontValue) (old new : PortsValue) (keeps : KeepsRow old new) (right : CountRight old) where
   pub asked_pin : (now at_least : ℕ) (pinned : Result Pinned DbError) → PinLeads now at_least old new pinned
       → IsAsked next pass seen (requests.Pin now at_least) old new (replies.Pin pinned)

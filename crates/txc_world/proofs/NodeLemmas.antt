@@ -1,9 +1,14 @@
 -- What the steps at a node keep of it.
 use Rattle.std.proofs.Common.{◌≡◌, ◌∙◌, inl, inr, ℕ, true, false, Option, Some, None, Result, Ok, Err, refl, ap, sym, subst}
+use Rattle.std.specs.Prelude.{◌≤◌, IfErr, IfOk, IfSome, OnOk}
+use Rattle.std.specs.Option.{option_map}
+use Rattle.std.specs.Result.{result_unwrap_or}
 use mathlib.Core.List.{IsPrefix}
 use Rattle.txc_tags.specs.Keys.{Call}
 use Rattle.txc_db.specs.History.{History}
 use Rattle.txc_db.specs.Seen.{FrontValue}
+use Rattle.txc_db.specs.declared.answered.Answered.{Answered}
+use Rattle.txc_node.specs.Cache.{lookup_answer}
 use Rattle.txc_node.specs.declared.entry.Entry.{Entry}
 use Rattle.txc_node.specs.declared.hit.Shown.{Shown}
 use Rattle.txc_node.specs.declared.op.Op.{Op}
@@ -14,7 +19,7 @@ use Rattle.txc_shared.specs.declared.error.NodeError.{NodeError}
 use Rattle.txc_shared.specs.declared.error.NodeError.TheVariants as errors
 use Rattle.txc_shared.specs.declared.insertion.Insertion.{Insertion}
 use Rattle.txc_shared.specs.Nodes.{NodeValue, after_call, seeing, IsLonger}
-use Rattle.txc_shared.specs.Refusals.{IsNodeLeft, IsNodeBroken}
+use Rattle.txc_shared.specs.Refusals.{CanRecord, IsLookupRefused, IsNodeLeft, IsNodeBroken}
 use Rattle.txc_stream.proofs.Offered.{longer_is}
 use Rattle.txc_world.specs.Parts.{IsPartOf}
 use Rattle.txc_world.specs.NodeSteps.{LookupLeads, InsertLeads, AdvanceLeads, SweepLeads}
@@ -113,3 +118,25 @@ module _ (whole : FrontValue) where
       → SweepLeads pass horizon old new swept → StaysNode whole old new
   stays_swept old new pass horizon (Ok count) leads = stays_after old new pass (Sweep horizon) leads.1
   stays_swept old new pass horizon (Err e) leads = stays_left old new e leads.0
+
+-- ---- a lookup, by what it returns
+
+pub looked_up : (pass : ℕ) (key : Call) (lo hi : ℕ) (old new : NodeValue) (r : Result (Option (Answered Shown)) NodeError)
+    → OnOk r (new ≡ after_call old pass (Lookup key lo hi)) → IfOk r (λ o. option_map (λ f. f.answer) o ≡ lookup_answer old.cache key lo hi)
+    → IfErr r (IsNodeLeft old new) → IfErr r (IsLookupRefused old lo hi)
+    → LookupLeads pass key lo hi old new (option_map (λ f. f.answer) (result_unwrap_or r None))
+looked_up pass key lo hi old new (Ok (Some hit)) after answer left refused = (after, sym answer)
+looked_up pass key lo hi old new (Ok None) after answer left refused = inl (after, sym answer)
+looked_up pass key lo hi old new (Err e) after answer left refused = inr (e, refused, left)
+
+-- what holds of what it found holds of what the node has
+pub found_so : (P : Answered Shown → Type 0) (r : Result (Option (Answered Shown)) NodeError) → IfOk r (λ o. IfSome o P) → IfSome (result_unwrap_or r None) P
+found_so P (Ok o) h = h
+found_so P (Err e) h = tt
+
+-- which a whole node alone shows, so that it is part of the whole
+pub found_part : (whole : FrontValue) (node : NodeValue) (lo hi : ℕ) (r : Result (Option (Answered Shown)) NodeError) → (node.broken ≡ false → IsPartOf whole node.seen)
+    → IfOk r (λ o. IfSome o (λ f. f.front ≡ node.seen)) → OnOk r (CanRecord node × (lo ≤ hi)) → IfSome (result_unwrap_or r None) (λ f. IsPartOf whole f.front)
+found_part whole node lo hi (Ok (Some hit)) seen front can = subst (IsPartOf whole) (sym front) (seen can.0.whole)
+found_part whole node lo hi (Ok None) seen front can = tt
+found_part whole node lo hi (Err e) seen front can = tt

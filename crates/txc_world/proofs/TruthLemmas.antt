@@ -6,10 +6,13 @@ use Rattle.std.proofs.lemmas.List.{take_all}
 use Rattle.std.proofs.lemmas.List.Elements.{All-push}
 use Rattle.std.proofs.lemmas.Option.{slice_get-get_or, slice_get_within}
 use Rattle.txc_db.specs.Seen.{FrontValue}
+use Rattle.txc_db.proofs.Histories.{states_stay, tags_stay}
 use Rattle.txc_app.specs.Eval.{Next}
+use Rattle.txc_app.proofs.Claims.{true_in_longer}
 use Rattle.txc_shared.specs.Laws.{NodeSeesMore}
 use Rattle.txc_shared.specs.Nodes.{start_of, NodeValue}
 use Rattle.txc_shared.specs.Runs.{IsNode}
+use Rattle.txc_shared.proofs.Runs.{node_sees_more}
 use Rattle.txc_world.specs.Parts.{IsPartOf}
 use Rattle.txc_world.specs.Worlds.{IsTrueNode}
 
@@ -27,6 +30,10 @@ module _ {X : Type 0} (P : X → Type 0) (xs : List X) where
   -- all of them
   pub all_taken : (at : ℕ) → length xs ≤ at → All P (take at xs) → All P xs
   all_taken at past h = subst (All P) (take_all at xs past) h
+
+-- a node that sees a longer history stays what it is
+pub nodes_see_more : NodeSeesMore
+nodes_see_more = node_sees_more (true_in_longer states_stay) tags_stay
 
 -- a node that has seen a part of the whole is true in the whole
 pub true_node : NodeSeesMore → (next : Next) (whole : FrontValue) (n : NodeValue) → n.seen.events ≡ whole.events

@@ -136,7 +136,7 @@ impl<A: App> Ports<A> {
             PortRequest::Unpin(stamp) => PortReply::Unpin(self.unpin(stamp)),
             PortRequest::Lookup { node, key, lo, hi } => {
                 let at = &mut self.nodes[node];
-                PortReply::Lookup(nodes::look_up(alloc, at, pass, &key, lo, hi))
+                PortReply::Lookup(at.lookup(alloc, pass, &key, lo, hi).unwrap_or(None))
             }
             PortRequest::Query { query, stamp } => PortReply::Query(self.find(
                 alloc, &query, stamp,

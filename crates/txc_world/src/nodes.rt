@@ -1,64 +1,18 @@
 //! Steps at a node, for one thread.
-ghost use Rattle.std.specs.Prelude.{◌≡◌, ◌<◌, IfSome, false};
+ghost use Rattle.std.specs.Prelude.{◌≡◌, ◌<◌, false};
 ghost use Rattle.txc_stream.specs.Names.{HasRow};
 ghost use Rattle.txc_node.specs.Counts.{AreCountsOf};
-ghost use Rattle.std.specs.Option.{option_map};
 ghost use Rattle.txc_db.specs.DatabaseValue.{front_of};
-ghost use Rattle.txc_app.specs.Claims.{IsTrueIn, entry_shown};
-ghost use Rattle.txc_shared.specs.Passes.{shown_of_entry};
-ghost use Rattle.txc_world.specs.NodeSteps.{AdvanceLeads, InsertLeads, LookupLeads, SweepLeads};
+ghost use Rattle.txc_app.specs.Claims.{IsTrueIn};
+ghost use Rattle.txc_world.specs.NodeSteps.{AdvanceLeads, InsertLeads, SweepLeads};
 ghost use Rattle.txc_world.specs.Parts.{IsPartOf};
 
 use std::alloc::Global;
 use txc_app::App;
-use txc_db::{Answered, DbCore, HistoryFront};
-use txc_node::{Counts, Entry, Shown};
-use txc_shared::{Advanced, Finding, Insertion, NodeError, NodeFront, StoredNode};
+use txc_db::{DbCore, HistoryFront};
+use txc_node::{Counts, Entry};
+use txc_shared::{Advanced, Insertion, NodeError, NodeFront, StoredNode};
 use txc_stamp::Stamp;
-use txc_tags::Key;
-
-// What a finding shows of its call, with the history in which it is true.
-fn shown_by<A: App>(finding: Finding<A>) -> Answered<Shown>
-    ensures answer { result.answer ≡ shown_of_entry finding.entry }
-    ensures front { result.front ≡ finding.front }
-    ensures is_true { IsTrueIn A.next finding.front.history finding.entry }
-{
-    let Finding { entry, front, .. } = finding;
-    let Entry {
-        key: _,
-        value,
-        reach,
-        tags,
-    } = entry;
-    Answered {
-        answer: Shown { reach, value, tags },
-        front,
-    }
-}
-
-/// What the node has of the call at the stamps from `lo` to `hi`, both included. A node that refuses has
-/// nothing.
-pub(crate) fn look_up<A: App>(
-    alloc: Global,
-    node: &mut StoredNode<A>,
-    pass: usize,
-    key: &Key,
-    lo: Stamp,
-    hi: Stamp,
-) -> Option<Answered<Shown>>
-    requires { pass < node.old.passes }
-    ensures leads { LookupLeads pass key.now lo hi node.old node.new (option_map (λ hit. hit.answer) result) }
-    ensures right { IfSome result (λ hit.
-        IsTrueIn A.next hit.front.history (entry_shown key.now hit.answer)) }
-    ensures front { IfSome result (λ hit. hit.front ≡ node.old.seen) }
-    ensures whole { IfSome result (λ hit. node.old.broken ≡ false) }
-{
-    match node.lookup(alloc, pass, key, lo, hi) {
-        Ok(Some(finding)) => Some(shown_by(finding)),
-        Ok(None) => None,
-        Err(_) => None,
-    }
-}
 
 /// Gives the node an entry to keep, which is true in what the front shows. A node that refuses keeps nothing.
 pub(crate) fn insert<A: App>(

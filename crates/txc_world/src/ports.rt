@@ -5,7 +5,6 @@ ghost use Rattle.txc_stream.specs.Names.{HasRow};
 use std::alloc::{AllocError, Global};
 use std::marker::Model;
 use txc_app::App;
-use txc_app::laws::found_rows_give_true_entries;
 use txc_cushion::{AddError, CushionCore, Pins};
 use txc_db::{Answered, DbCore, DbError, Pinned};
 use txc_rows::Query;
@@ -141,6 +140,7 @@ impl<A: App> Ports<A> {
     }
 
     /// The answer of the query at the stamp, with a front of the whole history.
+    #[tactic(auto, using(txc_app::proofs::Claims::found_rows_hold))]
     pub(crate) fn find(
         &mut self,
         alloc: Global,
@@ -150,7 +150,6 @@ impl<A: App> Ports<A> {
         ensures same { self.new ≡ self.old }
         ensures leads { FindLeads query.now stamp self.old result }
     {
-        found_rows_give_true_entries();
         let answer = self.database.query(alloc, query, stamp)?;
         let front = self.database.front()?;
         Ok(Answered { answer, front })

@@ -1,7 +1,6 @@
 //! What is true of the nodes between any two steps.
 use crate::ports::Ports;
 use txc_app::App;
-use txc_shared::laws::nodes_go_on;
 
 impl<A: App> Ports<A> {
     ghost use Rattle.std.specs.Prelude.{All};
@@ -12,7 +11,6 @@ impl<A: App> Ports<A> {
     pub(crate) fn are_true(&self)
         ensures { All (IsTrueNode A.next (whole_of self.now)) self.now.nodes }
     {
-        nodes_go_on();
         for at in 0..self.len() {
             self.node(at).is_sound();
         }

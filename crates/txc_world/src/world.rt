@@ -34,7 +34,6 @@ use txc_node::Counts;
 use txc_ports::Bounds;
 use txc_registry::{Cacheable, Registry};
 use txc_shared::StoredNode;
-use txc_shared::laws::nodes_go_on;
 use txc_txn::Session;
 
 /// Where a read-only transaction may still be serialised.
@@ -164,7 +163,6 @@ impl<A: App, C: Cacheable> World<A, C> {
         ensures right { result.now.broken ≡ false → IsNode A.next self.now.told.history (start_of result.now.settings 0)
             result.now.records result.now.cache false }
     {
-        nodes_go_on();
         let node = self.ports.node(at);
         node.is_sound();
         node

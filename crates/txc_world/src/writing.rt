@@ -26,7 +26,6 @@ use txc_node::Value;
 use txc_ports::{Turn, TxnError};
 use txc_registry::{Cacheable, Registry};
 use txc_rows::{Change, Query, Row};
-use txc_rw::laws::answers_are_right;
 use txc_rw::{MAX_CHANGES, RwCore};
 use txc_tags::Key;
 
@@ -267,7 +266,6 @@ fn commit<A: App, C: Cacheable>(
         (actor_value result.0) result.1 }
 {
     ports.count_right();
-    answers_are_right();
     let mut current = current;
     let base = current.core.base();
     let read = current.core.tags();

@@ -1,4 +1,5 @@
-use Rattle.std.proofs.Common.{◌≡◌, ◌-◌, ◌++◌, ◌<◌, ◌≤◌, length, map, ap, ◌∙◌, arith}
+use Rattle.std.proofs.Common.{◌≡◌, ◌-◌, ◌++◌, ◌<◌, ◌≤◌, OnOk, length, map, arith}
+use Rattle.std.proofs.lemmas.Result.{on_ok_weaker}
 use Rattle.txc_rows.specs.declared.store_error.TheConstants.{MAX_MATCHING}
 use Rattle.txc_rows.specs.States.{query_table}
 use Rattle.txc_rows.specs.Placed.{version_of, left_from}
@@ -12,10 +13,10 @@ pub returns-clause-finds : goal.returns-clause-finds
 returns-clause-finds c =
     let q = c.args.query.now in
     let rows = c.in_ok-rows.rows.items in
+    let new = c.add_shown.new.found.items in
     let few : length rows ≤ MAX_MATCHING - length c.args.found.now.items = search arith in
-    let shown : c.in_ok-more.more.items ≡ map (version_shown (query_table q)) rows = rw (c.table.ensures, c.deref.ensures.value) at c.in_ok-more.ensures.answer in
-    read_finding q c.args.from (latest_in c.args.conn.now) c.args.found.now.items c.append.new.self.items rows c.in_ok-rows.ensures.lists c.requires.few few
-    (c.in_ok-append.ensures.items ∙ ap (λ xs. c.args.found.now.items ++ xs) shown)
+    let shown : OnOk c.add_shown.result (new ≡ c.args.found.now.items ++ map (version_shown (query_table q)) rows) = rw (c.table.ensures, c.deref.ensures.value) at c.add_shown.ensures.found in
+    on_ok_weaker c.add_shown.result (read_finding q c.args.from (latest_in c.args.conn.now) c.args.found.now.items new rows c.in_ok-rows.ensures.lists c.requires.few few) shown
 
 pub returns-then-len-clause-refused : goal.returns-then-len-clause-refused
 returns-then-len-clause-refused c = λ _.

@@ -1,4 +1,5 @@
-use Rattle.std.proofs.Common.{◌≡◌, ◌-◌, ◌++◌, ◌<◌, ◌≤◌, length, map, arith}
+use Rattle.std.proofs.Common.{◌≡◌, ◌-◌, ◌++◌, ◌<◌, ◌≤◌, OnOk, length, map, arith}
+use Rattle.std.proofs.lemmas.Result.{on_ok_weaker}
 use Rattle.txc_rows.specs.declared.store_error.TheConstants.{MAX_MATCHING}
 use Rattle.txc_rows.specs.Placed.{version_of}
 use Rattle.txc_rows.specs.Stored.{placed_from}
@@ -12,20 +13,15 @@ returns-then-len-clause-refused c = λ _.
     let many : MAX_MATCHING - length c.args.found.now.items < length rows = search arith in
     row_many c.args.table c.args.id c.args.from (latest_in c.args.conn.now) rows c.in_ok-rows.ensures.versions c.args.found.now.items c.requires.few many
 
-pub returns-in_err-add_known-clause-known : goal.returns-in_err-add_known-clause-known
-returns-in_err-add_known-clause-known c =
-    let is : c.in_ok-placed.placed.items ≡ map placed_from c.in_ok-rows.rows.items = rw c.deref.ensures.value at c.in_ok-placed.ensures in
-    c.add_known.ensures _ c.requires.known (row_among c.args.table c.args.id c.args.from (latest_in c.args.conn.now) c.in_ok-rows.rows.items c.in_ok-rows.ensures.versions c.in_ok-placed.placed.items is)
-
 pub returns-clause-known : goal.returns-clause-known
 returns-clause-known c =
-    let is : c.in_ok-placed.placed.items ≡ map placed_from c.in_ok-rows.rows.items = rw c.deref.ensures.value at c.in_ok-placed.ensures in
-    c.add_known.ensures _ c.requires.known (row_among c.args.table c.args.id c.args.from (latest_in c.args.conn.now) c.in_ok-rows.rows.items c.in_ok-rows.ensures.versions c.in_ok-placed.placed.items is)
+    let among = row_among c.args.table c.args.id c.args.from (latest_in c.args.conn.now) c.in_ok-rows.rows.items c.in_ok-rows.ensures.versions in
+    c.add_known.ensures.known _ (c.forget_many.ensures _ c.requires.known) (rw c.deref.ensures.value among)
 
 pub returns-clause-finds : goal.returns-clause-finds
 returns-clause-finds c =
     let rows = c.in_ok-rows.rows.items in
+    let new = c.add_known.new.found.items in
     let few : length rows ≤ MAX_MATCHING - length c.args.found.now.items = search arith in
-    let is : c.in_ok-placed.placed.items ≡ map placed_from rows = rw c.deref.ensures.value at c.in_ok-placed.ensures in
-    let are : c.add_copies.new.found.items ≡ c.args.found.now.items ++ map version_of c.in_ok-placed.placed.items = rw c.deref-2.ensures.value at c.in_ok-add_copies.ensures.found in
-    row_finding c.args.table c.args.id c.args.from (latest_in c.args.conn.now) rows c.in_ok-rows.ensures.versions c.args.found.now.items c.add_copies.new.found.items c.in_ok-placed.placed.items c.requires.few few is are
+    let are : OnOk c.add_known.result (new ≡ c.args.found.now.items ++ map version_of (map placed_from rows)) = rw c.deref.ensures.value at c.add_known.ensures.found in
+    on_ok_weaker c.add_known.result (row_finding c.args.table c.args.id c.args.from (latest_in c.args.conn.now) rows c.in_ok-rows.ensures.versions c.args.found.now.items new c.requires.few few) are

@@ -6,7 +6,8 @@ use Rattle.txc_world.specs.Losing.{IfGone}
 use Rattle.txc_world.specs.Ports.{PortsValue}
 use Rattle.txc_world.proofs.CommitLemmas.{explained_lent, explained_open}
 use Rattle.txc_world.proofs.WritingCounts.{based, fair_commit, fair_not_committed, loss_commit}
-use Rattle.txc_rw.proofs.Holding.{holds_in_longer}
+use Rattle.txc_rw.proofs.Commits.{event_commits_are_right, event_tags_are_sound, quiet_commits_are_right}
+use Rattle.txc_rw.proofs.Holding.{holds_in_longer, right_at_base}
 use Rattle.txc_db.proofs.Histories.{states_stay, tags_stay}
 use Rattle.txc_world.proofs.writing.commit.Goals as goal
 
@@ -27,7 +28,7 @@ returns-in-Ok-clause-acted g c =
     let explained =
     explained_open g.A.App.next c.commit.new.self.database.history _ c.args.current.core c.in-Ok.stamp c.args.current.call c.requires.no_call
     (explained_lent g.A.App.next c.args.current.registry c.args.current.core c.args.ports.now.database c.requires.fits.holds
-    c.answers_are_right.ensures.base c.answers_are_right.ensures.quiet c.answers_are_right.ensures.event (holds_in_longer states_stay)
+    right_at_base (quiet_commits_are_right event_tags_are_sound) (event_commits_are_right event_tags_are_sound) (holds_in_longer states_stay)
     states_stay tags_stay
     c.args.ports.now c.commit.new.self c.base-base.result c.tags-read.result.now c.changes-changes.result.now c.in-Ok.stamp refl c.in-Ok.ensures.leads
     c.base-base.ensures c.tags-read.ensures c.changes-changes.ensures.answer) in

@@ -4,7 +4,8 @@ use Rattle.txc_rw.specs.Answers.{AreRightIn}
 use Rattle.txc_rw.specs.Core.{tags_read, RwHolds, RwValue}
 use Rattle.txc_rw.specs.Outcomes.{IsCommitted}
 use Rattle.txc_rw.specs.Txn.{RwTxnValue}
-use Rattle.txc_rw.proofs.Commits.{answer_lent, holds_seen, knows_base}
+use Rattle.txc_rw.proofs.Commits.{answer_lent, commits_are_right, event_tags_are_sound, holds_seen, knows_base}
+use Rattle.txc_rw.proofs.Holding.{right_at_base}
 use Rattle.txc_db.proofs.Histories.{states_stay}
 use Rattle.txc_rw.proofs.rw_txn.RwTxn.commit.Goals as goal
 
@@ -17,7 +18,7 @@ returns-clause-answer g c =
     let holds = holds_seen states_stay g.A.App.next c.front.result.now.history F [] core c.agree.ensures
     (knows_base F core.base c.in-Ok.done.answer (tags_read core) core.changes lent) (subst (λ (M : History). RwHolds g.A.App.next M [] core) (sym c.front.ensures.history) (c.self.invariant.1.holds [])) in
     subst (λ (t : RwTxnValue). IsCommitted g.A.App.next F t.core c.in-Ok.done.answer) c.self.view_is
-    (c.answers_are_right.ensures.committed g.A.App.next F [] core c.in-Ok.done.answer holds lent)
+    (commits_are_right event_tags_are_sound g.A.App.next F [] core c.in-Ok.done.answer holds lent)
 
 pub returns-clause-at_base : goal.returns-clause-at_base
 returns-clause-at_base g c =
@@ -28,4 +29,4 @@ returns-clause-at_base g c =
     let holds = holds_seen states_stay g.A.App.next c.front.result.now.history F [] core c.agree.ensures
     (knows_base F core.base c.in-Ok.done.answer (tags_read core) core.changes lent) (subst (λ (M : History). RwHolds g.A.App.next M [] core) (sym c.front.ensures.history) (c.self.invariant.1.holds [])) in
     subst (λ (t : RwTxnValue). AreRightIn g.A.App.next (state_at F t.core.base) t.core.answers) c.self.view_is
-    (c.answers_are_right.ensures.base g.A.App.next F [] core holds)
+    (right_at_base g.A.App.next F [] core holds)

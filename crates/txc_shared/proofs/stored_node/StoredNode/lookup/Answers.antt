@@ -1,6 +1,5 @@
 use Rattle.std.proofs.Common.{◌≡◌, ℕ, Option, Some, List, length, refl, ap, sym, subst, ◌∙◌, false, true≢false, rules, arith}
 use Rattle.std.specs.Option.{option_map}
-use Rattle.txc_app.specs.Claims.{entry_shown}
 use Rattle.txc_node.specs.declared.hit.Shown.{Shown}
 use Rattle.txc_node.specs.declared.record.Record.{Record}
 use Rattle.txc_node.specs.declared.reply.Reply.{Reply}
@@ -10,9 +9,8 @@ use Rattle.txc_node.specs.Counts.{AreCountsOf}
 use Rattle.txc_node.specs.Steps.{found_reply, function_of}
 use Rattle.txc_shared.specs.Histories.{next_record}
 use Rattle.txc_shared.specs.Nodes.{start_of, NodeValue, LogValue, after_call}
-use Rattle.txc_shared.specs.Passes.{reply_of_found}
 use Rattle.txc_shared.specs.Locked.{record_in, DoCountAlike}
-use Rattle.txc_shared.proofs.Nodes.{stepped, broke, may_look_up, searched_replied, called}
+use Rattle.txc_shared.proofs.Nodes.{stepped, broke, may_look_up, found_true, called}
 use Rattle.txc_shared.proofs.stored_node.StoredNode.lookup.Goals as goal
 
 pub count_step-requires-clause-room : goal.count_step-requires-clause-room
@@ -40,9 +38,9 @@ invariant_of-self-else-not-append g c =
     let next : c.mark_used.new.self ≡ after_lookup c.self.inside.core key c.args.lo c.args.hi = search rules in
     let whole : c.self.inside.broken ≡ false = ap (λ (n : NodeValue). n.broken) c.self.view_is ∙ c.in_ok-check_whole.ensures.only_if in
     let shown = lookup_answer c.self.inside.core key c.args.lo c.args.hi in
-    let reply : reply_of_found (option_map (λ f. f.entry) c.in_ok-finding.finding) ≡ found_reply shown =
-    searched_replied c.self.inside.core c.args.self.now.cache key c.args.lo c.args.hi c.in-Ok.search.lo c.in-Ok.search.hi (option_map (λ f. f.entry) c.in_ok-finding.finding) c.in_ok-finding.ensures.found
-    (ap (λ (n : NodeValue). n.cache) c.self.view_is) c.in-Ok.ensures.stamps.0 c.in-Ok.ensures.stamps.1 in
+    let answer : option_map (λ f. f.answer) c.in_ok-found.found ≡ shown =
+    c.in_ok-found.ensures.answer ∙ (c.hit.ensures ∙ (λ i. lookup_answer c.self.inside.core key (c.in-Ok.ensures.stamps.0 i) (c.in-Ok.ensures.stamps.1 i))) in
+    let reply = ap found_reply answer in
     let record_is = c.in_ok-next.ensures.answered (next_record c.args.pass rs op (found_reply shown)) c.in_ok-prepared.ensures.awaits reply in
     let records = ap (λ (l : LogValue). l.records) (c.if-not-append.ensures.after refl) in
     let step = record_in c.in_ok-next.next in
@@ -61,9 +59,9 @@ append-requires-clause-by g c =
     let key = c.args.key.now in
     let op = Lookup key c.args.lo c.args.hi in
     let shown = lookup_answer c.self.inside.core key c.args.lo c.args.hi in
-    let reply : reply_of_found (option_map (λ f. f.entry) c.in_ok-finding.finding) ≡ found_reply shown =
-    searched_replied c.self.inside.core c.args.self.now.cache key c.args.lo c.args.hi c.in-Ok.search.lo c.in-Ok.search.hi (option_map (λ f. f.entry) c.in_ok-finding.finding) c.in_ok-finding.ensures.found
-    (ap (λ (n : NodeValue). n.cache) c.self.view_is) c.in-Ok.ensures.stamps.0 c.in-Ok.ensures.stamps.1 in
+    let answer : option_map (λ f. f.answer) c.in_ok-found.found ≡ shown =
+    c.in_ok-found.ensures.answer ∙ (c.hit.ensures ∙ (λ i. lookup_answer c.self.inside.core key (c.in-Ok.ensures.stamps.0 i) (c.in-Ok.ensures.stamps.1 i))) in
+    let reply = ap found_reply answer in
     ap (λ (r : Record). r.pass) (c.in_ok-next.ensures.answered (next_record c.args.pass rs op (found_reply shown)) c.in_ok-prepared.ensures.awaits reply)
 
 pub append-requires-clause-suits : goal.append-requires-clause-suits
@@ -78,9 +76,17 @@ returns-clause-after g c =
     let op = Lookup key c.args.lo c.args.hi in
     let next : c.mark_used.new.self ≡ after_lookup inside.core key c.args.lo c.args.hi = search rules in
     let shown = lookup_answer c.self.inside.core key c.args.lo c.args.hi in
-    let reply : reply_of_found (option_map (λ f. f.entry) c.in_ok-finding.finding) ≡ found_reply shown =
-    searched_replied c.self.inside.core c.args.self.now.cache key c.args.lo c.args.hi c.in-Ok.search.lo c.in-Ok.search.hi (option_map (λ f. f.entry) c.in_ok-finding.finding) c.in_ok-finding.ensures.found
-    (ap (λ (n : NodeValue). n.cache) c.self.view_is) c.in-Ok.ensures.stamps.0 c.in-Ok.ensures.stamps.1 in
+    let answer : option_map (λ f. f.answer) c.in_ok-found.found ≡ shown =
+    c.in_ok-found.ensures.answer ∙ (c.hit.ensures ∙ (λ i. lookup_answer c.self.inside.core key (c.in-Ok.ensures.stamps.0 i) (c.in-Ok.ensures.stamps.1 i))) in
+    let reply = ap found_reply answer in
     let record_is = c.in_ok-next.ensures.answered (next_record c.args.pass rs op (found_reply shown)) c.in_ok-prepared.ensures.awaits reply in
     called n inside.seen c.args.pass op (record_in c.in_ok-next.next) c.append.new.self c.mark_used.new.self record_is (c.if-not-append.ensures.after refl) next
     ∙ ap (λ (m : NodeValue). after_call m c.args.pass op) c.self.view_is
+
+pub returns-clause-right : goal.returns-clause-right
+returns-clause-right g c =
+    let core = c.self.inside.core in
+    let key = c.args.key.now in
+    let answer : option_map (λ f. f.answer) c.in_ok-found.found ≡ lookup_answer core key c.args.lo c.args.hi =
+    c.in_ok-found.ensures.answer ∙ (c.hit.ensures ∙ (λ i. lookup_answer core key (c.in-Ok.ensures.stamps.0 i) (c.in-Ok.ensures.stamps.1 i))) in
+    found_true c.answers_are_true.ensures g.A.App.next core key c.args.lo c.args.hi c.self.inside.seen c.in_ok-found.found c.self.invariant.0.is_true answer c.in_ok-found.ensures.front

@@ -1,4 +1,8 @@
-use Rattle.std.proofs.Common.{◌<◌, length, set, sym, subst}
+use Rattle.std.proofs.Common.{◌<◌, Option, None, length, set, sym, subst}
+use Rattle.std.specs.Result.{result_unwrap_or}
+use Rattle.txc_app.specs.Claims.{IsTrueIn, entry_shown}
+use Rattle.txc_db.specs.declared.answered.Answered.{Answered}
+use Rattle.txc_node.specs.declared.hit.Shown.{Shown}
 use Rattle.txc_ports.specs.declared.request.PortRequest.{PortRequest}
 use Rattle.txc_ports.specs.declared.request.PortRequest.TheVariants as requests
 use Rattle.txc_ports.specs.declared.reply.PortReply.TheVariants as replies
@@ -6,8 +10,8 @@ use Rattle.txc_ports.specs.Asking.{AddsSuch, MayAsk}
 use Rattle.txc_world.specs.Asks.{IsAsked}
 use Rattle.txc_world.specs.Parts.{IsPartOf}
 use Rattle.txc_world.specs.Ports.{IsNodeOf, KeepsRow, PortsValue, whole_of}
-use Rattle.txc_world.proofs.AskLemmas.{asked_add, asked_insert, asked_lookup, asked_pin, asked_query, asked_unpin, shown_part}
-use Rattle.txc_world.proofs.NodeLemmas.{stays_inserted, stays_looked_up}
+use Rattle.txc_world.proofs.AskLemmas.{asked_add, asked_insert, asked_lookup, asked_pin, asked_query, asked_unpin}
+use Rattle.txc_world.proofs.NodeLemmas.{found_part, found_so, looked_up, stays_inserted, stays_looked_up}
 use Rattle.txc_world.proofs.PortsLemmas.{keeps_node_from, keeps_same, led_from, node_from, ports_node_from}
 use Rattle.txc_world.proofs.ports.Ports.ask.Goals as goal
 
@@ -37,10 +41,12 @@ pub invariant_of-self : goal.invariant_of-self
 invariant_of-self g c =
     let p : PortsValue = record { database = c.self.inside.database; cushion = c.self.inside.cushion; nodes = c.self.inside.nodes.items; spare = c.self.inside.spare.items; actors = c.self.inside.actors } in
     let q : PortsValue = c.args.self.now in
-    let within : c.in-Lookup.node < length q.nodes = subst (MayAsk g.A.App.next q.database.events (length q.nodes) c.args.seen.now.history) c.in-Lookup.is c.requires.may in (
+    let within : c.in-Lookup.node < length q.nodes = subst (MayAsk g.A.App.next q.database.events (length q.nodes) c.args.seen.now.history) c.in-Lookup.is c.requires.may in
+    let done = c.lookup.ensures in
+    let leads = looked_up c.args.pass c.in-Lookup.key c.in-Lookup.lo c.in-Lookup.hi c.index_mut-at.result.now c.lookup.new.self c.lookup.result done.after done.answer done.left done.refused in (
       c.self.invariant.0,
-      ports_node_from p q c.self.view_is c.in-Lookup.node c.index_mut-at.result.now c.look_up.new.node c.self.invariant.1
-          within c.index_mut-at.ensures.value (stays_looked_up _ _ _ _ _ _ _ _ c.look_up.ensures.leads),
+      ports_node_from p q c.self.view_is c.in-Lookup.node c.index_mut-at.result.now c.lookup.new.self c.self.invariant.1
+          within c.index_mut-at.ensures.value (stays_looked_up _ _ _ _ _ _ _ _ leads),
     )
 
 pub returns-in-Lookup : goal.returns-in-Lookup
@@ -48,16 +54,21 @@ returns-in-Lookup g c =
     let p : PortsValue = record { database = c.self.inside.database; cushion = c.self.inside.cushion; nodes = c.self.inside.nodes.items; spare = c.self.inside.spare.items; actors = c.self.inside.actors } in
     let q : PortsValue = c.args.self.now in
     let within : c.in-Lookup.node < length q.nodes = subst (MayAsk g.A.App.next q.database.events (length q.nodes) c.args.seen.now.history) c.in-Lookup.is c.requires.may in
-    let new : PortsValue = record p { nodes = set p.nodes c.in-Lookup.node c.look_up.new.node } in
-    let keeps : KeepsRow q new = keeps_node_from p q c.self.view_is c.in-Lookup.node c.index_mut-at.result.now c.look_up.new.node c.index_mut-at.ensures.value
-    (stays_looked_up _ _ _ _ _ _ _ _ c.look_up.ensures.leads) in
-    let node : IsNodeOf (whole_of q) q.actors c.index_mut-at.result.now =
-    node_from p q c.self.view_is c.in-Lookup.node c.index_mut-at.result.now c.self.invariant.1 within c.index_mut-at.ensures.value in
-    subst (λ (r : PortRequest). IsAsked g.A.App.next c.args.pass c.args.seen.now r q new (replies.Lookup c.look_up.result)) (sym c.in-Lookup.is)
-    (asked_lookup g.A.App.next c.args.pass c.args.seen.now q new keeps c.count_right.ensures c.in-Lookup.node c.in-Lookup.key c.in-Lookup.lo c.in-Lookup.hi c.look_up.result
-    (led_from p q c.self.view_is c.in-Lookup.node _ c.index_mut-at.result.now c.look_up.new.node within c.index_mut-at.ensures.value c.look_up.ensures.leads)
-    c.look_up.ensures.right
-    (shown_part (whole_of q) c.index_mut-at.result.now c.look_up.result node.seen c.look_up.ensures.front c.look_up.ensures.whole))
+    let done = c.lookup.ensures in
+    let old = c.index_mut-at.result.now in
+    let leads = looked_up c.args.pass c.in-Lookup.key c.in-Lookup.lo c.in-Lookup.hi old c.lookup.new.self c.lookup.result done.after done.answer done.left done.refused in
+    let new : PortsValue = record p { nodes = set p.nodes c.in-Lookup.node c.lookup.new.self } in
+    let keeps : KeepsRow q new = keeps_node_from p q c.self.view_is c.in-Lookup.node old c.lookup.new.self c.index_mut-at.ensures.value
+    (stays_looked_up _ _ _ _ _ _ _ _ leads) in
+    let node : IsNodeOf (whole_of q) q.actors old =
+    node_from p q c.self.view_is c.in-Lookup.node old c.self.invariant.1 within c.index_mut-at.ensures.value in
+    let found = result_unwrap_or c.lookup.result None in
+    subst (λ (r : PortRequest). IsAsked g.A.App.next c.args.pass c.args.seen.now r q new (replies.Lookup c.unwrap_or.result)) (sym c.in-Lookup.is)
+    (subst (λ (hit : Option (Answered Shown)). IsAsked g.A.App.next c.args.pass c.args.seen.now (requests.Lookup c.in-Lookup.node c.in-Lookup.key c.in-Lookup.lo c.in-Lookup.hi) q new (replies.Lookup hit)) (sym c.unwrap_or.ensures)
+    (asked_lookup g.A.App.next c.args.pass c.args.seen.now q new keeps c.count_right.ensures c.in-Lookup.node c.in-Lookup.key c.in-Lookup.lo c.in-Lookup.hi found
+    (led_from p q c.self.view_is c.in-Lookup.node _ old c.lookup.new.self within c.index_mut-at.ensures.value leads)
+    (found_so (λ hit. IsTrueIn g.A.App.next hit.front.history (entry_shown c.in-Lookup.key hit.answer)) c.lookup.result done.right)
+    (found_part (whole_of q) old c.in-Lookup.lo c.in-Lookup.hi c.lookup.result node.seen done.front done.only_if)))
 
 pub invariant_of-self-in-Insert : goal.invariant_of-self-in-Insert
 invariant_of-self-in-Insert g c =

@@ -1,0 +1,42 @@
+//! The entries of a node that ends.
+ghost use Rattle.std.specs.Prelude.{◌≡◌, ◌++◌, ◌∷◌, [], length, MatchOption};
+
+use crate::entry::Entry;
+use crate::place::Place;
+use crate::stored::{Stored, join_some};
+use lru::LruCache;
+use std::marker::Model;
+
+/// The entries of a node that ends, the most recently used first.
+#[derive(Drop)]
+pub struct Leaving {
+    pub(crate) cache: LruCache<Place, Stored>,
+}
+
+impl Model for Leaving {
+    ghost use Rattle.std.specs.Prelude.{List};
+    ghost use Rattle.txc_node.specs.declared.entry.Entry.{Entry};
+    ghost use Rattle.txc_node.specs.Indexed.{entries_of};
+
+    ghost Value = { List Entry };
+
+    ghost view = { λ l. entries_of l.cache.entries };
+}
+
+impl Leaving {
+    /// How many are left.
+    pub fn len(&self) -> usize
+        ensures { result ≡ length self.now }
+    {
+        self.cache.len()
+    }
+
+    /// Takes out the least recently used one. It takes no memory.
+    pub fn next(&mut self) -> Option<Entry>
+        ensures { MatchOption result
+            ((self.old ≡ []) × (self.new ≡ []))
+            (λ e. self.old ≡ self.new ++ e ∷ []) }
+    {
+        join_some(self.cache.pop_lru())
+    }
+}

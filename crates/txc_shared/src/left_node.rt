@@ -1,0 +1,74 @@
+//! What a node leaves that ends.
+ghost use Rattle.std.specs.Prelude.{◌≡◌, [], IfSome, MatchOption, length};
+ghost use Rattle.txc_app.specs.Claims.{IsTrueIn};
+ghost use Rattle.txc_shared.specs.Leaving.{LeftValue, WasLast};
+
+use std::marker::{Model, PhantomData};
+use txc_app::App;
+use txc_db::HistoryFront;
+use txc_node::{Entry, Leaving};
+use txc_stamp::Stamp;
+
+/// What a node leaves that ends: its entries, each of which is true in what it has seen of the database's history.
+#[derive(Drop)]
+pub struct LeftNode<A: App> {
+    pub(crate) number: usize,
+    pub(crate) entries: Leaving,
+    pub(crate) processed: Stamp,
+    pub(crate) seen: HistoryFront,
+    pub(crate) of: PhantomData<A>,
+}
+
+impl<A: App> Model for LeftNode<A> {
+    ghost use Rattle.txc_shared.specs.Leaving.{LeftValue, IsLeftNode};
+
+    ghost Value = { LeftValue };
+
+    ghost view = { λ l. record {
+      number = l.number;
+      entries = l.entries;
+      processed = l.processed;
+      seen = l.seen;
+    } };
+
+    ghost invariant = { λ l. IsLeftNode A.next (record {
+      number = l.number;
+      entries = l.entries;
+      processed = l.processed;
+      seen = l.seen;
+    }) };
+}
+
+impl<A: App> LeftNode<A> {
+    /// The number of the node.
+    pub fn number(&self) -> usize
+        ensures { result ≡ self.now.number }
+    {
+        self.number
+    }
+
+    /// What it has seen of the database's history.
+    pub fn seen(&self) -> &HistoryFront
+        ensures { result.now ≡ self.now.seen }
+    {
+        &self.seen
+    }
+
+    /// How many entries are left.
+    pub fn len(&self) -> usize
+        ensures { result ≡ length self.now.entries }
+    {
+        self.entries.len()
+    }
+
+    /// Takes out the least recently used entry, as a hit showed it. It takes no memory.
+    pub fn next(&mut self) -> Option<Entry>
+        ensures is_true { IfSome result (IsTrueIn A.next self.old.seen.history) }
+        ensures last { MatchOption result (self.old.entries ≡ []) (WasLast self.old self.new) }
+        ensures same { self.new ≡ record self.old { entries = self.new.entries } }
+    {
+        let mut entry = self.entries.next()?;
+        entry.reach = entry.reach.shown(self.processed);
+        Some(entry)
+    }
+}
