@@ -8,8 +8,5 @@ pub mod Planned
 pub mod Writers
 pub mod Locked
 pub mod Worked
-<<<<<<< HEAD
 pub mod Codes
-=======
 pub mod Leaving
->>>>>>> 08ece198dcf7aef29f7062a578f1a625159aec19
