@@ -15,7 +15,8 @@ use Rattle.txc_site.specs.declared.error.GenerationError.{GenerationError}
 use Rattle.txc_site.specs.declared.error.GenerationError.TheVariants as generations
 use Rattle.txc_visits.specs.declared.plan.Plan.{Plan}
 use Rattle.txc_site.specs.declared.returning.Generation.{Generation}
-use Rattle.txc_site.specs.Generations.{AreInTurn, ComeAfter, ComesAfter, GenerationsHaveEnded, HaveServed, IsEndRefused, IsGeneration, IsGenerationRefused, IsNextRefused, last_state}
+use Rattle.txc_site.specs.Generations.{AreInTurn, ComeAfter, ComesAfter, GenerationsHaveEnded, HaveServed, IsEndRefused, IsGeneration, IsGenerationRefused, IsNextRefused}
+use Rattle.txc_visits.specs.Warming.{last_state}
 
 -- of two beginnings the one that is not longer is a beginning of the other
 pub shorter_begins : {X : Type 0} (xs ys : List X) → IsPrefix ys xs ⊎ IsPrefix xs ys → length xs ≤ length ys → IsPrefix xs ys

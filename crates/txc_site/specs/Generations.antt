@@ -1,5 +1,5 @@
 -- The generations of a site, one after the other.
-use Rattle.std.specs.Prelude.{◌≡◌, ◌⊎◌, ℕ, ◌+◌, Bool, true, false, List, [], ◌∷◌, ◌++◌, All, Option, Result, Ok, Err, Vec, length, map, vec_len}
+use Rattle.std.specs.Prelude.{◌≡◌, ◌⊎◌, ℕ, ◌+◌, Bool, true, false, List, [], ◌∷◌, ◌++◌, All, Option, Result, Ok, Err, Vec, map, vec_len}
 use Rattle.std.specs.declared.alloc.Global.{Global}
 use Rattle.txc_stream.specs.Names.{Name}
 use mathlib.Core.List.{IsPrefix}
@@ -8,9 +8,7 @@ use Rattle.txc_carry.specs.Carried.{IsCarryRefused}
 use Rattle.txc_carry.specs.Rooms.{IsHistoryFor, room_for}
 use Rattle.txc_db.specs.declared.error.DbError.TheVariants as databases
 use Rattle.txc_db.specs.DatabaseValue.{DatabaseValue, front_of}
-use Rattle.txc_db.specs.History.{state_at}
 use Rattle.txc_db.specs.Seen.{FrontValue}
-use Rattle.txc_rows.specs.States.{State}
 use Rattle.txc_rw.specs.Core.{RwValue}
 use Rattle.txc_site.specs.declared.error.GenerationError.{GenerationError}
 use Rattle.txc_site.specs.declared.error.GenerationError.TheVariants as generations
@@ -19,11 +17,8 @@ use Rattle.txc_visits.specs.declared.plan.Plan.{Plan}
 use Rattle.txc_site.specs.declared.returning.Generation.{Generation}
 use Rattle.txc_visits.specs.Sites.{IsVisitRefused, HaveCome}
 use Rattle.txc_visits.specs.Tended.{IsTendedAsPlanned}
+use Rattle.txc_visits.specs.Warming.{last_state}
 use Rattle.txc_ledger.specs.Writes.{IsWritten}
-
--- the state after all events that a front shows
-abbrev pub last_state : FrontValue → State
-last_state front = state_at front.history (length front.history)
 
 -- A generation over a database whose history is kept as the plan says. Its history at the end goes on from that at the beginning.
 -- There are so many outputs, each of which is what the thread of its number comes to there. Its own keeper came to what the plan

@@ -1,6 +1,7 @@
 use Rattle.std.proofs.Common.{◌≡◌, ◌∙◌, List, [], ◌∷◌, ◌++◌, Ok, ap, length, refl, sym, subst, arith}
 use Rattle.txc_db.specs.Seen.{FrontValue}
-use Rattle.txc_site.specs.Generations.{IsNextRefused, last_state}
+use Rattle.txc_visits.specs.Warming.{last_state}
+use Rattle.txc_site.specs.Generations.{IsNextRefused}
 use Rattle.txc_site.proofs.Turns.{enough_so, is_error, no_next_so, none_came, one_more}
 use Rattle.txc_site.proofs.generations.go_on.Goals as goal
 
@@ -11,6 +12,7 @@ loop-init g c = record {
       c.args.generations.now.items c.requires.none;
   row = c.requires.row;
   room = c.requires.room;
+  warm = c.requires.warm;
 }
 
 pub returns-then-not-goes_on : goal.returns-then-not-goes_on
@@ -47,4 +49,5 @@ loop-preserved g c =
           (c.in_ok-begun.ensures.state ∙ ap last_state (sym c.in_ok-generation.ensures.ended));
       row = c.in_ok-begun.ensures.row;
       room = c.in_ok-begun.ensures.room;
+      warm = c.in_ok-begun.ensures.warm;
     }

@@ -1,0 +1,121 @@
+//! What nodes hold goes over to the nodes of a site that goes on from the same state.
+ghost use Rattle.std.specs.Prelude.{◌≡◌, All, MatchOption, length};
+ghost use Rattle.txc_app.specs.Claims.{IsTrueIn};
+ghost use Rattle.txc_app.specs.Laws.{begun_at};
+ghost use Rattle.txc_visits.specs.Warming.{IsValidAtEnd, last_state};
+
+use std::alloc::Global;
+use std::sync::Wait;
+use txc_app::App;
+use txc_app::laws::{carried_entries_are_true, true_entries_stay};
+use txc_db::{HistoryFront, Naming};
+use txc_node::Entry;
+use txc_shared::{Advanced, LeftNode, NodePass, SharedNode};
+use txc_stamp::{MOST_STAMP, Reach};
+
+/// What the nodes of a site left, for those of a site that goes on from the same state.
+#[derive(Drop)]
+pub struct Warmth<A: App> {
+    pub nodes: Vec<LeftNode<A>>,
+    /// The whole history that they have seen.
+    pub whole: HistoryFront,
+    /// The whole history of the new site's database.
+    pub front: HistoryFront,
+    ghost seen: { All (λ node. node.seen.events ≡ whole.events) nodes.items },
+    ghost state: { last_state whole ≡ last_state front },
+}
+
+/// Lets the node take all events. What it refuses is left.
+fn take_all<A: App, J: Naming>(rt: &impl Wait, alloc: Global, node: &SharedNode<A, J>) {
+    let Ok(mut pass) = node.pass(rt) else {
+        return;
+    };
+    for _ in 0..MOST_STAMP {
+        let Ok(Advanced::Taken { .. }) = pass.advance(rt, alloc, node) else {
+            return;
+        };
+    }
+}
+
+/// What the node holds once it has taken all events that it may take.
+pub(crate) fn leave<A: App, J: Naming>(
+    rt: &impl Wait,
+    alloc: Global,
+    node: SharedNode<A, J>,
+) -> LeftNode<A>
+    ensures number { result.number ≡ node.entry.number }
+    ensures seen { result.seen.events ≡ J.database_history }
+{
+    take_all(rt, alloc, &node);
+    node.leave()
+}
+
+/// An entry that holds at the newest stamp of the one history and is still valid there, as it begins at the newest
+/// stamp of the other. No other goes over.
+fn begun(mut entry: Entry, whole: &HistoryFront, front: &HistoryFront) -> Option<Entry>
+    ensures { MatchOption result
+        (¬ (IsValidAtEnd whole.now.history entry))
+        (λ begun. IsValidAtEnd whole.now.history entry
+        × (begun ≡ begun_at (length front.now.history) entry)) }
+{
+    if !entry.reach.is_still() || !entry.reach.holds(whole.newest()) {
+        return None;
+    }
+    let newest = front.newest();
+    let Ok(reach) = Reach::from_stamps(newest, newest, true) else {
+        unreachable!();
+    };
+    entry.reach = reach;
+    Some(entry)
+}
+
+/// Inserts an entry as it begins, where it goes over. What is refused is left out.
+fn begin<A: App, J: Naming>(
+    rt: &impl Wait,
+    alloc: Global,
+    node: &SharedNode<A, J>,
+    pass: &mut NodePass<J>,
+    entry: Entry,
+    whole: &HistoryFront,
+    front: &HistoryFront,
+)
+    requires row { front.now.events ≡ J.database_history }
+    requires state { last_state whole.now ≡ last_state front.now }
+    requires is_true { IsTrueIn A.next whole.now.history entry }
+{
+    carried_entries_are_true();
+    if let Some(begun) = begun(entry, whole, front) {
+        let _ = pass.insert(rt, alloc, node, begun, front);
+    }
+}
+
+/// What a node left goes over to that of its number, the least recently used first, so that it stands there in the
+/// same order.
+pub(crate) fn warm<A: App, J: Naming>(
+    rt: &impl Wait,
+    alloc: Global,
+    node: &SharedNode<A, J>,
+    mut left: LeftNode<A>,
+    whole: &HistoryFront,
+    front: &HistoryFront,
+)
+    requires number { node.now.number ≡ left.number }
+    requires row { front.now.events ≡ J.database_history }
+    requires seen { left.seen.events ≡ whole.now.events }
+    requires state { last_state whole.now ≡ last_state front.now }
+{
+    true_entries_stay();
+    if left.seen().len() > whole.len() {
+        return;
+    }
+    left.seen().agree(whole);
+    let Ok(mut pass) = node.pass(rt) else {
+        return;
+    };
+    for _ in 0..left.len() {
+        let Some(entry) = left.next() else {
+            return;
+        };
+        begin(rt, alloc, node, &mut pass, entry, whole, front);
+    }
+}
