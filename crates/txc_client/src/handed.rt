@@ -1,5 +1,6 @@
 //! Pins that were handed out to be kept.
-ghost use Rattle.std.specs.Prelude.{◌≡◌, All, filter, map, IfErr, IfOk};
+ghost use Rattle.std.specs.Prelude.{◌≡◌, All, nat_le, filter, map, IfErr, IfOk};
+ghost use Rattle.std.specs.List.{list_all, list_any};
 ghost use Rattle.txc_db.specs.History.{IsAllowed};
 ghost use Rattle.txc_cushion.specs.Cushion.{cushion_front, handed_out};
 ghost use Rattle.txc_cushion.specs.Refusals.{IsFirstUnused};
@@ -51,6 +52,20 @@ fn fresh_pins(alloc: Global, pins: &[Pin], bounds: &Bounds) -> Result<Vec<Pin>, 
         .collect(alloc)
 }
 
+// Whether none of the pins is below the stamp.
+fn are_not_below(pins: &[Pin], at_least: Stamp) -> bool
+    ensures { result ≡ list_all (λ p. nat_le at_least p.stamp) pins.now }
+{
+    pins.iter().all(|pin| at_least <= pin.stamp)
+}
+
+// Whether one of the pins is fresh.
+fn has_fresh(pins: &[Pin], bounds: &Bounds) -> bool
+    ensures { result ≡ list_any (is_fresh bounds.entry.now) pins.now }
+{
+    pins.iter().any(|pin| is_fresh(*pin, bounds))
+}
+
 // The stamps of the pins.
 fn stamps_of(alloc: Global, pins: &[Pin]) -> Result<Vec<Stamp>, AllocError>
     ensures { IfOk result (λ stamps. stamps.items ≡ map (λ pin. pin.stamp) pins.now) }
@@ -65,12 +80,8 @@ impl Handed {
     {
         self.since <= bounds.now
             && u128::from(bounds.now) < u128::from(self.since) + u128::from(most)
-            && self
-                .pins
-                .pins
-                .iter()
-                .all(|pin| bounds.at_least <= pin.stamp)
-            && self.pins.pins.iter().any(|pin| is_fresh(*pin, bounds))
+            && are_not_below(&self.pins.pins, bounds.at_least)
+            && has_fresh(&self.pins.pins, bounds)
     }
 
     /// Those that are fresh. It takes no lock, and no user is added: those of the kept pins are theirs too.

@@ -1,4 +1,4 @@
-use Rattle.std.proofs.Common.{◌≡◌, ◌∙◌, refl}
+use Rattle.std.proofs.Common.{◌≡◌, ◌∙◌, ap}
 use Rattle.txc_client.specs.Kept.{HandedValue, fresh_of}
 use Rattle.txc_client.proofs.StillFresh.{cushion_of, cushion_is, fresh_allowed, fresh_falls, fresh_few, fresh_shown, handed_are_fresh}
 use Rattle.txc_client.proofs.handed.Handed.fresh.Goals as goal
@@ -27,7 +27,7 @@ returns-clause-answer c =
     let h : HandedValue = record { pins = g.pins.items; front = g.front; since = c.self.inside.since } in
     let pins : c.in_ok-pins.pins.items ≡ fresh_of c.args.bounds.now h = rw (← c.deref.ensures.value) c.in_ok-pins.ensures in (
       cushion_of h,
-      refl,
+      ap (λ (v : HandedValue). v.front.events) c.self.view_is,
       cushion_is h c.args.bounds.now g.shows g.falls g.few,
       (pins ∙ handed_are_fresh h c.args.bounds.now g.shows g.falls g.few, c.in_ok-front.ensures),
     )
