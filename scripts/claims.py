@@ -10,10 +10,12 @@ from sources import ROOT
 
 README = ROOT / "README.md"
 # How many words a document may have: what has a letter or a digit, so that no sign of a definition and no bar of a table is one.
-MOST_WORDS = {"README.md": 1_400, "docs/PROMISE.md": 3_000, "docs/GATE.md": 900, "docs/DECISIONS.md": 6_000}
+MOST_WORDS = {"README.md": 1_400, "docs/PROMISE.md": 3_000, "docs/GATE.md": 900, "docs/DECISIONS.md": 6_000, "docs/promise.in.md": 2_635}
 # Those that are written by hand, and how many words they may have together.
 BY_HAND = ["README.md", *(f"docs/{it}.md" for it in ("ARCHITECTURE", "SCRIPTS", "DECISIONS", "GATE", "CALLING", "EMBEDDING", "BINDINGS", "FIGURES"))]
 MOST_BY_HAND = 26_000
+# How many words all pages of crates may have together.
+MOST_OF_CRATES = 108_172
 # How many words a sentence may have: of a document that is written by hand, and of a source's comment.
 MOST_WORDS_OF_A_SENTENCE = 30
 MOST_WORDS_OF_A_COMMENT = 40
@@ -117,13 +119,18 @@ def words():
     count = sum(count_words((ROOT / name).read_text()) for name in BY_HAND)
     if count > MOST_BY_HAND:
         yield ROOT / "docs", f"has {count:,} words that are written by hand, and may have {MOST_BY_HAND:,}"
+    count = sum(count_words(it.read_text()) for it in (ROOT / "docs/crates").glob("*.md"))
+    if count > MOST_OF_CRATES:
+        yield ROOT / "docs/crates", f"has {count:,} words, and may have {MOST_OF_CRATES:,}"
 
 
 def sentences(path):
-    """The sentences of a document, each word of code as one word."""
-    text = re.sub(r"^(?:    .*| *\|.*|#.*|<!--.*|@.*)$", "", prose(path).replace("**", ""), flags=re.M)
-    for block in re.split(r"\n\s*\n|\n\s*(?=- |\d+\. )", re.sub(r"`[^`\n]*`", "x", text)):
-        yield from re.split(r"(?<=[.?!:])\s+(?=[A-Z`x(\[])", " ".join(block.split()))
+    """The sentences of a document, those in cells of tables too, each word of code as one word."""
+    text = re.sub(r"^(?:    .*|#.*|<!--.*|@.*)$", "", prose(path).replace("**", ""), flags=re.M)
+    text = re.sub(r"^ *\|(.*)$", lambda it: it[1].replace("|", "\n\n"), re.sub(r"`[^`\n]*`", "x", text), flags=re.M)
+    for block in re.split(r"\n\s*\n|\n\s*(?=- |\d+\. )", text):
+        # names in a list that a script makes are no sentence
+        yield from re.split(r"(?<=[.?!])\s+(?=[A-Z`x(\[~])", re.sub(r"(?:x, )+x", "x", " ".join(block.split())))
 
 
 def long_sentences():
@@ -144,7 +151,7 @@ def long_sentences():
 
 def plain_words():
     """No document that is written by hand has a word of those that have a plainer one."""
-    for name in [*BY_HAND, "docs/WRONG_BODIES.md", "docs/promise.in.md"]:
+    for name in [*BY_HAND, "CHANGELOG.md", "docs/WRONG_BODIES.md", "docs/promise.in.md"]:
         for said in NOT_PLAIN.findall(re.sub(r"`[^`\n]*`|^@.*", "", prose(ROOT / name), flags=re.M)):
             yield ROOT / name, f"says `{said}`, which has a plainer word"
 
@@ -320,6 +327,34 @@ def names():
                 yield document, f"names `{said}`, which is not there"
 
 
+def calls():
+    """Each call that a table of CALLING has is one of the libraries."""
+    document = ROOT / "docs/CALLING.md"
+    there = {call.name for crate in sources.documented() for call in sources.public_api(crate)[1]}
+    for name in re.findall(r"^\| `(\w+)` \|", prose(document), re.M):
+        if name not in there:
+            yield document, f"has the call `{name}`, which is not there"
+
+
+def decided():
+    """Each entry of DECISIONS begins with its claim in bold, and says what was rejected."""
+    document = ROOT / "docs/DECISIONS.md"
+    for section in re.split(r"(?m)^## ", prose(document))[1:]:
+        for entry in re.split(r"(?m)^- ", section)[1:]:
+            if not entry.startswith("**") or "Rejected" not in entry:
+                yield document, f"has an entry without its claim in bold, or without what was rejected: {entry.partition(chr(10))[0][:60]}"
+
+
+def measured():
+    """Above each table of FIGURES one line says when it was measured, by what, and on which machine."""
+    document = ROOT / "docs/FIGURES.md"
+    above = ""
+    for block in re.split(r"\n\s*\n", prose(document)):
+        if block.startswith("|") and not re.search(r"^(?:.*\. )?Measured (?:on|until) \d{4}-\d\d-\d\d by .*, on \d+ cores\b.*$", above, re.M):
+            yield document, f"has a table with no line of its day, command and machine: {block.partition(chr(10))[0]}"
+        above = block
+
+
 def first():
     """The service with which EMBEDDING begins is short."""
     file = ROOT / "tests/txc_first/src/main.rt.in"
@@ -349,7 +384,7 @@ def faults():
     """What the documents claim that is not so, each as a line of text."""
     found = []
     checks = (links, paths, counted, words, long_sentences, plain_words, crate_tables, promised, help_shown, settings, sessions, quoted, commands, toolchain, version, names,
-              first, meanings)
+              calls, decided, measured, first, meanings)
     for check in checks:
         found += [f"{document.relative_to(ROOT)} {said}" for document, said in check()]
     return found

@@ -171,11 +171,12 @@ def used_proofs():
 
 
 def says(crate, module):
-    """The first sentence of a module of proofs."""
+    """The first sentence of a module of proofs, of a long one what stands before its colon."""
     lines = (ROOT / "crates" / crate / "proofs" / f"{module.replace('.', '/')}.antt").read_text().split("\n")
     start = next((n for n, line in enumerate(lines) if line.startswith("-- ")), len(lines))
     end = next((n for n, line in enumerate(lines) if n > start and not line.startswith("-- ")), len(lines))
-    return " ".join(line[3:] for line in lines[start:end]).split(". ")[0].rstrip(".")
+    said = " ".join(line[3:] for line in lines[start:end]).split(". ")[0].rstrip(".")
+    return said if len(said.split()) <= claims.MOST_WORDS_OF_A_SENTENCE else said.partition(": ")[0]
 
 
 def architecture(text):

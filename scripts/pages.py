@@ -6,18 +6,25 @@ import sources
 from sources import ROOT
 
 FOLDER = ROOT / "docs/crates"
-HEAD = """
-Made by `make docs` from the crate's `src/` and `specs/`. At the end of a section stand its words, each a link to its definition. What is no
-link is of Rattle's own library: [how a clause is read](../promise/signs.md).
-"""
+HEAD = "\n[How to read it](README.md#a-page).\n"
 
 
 def anchor_of(call):
     return call.path.replace("::", ".")
 
 
+@lru_cache(None)
+def homes():
+    """The definitions that a page of a promise shows, each with that page: they stand there alone."""
+    import promise  # which imports this module
+
+    return {it: page for it, page in promise.Book(promise.TEMPLATE.read_text()).places.items() if not it.is_rust}
+
+
 def link(word, here):
     """A link to a word from the page of a crate."""
+    if word in homes():
+        return f"[`{word.name}`](../{homes()[word]}#{word.crate}.{word.anchor})"
     page = "" if word.crate == here else f"{word.crate}.md"
     return f"[`{word.name}`]({page}#{word.anchor})"
 
@@ -96,8 +103,9 @@ def word_entries(words, crate):
 def page(crate):
     """The page of a crate; none where it hands out nothing and defines no word of a public clause."""
     types, calls = sources.public_api(crate)
-    words = [it for it in needed().values() if it.crate == crate and it not in types]
-    if not types and not calls and not words:
+    defined = [it for it in needed().values() if it.crate == crate and it not in types]
+    words, promised = [it for it in defined if it not in homes()], [it for it in defined if it in homes()]
+    if not types and not calls and not defined:
         return None
     text = f"# `{crate}`\n\n{sources.purpose(crate)}\n{HEAD}\n"
     if types or calls:
@@ -108,8 +116,11 @@ def page(crate):
     others = [it for it in calls if it.owner not in names]
     if others:
         text += "### Functions and laws\n\n" + call_entries(others, crate)
+    if defined:
+        text += "## Words\n\n"
+    if promised:
+        text += words_line(promised, crate).replace("Words: ", "With the promises: ")
     if words:
-        text += "## Words\n\nBy file, in the order in which they stand there.\n\n"
         for file in sorted({it.file for it in words}):
             inside = [it for it in words if it.file == file]
             text += f"### `{'specs/' + file + '.antt' if not inside[0].is_rust else file}`\n\n"
@@ -129,7 +140,10 @@ READERS = {
 
 def index(names):
     text = ("# The crates\n\nA page for each crate that hands something out: its public types and calls with their contracts, and the words of"
-            "\ncontracts that it defines. They are made by `make docs`.\n")
+            "\ncontracts that it defines.\n"
+            "\n## A page\n\nIt is made by `make docs` from the crate's `src/` and `specs/`. At the end of a section stand its words, each a link to its"
+            "\ndefinition. What is no link is of Rattle's own library: [how a clause is read](../promise/signs.md). The words that the crate defines stand"
+            "\nlast, by file, as they stand there; those that a promise is made of stand with it alone.\n")
     left = [it for it in names if it not in " ".join(READERS.values()).split()]
     for reader, wanted in [*((reader, crates.split()) for reader, crates in READERS.items()), ("change the library", left)]:
         rows = "".join(f"| [`{it}`]({it}.md) | {sources.purpose(it)} |\n" for it in wanted if it in names)

@@ -9,7 +9,7 @@ use Rattle.txc_ports.specs.declared.error.TxnError.{TxnError}
 use Rattle.txc_ports.specs.declared.reply.PortReply.{PortReply}
 use Rattle.txc_txn.specs.Core.{open_call, IsIdle}
 use Rattle.txc_txn.specs.Kept.{TxnValue}
-use Rattle.txc_caller.specs.Acting.{step_with, HasCallerActed, IsActOf, IsStepOf, IsAwaitingCaller}
+use Rattle.txc_caller.specs.Acting.{HasCallerActed, IsActOf, IsStepOf, IsAwaitingCaller}
 use Rattle.txc_caller.specs.Ports.{CallerPorts}
 use Rattle.txc_caller.specs.Standing.{IsKeptBack, IsStanding, KeepsOn}
 use Rattle.txc_caller.specs.declared.acted.Acted.{Acted}
@@ -19,7 +19,7 @@ use Rattle.txc_caller.specs.declared.frames.OpenCall.{OpenCall}
 use Rattle.txc_caller.specs.declared.step.CallerError.{CallerError}
 use Rattle.txc_caller.specs.declared.step.CallerError.TheVariants.{Txn}
 use Rattle.txc_caller.specs.declared.step.Step.{Step}
-use Rattle.txc_caller.specs.declared.step.Step.TheVariants.{Value}
+use Rattle.txc_caller.specs.declared.step.Step.TheVariants.{Compute, Answered, Value}
 use Rattle.txc_caller.proofs.Turning.{keeps_self, keeps_then}
 
 -- what holds of a value holds of the one that there is
@@ -29,21 +29,25 @@ for_this P x h y is = let same : x ≡ y = cc in subst P same h
 pub for_none : {X : Type 0} (P : X → Type 0) → ForSome None P
 for_none P y is = absurd (cc is)
 
-module _ (before recorded : List Recorded) (k : Call) (same : recorded ≡ before) (o : OpenCall) (top : o.frames.top ≡ k) where
-  step_open : (given : Option Answer) → o.given ≡ given → IsStepOf before k recorded (Some o) (Ok (step_with given))
-  step_open None is = (same, (o, refl, top, is))
-  step_open (Some answer) is = (same, (answer, (o, refl, top, is)))
-
 module _ (next : Next) (before : List Recorded) (t : TxnValue) where
   -- the call is open
-  pub acted_open : (o : OpenCall) (step : Step) → step ≡ step_with o.given → IsKeptBack next t o.kept → open_call t.core ≡ Some o.frames.top → t.core.recorded ≡ before
+  open_with : (o : OpenCall) (step : Step) → IsStepOf before o.frames.top t.core.recorded (Some o) (Ok step) → IsKeptBack next t o.kept → open_call t.core ≡ Some o.frames.top
       → IsActOf next before o.frames.top t (record { doing = Some o; step = Ok step })
-  acted_open o step is kept top same = record {
-    step = subst (λ (s : Step). IsStepOf before o.frames.top t.core.recorded (Some o) (Ok s)) (sym is) (step_open before t.core.recorded o.frames.top same o refl o.given refl);
+  open_with o step is kept top = record {
+    step = is;
     idle = λ none. absurd (cc none);
     kept = for_this (λ (p : OpenCall). IsKeptBack next t p.kept) o kept;
     top = for_this (λ (p : OpenCall). open_call t.core ≡ Some p.frames.top) o top;
   }
+
+  -- its function is to be computed, or has this answer
+  pub acted_compute : (o : OpenCall) → o.given ≡ None → IsKeptBack next t o.kept → open_call t.core ≡ Some o.frames.top → t.core.recorded ≡ before
+      → IsActOf next before o.frames.top t (record { doing = Some o; step = Ok Compute })
+  acted_compute o given kept top same = open_with o Compute (same, (o, refl, refl, given)) kept top
+
+  pub acted_answered : (o : OpenCall) (answer : Answer) → o.given ≡ Some answer → IsKeptBack next t o.kept → open_call t.core ≡ Some o.frames.top → t.core.recorded ≡ before
+      → IsActOf next before o.frames.top t (record { doing = Some o; step = Ok Answered })
+  acted_answered o answer given kept top same = open_with o Answered (same, (answer, (o, refl, refl, given))) kept top
 
   -- it is open still, and the caller was refused
   pub acted_back : (o : OpenCall) (error : CallerError) → IsKeptBack next t o.kept → open_call t.core ≡ Some o.frames.top → t.core.recorded ≡ before

@@ -1,4 +1,5 @@
 pub mod Turning
+pub mod Looking
 pub mod Acts
 pub mod Fresh
 pub mod Asked

@@ -7,9 +7,11 @@ use Rattle.txc_app.specs.declared.ask.Answer.{Answer}
 use Rattle.txc_app.specs.declared.ask.Ask.{Ask}
 use Rattle.txc_app.specs.declared.ask.Ask.TheVariants as asks
 use Rattle.txc_ports.specs.declared.recorded.Recorded.{Recorded}
-use Rattle.txc_txn.specs.Core.{open_call, IsIdle}
+use Rattle.txc_shared.specs.Nodes.{NodeValue}
+use Rattle.txc_txn.specs.Core.{open_call, CoreValue, IsIdle}
 use Rattle.txc_txn.specs.Kept.{TxnValue}
 use Rattle.txc_ports.specs.declared.reply.PortReply.{PortReply}
+use Rattle.txc_caller.specs.Looking.{HasMissed}
 use Rattle.txc_caller.specs.Ports.{CallerPorts}
 use Rattle.txc_caller.specs.Reading.{CallerReading}
 use Rattle.txc_caller.specs.Standing.{IsKeptBack, KeepsOn}
@@ -85,7 +87,14 @@ abbrev pub HasRoomOnceTold : Told → Frames → Type 0
 HasRoomOnceTold (Waits awaited) frames = HasRoomFor awaited frames
 HasRoomOnceTold (Gives bytes) frames = Unit {0}
 
--- the step in an open call whose innermost function was answered this last
-abbrev pub step_with : Option Answer → Step
-step_with None = Compute
-step_with (Some answer) = Answered
+-- ---- what is computed
+
+-- the caller is to compute only what the node has not
+abbrev pub IsComputedOnMiss : CoreValue → NodeValue → NodeValue → Result Step CallerError → Type 0
+IsComputedOnMiss c old new (Ok Compute) = HasMissed c old new
+IsComputedOnMiss c old new step = Unit {0}
+
+-- the caller has nothing to compute anew
+abbrev pub IsNotComputed : Result Step CallerError → Type 0
+IsNotComputed (Ok Compute) = ⊥
+IsNotComputed step = Unit {0}

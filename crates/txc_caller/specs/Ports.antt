@@ -1,5 +1,5 @@
 -- The plain ports of a caller: a database, a pincushion and one node.
-use Rattle.std.specs.Prelude.{◌≡◌, ◌⊎◌, ◌≤◌, ℕ, true, List, Option, Some, None, Result, Ok, Err, [], ◌∷◌}
+use Rattle.std.specs.Prelude.{◌≡◌, ◌⊎◌, ◌≤◌, ℕ, Bool, true, false, List, Option, Some, None, Result, Ok, Err, [], ◌∷◌}
 use Rattle.txc_tags.specs.Keys.{Call}
 use Rattle.txc_rows.specs.declared.query.Query.{Query as RowQuery}
 use Rattle.txc_rows.specs.RowTags.{query_tag}
@@ -29,6 +29,7 @@ use Rattle.txc_ports.specs.declared.kept.Kept.{Kept}
 use Rattle.txc_ports.specs.declared.kept.Kept.TheVariants as kepts
 use Rattle.txc_ports.specs.Asking.{IsFoundOver, IsOfRow, IsReplyTo}
 use Rattle.txc_ports.specs.declared.request.PortRequest.{PortRequest}
+use Rattle.txc_ports.specs.declared.request.PortRequest.TheVariants as requests
 use Rattle.txc_ports.specs.declared.reply.PortReply.{PortReply}
 use Rattle.txc_ports.specs.Exchanges.{Exchange, IsExchange}
 use Rattle.txc_ports.specs.Exchanges as exchanges
@@ -160,6 +161,13 @@ pub record KeepsNode (old new : NodeValue) : Type 0 where
   pub passes : new.passes ≡ old.passes
 
 -- ---- requests
+
+-- it is about the pin of the present
+abbrev pub is_of_pin : PortRequest → Bool
+is_of_pin (requests.Pin now at_least) = true
+is_of_pin (requests.AddPin pinned) = true
+is_of_pin (requests.Unpin stamp) = true
+is_of_pin request = false
 
 -- What a request comes to, once it was replied so: a pin is made; a pin is added, or a hold taken away; the node
 -- makes a step; a query changes nothing. What is refused changes nothing that is told here.

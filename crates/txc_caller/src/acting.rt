@@ -1,11 +1,14 @@
 //! What a caller does in an open call, and how the call stands after it.
-ghost use Rattle.std.specs.Prelude.{◌≡◌, ◌++◌, ◌∷◌, [], List, Some};
+ghost use Rattle.std.specs.Prelude.{◌≡◌, ◌++◌, ◌∷◌, [], List, Ok, Some};
 ghost use Rattle.txc_app.specs.Eval.{Next};
 ghost use Rattle.txc_tags.specs.Keys.{Call};
 ghost use Rattle.txc_ports.specs.declared.recorded.Recorded.{Recorded};
 ghost use Rattle.txc_txn.specs.Core.{open_call, IsIdle};
 ghost use Rattle.txc_txn.specs.Kept.{TxnValue};
-ghost use Rattle.txc_caller.specs.Acting.{ask_of, step_with, HasCallerActed, HasRoomFor, HasRoomOnceTold, IsActOf, IsAwaitingCaller};
+ghost use Rattle.txc_shared.specs.Nodes.{NodeValue};
+ghost use Rattle.txc_caller.specs.Acting.{ask_of, HasCallerActed, HasRoomFor, HasRoomOnceTold, IsActOf, IsAwaitingCaller, IsComputedOnMiss, IsNotComputed};
+ghost use Rattle.txc_caller.specs.Looking.{is_miss, IsLookedUp};
+ghost use Rattle.txc_caller.specs.declared.step.Step.TheVariants.{Compute};
 ghost use Rattle.txc_caller.specs.Standing.{asks_next, IsKeptBack, IsStanding, KeepsOn};
 
 use crate::act::{Act, Awaited, Told};
@@ -26,36 +29,43 @@ use txc_txn::RunningTxn;
 
 // ---- how a call stands
 
-// What the caller does in an open call: he computes a function, or goes on with its answer.
-fn step_with(given: &Option<Answer>) -> Step
-    ensures { result ≡ step_with given.now }
+// The caller is to compute the innermost function, which has asked nothing yet.
+fn computing(frames: Frames, kept: PortReply) -> Acted
+    ensures acted { (next : Next) (t : TxnValue) → IsKeptBack next t kept → open_call t.core ≡ Some frames.top
+        → IsActOf next t.core.recorded frames.top t result }
+    ensures step { result.step ≡ Ok Compute }
 {
-    match given {
-        None => Step::Compute,
-        Some(_) => Step::Answered,
+    Acted {
+        doing: Some(OpenCall {
+            frames,
+            given: None,
+            kept,
+        }),
+        step: Ok(Step::Compute),
     }
 }
 
 // The call is open, and its innermost function has this answer.
-fn stays(frames: Frames, given: Option<Answer>, kept: PortReply) -> Acted
-    ensures { (next : Next) (t : TxnValue) → IsKeptBack next t kept → open_call t.core ≡ Some frames.top
+fn stays(frames: Frames, answer: Answer, kept: PortReply) -> Acted
+    ensures acted { (next : Next) (t : TxnValue) → IsKeptBack next t kept → open_call t.core ≡ Some frames.top
         → IsActOf next t.core.recorded frames.top t result }
+    ensures not_computed { IsNotComputed result.step }
 {
-    let step = step_with(&given);
     Acted {
         doing: Some(OpenCall {
             frames,
-            given,
+            given: Some(answer),
             kept,
         }),
-        step: Ok(step),
+        step: Ok(Step::Answered),
     }
 }
 
 // The call is open, and the caller is told why it does not go on.
 fn refused(frames: Frames, given: Option<Answer>, kept: PortReply, error: CallerError) -> Acted
-    ensures { (next : Next) (t : TxnValue) → IsKeptBack next t kept → open_call t.core ≡ Some frames.top
+    ensures acted { (next : Next) (t : TxnValue) → IsKeptBack next t kept → open_call t.core ≡ Some frames.top
         → IsActOf next t.core.recorded frames.top t result }
+    ensures not_computed { IsNotComputed result.step }
 {
     Acted {
         doing: Some(OpenCall {
@@ -67,18 +77,25 @@ fn refused(frames: Frames, given: Option<Answer>, kept: PortReply, error: Caller
     }
 }
 
-// The same, for want of memory: all is as it was.
-fn out_of_memory(frames: Frames, given: Option<Answer>, kept: PortReply) -> Acted
-    ensures { (next : Next) (t : TxnValue) → IsKeptBack next t kept → open_call t.core ≡ Some frames.top
-        → IsActOf next t.core.recorded frames.top t result }
+// The same of an open call, for want of memory: all is as it was.
+fn out_of_memory(call: OpenCall) -> Acted
+    ensures acted { (next : Next) (t : TxnValue) → IsKeptBack next t call.kept → open_call t.core ≡ Some call.frames.top
+        → IsActOf next t.core.recorded call.frames.top t result }
+    ensures not_computed { IsNotComputed result.step }
 {
+    let OpenCall {
+        frames,
+        given,
+        kept,
+    } = call;
     refused(frames, given, kept, CallerError::Memory)
 }
 
 // The call has its value.
 fn valued(value: Value) -> Acted
-    ensures { (next : Next) (before : List Recorded) (k : Call) (t : TxnValue) → IsIdle t.core
+    ensures acted { (next : Next) (before : List Recorded) (k : Call) (t : TxnValue) → IsIdle t.core
         → t.core.recorded ≡ before ++ record { key = k; value = value } ∷ [] → IsActOf next before k t result }
+    ensures not_computed { IsNotComputed result.step }
 {
     Acted {
         doing: None,
@@ -88,8 +105,9 @@ fn valued(value: Value) -> Acted
 
 // The call was refused.
 fn ended(error: TxnError) -> Acted
-    ensures { (next : Next) (before : List Recorded) (k : Call) (t : TxnValue) → IsIdle t.core
+    ensures acted { (next : Next) (before : List Recorded) (k : Call) (t : TxnValue) → IsIdle t.core
         → t.core.recorded ≡ before → IsActOf next before k t result }
+    ensures not_computed { IsNotComputed result.step }
 {
     Acted {
         doing: None,
@@ -98,22 +116,30 @@ fn ended(error: TxnError) -> Acted
 }
 
 // The call as it stands.
-fn standing(stand: Stand, frames: Frames, given: Option<Answer>) -> Acted
-    ensures { (next : Next) (before : List Recorded) (t : TxnValue)
+fn standing(stand: Stand, frames: Frames, answer: Answer) -> Acted
+    ensures acted { (next : Next) (before : List Recorded) (t : TxnValue)
         → IsStanding next before frames.top t stand → IsActOf next before frames.top t result }
+    ensures not_computed { IsNotComputed result.step }
 {
     match stand {
-        Stand::Kept(kept) => stays(frames, given, kept),
+        Stand::Kept(kept) => stays(frames, answer, kept),
         Stand::Value(value) => valued(value),
         Stand::Refused(error) => ended(error),
     }
 }
 
-// Whether the reply is a hit.
-fn is_hit(reply: &PortReply) -> bool {
+// Whether the reply is a miss.
+fn is_miss(reply: &PortReply) -> bool
+    ensures { result ≡ is_miss reply.now }
+{
     match reply {
-        PortReply::Lookup(Some(_)) => true,
-        _ => false,
+        PortReply::Lookup(None) => true,
+        PortReply::Lookup(Some(_)) => false,
+        PortReply::Pin(_) => false,
+        PortReply::AddPin(_, _) => false,
+        PortReply::Unpin(_) => false,
+        PortReply::Query(_) => false,
+        PortReply::Insert(_) => false,
     }
 }
 
@@ -136,14 +162,38 @@ fn feed_on<A: App, C: Suppliable>(
     ports: &mut Ports<A>,
     txn: &mut RunningTxn<A, C>,
     frames: Frames,
-    given: Option<Answer>,
+    answer: Answer,
     kept: PortReply,
 ) -> Acted
     requires { IsAwaitingCaller A.next ports.old txn.old frames.top kept }
-    ensures { HasCallerActed A.next ports.old ports.new txn.old txn.new frames.top result }
+    ensures acted { HasCallerActed A.next ports.old ports.new txn.old txn.new frames.top result }
+    ensures not_computed { IsNotComputed result.step }
 {
     let stand = feed(alloc, ports, txn, kept);
-    standing(stand, frames, given)
+    standing(stand, frames, answer)
+}
+
+// Goes on with the reply that was kept back, with which the call ends. One that would wait again is given up.
+fn feed_to_end<A: App, C: Suppliable>(
+    alloc: Global,
+    ports: &mut Ports<A>,
+    txn: &mut RunningTxn<A, C>,
+    frames: &Frames,
+    kept: PortReply,
+) -> Acted
+    requires { IsAwaitingCaller A.next ports.old txn.old frames.now.top kept }
+    ensures acted { HasCallerActed A.next ports.old ports.new txn.old txn.new frames.now.top result }
+    ensures not_computed { IsNotComputed result.step }
+{
+    match feed(alloc, ports, txn, kept) {
+        Stand::Kept(reply) => {
+            let _reply = reply;
+            end_call(ports, txn);
+            ended(TxnError::Memory)
+        }
+        Stand::Value(value) => valued(value),
+        Stand::Refused(error) => ended(error),
+    }
 }
 
 // The innermost function has its answer, of which the caller gets a copy. A reply that gives none ends the call. Out of
@@ -156,11 +206,12 @@ fn answered<A: App, C: Suppliable>(
     kept: PortReply,
 ) -> Acted
     requires { IsAwaitingCaller A.next ports.old txn.old frames.top kept }
-    ensures { HasCallerActed A.next ports.old ports.new txn.old txn.new frames.top result }
+    ensures acted { HasCallerActed A.next ports.old ports.new txn.old txn.new frames.top result }
+    ensures not_computed { IsNotComputed result.step }
 {
     match given_by(alloc, &kept) {
-        Ok(Some(answer)) => stays(frames.reach(), Some(answer), kept),
-        Ok(None) => feed_on(alloc, ports, txn, frames, None, kept),
+        Ok(Some(answer)) => stays(frames.reach(), answer, kept),
+        Ok(None) => feed_to_end(alloc, ports, txn, &frames, kept),
         Err(_) => {
             end_call(ports, txn);
             ended(TxnError::Memory)
@@ -177,13 +228,15 @@ fn first_reply<A: App, C: Suppliable>(
     kept: PortReply,
 ) -> Acted
     requires { IsAwaitingCaller A.next ports.old txn.old frames.top kept }
-    ensures { HasCallerActed A.next ports.old ports.new txn.old txn.new frames.top result }
+    ensures acted { HasCallerActed A.next ports.old ports.new txn.old txn.new frames.top result }
+    ensures on_miss { (before : NodeValue) → IsLookedUp txn.old.core before ports.old.node kept
+        → IsComputedOnMiss txn.new.core before ports.new.node result.step }
 {
     let reply = counted(kept, txn.core().members());
-    if is_hit(&reply) {
-        return feed_on(alloc, ports, txn, frames, None, reply);
+    if is_miss(&reply) {
+        return computing(frames, reply);
     }
-    stays(frames, None, reply)
+    feed_to_end(alloc, ports, txn, &frames, reply)
 }
 
 // A call of the innermost function was looked up: a hit is its answer.
@@ -197,13 +250,15 @@ fn inner_reply<A: App, C: Suppliable>(
 ) -> Acted
     requires waits { IsAwaitingCaller A.next ports.old txn.old frames.top kept }
     requires room { HasRoomFor (Awaited.Hit key) frames }
-    ensures { HasCallerActed A.next ports.old ports.new txn.old txn.new frames.top result }
+    ensures acted { HasCallerActed A.next ports.old ports.new txn.old txn.new frames.top result }
+    ensures on_miss { (before : NodeValue) → IsLookedUp txn.old.core before ports.old.node kept
+        → IsComputedOnMiss txn.new.core before ports.new.node result.step }
 {
     let reply = counted(kept, txn.core().members());
-    if is_hit(&reply) {
-        return answered(alloc, ports, txn, frames, reply);
+    if is_miss(&reply) {
+        return computing(frames.enter(key), reply);
     }
-    stays(frames.enter(key), None, reply)
+    answered(alloc, ports, txn, frames, reply)
 }
 
 // The reply has come that the call waited for.
@@ -217,12 +272,14 @@ fn replied<A: App, C: Suppliable>(
 ) -> Acted
     requires waits { IsAwaitingCaller A.next ports.old txn.old frames.top kept }
     requires room { HasRoomFor awaited frames }
-    ensures { HasCallerActed A.next ports.old ports.new txn.old txn.new frames.top result }
+    ensures acted { HasCallerActed A.next ports.old ports.new txn.old txn.new frames.top result }
+    ensures on_miss { (before : NodeValue) → IsLookedUp txn.old.core before ports.old.node kept
+        → IsComputedOnMiss txn.new.core before ports.new.node result.step }
 {
     match awaited {
         Awaited::Hit(key) => inner_reply(alloc, ports, txn, frames, kept, key),
         Awaited::Rows => answered(alloc, ports, txn, frames, kept),
-        Awaited::Kept => feed_on(alloc, ports, txn, frames, None, kept),
+        Awaited::Kept => feed_to_end(alloc, ports, txn, &frames, kept),
     }
 }
 
@@ -237,7 +294,8 @@ fn wait_for<A: App, C: Suppliable>(
 ) -> Acted
     requires waits { IsAwaitingCaller A.next ports.old txn.old frames.top kept }
     requires room { HasRoomFor awaited frames }
-    ensures { HasCallerActed A.next ports.old ports.new txn.old txn.new frames.top result }
+    ensures acted { HasCallerActed A.next ports.old ports.new txn.old txn.new frames.top result }
+    ensures on_miss { IsComputedOnMiss txn.new.core ports.old.node ports.new.node result.step }
 {
     match feed(alloc, ports, txn, kept) {
         Stand::Kept(reply) => replied(alloc, ports, txn, frames, reply, awaited),
@@ -256,7 +314,8 @@ pub(crate) fn call_first<A: App, C: Suppliable>(
     requires idle { IsIdle txn.old.core }
     requires row { txn.old.core.seen.events ≡ ports.old.database.events }
     requires nodes { txn.old.core.nodes ≡ 1 }
-    ensures { HasCallerActed A.next ports.old ports.new txn.old txn.new key result }
+    ensures acted { HasCallerActed A.next ports.old ports.new txn.old txn.new key result }
+    ensures on_miss { IsComputedOnMiss txn.new.core ports.old.node ports.new.node result.step }
 {
     let frames = Frames::of(alloc, &key);
     match start(alloc, ports, txn, key) {
@@ -280,14 +339,15 @@ fn close<A: App, C: Suppliable>(
     value: Value,
 ) -> Acted
     requires { IsAwaitingCaller A.next ports.old txn.old around.frames.top kept }
-    ensures { HasCallerActed A.next ports.old ports.new txn.old txn.new around.frames.top result }
+    ensures acted { HasCallerActed A.next ports.old ports.new txn.old txn.new around.frames.top result }
+    ensures not_computed { IsNotComputed result.step }
 {
     let Around { frames, is_reached } = around;
-    let given = Some(Answer::Value(value));
+    let answer = Answer::Value(value);
     if !is_reached {
-        return stays(frames, given, kept);
+        return stays(frames, answer, kept);
     }
-    feed_on(alloc, ports, txn, frames, given, kept)
+    feed_on(alloc, ports, txn, frames, answer, kept)
 }
 
 // The innermost function gives these bytes. A call whose value is too long is refused. The value of the outermost is kept
@@ -301,10 +361,11 @@ fn give<A: App, C: Suppliable>(
     bytes: Vec<u8>,
 ) -> Acted
     requires { IsAwaitingCaller A.next ports.old txn.old frames.top kept }
-    ensures { HasCallerActed A.next ports.old ports.new txn.old txn.new frames.top result }
+    ensures acted { HasCallerActed A.next ports.old ports.new txn.old txn.new frames.top result }
+    ensures on_miss { IsComputedOnMiss txn.new.core ports.old.node ports.new.node result.step }
 {
     let Some(value) = Value::new(bytes) else {
-        return feed_on(alloc, ports, txn, frames, None, kept);
+        return feed_to_end(alloc, ports, txn, &frames, kept);
     };
     match frames.leave() {
         Ok(around) => close(alloc, ports, txn, around, kept, value),
@@ -323,7 +384,8 @@ fn go_on<A: App, C: Suppliable>(
 ) -> Acted
     requires waits { IsAwaitingCaller A.next ports.old txn.old frames.top kept }
     requires room { HasRoomOnceTold told frames }
-    ensures { HasCallerActed A.next ports.old ports.new txn.old txn.new frames.top result }
+    ensures acted { HasCallerActed A.next ports.old ports.new txn.old txn.new frames.top result }
+    ensures on_miss { IsComputedOnMiss txn.new.core ports.old.node ports.new.node result.step }
 {
     match told {
         Told::Waits(awaited) => wait_for(alloc, ports, txn, frames, kept, awaited),
@@ -343,7 +405,8 @@ fn hand_over<A: App, C: Suppliable>(
     requires asks { asks_next A.next txn.old.objects call.frames.inner.key call.given ≡ Some ask }
     requires waits { IsAwaitingCaller A.next ports.old txn.old call.frames.top call.kept }
     requires room { HasRoomOnceTold told call.frames }
-    ensures { HasCallerActed A.next ports.old ports.new txn.old txn.new call.frames.top result }
+    ensures acted { HasCallerActed A.next ports.old ports.new txn.old txn.new call.frames.top result }
+    ensures on_miss { IsComputedOnMiss txn.new.core ports.old.node ports.new.node result.step }
 {
     let OpenCall {
         frames,
@@ -366,7 +429,8 @@ fn call_inside<A: App, C: Suppliable>(
 ) -> Acted
     requires asks { asks_next A.next txn.old.objects call.frames.inner.key call.given ≡ Some (Ask.Call key) }
     requires waits { IsAwaitingCaller A.next ports.old txn.old call.frames.top call.kept }
-    ensures { HasCallerActed A.next ports.old ports.new txn.old txn.new call.frames.top result }
+    ensures acted { HasCallerActed A.next ports.old ports.new txn.old txn.new call.frames.top result }
+    ensures on_miss { IsComputedOnMiss txn.new.core ports.old.node ports.new.node result.step }
 {
     let OpenCall {
         mut frames,
@@ -374,7 +438,11 @@ fn call_inside<A: App, C: Suppliable>(
         kept,
     } = call;
     let Ok(()) = frames.make_room() else {
-        return out_of_memory(frames, given, kept);
+        return out_of_memory(OpenCall {
+            frames,
+            given,
+            kept,
+        });
     };
     let call = OpenCall {
         frames,
@@ -383,19 +451,6 @@ fn call_inside<A: App, C: Suppliable>(
     };
     let told = Told::Waits(Awaited::Hit(key.copy()));
     hand_over(alloc, ports, txn, call, Ask::Call(key), told)
-}
-
-// The open call, as it was, for want of memory.
-fn unmoved(call: OpenCall) -> Acted
-    ensures { (next : Next) (t : TxnValue) → IsKeptBack next t call.kept → open_call t.core ≡ Some call.frames.top
-        → IsActOf next t.core.recorded call.frames.top t result }
-{
-    let OpenCall {
-        frames,
-        given,
-        kept,
-    } = call;
-    out_of_memory(frames, given, kept)
 }
 
 // The innermost function is done, with these bytes.
@@ -408,10 +463,11 @@ fn finish_inside<A: App, C: Suppliable>(
 ) -> Acted
     requires asks { asks_next A.next txn.old.objects call.frames.inner.key call.given ≡ Some (Ask.Done bytes) }
     requires waits { IsAwaitingCaller A.next ports.old txn.old call.frames.top call.kept }
-    ensures { HasCallerActed A.next ports.old ports.new txn.old txn.new call.frames.top result }
+    ensures acted { HasCallerActed A.next ports.old ports.new txn.old txn.new call.frames.top result }
+    ensures on_miss { IsComputedOnMiss txn.new.core ports.old.node ports.new.node result.step }
 {
     let Ok(copy) = Vec::from_slice(alloc, bytes.as_slice()) else {
-        return unmoved(call);
+        return out_of_memory(call);
     };
     hand_over(alloc, ports, txn, call, Ask::Done(bytes), Told::Gives(copy))
 }
@@ -426,7 +482,8 @@ pub(crate) fn act_inside<A: App, C: Suppliable>(
 ) -> Acted
     requires asks { asks_next A.next txn.old.objects call.frames.inner.key call.given ≡ Some (ask_of act) }
     requires waits { IsAwaitingCaller A.next ports.old txn.old call.frames.top call.kept }
-    ensures { HasCallerActed A.next ports.old ports.new txn.old txn.new call.frames.top result }
+    ensures acted { HasCallerActed A.next ports.old ports.new txn.old txn.new call.frames.top result }
+    ensures on_miss { IsComputedOnMiss txn.new.core ports.old.node ports.new.node result.step }
 {
     match act {
         Act::Call(key) => call_inside(alloc, ports, txn, call, key),

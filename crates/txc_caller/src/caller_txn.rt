@@ -4,7 +4,7 @@ ghost use Rattle.txc_registry.specs.Objects.{numbers_of, AllIdle};
 ghost use Rattle.txc_txn.specs.Core.{left_pin, receipt_pin, Explains};
 ghost use Rattle.txc_txn.specs.Kept.{IsTxn};
 ghost use Rattle.txc_txn.specs.Sessions.{IsAtLeast};
-ghost use Rattle.txc_caller.specs.Acting.{ask_of, IsStepIn, IsStepOf};
+ghost use Rattle.txc_caller.specs.Acting.{ask_of, IsComputedOnMiss, IsStepIn, IsStepOf};
 ghost use Rattle.txc_caller.specs.Ports.{AreGivenBack, IsLetGo};
 ghost use Rattle.txc_caller.specs.Reading.{caller_of, top_or, AsksNext, KeepsReading};
 
@@ -55,6 +55,7 @@ impl<A: App, C: Suppliable> CallerTxn<A, C> {
     fn call_outermost(&mut self, alloc: Global, key: Key) -> Result<Step, CallerError>
         requires { self.old.doing ≡ None }
         ensures step { IsStepOf self.old.txn.core.recorded key self.new.txn.core.recorded self.new.doing result }
+        ensures on_miss { IsComputedOnMiss self.new.txn.core self.old.ports.node self.new.ports.node result }
         ensures keeps { KeepsReading self.old self.new }
         ensures meant { IsTxn A.next self.new.txn }
     {
@@ -70,6 +71,7 @@ impl<A: App, C: Suppliable> CallerTxn<A, C> {
         requires some { IsSome self.old.doing }
         requires asks { AsksNext A.next self.old (ask_of act) }
         ensures step { IsStepIn self.old.doing self.old self.new result }
+        ensures on_miss { IsComputedOnMiss self.new.txn.core self.old.ports.node self.new.ports.node result }
         ensures keeps { KeepsReading self.old self.new }
         ensures meant { IsTxn A.next self.new.txn }
     {
@@ -87,6 +89,7 @@ impl<A: App, C: Suppliable> CallerTxn<A, C> {
     fn act_if_computing(&mut self, alloc: Global, act: Act) -> Result<Step, CallerError>
         requires { AsksNext A.next self.old (ask_of act) }
         ensures step { IsStepIn self.old.doing self.old self.new result }
+        ensures on_miss { IsComputedOnMiss self.new.txn.core self.old.ports.node self.new.ports.node result }
         ensures keeps { KeepsReading self.old self.new }
         ensures meant { IsTxn A.next self.new.txn }
     {
@@ -103,6 +106,7 @@ impl<A: App, C: Suppliable> CallerTxn<A, C> {
         requires { AsksNext A.next self.old (asks.Call key) }
         ensures step { IsStepOf self.old.txn.core.recorded (top_or self.old.doing key)
             self.new.txn.core.recorded self.new.doing result }
+        ensures on_miss { IsComputedOnMiss self.new.txn.core self.old.ports.node self.new.ports.node result }
         ensures keeps { KeepsReading self.old self.new }
         ensures meant { IsTxn A.next self.new.txn }
     {
@@ -116,6 +120,7 @@ impl<A: App, C: Suppliable> CallerTxn<A, C> {
     pub fn query(&mut self, alloc: Global, query: Query) -> Result<Step, CallerError>
         requires { AsksNext A.next self.old (asks.Query query) }
         ensures step { IsStepIn self.old.doing self.old self.new result }
+        ensures on_miss { IsComputedOnMiss self.new.txn.core self.old.ports.node self.new.ports.node result }
         ensures keeps { KeepsReading self.old self.new }
         ensures meant { IsTxn A.next self.new.txn }
     {
@@ -127,6 +132,7 @@ impl<A: App, C: Suppliable> CallerTxn<A, C> {
     pub fn finish(&mut self, alloc: Global, bytes: Vec<u8>) -> Result<Step, CallerError>
         requires { AsksNext A.next self.old (asks.Done bytes.items) }
         ensures step { IsStepIn self.old.doing self.old self.new result }
+        ensures on_miss { IsComputedOnMiss self.new.txn.core self.old.ports.node self.new.ports.node result }
         ensures keeps { KeepsReading self.old self.new }
         ensures meant { IsTxn A.next self.new.txn }
     {

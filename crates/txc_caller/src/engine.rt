@@ -1,10 +1,13 @@
 //! A call, led on to the next reply that has to wait for the caller.
-ghost use Rattle.std.specs.Prelude.{◌≡◌, ◌∷◌, ◌++◌, List, Some};
+ghost use Rattle.std.specs.Prelude.{◌≡◌, ◌∷◌, ◌++◌, List, Some, true};
 ghost use Rattle.txc_tags.specs.Keys.{Call};
 ghost use Rattle.txc_ports.specs.declared.recorded.Recorded.{Recorded};
 ghost use Rattle.txc_app.specs.Eval.{Next};
-ghost use Rattle.txc_txn.specs.Core.{open_call, recorded_after, IsIdle};
+ghost use Rattle.txc_shared.specs.Nodes.{NodeValue};
+ghost use Rattle.txc_txn.specs.Core.{open_call, recorded_after, CoreValue, IsIdle};
 ghost use Rattle.txc_txn.specs.Kept.{TxnValue};
+ghost use Rattle.txc_caller.specs.Ports.{is_of_pin};
+ghost use Rattle.txc_caller.specs.Looking.{IsLookedUp, StandsLookedUp};
 ghost use Rattle.txc_caller.specs.Standing.{HasPassed, IsGoing, IsKeptBack, IsTurnOf, IsStanding, KeepsOn};
 
 use crate::ports::Ports;
@@ -18,10 +21,16 @@ use txc_tags::Key;
 use txc_txn::RunningTxn;
 
 // Whether the request is about the pin of the present.
-fn is_of_pin(request: &PortRequest) -> bool {
+fn is_of_pin(request: &PortRequest) -> bool
+    ensures { result ≡ is_of_pin request.now }
+{
     match request {
-        PortRequest::Pin { .. } | PortRequest::AddPin(_) | PortRequest::Unpin(_) => true,
-        _ => false,
+        PortRequest::Pin { .. } => true,
+        PortRequest::AddPin(_) => true,
+        PortRequest::Unpin(_) => true,
+        PortRequest::Lookup { .. } => false,
+        PortRequest::Query { .. } => false,
+        PortRequest::Insert { .. } => false,
     }
 }
 
@@ -34,21 +43,25 @@ fn asked<A: App, C: Cacheable>(
 ) -> PortReply
     requires { IsGoing ports.old.database.events txn.now.core (Turn.Ask request) }
     ensures kept { IsKeptBack A.next txn.now result }
+    ensures looked_up { IsLookedUp txn.now.core ports.old.node ports.new.node result }
+    ensures node { is_of_pin request ≡ true → ports.new.node ≡ ports.old.node }
     ensures events { ports.new.database.events ≡ ports.old.database.events }
 {
     txn.is_kept();
     ports.ask(alloc, txn.core().seen(), request)
 }
 
-// Makes the request, and goes on with the reply.
+// Makes such a request, and goes on with the reply.
 fn pass<A: App, C: Cacheable>(
     alloc: Global,
     ports: &mut Ports<A>,
     txn: &mut RunningTxn<A, C>,
     request: PortRequest,
 ) -> Turn<PortRequest, Value>
-    requires { IsGoing ports.old.database.events txn.old.core (Turn.Ask request) }
+    requires going { IsGoing ports.old.database.events txn.old.core (Turn.Ask request) }
+    requires pin { is_of_pin request ≡ true }
     ensures passed { HasPassed ports.old.database.events txn.old (Turn.Ask request) txn.new result }
+    ensures node { ports.new.node ≡ ports.old.node }
     ensures events { ports.new.database.events ≡ ports.old.database.events }
 {
     let reply = asked(alloc, ports, txn, request);
@@ -64,6 +77,7 @@ fn pass_request<A: App, C: Cacheable>(
 ) -> Turn<PortRequest, Value>
     requires { IsGoing ports.old.database.events txn.old.core (Turn.Ask request) }
     ensures passed { HasPassed ports.old.database.events txn.old (Turn.Ask request) txn.new result }
+    ensures node { ports.new.node ≡ ports.old.node }
     ensures events { ports.new.database.events ≡ ports.old.database.events }
 {
     if is_of_pin(&request) {
@@ -81,6 +95,7 @@ fn pass_pin<A: App, C: Cacheable>(
 ) -> Turn<PortRequest, Value>
     requires { IsGoing ports.old.database.events txn.old.core turn }
     ensures passed { HasPassed ports.old.database.events txn.old turn txn.new result }
+    ensures node { ports.new.node ≡ ports.old.node }
     ensures events { ports.new.database.events ≡ ports.old.database.events }
 {
     match turn {
@@ -91,8 +106,9 @@ fn pass_pin<A: App, C: Cacheable>(
 
 // How a call stands that has ended so.
 fn at_its_end(outcome: Result<Value, TxnError>) -> Stand
-    ensures { (next : Next) (before : List Recorded) (k : Call) (t : TxnValue) → IsIdle t.core
+    ensures stands { (next : Next) (before : List Recorded) (k : Call) (t : TxnValue) → IsIdle t.core
         → t.core.recorded ≡ recorded_after before (Turn.Ended outcome) (Some k) → IsStanding next before k t result }
+    ensures looked_up { (c : CoreValue) (old new : NodeValue) → StandsLookedUp c old new result }
 {
     match outcome {
         Ok(value) => Stand::Value(value),
@@ -110,6 +126,7 @@ fn stop<A: App, C: Cacheable>(
     requires { IsGoing ports.old.database.events txn.now.core turn }
     ensures stands { (before : List Recorded) (k : Call) → IsTurnOf before k txn.now.core turn
         → IsStanding A.next before k txn.now result }
+    ensures looked_up { StandsLookedUp txn.now.core ports.old.node ports.new.node result }
     ensures events { ports.new.database.events ≡ ports.old.database.events }
 {
     match turn {
@@ -128,6 +145,7 @@ fn lead<A: App, C: Cacheable>(
     requires { IsGoing ports.old.database.events txn.old.core turn }
     ensures stands { (before : List Recorded) (k : Call) → IsTurnOf before k txn.old.core turn
         → IsStanding A.next before k txn.new result }
+    ensures looked_up { StandsLookedUp txn.new.core ports.old.node ports.new.node result }
     ensures keeps { KeepsOn txn.old txn.new }
     ensures events { ports.new.database.events ≡ ports.old.database.events }
 {
@@ -149,6 +167,7 @@ pub(crate) fn start<A: App, C: Cacheable>(
     requires row { txn.old.core.seen.events ≡ ports.old.database.events }
     requires nodes { txn.old.core.nodes ≡ 1 }
     ensures stands { IsStanding A.next txn.old.core.recorded key txn.new result }
+    ensures looked_up { StandsLookedUp txn.new.core ports.old.node ports.new.node result }
     ensures keeps { KeepsOn txn.old txn.new }
     ensures events { ports.new.database.events ≡ ports.old.database.events }
 {
@@ -168,6 +187,7 @@ pub(crate) fn feed<A: App, C: Cacheable>(
     requires nodes { txn.old.core.nodes ≡ 1 }
     ensures stands { (k : Call) → open_call txn.old.core ≡ Some k
         → IsStanding A.next txn.old.core.recorded k txn.new result }
+    ensures looked_up { StandsLookedUp txn.new.core ports.old.node ports.new.node result }
     ensures keeps { KeepsOn txn.old txn.new }
     ensures events { ports.new.database.events ≡ ports.old.database.events }
 {

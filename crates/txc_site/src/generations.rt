@@ -1,24 +1,27 @@
 //! A site that goes on: one generation after the other.
-ghost use Rattle.std.specs.Prelude.{◌≡◌, ◌⊎◌, [], Err, IfErr, IfOk, length};
+ghost use Rattle.std.specs.Prelude.{◌≡◌, ◌⊎◌, [], All, Err, IfErr, IfOk, IfSome, length};
 ghost use mathlib.Core.List.{IsPrefix};
 ghost use Rattle.txc_carry.specs.Rooms.{IsHistoryFor};
 ghost use Rattle.txc_db.specs.DatabaseValue.{front_of};
 ghost use Rattle.txc_site.specs.Generations.{HaveServed, IsGeneration, IsGenerationRefused, IsNextRefused, IsServed, last_state};
 ghost use Rattle.txc_site.specs.Opened.{IsOpenRefused};
 ghost use Rattle.txc_visits.specs.Plans.{IsPlan};
+ghost use Rattle.txc_visits.specs.Warming.{EndInOneState};
 
 use crate::error::GenerationError;
 use crate::opening::opened;
 use crate::returning::{Generation, Returning};
-use std::alloc::Global;
+use std::alloc::{AllocError, Global};
 use std::sync::Wait;
 use std::thread::Threads;
+use txc_app::App;
 use txc_carry::carry;
 use txc_db::{DbCore, DbError, HistoryFront};
 use txc_definition::Definition;
 use txc_keeper::{Clock, CountedClock, SiteError};
 use txc_ledger::{Change, Written};
-use txc_visits::{Application, OpenError, Plan, Visits, over_new_histories};
+use txc_shared::LeftNode;
+use txc_visits::{Application, OpenError, Plan, Visits, Warmth, over_new_histories};
 
 /// What a site came to in all its generations.
 #[derive(Drop)]
@@ -33,9 +36,18 @@ pub struct Served<O, T> {
 
 /// What a generation begins with.
 #[derive(Drop)]
-struct Begun {
+struct Begun<A: App> {
     core: DbCore,
     front: HistoryFront,
+    warmth: Option<Warmth<A>>,
+}
+
+/// What a generation leaves.
+#[derive(Drop)]
+struct Ended<A: App, T> {
+    generation: Generation<T>,
+    core: DbCore,
+    left: Vec<LeftNode<A>>,
 }
 
 /// The front of the whole history, which goes on from what was seen of it. `Broken` where it shows less.
@@ -59,12 +71,12 @@ fn generation<A, D, V, C, R>(
     rt: &R,
     alloc: Global,
     plan: Plan,
-    begun: Begun,
+    begun: Begun<A>,
     number: usize,
     count: usize,
     visitors: &V,
     clock: &C,
-) -> Result<(Generation<V::Output>, DbCore), GenerationError>
+) -> Result<Ended<A, V::Output>, GenerationError>
 where
     A: Application<D> + Send + Sync,
     D: Definition + Send,
@@ -74,22 +86,29 @@ where
     requires plan { IsPlan plan }
     requires row { begun.core.events ≡ begun.front.events }
     requires room { IsHistoryFor plan.events begun.front.events }
+    requires warm { IfSome begun.warmth (λ w. w.front.events ≡ begun.core.events) }
     ensures generation { IfOk result (λ ended.
-        IsGeneration plan (C.tells clock.now) count (V.gives visitors.now) ended.0) }
-    ensures number { IfOk result (λ ended. ended.0.number ≡ number) }
-    ensures begun { IfOk result (λ ended. ended.0.begun ≡ begun.front) }
-    ensures ended { IfOk result (λ ended. ended.0.ended ≡ front_of ended.1) }
+        IsGeneration plan (C.tells clock.now) count (V.gives visitors.now) ended.generation) }
+    ensures number { IfOk result (λ ended. ended.generation.number ≡ number) }
+    ensures begun { IfOk result (λ ended. ended.generation.begun ≡ begun.front) }
+    ensures ended { IfOk result (λ ended. ended.generation.ended ≡ front_of ended.core) }
+    ensures left { IfOk result (λ ended. All (λ left. left.seen.events ≡ ended.core.events) ended.left.items) }
     ensures refused { IfErr result (IsGenerationRefused A.numbers) }
 {
-    let Begun { core, front: begun } = begun;
+    let Begun {
+        core,
+        front: begun,
+        warmth,
+    } = begun;
     let visits = over_new_histories::<A, D, V, C, R>(
-        rt, alloc, plan, core, count, visitors, clock,
+        rt, alloc, plan, core, warmth, count, visitors, clock,
     )?;
     let Visits {
         outputs,
         tended,
         numbers,
         core,
+        left,
     } = visits;
     let ended = whole_front(&core, &begun)?;
     let generation = Generation {
@@ -100,23 +119,63 @@ where
         tended,
         numbers,
     };
-    Ok((generation, core))
+    Ok(Ended {
+        generation,
+        core,
+        left,
+    })
 }
 
-/// What the next generation begins with: the newest state of this database.
-fn next(alloc: Global, plan: Plan, mut core: DbCore) -> Result<Begun, GenerationError>
-    requires { IsPlan plan }
+/// What goes over to the nodes of the next generation; nothing where a front was refused.
+fn warmth<A: App>(
+    left: Vec<LeftNode<A>>,
+    whole: Result<HistoryFront, AllocError>,
+    front: &HistoryFront,
+) -> Option<Warmth<A>>
+    requires seen { IfOk whole (λ whole. All (λ left. left.seen.events ≡ whole.events) left.items) }
+    requires state { IfOk whole (λ whole. EndInOneState whole front.now) }
+    ensures { IfSome result (λ w. w.front ≡ front.now) }
+{
+    let Ok(whole) = whole else {
+        return None;
+    };
+    let Ok(front) = front.again() else {
+        return None;
+    };
+    Some(Warmth {
+        nodes: left,
+        whole,
+        front,
+    })
+}
+
+/// What the next generation begins with: the newest state of this database, and what these nodes held.
+fn next<A: App>(
+    alloc: Global,
+    plan: Plan,
+    mut core: DbCore,
+    left: Vec<LeftNode<A>>,
+) -> Result<Begun<A>, GenerationError>
+    requires plan { IsPlan plan }
+    requires left { All (λ left. left.seen.events ≡ core.events) left.items }
     ensures row { IfOk result (λ begun. begun.core.events ≡ begun.front.events) }
     ensures room { IfOk result (λ begun. IsHistoryFor plan.events begun.front.events) }
+    ensures warm { IfOk result (λ begun. IfSome begun.warmth (λ w. w.front.events ≡ begun.core.events)) }
     ensures state { IfOk result (λ begun. last_state begun.front ≡ last_state (front_of core)) }
     ensures refused { IfErr result (IsNextRefused plan.events (front_of core)) }
 {
+    let whole = core.front();
     let core = match carry(alloc, &mut core, plan.events) {
         Ok(core) => core,
         Err(cause) => return Err(GenerationError::Carry(cause)),
     };
     let front = core.front()?;
-    Ok(Begun { core, front })
+    let warmth = warmth(left, whole, &front);
+    Ok(Begun {
+        core,
+        front,
+        warmth,
+    })
 }
 
 /// Goes on as [`with_generations_at`] does, at a clock that counts how often it was looked at.
@@ -150,8 +209,9 @@ where
 /// visitors answer whether they come again. Where they do, the newest state is carried over to a new database
 /// with the plan's room, with new nodes, and `count` threads visit that; and so on.
 ///
-/// Stamps begin anew in each generation, and the nodes have nothing. What was refused after the opening stands
-/// in the result, beside what the generations before came to.
+/// Stamps begin anew in each generation. Where the plan stores no records, each node begins with what the one of its
+/// number held that was still valid at the end; else with nothing. What was refused after the opening stands in the
+/// result, beside what the generations before came to.
 pub fn with_generations_at<A, D, O, V, C, R>(
     rt: &R,
     alloc: Global,
@@ -184,7 +244,11 @@ where
         rt,
         alloc,
         plan,
-        Begun { core, front },
+        Begun {
+            core,
+            front,
+            warmth: None,
+        },
         count,
         visitors,
         clock,
@@ -203,7 +267,7 @@ fn go_on<A, D, V, C, R>(
     rt: &R,
     alloc: Global,
     plan: Plan,
-    begun: Begun,
+    begun: Begun<A>,
     count: usize,
     visitors: &V,
     clock: &C,
@@ -218,6 +282,7 @@ where
     requires plan { IsPlan plan }
     requires row { begun.core.events ≡ begun.front.events }
     requires room { IsHistoryFor plan.events begun.front.events }
+    requires warm { IfSome begun.warmth (λ w. w.front.events ≡ begun.core.events) }
     requires none { generations.old.items ≡ [] }
     ensures { HaveServed plan (C.tells clock.now) count A.numbers (V.gives visitors.now) (V.goes visitors.now)
         begun.front generations.new.items result }
@@ -226,15 +291,20 @@ where
     for _ in rt.forever() {
         generations.reserve(1)?;
         let number = generations.len();
-        let (generation, core) = generation::<A, D, V, C, R>(
+        let ended = generation::<A, D, V, C, R>(
             rt, alloc, plan, begun, number, count, visitors, clock,
         )?;
+        let Ended {
+            generation,
+            core,
+            left,
+        } = ended;
         let goes_on = visitors.goes_on(&generation);
         generations.push_reserved(generation.outputs);
         if !goes_on {
             return Ok(());
         }
-        begun = next(alloc, plan, core)?;
+        begun = next(alloc, plan, core, left)?;
     }
     unreachable!()
 }

@@ -109,13 +109,14 @@ where
     }
     let (opening, core) = opened::<A, D, O, R>(rt, alloc, plan, opening)?;
     let visits = over_new_histories::<A, D, V, C, R>(
-        rt, alloc, plan, core, count, visitors, clock,
+        rt, alloc, plan, core, None, count, visitors, clock,
     )?;
     let Visits {
         outputs,
         tended,
         numbers,
         core,
+        left: _,
     } = visits;
     Ok(Visited {
         opening,

@@ -3,3 +3,4 @@ mod Guests
 mod Listing
 mod NodeHistories
 pub mod Tended
+mod GoesOver

@@ -13,9 +13,9 @@ use Rattle.txc_visits.specs.Plans.{nodes_of}
 use Rattle.txc_visits.specs.Tended.{IsTendedAsPlanned}
 
 -- a keeper of these nodes, which are those, is one of those
-pub tended_of : (row : Name) (nodes others : List NodeSettings) (tells : ℕ → Type 0) (age : ℕ) (result : Result Tended SiteError) → nodes ≡ others
-    → IfOk result (IsTendedBy row nodes tells age) → IfOk result (IsTendedBy row others tells age)
-tended_of row nodes others tells age result same h = subst (λ (all : List NodeSettings). IfOk result (IsTendedBy row all tells age)) same h
+pub tended_of : (row : Name) (nodes others : List NodeSettings) (tells : ℕ → Type 0) (keeping : Keeping) (result : Result Tended SiteError) → nodes ≡ others
+    → IfOk result (IsTendedBy row nodes tells keeping) → IfOk result (IsTendedBy row others tells keeping)
+tended_of row nodes others tells keeping result same h = subst (λ (all : List NodeSettings). IfOk result (IsTendedBy row all tells keeping)) same h
 
 -- what a site's own keeper came to, as its plan says
 module _ (plan : Plan) (tells : ℕ → Type 0) (row : Name) where
@@ -24,7 +24,7 @@ module _ (plan : Plan) (tells : ℕ → Type 0) (row : Name) where
       record { tended = subst (λ (keep : Option Keeping). IsTendedAs keep (nodes_of plan) tells row None) (sym is) refl }
 
   pub planned_some : (keeping : Keeping) (result : Result Tended SiteError) → plan.keep ≡ Some keeping
-      → IfOk result (IsTendedBy row (nodes_of plan) tells keeping.age) → IfErr result IsKeeperRefused
+      → IfOk result (IsTendedBy row (nodes_of plan) tells keeping) → IfErr result IsKeeperRefused
       → IsTendedAsPlanned plan tells row (Some result)
   planned_some keeping result is ok err = record {
     tended = subst (λ (keep : Option Keeping). IsTendedAs keep (nodes_of plan) tells row (Some result)) (sym is) (result, refl, ok, err);

@@ -3,3 +3,4 @@ pub mod Histories
 pub mod Plans
 pub mod Sites
 pub mod Tended
+pub mod Warming

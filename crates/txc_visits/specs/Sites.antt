@@ -18,22 +18,24 @@ use Rattle.txc_pages.specs.Pages.{IsPageRefused}
 use Rattle.txc_visits.specs.Histories.{HaveHistoriesBy}
 use Rattle.txc_visits.specs.Plans.{nodes_of, IsPlan}
 
--- a client of a site: the site's plan, the client that reads, what the objects do that a change calls, and how often a
--- change was committed
+-- a client of a site: the site's plan, the client that reads, what the objects do that a change calls, how often a change
+-- was run, and how often one was committed
 pub record SiteClientValue : Type 0 where
   pub plan : Plan
   pub reader : ClientValue
   pub writer : Objects
+  pub updates : ℕ
   pub commits : ℕ
 
 -- The client is new: it has a pass through each node of its site's plan, and has seen none of their records. Each
--- of these histories is stored as the plan says, or is not. It has committed nothing.
+-- of these histories is stored as the plan says, or is not. It has run no change, and committed nothing.
 pub record IsNewClient (named : ℕ → Name) (client : SiteClientValue) : Type 0 where
   pub planned : IsPlan client.plan
   pub nodes : map (λ pass. pass.settings) client.reader.passes ≡ nodes_of client.plan
   pub histories : HaveHistoriesBy client.plan named
   pub unseen : All (λ pass. pass.records ≡ []) client.reader.passes
   pub renew_after : client.reader.renew_after ≡ client.plan.renew_after
+  pub updates : client.updates ≡ 0
   pub commits : client.commits ≡ 0
 
 -- the numbers of so many threads

@@ -5,10 +5,10 @@ ghost use Rattle.txc_node.specs.Counts.{AreCountsOf};
 ghost use Rattle.txc_client.specs.Ports.{CountsLeave, HaveGrown, IsCallAt};
 ghost use Rattle.txc_registry.specs.Objects.{AllIdle};
 ghost use Rattle.txc_pages.specs.Pages.{IsLeftByRefused, IsPageRun, IsPageRefused};
-ghost use Rattle.txc_ledger.specs.Counted.{counted_again};
+ghost use Rattle.txc_ledger.specs.Counted.{counted_again, counted_on};
 ghost use Rattle.txc_visits.specs.Plans.{nodes_of};
 ghost use Rattle.txc_keeper.specs.Refusals.{IsKeeperRefused};
-ghost use Rattle.txc_ledger.specs.Writes.{AreConflicts, IsWritten, IsSiteWriteRefused};
+ghost use Rattle.txc_ledger.specs.Writes.{AreConflicts, IsRunSoOften, IsWritten, IsSiteWriteRefused};
 ghost use Rattle.txc_txn.specs.Core.{Explains};
 ghost use Rattle.txc_txn.specs.Sessions.{IsAtLeast};
 
@@ -48,7 +48,8 @@ impl<'a, A: App, D: Definition, J: Naming> Model for SiteClient<'a, A, D, J> {
       plan = c.foundation.now.plan;
       reader = c.reader;
       writer = c.writer;
-      commits = c.committer;
+      updates = c.committer.updates;
+      commits = c.committer.commits;
     } };
 
     ghost invariant = { λ c. AllIdle c.writer };
@@ -67,7 +68,8 @@ impl<'a, A: App, D: Definition, J: Naming> SiteClient<'a, A, D, J> {
           plan = foundation.now.plan;
           reader = reader.entry;
           writer = writer;
-          commits = committer;
+          updates = committer.updates;
+          commits = committer.commits;
         } }
     {
         SiteClient {
@@ -106,6 +108,7 @@ impl<'a, A: App, D: Definition, J: Naming> SiteClient<'a, A, D, J> {
         ensures renew_after { result.1.reader.renew_after ≡ self.entry.reader.renew_after }
         ensures plan { result.1.plan ≡ self.entry.plan }
         ensures writer { result.1.writer ≡ self.entry.writer }
+        ensures updates { result.1.updates ≡ self.entry.updates }
         ensures commits { result.1.commits ≡ self.entry.commits }
     {
         let SiteClient {
@@ -144,9 +147,13 @@ impl<'a, A: App, D: Definition, J: Naming> SiteClient<'a, A, D, J> {
         ensures few { IfOk result.0 (λ written. vec_len written.conflicts + 1 ≤ tries) }
         ensures refused { IfErr result.0
             (IsSiteWriteRefused J.database_history (C.makes change.now) (C.refuses change.now) tries) }
-        ensures committed { OnOk result.0
-            (result.1 ≡ record self.entry { commits = counted_again self.entry.commits }) }
-        ensures not_committed { OnErr result.0 (result.1 ≡ self.entry) }
+        ensures same { result.1 ≡ record self.entry { updates = result.1.updates; commits = result.1.commits } }
+        ensures committed { OnOk result.0 (result.1.commits ≡ counted_again self.entry.commits) }
+        ensures not_committed { OnErr result.0 (result.1.commits ≡ self.entry.commits) }
+        ensures runs { IfOk result.0 (λ written.
+            result.1.updates ≡ counted_on (vec_len written.conflicts + 1) self.entry.updates) }
+        ensures refused_runs { IfErr result.0 (λ error.
+            IsRunSoOften tries error self.entry.updates result.1.updates) }
     {
         let SiteClient {
             foundation,

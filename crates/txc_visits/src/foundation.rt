@@ -1,5 +1,5 @@
 //! What a site stands on.
-ghost use Rattle.std.specs.Prelude.{◌≡◌, ◌≤◌, IfErr, IfOk, vec_len};
+ghost use Rattle.std.specs.Prelude.{◌≡◌, ◌≤◌, All, IfErr, IfOk, vec_len};
 ghost use Rattle.txc_db.specs.Shared.{IsDatabaseOf};
 ghost use Rattle.txc_keeper.specs.Refusals.{IsKeeperRefused};
 ghost use Rattle.txc_keeper.specs.Tending.{IsTendedBy};
@@ -8,13 +8,14 @@ ghost use Rattle.txc_visits.specs.Histories.{AreHistoriesOf};
 
 use crate::numbers::Tally;
 use crate::plan::Plan;
+use crate::warming::{Warmth, leave, warm};
 use std::alloc::{AllocError, Global};
 use std::sync::Wait;
 use txc_app::App;
 use txc_db::{DbCore, Naming};
 use txc_keeper::{Clock, Keeping, Moment, Signal, SiteError, Tended, retire};
 use txc_ledger::{Committers, Ledger, NodeHistory};
-use txc_shared::{NodeSettings, SharedNode};
+use txc_shared::{LeftNode, NodeSettings, SharedNode};
 
 /// The database with its pincushion, and its nodes, as the plan says.
 #[derive(Drop)]
@@ -84,19 +85,47 @@ impl<A: App, J: Naming> Foundation<A, J> {
         Ok((foundation, committers))
     }
 
-    /// The database without its lock, once no thread has it any more. No pin is held but one that is lost.
-    pub(crate) fn into_core(self, rt: &impl Wait, alloc: Global) -> DbCore
-        ensures { IsDatabaseOf J.database_history result }
+    /// What nodes of another site left goes over to these, as far as there are nodes of the same numbers.
+    pub(crate) fn warm(&self, rt: &impl Wait, alloc: Global, warmth: Warmth<A>)
+        requires { warmth.front.events ≡ J.database_history }
+    {
+        let Warmth {
+            nodes,
+            whole,
+            front,
+        } = warmth;
+        for left in nodes {
+            let number = left.number();
+            if number < self.nodes.len() {
+                warm(rt, alloc, &self.nodes[number], left, &whole, &front);
+            }
+        }
+    }
+
+    /// The database without its lock, once no thread has it any more, and what its nodes held, where their records are
+    /// not stored: each entry that goes over takes a record. No pin is held but one that is lost. Out of memory, fewer
+    /// nodes are told of.
+    pub(crate) fn into_parts(self, rt: &impl Wait, alloc: Global) -> (DbCore, Vec<LeftNode<A>>)
+        ensures database { IsDatabaseOf J.database_history result.0 }
+        ensures left { All (λ left. left.seen.events ≡ J.database_history) result.1.items }
     {
         let Foundation {
             ledger,
-            nodes: _,
-            plan: _,
+            nodes,
+            plan,
             tallies: _,
             moment: _,
         } = self;
         let _ = retire(rt, alloc, &ledger, u64::MAX, 0);
-        ledger.into_core()
+        let mut left = Vec::new(alloc);
+        if plan.records.is_none() {
+            for node in nodes {
+                let Ok(()) = left.push(leave(rt, alloc, node)) else {
+                    break;
+                };
+            }
+        }
+        (ledger.into_core(), left)
     }
 }
 
@@ -111,7 +140,7 @@ pub(crate) fn keep_until_ended<A: App, J: Naming, C: Clock, R: Wait>(
     ended: &Signal,
 ) -> Result<Tended, SiteError>
     ensures tended { IfOk result
-        (IsTendedBy J.database_history (nodes_of foundation.now.plan) (C.tells clock.now) keeping.age) }
+        (IsTendedBy J.database_history (nodes_of foundation.now.plan) (C.tells clock.now) keeping) }
     ensures refused { IfErr result IsKeeperRefused }
 {
     txc_keeper::keep_until_ended(

@@ -1,5 +1,5 @@
 //! A visit of threads over histories that are named for it.
-ghost use Rattle.std.specs.Prelude.{◌≡◌, ◌≤◌, IfErr, IfOk, length, vec_len};
+ghost use Rattle.std.specs.Prelude.{◌≡◌, ◌≤◌, All, IfErr, IfOk, IfSome, length, vec_len};
 ghost use Rattle.txc_db.specs.Shared.{IsDatabaseOf};
 ghost use Rattle.txc_visits.specs.Sites.{IsVisitRefused, HaveCome};
 ghost use Rattle.txc_visits.specs.Plans.{IsPlan};
@@ -14,24 +14,29 @@ use crate::numbers::Numbers;
 use crate::plan::Plan;
 use crate::visiting::{Came, visit};
 use crate::visitor::Visitor;
+use crate::warming::Warmth;
 use std::alloc::Global;
 use std::marker::Brand;
 use std::sync::Wait;
 use std::thread::Threads;
+use txc_app::App;
 use txc_db::{DbCore, Naming};
 use txc_definition::Definition;
 use txc_keeper::{Clock, SiteError, Tended};
 use txc_ledger::NodeHistory;
 use txc_permits::PermitPool;
+use txc_shared::LeftNode;
 
 /// What threads came to that visited a site, and the site's own keeper; what they did in all, and the database as
 /// they left it.
 #[derive(Drop)]
-pub struct Visits<T> {
+pub struct Visits<A: App, T> {
     pub outputs: Vec<T>,
     pub tended: Option<Result<Tended, SiteError>>,
     pub numbers: Numbers,
     pub core: DbCore,
+    /// What its nodes held, where their records are not stored.
+    pub left: Vec<LeftNode<A>>,
 }
 
 /// Lets the threads visit a site of the database and of new nodes.
@@ -40,10 +45,11 @@ pub fn over_new_histories<A, D, V, C, R>(
     alloc: Global,
     plan: Plan,
     core: DbCore,
+    warmth: Option<Warmth<A>>,
     count: usize,
     visitors: &V,
     clock: &C,
-) -> Result<Visits<V::Output>, OpenError>
+) -> Result<Visits<A, V::Output>, OpenError>
 where
     A: Application<D> + Send + Sync,
     D: Definition + Send,
@@ -51,16 +57,20 @@ where
     C: Clock + Sync,
     R: Threads + Wait + Sync,
     requires plan { IsPlan plan }
+    requires warm { IfSome warmth (λ w. w.front.events ≡ core.events) }
     ensures each { IfOk result (λ visited. vec_len visited.outputs ≡ count) }
     ensures gives { IfOk result (λ visited.
         HaveCome (V.gives visitors.now plan core.events) visited.outputs.items) }
     ensures tended { IfOk result (λ visited.
         IsTendedAsPlanned plan (C.tells clock.now) core.events visited.tended) }
     ensures database { IfOk result (λ visited. IsDatabaseOf core.events visited.core) }
+    ensures left { IfOk result (λ visited. All (λ left. left.seen.events ≡ core.events) visited.left.items) }
     ensures refused { IfErr result (IsVisitRefused A.numbers) }
 {
     let histories = new_histories(alloc, plan.nodes, plan.records)?;
-    over_histories::<A, D, V, Brand, C, R>(rt, alloc, plan, core, histories, count, visitors, clock)
+    over_histories::<A, D, V, Brand, C, R>(
+        rt, alloc, plan, core, warmth, histories, count, visitors, clock,
+    )
 }
 
 /// The same over histories that are the named ones.
@@ -69,11 +79,12 @@ fn over_histories<A, D, V, J, C, R>(
     alloc: Global,
     plan: Plan,
     core: DbCore,
+    warmth: Option<Warmth<A>>,
     histories: Vec<NodeHistory>,
     count: usize,
     visitors: &V,
     clock: &C,
-) -> Result<Visits<V::Output>, OpenError>
+) -> Result<Visits<A, V::Output>, OpenError>
 where
     A: Application<D> + Send + Sync,
     D: Definition + Send,
@@ -83,6 +94,7 @@ where
     R: Threads + Wait + Sync,
     requires plan { IsPlan plan }
     requires database { core.events ≡ J.database_history }
+    requires warm { IfSome warmth (λ w. w.front.events ≡ J.database_history) }
     requires each { vec_len histories ≡ plan.nodes }
     requires histories { AreHistoriesOf J.node_histories 0 histories.items }
     requires stored_so { HaveHistoriesBy plan J.node_histories }
@@ -92,11 +104,16 @@ where
     ensures tended { IfOk result (λ visited.
         IsTendedAsPlanned plan (C.tells clock.now) J.database_history visited.tended) }
     ensures database { IfOk result (λ visited. IsDatabaseOf J.database_history visited.core) }
+    ensures left { IfOk result (λ visited.
+        All (λ left. left.seen.events ≡ J.database_history) visited.left.items) }
     ensures refused { IfErr result (IsVisitRefused A.numbers) }
 {
     let (foundation, committers) = Foundation::<A, J>::new(
         rt, alloc, plan, core, histories, count,
     )?;
+    if let Some(warmth) = warmth {
+        foundation.warm(rt, alloc, warmth);
+    }
     let mut pool = PermitPool::new(alloc, plan.permits)?;
     let came = visit::<A, D, V, J, C, R>(
         rt,
@@ -110,10 +127,12 @@ where
     )?;
     let Came { outputs, tended } = came;
     let numbers = Numbers::of(&foundation.tallies).with_nodes(rt, &foundation.nodes);
+    let (core, left) = foundation.into_parts(rt, alloc);
     Ok(Visits {
         outputs,
         tended,
         numbers,
-        core: foundation.into_core(rt, alloc),
+        core,
+        left,
     })
 }

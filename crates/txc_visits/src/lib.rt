@@ -16,6 +16,7 @@ mod numbers;
 mod plan;
 mod visiting;
 mod visitor;
+mod warming;
 
 pub use application::{Application, registry};
 pub use client::SiteClient;
@@ -25,3 +26,4 @@ pub use last_state::LastState;
 pub use numbers::Numbers;
 pub use plan::{MAX_NODES, Plan};
 pub use visitor::Visitor;
+pub use warming::Warmth;

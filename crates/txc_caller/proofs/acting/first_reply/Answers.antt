@@ -1,17 +1,34 @@
-use Rattle.std.proofs.Common.{sym, subst}
+use Rattle.std.proofs.Common.{◌≡◌, ◌∙◌, List, None, ap, sym, subst}
+use Rattle.txc_cushion.specs.declared.pin.Pin.{Pin}
+use Rattle.txc_ports.specs.declared.reply.PortReply.TheVariants.{Lookup}
+use Rattle.txc_txn.specs.Core.{CoreValue}
+use Rattle.txc_caller.specs.Given.{counted_reply}
 use Rattle.txc_caller.specs.Standing.{IsKeptBack}
 use Rattle.txc_caller.proofs.Acts.{acted_self, waits_for}
+use Rattle.txc_caller.proofs.Looking.{miss_is, missed, not_computed, on_miss}
 use Rattle.txc_caller.proofs.Turning.{kept_counted}
 use Rattle.txc_caller.proofs.acting.first_reply.Goals as goal
 
-pub feed_on-requires : goal.feed_on-requires
-feed_on-requires g c =
+pub returns-then-is_miss-clause-acted : goal.returns-then-is_miss-clause-acted
+returns-then-is_miss-clause-acted g c =
+    acted_self g.A.App.next c.args.ports.now c.args.txn.now c.args.frames.top c.computing.result
+    (c.computing.ensures.acted g.A.App.next c.args.txn.now
+    (subst (IsKeptBack g.A.App.next c.args.txn.now) (sym c.counted-reply.ensures) (kept_counted g.A.App.next c.args.txn.now c.members.result.now c.args.kept c.requires.kept))
+    c.requires.top)
+
+pub returns-then-is_miss-clause-on_miss : goal.returns-then-is_miss-clause-on_miss
+returns-then-is_miss-clause-on_miss g c = λ before looked.
+    let core = c.args.txn.now.core in
+    let members : c.members.result.now ≡ core.pins.members = c.members.ensures ∙ ap (λ (w : CoreValue). w.pins.members) c.core.ensures in
+    let none : counted_reply core.pins.members c.args.kept ≡ Lookup None =
+    subst (λ (ms : List Pin). counted_reply ms c.args.kept ≡ Lookup None) members (sym c.counted-reply.ensures ∙ miss_is c.counted-reply.result (sym c.is_miss.ensures ∙ c.if-is_miss.true)) in
+    on_miss core before c.args.ports.now.node c.computing.result.step c.computing.ensures.step (missed core before c.args.ports.now.node c.args.kept looked none)
+
+pub feed_to_end-requires : goal.feed_to_end-requires
+feed_to_end-requires g c =
     waits_for g.A.App.next c.args.ports.now c.args.txn.now c.args.frames.top c.args.kept c.counted-reply.result c.requires
     (subst (IsKeptBack g.A.App.next c.args.txn.now) (sym c.counted-reply.ensures) (kept_counted g.A.App.next c.args.txn.now c.members.result.now c.args.kept c.requires.kept))
 
-pub returns : goal.returns
-returns g c =
-    acted_self g.A.App.next c.args.ports.now c.args.txn.now c.args.frames.top c.stays.result
-    (c.stays.ensures g.A.App.next c.args.txn.now
-    (subst (IsKeptBack g.A.App.next c.args.txn.now) (sym c.counted-reply.ensures) (kept_counted g.A.App.next c.args.txn.now c.members.result.now c.args.kept c.requires.kept))
-    c.requires.top)
+pub returns-clause-on_miss : goal.returns-clause-on_miss
+returns-clause-on_miss g c = λ before looked.
+    not_computed c.feed_to_end.new.txn.core before c.feed_to_end.new.ports.node c.feed_to_end.result.step c.feed_to_end.ensures.not_computed

@@ -3,6 +3,7 @@ use Rattle.txc_db.specs.Seen.{FrontValue}
 use Rattle.txc_ports.specs.Asking.{MayAsk}
 use Rattle.txc_txn.specs.Core.{CoreValue}
 use Rattle.txc_txn.proofs.Offered.{is_answered, is_right, may_ask}
+use Rattle.txc_caller.proofs.Looking.{lookup_made, node_kept}
 use Rattle.txc_caller.proofs.engine.asked.Goals as goal
 
 pub ask-requires : goal.ask-requires
@@ -22,3 +23,9 @@ returns-clause-kept g c = record {
   row = λ front is. c.ask.ensures.row front is ∙ sym c.requires.events;
   right = is_right g.A.App.next c.args.txn.now c.args.request c.ask.result c.requires.fits c.ask.ensures.answer;
 }
+
+pub returns-clause-looked_up : goal.returns-clause-looked_up
+returns-clause-looked_up g c = lookup_made c.seen.result.now c.args.ports.now c.ask.new.self c.args.txn.now.core c.args.request c.ask.result c.requires.fits c.ask.ensures.leads
+
+pub returns-clause-node : goal.returns-clause-node
+returns-clause-node g c = λ of. node_kept c.seen.result.now c.args.ports.now c.ask.new.self c.args.request c.ask.result of c.ask.ensures.leads

@@ -1,5 +1,7 @@
 use Rattle.std.proofs.Common.{◌∙◌, subst, sym}
 use Rattle.txc_stream.specs.Names.{Name}
+use Rattle.txc_shared.specs.Nodes.{NodeValue}
+use Rattle.txc_caller.specs.Looking.{StandsLookedUp}
 use Rattle.txc_caller.specs.Standing.{IsGoing}
 use Rattle.txc_caller.proofs.Turning.{keeps_then}
 use Rattle.txc_caller.proofs.engine.lead.Goals as goal
@@ -31,3 +33,8 @@ returns-clause-keeps g c =
 pub returns-clause-events : goal.returns-clause-events
 returns-clause-events g c =
     c.stop.ensures.events ∙ (c.pass_pin-third.ensures.events ∙ (c.pass_pin-second.ensures.events ∙ c.pass_pin-first.ensures.events))
+
+pub returns-clause-looked_up : goal.returns-clause-looked_up
+returns-clause-looked_up g c =
+    subst (λ (n : NodeValue). StandsLookedUp c.pass_pin-third.new.txn.core n c.stop.new.ports.node c.stop.result)
+    (c.pass_pin-third.ensures.node ∙ (c.pass_pin-second.ensures.node ∙ c.pass_pin-first.ensures.node)) c.stop.ensures.looked_up

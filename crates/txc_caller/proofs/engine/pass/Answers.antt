@@ -7,4 +7,7 @@ next-requires g c = record { reply = c.asked-reply.ensures.kept.answers; row = c
 
 pub returns-clause-passed : goal.returns-clause-passed
 returns-clause-passed g c = passed_next g.A.App.next c.args.ports.now.database.events c.args.txn.now c.next.new.self c.args.request c.asked-reply.result c.next.result c.next.ensures
-    (λ front is. c.asked-reply.ensures.kept.row front is ∙ c.requires.events) c.requires.events c.requires.nodes
+    (λ front is. c.asked-reply.ensures.kept.row front is ∙ c.requires.going.events) c.requires.going.events c.requires.going.nodes
+
+pub returns-clause-node : goal.returns-clause-node
+returns-clause-node g c = c.asked-reply.ensures.node c.requires.pin

@@ -1,6 +1,11 @@
 use Rattle.std.proofs.Common.{◌≡◌, ◌≤◌, ◌+◌, ◌-◌, ◌^◌, ℕ, min, rules, subst}
-use Rattle.txc_keeper.proofs.Tending.{HasTendedUntil, once_more}
+use Rattle.txc_keeper.proofs.Tending.{HasTendedUntil, once_more, since_begun}
 use Rattle.txc_keeper.proofs.keeping.keep_until_ended.Goals as goal
+
+pub loop-init : goal.loop-init
+loop-init g c =
+    since_begun g.J.Naming.database_history g.J.Naming.node_histories c.args.nodes.now (g.C.Clock.tells c.args.clock.now) c.args.keeping c.in_ok-own.own
+    c.in_ok-own.ensures.new
 
 pub loop-preserved : goal.loop-preserved
 loop-preserved g c =

@@ -11,40 +11,42 @@ loop-init g c = record {
       c.args.generations.now.items c.requires.none;
   row = c.requires.row;
   room = c.requires.room;
+  warm = c.requires.warm;
 }
 
 pub returns-then-not-goes_on : goal.returns-then-not-goes_on
 returns-then-not-goes_on g c =
-    let one = c.in_ok-generation.generation in
-    let number : one.number ≡ length c.loop.generations.items = omega (arith, c.in_ok-generation.ensures.number, c.len-number.ensures, c.reserve.new.self.ok.0, ap length c.in_ok-reserve.ensures.items) in
+    let one = c.in_ok-ended.ended.generation in
+    let number : one.number ≡ length c.loop.generations.items = omega (arith, c.in_ok-ended.ensures.number, c.len-number.ensures, c.reserve.new.self.ok.0, ap length c.in_ok-reserve.ensures.items) in
     let added : c.push_reserved.new.self.items ≡ c.loop.generations.items ++ one.outputs ∷ [] = c.push_reserved.ensures.items ∙ ap (λ (xs : List _). xs ++ one.outputs ∷ []) c.in_ok-reserve.ensures.items in
     enough_so c.args.plan (g.C.Clock.tells c.args.clock.now) c.args.count g.A.Application.numbers (g.V.Visitor.gives c.args.visitors.now) (g.V.Returning.goes c.args.visitors.now) c.args.begun.front
-    c.loop.generations.items c.push_reserved.new.self.items c.loop.begun.front c.loop.invariant.came one c.in_ok-generation.ensures.generation number
-    c.in_ok-generation.ensures.begun added (Ok tt) tt refl c.if-not-goes_on.ensures
+    c.loop.generations.items c.push_reserved.new.self.items c.loop.begun.front c.loop.invariant.came one c.in_ok-ended.ensures.generation number
+    c.in_ok-ended.ensures.begun added (Ok tt) tt refl c.if-not-goes_on.ensures
 
 pub returns-in_err-begun : goal.returns-in_err-begun
 returns-in_err-begun g c =
-    let one = c.in_ok-generation.generation in
-    let number : one.number ≡ length c.loop.generations.items = omega (arith, c.in_ok-generation.ensures.number, c.len-number.ensures, c.reserve.new.self.ok.0, ap length c.in_ok-reserve.ensures.items) in
+    let one = c.in_ok-ended.ended.generation in
+    let number : one.number ≡ length c.loop.generations.items = omega (arith, c.in_ok-ended.ensures.number, c.len-number.ensures, c.reserve.new.self.ok.0, ap length c.in_ok-reserve.ensures.items) in
     let added : c.push_reserved.new.self.items ≡ c.loop.generations.items ++ one.outputs ∷ [] = c.push_reserved.ensures.items ∙ ap (λ (xs : List _). xs ++ one.outputs ∷ []) c.in_ok-reserve.ensures.items in
     let end = c.from_residual-in_err-begun.result in
     let error = c.in_err-begun.field-0.0 in
     no_next_so c.args.plan (g.C.Clock.tells c.args.clock.now) c.args.count g.A.Application.numbers (g.V.Visitor.gives c.args.visitors.now) (g.V.Returning.goes c.args.visitors.now) c.args.begun.front
-    c.loop.generations.items c.push_reserved.new.self.items c.loop.begun.front c.loop.invariant.came one c.in_ok-generation.ensures.generation number
-    c.in_ok-generation.ensures.begun added end error (is_error end error c.from_residual-in_err-begun.ensures.1) c.if-not-goes_on.ensures
-    (subst (λ (front : FrontValue). IsNextRefused c.args.plan.events front error) (sym c.in_ok-generation.ensures.ended) c.in_err-begun.ensures.refused)
+    c.loop.generations.items c.push_reserved.new.self.items c.loop.begun.front c.loop.invariant.came one c.in_ok-ended.ensures.generation number
+    c.in_ok-ended.ensures.begun added end error (is_error end error c.from_residual-in_err-begun.ensures.1) c.if-not-goes_on.ensures
+    (subst (λ (front : FrontValue). IsNextRefused c.args.plan.events front error) (sym c.in_ok-ended.ensures.ended) c.in_err-begun.ensures.refused)
 
 pub loop-preserved : goal.loop-preserved
 loop-preserved g c =
-    let one = c.in_ok-generation.generation in
-    let number : one.number ≡ length c.loop.generations.items = omega (arith, c.in_ok-generation.ensures.number, c.len-number.ensures, c.reserve.new.self.ok.0, ap length c.in_ok-reserve.ensures.items) in
+    let one = c.in_ok-ended.ended.generation in
+    let number : one.number ≡ length c.loop.generations.items = omega (arith, c.in_ok-ended.ensures.number, c.len-number.ensures, c.reserve.new.self.ok.0, ap length c.in_ok-reserve.ensures.items) in
     let added : c.push_reserved.new.self.items ≡ c.loop.generations.items ++ one.outputs ∷ [] = c.push_reserved.ensures.items ∙ ap (λ (xs : List _). xs ++ one.outputs ∷ []) c.in_ok-reserve.ensures.items in
     record {
       came =
           one_more c.args.plan (g.C.Clock.tells c.args.clock.now) c.args.count g.A.Application.numbers (g.V.Visitor.gives c.args.visitors.now) (g.V.Returning.goes c.args.visitors.now) c.args.begun.front
-          c.loop.generations.items c.push_reserved.new.self.items c.loop.begun.front c.loop.invariant.came one c.in_ok-generation.ensures.generation number
-          c.in_ok-generation.ensures.begun added c.in_ok-begun.begun.front c.if-not-goes_on.ensures
-          (c.in_ok-begun.ensures.state ∙ ap last_state (sym c.in_ok-generation.ensures.ended));
+          c.loop.generations.items c.push_reserved.new.self.items c.loop.begun.front c.loop.invariant.came one c.in_ok-ended.ensures.generation number
+          c.in_ok-ended.ensures.begun added c.in_ok-begun.begun.front c.if-not-goes_on.ensures
+          (c.in_ok-begun.ensures.state ∙ ap last_state (sym c.in_ok-ended.ensures.ended));
       row = c.in_ok-begun.ensures.row;
       room = c.in_ok-begun.ensures.room;
+      warm = c.in_ok-begun.ensures.warm;
     }

@@ -1,4 +1,4 @@
-use Rattle.std.proofs.Common.{◌≡◌}
+use Rattle.std.proofs.Common.{◌≡◌, IfSome}
 use Rattle.txc_carry.specs.Rooms.{IsHistoryFor}
 use Rattle.txc_site.proofs.Turns.{HaveGoneOn}
 use Rattle.txc_site.proofs.generations.go_on.Given as goal
@@ -10,4 +10,5 @@ invariant-loop g l = record {
       l.begun.front;
   row : l.begun.core.events ≡ l.begun.front.events;
   room : IsHistoryFor l.plan.events l.begun.front.events;
+  warm : IfSome l.begun.warmth (λ w. w.front.events ≡ l.begun.core.events);
 }

@@ -1,5 +1,5 @@
 use Rattle.std.proofs.Common.{◌≡◌, ◌∙◌, Option, Some, refl, sym, subst}
-use Rattle.txc_caller.specs.Acting.{ask_of, IsStepIn}
+use Rattle.txc_caller.specs.Acting.{ask_of, IsComputedOnMiss, IsStepIn}
 use Rattle.txc_caller.specs.Reading.{AsksNext, CallerReading, KeepsReading}
 use Rattle.txc_caller.specs.declared.frames.OpenCall.{OpenCall}
 use Rattle.txc_caller.proofs.Reading.{reading_after}
@@ -22,7 +22,7 @@ pub invariant_of-self : goal.invariant_of-self
 invariant_of-self g c =
     let old : CallerReading = record { ports = c.self.inside.ports; renew_after = c.self.inside.renew_after; txn = c.self.inside.txn; doing = c.self.inside.doing } in
     let new : CallerReading = record { ports = c.act_inside-acted.new.ports; renew_after = c.self.inside.renew_after; txn = c.act_inside-acted.new.txn; doing = c.act_inside-acted.result.doing } in
-    reading_after g.A.App.next old new c.act_inside-acted.ensures.keeps c.act_inside-acted.ensures.events refl c.self.inside.txn.core.recorded c.in-Some.call.frames.top c.act_inside-acted.result refl c.act_inside-acted.ensures.acted c.self.invariant
+    reading_after g.A.App.next old new c.act_inside-acted.ensures.acted.keeps c.act_inside-acted.ensures.acted.events refl c.self.inside.txn.core.recorded c.in-Some.call.frames.top c.act_inside-acted.result refl c.act_inside-acted.ensures.acted.acted c.self.invariant
 
 pub returns-clause-step : goal.returns-clause-step
 returns-clause-step g c =
@@ -30,9 +30,14 @@ returns-clause-step g c =
     let old : CallerReading = record { ports = c.self.inside.ports; renew_after = c.self.inside.renew_after; txn = c.self.inside.txn; doing = c.self.inside.doing } in
     let new : CallerReading = record { ports = c.act_inside-acted.new.ports; renew_after = c.self.inside.renew_after; txn = c.act_inside-acted.new.txn; doing = c.act_inside-acted.result.doing } in
     subst (λ (r : CallerReading). IsStepIn r.doing r new c.act_inside-acted.result.step) c.self.view_is
-    (subst (λ (d : Option OpenCall). IsStepIn d old new c.act_inside-acted.result.step) (sym at) c.act_inside-acted.ensures.acted.step)
+    (subst (λ (d : Option OpenCall). IsStepIn d old new c.act_inside-acted.result.step) (sym at) c.act_inside-acted.ensures.acted.acted.step)
 
 pub returns-clause-keeps : goal.returns-clause-keeps
 returns-clause-keeps g c =
     let new : CallerReading = record { ports = c.act_inside-acted.new.ports; renew_after = c.self.inside.renew_after; txn = c.act_inside-acted.new.txn; doing = c.act_inside-acted.result.doing } in
-    subst (λ (r : CallerReading). KeepsReading r new) c.self.view_is (record { txn = c.act_inside-acted.ensures.keeps; row = c.act_inside-acted.ensures.events; renew_after = refl })
+    subst (λ (r : CallerReading). KeepsReading r new) c.self.view_is (record { txn = c.act_inside-acted.ensures.acted.keeps; row = c.act_inside-acted.ensures.acted.events; renew_after = refl })
+
+pub returns-clause-on_miss : goal.returns-clause-on_miss
+returns-clause-on_miss g c =
+    subst (λ (r : CallerReading). IsComputedOnMiss c.act_inside-acted.new.txn.core r.ports.node c.act_inside-acted.new.ports.node c.act_inside-acted.result.step) c.self.view_is
+    c.act_inside-acted.ensures.on_miss
