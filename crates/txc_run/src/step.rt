@@ -1,14 +1,18 @@
 //! Steps of the node, whose replies are taken.
-ghost use Rattle.std.specs.Prelude.{◌≡◌, IfNone};
+ghost use Rattle.std.specs.Prelude.{◌≡◌, ◌≤◌, false, IfNone, IfSome};
+ghost use Rattle.txc_node.specs.Hit.{seen};
+ghost use Rattle.txc_node.specs.declared.op.Op.{Op};
+ghost use Rattle.txc_node.specs.declared.reply.Reply.TheVariants as replies;
+ghost use Rattle.txc_tags.specs.declared.key.TheConstants.{LAST_FUNCTION};
 ghost use Rattle.txc_script.specs.Excerpts.{excerpt_of};
 ghost use Rattle.txc_script.specs.Words.{words_left};
 ghost use Rattle.txc_script.specs.declared.line_fault.CommandFault.TheVariants.{Unknown};
 ghost use Rattle.txc_run.specs.Lines.{event_form, insert_form, lookup_form, sweep_form};
-ghost use Rattle.txc_run.specs.Steps.{MakesForm, MakesLine};
+ghost use Rattle.txc_run.specs.Steps.{IsFor, MakesForm, MakesLine};
 
 use crate::taker::Taker;
 use std::alloc::Global;
-use txc_node::{Entry, NodeCore, Refusal, Reply};
+use txc_node::{Entry, Hit, NodeCore, Refusal, Reply};
 use txc_script::{CommandFault, Excerpt, Unanswered, WordsLeft, all_words, read_row};
 use txc_stamp::Stamp;
 use txc_tags::{Key, TagSet};
@@ -43,6 +47,25 @@ fn make_insertion<T: Taker>(
     }
 }
 
+/// Takes the reply to a lookup that is a hit. It stands alone, so that a miss makes no room for it.
+#[inline(never)]
+fn take_hit<T: Taker>(
+    alloc: Global,
+    function: Option<u8>,
+    hit: Hit<'_>,
+    taker: &mut T,
+    why: &mut Unanswered,
+) -> Option<bool>
+    requires { IfSome function (λ f. f ≤ LAST_FUNCTION) }
+    ensures after { IfSome result (λ refused. (op : Op) → IsFor function op (replies.Hit (seen hit.entry))
+        → T.takes taker.old op (replies.Hit (seen hit.entry)) taker.new) }
+    ensures refusal { IfSome result (λ refused. refused ≡ false) }
+    ensures memory { IfNone result (why.new ≡ Unanswered.Memory) }
+    ensures unchanged { IfNone result (T.text taker.new ≡ T.text taker.old) }
+{
+    taker.take(alloc, function, &Reply::Hit(hit), why)
+}
+
 /// Makes the lookup that the words after its name are, and takes its reply.
 #[inline(never)]
 fn make_lookup<T: Taker>(
@@ -62,7 +85,7 @@ fn make_lookup<T: Taker>(
     };
     let function = Some(key.function());
     match node.lookup(&key, lo, hi) {
-        Ok(Some(hit)) => taker.take(alloc, function, &Reply::Hit(hit), why),
+        Ok(Some(hit)) => take_hit(alloc, function, hit, taker, why),
         Ok(None) => taker.take(alloc, function, &Reply::Miss, why),
         Err(_) => taker.take(alloc, function, &Reply::Refused(Refusal::EmptyRange), why),
     }

@@ -11,13 +11,13 @@ use Rattle.txc_run.proofs.step.make_lookup.Goals as goal
 
 pub returns-in-Ok-Some-clause-made : goal.returns-in-Ok-Some-clause-made
 returns-in-Ok-Some-clause-made g c =
-    taken g.T.Taker.takes lookup_form (words_left c.args.words) c.take.result c.take.new.why c.args.node.now _ (Lookup c.in-Some.row.0 c.in-Some.row.1.0 c.in-Some.row.1.1.0) (replies.Hit (seen c.in-Ok-Some.hit)) (Some c.function.result) c.args.taker.now c.take.new.self
-    (record { values = _; say = c.in-Some.ensures.answer; asks = refl }) (search rules) (λ _. search rules) c.take.ensures.after c.take.ensures.refusal c.take.ensures.memory
+    taken g.T.Taker.takes lookup_form (words_left c.args.words) c.take_hit.result c.take_hit.new.why c.args.node.now _ (Lookup c.in-Some.row.0 c.in-Some.row.1.0 c.in-Some.row.1.1.0) (replies.Hit (seen c.in-Ok-Some.hit)) (Some c.function.result) c.args.taker.now c.take_hit.new.taker
+    (record { values = _; say = c.in-Some.ensures.answer; asks = refl }) (search rules) (λ _. search rules) c.take_hit.ensures.after c.take_hit.ensures.refusal c.take_hit.ensures.memory
 
 pub returns-in-Ok-None-clause-made : goal.returns-in-Ok-None-clause-made
 returns-in-Ok-None-clause-made g c =
-    taken g.T.Taker.takes lookup_form (words_left c.args.words) c.take-in-Ok-None.result c.take-in-Ok-None.new.why c.args.node.now _ (Lookup c.in-Some.row.0 c.in-Some.row.1.0 c.in-Some.row.1.1.0) replies.Miss (Some c.function.result) c.args.taker.now c.take-in-Ok-None.new.self
-    (record { values = _; say = c.in-Some.ensures.answer; asks = refl }) (search rules) (λ _. search rules) c.take-in-Ok-None.ensures.after c.take-in-Ok-None.ensures.refusal c.take-in-Ok-None.ensures.memory
+    taken g.T.Taker.takes lookup_form (words_left c.args.words) c.take.result c.take.new.why c.args.node.now _ (Lookup c.in-Some.row.0 c.in-Some.row.1.0 c.in-Some.row.1.1.0) replies.Miss (Some c.function.result) c.args.taker.now c.take.new.self
+    (record { values = _; say = c.in-Some.ensures.answer; asks = refl }) (search rules) (λ _. search rules) c.take.ensures.after c.take.ensures.refusal c.take.ensures.memory
 
 pub returns-in-Err-clause-made : goal.returns-in-Err-clause-made
 returns-in-Err-clause-made g c =
