@@ -18,8 +18,8 @@ use Rattle.txc_shared.specs.declared.advanced.Advanced.TheVariants.{Taken, Idle}
 use Rattle.txc_shared.specs.declared.error.NodeError.{NodeError}
 use Rattle.txc_shared.specs.declared.error.NodeError.TheVariants as errors
 use Rattle.txc_shared.specs.declared.insertion.Insertion.{Insertion}
-use Rattle.txc_shared.specs.Nodes.{NodeValue, after_call, seeing, IsLonger}
-use Rattle.txc_shared.specs.Refusals.{CanRecord, IsLookupRefused, IsNodeLeft, IsNodeBroken}
+use Rattle.txc_shared.specs.Nodes.{NodeValue, after_call, seeing, HasAdvanced, IsLonger}
+use Rattle.txc_shared.specs.Refusals.{CanRecord, IsLookupRefused, IsNodeLeft, IsNodeBroken, IsTakingRefused}
 use Rattle.txc_stream.proofs.Offered.{longer_is}
 use Rattle.txc_world.specs.Parts.{IsPartOf}
 use Rattle.txc_world.specs.NodeSteps.{LookupTransition, InsertTransition, AdvanceTransition, SweepTransition}
@@ -33,6 +33,20 @@ longer_is_whole one whole longer l part =
     let events : longer.events ≡ whole.events = l.events ∙ part.row in
     let history : longer.history ≡ whole.history = longer_is one.history whole.history longer.history part.begins l.either l.second in
     λ i. record { events = events i; history = history i }
+
+-- what a whole node made of the next event, by what it returns
+pub advanced_so : (pass : ℕ) (whole : FrontValue) (old new : NodeValue) (r : Result Advanced NodeError) → old.broken ≡ false
+    → IsPartOf whole old.seen → OnOk r (IsLonger old.seen whole new.seen) → IfOk r (HasAdvanced (seeing old new.seen) pass new)
+    → IfErr r (IsNodeLeft old new) → IfErr r (IsTakingRefused old) → AdvanceTransition pass whole old new r
+advanced_so pass whole old new (Ok advanced) is part longer after left refused = (
+  is,
+  subst (λ (front : FrontValue). HasAdvanced (seeing old front) pass new advanced) (longer_is_whole old.seen whole new.seen longer part) after,
+)
+advanced_so pass whole old new (Err errors.Memory) is part longer after left refused = (left, is)
+advanced_so pass whole old new (Err errors.Broken) is part longer after left refused = (left, refused)
+advanced_so pass whole old new (Err errors.EmptyRange) is part longer after left refused = (left, refused)
+advanced_so pass whole old new (Err errors.HistoryFull) is part longer after left refused = (left, refused)
+advanced_so pass whole old new (Err errors.PassesFull) is part longer after left refused = (left, refused)
 
 -- a step keeps how the node was made, what its history is called, its row and its passes; and what it has seen is part of the whole unless it
 -- is broken, if it was before

@@ -49,10 +49,7 @@ pub(crate) fn advance<A: App>(
         return Err(NodeError::Broken);
     }
     let whole = database.front()?;
-    match node.advance(alloc, pass, &whole) {
-        Ok(advanced) => Ok(advanced),
-        Err(refusal) => Err(refusal),
-    }
+    node.advance(alloc, pass, &whole)
 }
 
 /// Lets the node drop the entries that end at the horizon or before it, and counts them.
