@@ -102,9 +102,8 @@ impl<A: App, J: Naming> Foundation<A, J> {
         }
     }
 
-    /// The database without its lock, once no thread has it any more, and what its nodes held, where their records are
-    /// not stored: each entry that goes over takes a record. No pin is held but one that is lost. Out of memory, fewer
-    /// nodes are told of.
+    /// The database without its lock, once no thread has it any more, and what its nodes held. No pin is held but one
+    /// that is lost.
     pub(crate) fn into_parts(self, rt: &impl Wait, alloc: Global) -> (DbCore, Vec<LeftNode<A>>)
         ensures database { IsDatabaseOf J.database_history result.0 }
         ensures left { All (λ left. left.seen.events ≡ J.database_history) result.1.items }
@@ -117,16 +116,31 @@ impl<A: App, J: Naming> Foundation<A, J> {
             moment: _,
         } = self;
         let _ = retire(rt, alloc, &ledger, u64::MAX, 0);
-        let mut left = Vec::new(alloc);
-        if plan.records.is_none() {
-            for node in nodes {
-                let Ok(()) = left.push(leave(rt, alloc, node)) else {
-                    break;
-                };
-            }
-        }
+        let left = leave_each(rt, alloc, plan, nodes);
         (ledger.into_core(), left)
     }
+}
+
+/// What the nodes held, where their records are not stored: each entry that goes over takes a record. Out of memory,
+/// fewer nodes are told of.
+fn leave_each<A: App, J: Naming>(
+    rt: &impl Wait,
+    alloc: Global,
+    plan: Plan,
+    nodes: Vec<SharedNode<A, J>>,
+) -> Vec<LeftNode<A>>
+    ensures { All (λ left. left.seen.events ≡ J.database_history) result.items }
+{
+    let mut left = Vec::new(alloc);
+    if plan.records.is_some() {
+        return left;
+    }
+    for node in nodes {
+        let Ok(()) = left.push(leave(rt, alloc, node)) else {
+            return left;
+        };
+    }
+    left
 }
 
 /// Keeps it at this clock until the visitors have ended.
