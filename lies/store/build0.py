@@ -1,0 +1,10 @@
+"""build0.py CRATE PROGRAM: unproved.build of the crate's program, by clang at -O0: what it prints is compared, and not its time."""
+import os, sys, time, resource
+sys.path.insert(0,'/work/w/h3/scripts')
+import unproved
+unproved.FLAGS=[it.replace('-O1','-O0') for it in unproved.FLAGS]
+t=time.time()
+said=unproved.build(os.path.abspath(sys.argv[1]), os.path.abspath(sys.argv[2]), ["--steps","1"])
+u=resource.getrusage(resource.RUSAGE_CHILDREN)
+print(said[-3000:] if said else 'built', f'{time.time()-t:.0f} s by the clock, {u.ru_utime+u.ru_stime:.0f} s of one core', flush=True)
+sys.exit(bool(said))
