@@ -1,6 +1,8 @@
 pub mod Entries
 pub mod Places
 pub mod Indexed
+pub mod Order
+pub mod Held
 pub mod Cache
 pub mod Sweeping
 pub mod Best

@@ -133,7 +133,7 @@ fn put(
             }
         },
         Some(found) => {
-            let before = entries.replace(found.at, place, stored);
+            let before = entries.replace(found, place, stored);
             unlist_replaced(entries, index, &before);
             Ok(None)
         }

@@ -6,8 +6,9 @@ ghost use Rattle.txc_node.specs.Indexed.{listed, Relists, in_stead};
 ghost use Rattle.txc_node.specs.Sweeping.{lasting, AreAllLasting};
 
 use crate::call_key::CallKey;
+use crate::place::Place;
 use crate::sweeping::Sweep;
-use crate::versions::Versions;
+use crate::versions::{Version, Versions};
 use indexmap::IndexMap;
 use std::alloc::{AllocError, Global};
 use txc_stamp::Reach;
@@ -56,17 +57,29 @@ impl KeyIndex {
         self.versions.get(&call)
     }
 
-    /// Puts a reach first among those of its key.
-    pub(crate) fn add(&mut self, key: &Key, reach: Reach) -> Result<(), AllocError>
+    /// Where the entry at a place is looked for first.
+    pub(crate) fn hint(&self, place: &Place) -> usize {
+        match self.get(&place.key) {
+            None => 0,
+            Some(versions) => match versions.position(place.lo) {
+                None => 0,
+                Some(at) => versions.hint(at),
+            },
+        }
+    }
+
+    /// Puts the reach of the entry of that number first among those of its key.
+    pub(crate) fn add(&mut self, key: &Key, reach: Reach, number: usize) -> Result<(), AllocError>
         ensures { let rs = listed self.old.versions.entries key.now in
             Relists key.now (if is_ok result then reach ∷ rs else rs)
             self.old.versions.entries self.new.versions.entries }
     {
         let call = CallKey::of(key);
+        let version = Version::new(reach, number);
         match self.versions.get_mut(&call) {
-            Some(versions) => versions.add(reach),
+            Some(versions) => versions.add(version),
             None => {
-                let one = Versions::one(self.alloc, reach);
+                let one = Versions::one(self.alloc, version);
                 self.versions.insert(call, one)?;
                 Ok(())
             }

@@ -13,6 +13,7 @@ ghost use Rattle.txc_node.specs.Indexed.{AreOf, Closes, HoldsApart, IndexesTags,
 
 use crate::closing::Closing;
 use crate::entry::Entry;
+use crate::held::Held;
 use crate::key_index::KeyIndex;
 use crate::leaving::Leaving;
 use crate::place::Place;
@@ -20,7 +21,6 @@ use crate::stored::{Stored, join, join_some};
 use crate::sweeping::Sweep;
 use crate::tag_index::TagIndex;
 use crate::versions::{Found, Versions};
-use lru::LruCache;
 use std::alloc::{AllocError, AllocFailed, Global};
 use std::fmt;
 use std::marker::Model;
@@ -31,7 +31,7 @@ use txc_tags::Key;
 /// At most so many entries, the most recently used first, that are found by their place and by their key.
 #[derive(Drop)]
 pub(crate) struct KeyedEntries {
-    cache: LruCache<Place, Stored>,
+    cache: Held,
     keys: KeyIndex,
 }
 
@@ -48,33 +48,7 @@ impl Model for KeyedEntries {
 impl fmt::Debug for KeyedEntries {
     // The entries alone, since the index is made of them.
     fn fmt<W: fmt::Write>(&self, f: &mut fmt::Formatter<W>) -> fmt::Result {
-        f.debug_map().entries(self.cache.iter()).finish()
-    }
-}
-
-// Closes the entry at a place just below an event that invalidates it. Returns its new reach, and whether a
-// still valid entry stands there now.
-fn close_in(
-    cache: &mut LruCache<Place, Stored>,
-    place: &Place,
-    closing: &Closing<'_>,
-) -> (Option<Reach>, bool)
-    ensures entries { cache.new.entries
-        ≡ after_at closing.now.stamp closing.now.tags.now place.now cache.old.entries }
-    ensures cap { cache.new.cap ≡ cache.old.cap }
-    ensures reach { result.0 ≡ closed_reach closing.now.stamp closing.now.tags.now
-        (lookup (equal_places place.now) cache.old.entries) }
-    ensures live { result.1 ≡ stays_live closing.now.stamp closing.now.tags.now
-        (lookup (equal_places place.now) cache.old.entries) }
-{
-    match cache.peek_mut(place) {
-        None => (None, false),
-        Some(stored) => {
-            if !closing.close(stored) {
-                return (None, stored.reach.is_still());
-            }
-            (Some(stored.reach), false)
-        }
+        self.cache.fmt(f)
     }
 }
 
@@ -95,7 +69,7 @@ impl KeyedEntries {
         ensures { IfOk result (λ x. x
             ≡ record { entries = []; capacity = non_zero_usize_get capacity }) }
     {
-        let cache = LruCache::sparse(alloc, capacity)?;
+        let cache = Held::new(alloc, capacity)?;
         Ok(KeyedEntries {
             cache,
             keys: KeyIndex::new(alloc),
@@ -152,17 +126,21 @@ impl KeyedEntries {
     pub(crate) fn get(&self, place: &Place) -> Option<&Stored>
         ensures { option_copied result ≡ option_map stored_of (entry_at self.now.entries place.now) }
     {
-        self.cache.peek(place)
+        self.get_by(place, self.keys.hint(place))
+    }
+
+    /// The same, where it is known where to look for it first.
+    pub(crate) fn get_by(&self, place: &Place, hint: usize) -> Option<&Stored>
+        ensures { option_copied result ≡ option_map stored_of (entry_at self.now.entries place.now) }
+    {
+        self.cache.peek(place, hint)
     }
 
     /// The entry that was used last.
     pub(crate) fn first(&self) -> Option<&Stored>
         ensures { option_copied result ≡ option_map stored_of (slice_get self.now.entries 0) }
     {
-        match self.cache.peek_mru() {
-            None => None,
-            Some((_, stored)) => Some(stored),
-        }
+        self.cache.first()
     }
 
     /// Closes the entry at a place just below an event that invalidates it, and counts it. Returns with the
@@ -172,7 +150,8 @@ impl KeyedEntries {
         ensures spared { IsSpared closing.now.stamp closing.now.tags.now self.new.entries place.now }
         ensures live { result.1 ≡ is_live self.new.entries place.now }
     {
-        let (closed, is_live) = close_in(&mut self.cache, place, closing);
+        let hint = self.keys.hint(place);
+        let (closed, is_live) = self.cache.close(place, hint, closing);
         match closed {
             None => (0, is_live),
             Some(reach) => {
@@ -191,7 +170,7 @@ impl KeyedEntries {
         ensures capacity { self.new.capacity ≡ self.old.capacity }
     {
         let place = Place::new(key, found.reach.lo());
-        self.cache.promote(&place);
+        self.cache.promote(&place, found.hint);
         bring_found(&mut self.keys, key, found);
     }
 
@@ -224,12 +203,13 @@ impl KeyedEntries {
         ensures handed_back { IfErr result (λ e. e.value ≡ (place, stored)) }
     {
         let _len = self.cache.len();
-        let Ok(()) = self.keys.add(&place.key, stored.reach) else {
+        let number = self.cache.next_number();
+        let Ok(()) = self.keys.add(&place.key, stored.reach, number) else {
             return Err(AllocFailed {
                 value: (place, stored),
             });
         };
-        match self.cache.push(place, stored) {
+        match self.cache.add(place, stored) {
             Err(failed) => {
                 let (place, stored) = failed.value;
                 self.keys.drop_first(&place.key);
@@ -247,15 +227,15 @@ impl KeyedEntries {
 
     /// A new entry first, in the stead of the one at its place, that stands there among those of its key.
     /// Returns that one.
-    pub(crate) fn replace(&mut self, at: usize, place: Place, stored: Stored) -> Option<Entry>
+    pub(crate) fn replace(&mut self, found: &Found, place: Place, stored: Stored) -> Option<Entry>
         requires placed { place ≡ place_of (entry_of (place, stored)) }
-        requires there { StandsUnder (entry_of (place, stored)) self.old.entries at }
+        requires there { StandsUnder (entry_of (place, stored)) self.old.entries found.now.at }
         ensures before { result ≡ entry_at self.old.entries place }
         ensures entries { self.new.entries ≡ with_first (entry_of (place, stored)) self.old.entries }
         ensures capacity { self.new.capacity ≡ self.old.capacity }
     {
-        self.keys.bring_first(&place.key, at, stored.reach);
-        join_some(self.cache.push(place, stored).unwrap())
+        self.keys.bring_first(&place.key, found.at, stored.reach);
+        join_some(self.cache.replace(place, stored, found.hint))
     }
 }
 
@@ -268,7 +248,8 @@ fn best_of(versions: &Versions, processed: Stamp, lo: Stamp, hi: Stamp) -> Optio
         None => None,
         Some(at) => {
             let reach = versions.get(at);
-            Some(Found { at, reach })
+            let hint = versions.hint(at);
+            Some(Found { at, reach, hint })
         }
     }
 }
@@ -282,7 +263,8 @@ fn begins_at(versions: &Versions, lo: Stamp) -> Option<Found>
         None => None,
         Some(at) => {
             let reach = versions.get(at);
-            Some(Found { at, reach })
+            let hint = versions.hint(at);
+            Some(Found { at, reach, hint })
         }
     }
 }

@@ -232,7 +232,10 @@ impl NodeCore {
             return None;
         };
         let place = Place::new(key, found.reach.lo());
-        hit_of(self.entries.keyed().get(&place), self.processed)
+        hit_of(
+            self.entries.keyed().get_by(&place, found.hint),
+            self.processed,
+        )
     }
 
     /// Makes what a search found the most recently used, as [`NodeCore::lookup`] does after its search. It

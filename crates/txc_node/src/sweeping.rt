@@ -6,12 +6,11 @@ ghost use Rattle.txc_node.specs.Indexed.{entries_of, listed};
 ghost use Rattle.txc_node.specs.Sweeping.{AreStored, AreGoneAt, HasReach, IsGone, Sheds, elsewhere, ends_by};
 
 use crate::call_key::CallKey;
+use crate::held::Held;
 use crate::place::Place;
-use crate::stored::Stored;
 use crate::tag_index::TagIndex;
 use crate::versions::Versions;
 use indexmap::IndexMap;
-use lru::LruCache;
 use txc_stamp::{Reach, Stamp};
 use txc_tags::Key;
 
@@ -24,13 +23,13 @@ pub(crate) struct Sweep {
 }
 
 // Takes the entry at a place out, and off those under its tags, if one stands there.
-fn take_out(cache: &mut LruCache<Place, Stored>, index: &mut TagIndex, place: &Place)
+fn take_out(cache: &mut Held, index: &mut TagIndex, place: &Place, hint: usize)
     requires stored { AreStored index.old.tables.items cache.old.entries }
     ensures stored { AreStored index.new.tables.items cache.new.entries }
     ensures cap { cache.new.cap ≡ cache.old.cap }
     ensures left { entries_of cache.new.entries ≡ elsewhere place.now (entries_of cache.old.entries) }
 {
-    if let Some(stored) = cache.pop(place) {
+    if let Some(stored) = cache.pop(place, hint) {
         index.unlist(&stored.tags, place);
     }
 }
@@ -44,13 +43,7 @@ impl Sweep {
     }
 
     // Takes the entry of a key out that has a reach, if that has ended.
-    fn at_reach(
-        &self,
-        cache: &mut LruCache<Place, Stored>,
-        index: &mut TagIndex,
-        key: &Key,
-        reach: Reach,
-    )
+    fn at_reach(&self, cache: &mut Held, index: &mut TagIndex, key: &Key, reach: Reach, hint: usize)
         requires stored { AreStored index.old.tables.items cache.old.entries }
         requires reach { HasReach (entries_of cache.old.entries) key.now reach }
         ensures stored { AreStored index.new.tables.items cache.new.entries }
@@ -60,18 +53,12 @@ impl Sweep {
         ensures gone { IsGone self.now.processed self.now.horizon (entries_of cache.new.entries) key.now reach }
     {
         if self.ends(reach) {
-            take_out(cache, index, &Place::new(key, reach.lo()));
+            take_out(cache, index, &Place::new(key, reach.lo()), hint);
         }
     }
 
     // The same at each of the reaches of a key.
-    fn at_key(
-        &self,
-        cache: &mut LruCache<Place, Stored>,
-        index: &mut TagIndex,
-        key: &Key,
-        versions: &Versions,
-    )
+    fn at_key(&self, cache: &mut Held, index: &mut TagIndex, key: &Key, versions: &Versions)
         requires stored { AreStored index.old.tables.items cache.old.entries }
         requires reaches { AllByRecursion (HasReach (entries_of cache.old.entries) key.now) versions.now }
         ensures stored { AreStored index.new.tables.items cache.new.entries }
@@ -82,14 +69,14 @@ impl Sweep {
             versions.now }
     {
         for i in 0..versions.len() {
-            self.at_reach(cache, index, key, versions.get(i));
+            self.at_reach(cache, index, key, versions.get(i), versions.hint(i));
         }
     }
 
     // The same at those of the key that is at an index.
     fn at_index(
         &self,
-        cache: &mut LruCache<Place, Stored>,
+        cache: &mut Held,
         index: &mut TagIndex,
         keys: &IndexMap<CallKey, Versions>,
         i: usize,
@@ -112,7 +99,7 @@ impl Sweep {
     /// Takes out what it drops, by the reaches of all keys.
     pub(crate) fn at_all(
         &self,
-        cache: &mut LruCache<Place, Stored>,
+        cache: &mut Held,
         index: &mut TagIndex,
         keys: &IndexMap<CallKey, Versions>,
     )

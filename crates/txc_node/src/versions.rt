@@ -11,6 +11,7 @@ ghost use Rattle.txc_node.specs.Sweeping.{ends_by, lasting};
 use crate::sweeping::Sweep;
 use std::alloc::{AllocError, Global};
 use std::marker::Model;
+use std::mem;
 use txc_stamp::{Reach, Stamp};
 
 /// Where a reach stands among those of its key.
@@ -18,14 +19,68 @@ use txc_stamp::{Reach, Stamp};
 pub struct Found {
     pub(crate) at: usize,
     pub(crate) reach: Reach,
+    // where its entry is looked for first
+    pub(crate) hint: usize,
+}
+
+/// The reach of an entry, and the number of that entry, by which it is looked for first.
+#[derive(Debug, Drop)]
+pub(crate) struct Version {
+    reach: Reach,
+    number: u32,
+}
+
+impl Model for Version {
+    ghost use Rattle.txc_stamp.specs.Interval.{Interval};
+
+    ghost Value = { Interval };
+
+    ghost view = { λ v. v.reach };
+}
+
+impl Version {
+    /// The reach of the entry of that number.
+    pub(crate) fn new(reach: Reach, number: usize) -> Version
+        ensures { result ≡ reach }
+    {
+        Version {
+            reach,
+            number: number as u32,
+        }
+    }
+
+    fn reach(&self) -> Reach
+        ensures { result ≡ self.now }
+    {
+        self.reach
+    }
+
+    fn number(&self) -> usize {
+        self.number as usize
+    }
+
+    fn set(&mut self, reach: Reach)
+        ensures { self.new ≡ reach }
+    {
+        self.reach = reach;
+    }
+
+    // Changes the reach where it begins alike.
+    fn set_in_stead(&mut self, reach: Reach)
+        ensures { self.new ≡ in_stead reach self.old }
+    {
+        if self.reach.lo() == reach.lo() {
+            self.reach = reach;
+        }
+    }
 }
 
 /// The reaches of the entries of one key, the most recently used first. There is at least one, and one alone
 /// takes no memory of its own.
 #[derive(Debug, Drop)]
 pub(crate) struct Versions {
-    first: Reach,
-    others: Vec<Reach>,
+    first: Version,
+    others: Vec<Version>,
 }
 
 impl Model for Versions {
@@ -52,54 +107,49 @@ fn lasts_longer(a: Reach, b: Reach, processed: Stamp) -> bool
     other < end || (other == end && b.lo() < a.lo())
 }
 
-// A reach in the stead of one that begins alike.
-fn in_stead(new: Reach, old: Reach) -> Reach
-    ensures { result ≡ in_stead new old }
-{
-    if old.lo() == new.lo() { new } else { old }
-}
-
 // Which of these begins at a stamp.
-fn begins_at(reaches: &[Reach], lo: Stamp) -> Option<usize>
-    ensures { result ≡ position (λ i. i.lo == lo) reaches.now }
+fn begins_at(versions: &[Version], lo: Stamp) -> Option<usize>
+    ensures { result ≡ position (λ i. i.lo == lo) versions.now }
 {
-    reaches.iter().position(|reach| reach.lo() == lo)
+    versions
+        .iter()
+        .position(|version| version.reach().lo() == lo)
 }
 
 // Changes each of these that begins where this one does.
-fn change_each(reaches: &mut [Reach], reach: Reach)
+fn change_each(reaches: &mut [Version], reach: Reach)
     ensures { reaches.new ≡ map (in_stead reach) reaches.old }
 {
     for other in reaches.iter_mut() {
-        *other = in_stead(reach, *other);
+        other.set_in_stead(reach);
     }
 }
 
 // The same in a list that may grow.
-fn change_all(reaches: &mut Vec<Reach>, reach: Reach)
+fn change_all(reaches: &mut Vec<Version>, reach: Reach)
     ensures { reaches.new.items ≡ map (in_stead reach) reaches.old.items }
 {
     change_each(reaches, reach);
 }
 
 // Keeps of these the ones that a sweep leaves.
-fn keep_lasting(reaches: &mut Vec<Reach>, sweep: &Sweep)
+fn keep_lasting(reaches: &mut Vec<Version>, sweep: &Sweep)
     ensures { reaches.new.items ≡ lasting sweep.now.processed sweep.now.horizon reaches.old.items }
 {
     reaches.retain(
-        |reach: &Reach| -> bool
-            ensures { result ≡ not (ends_by sweep.entry.now.processed sweep.entry.now.horizon reach.now) }
-        { !sweep.ends(*reach) },
+        |version: &Version| -> bool
+            ensures { result ≡ not (ends_by sweep.entry.now.processed sweep.entry.now.horizon version.now) }
+        { !sweep.ends(version.reach()) },
     );
 }
 
 impl Versions {
     /// The one reach of a key.
-    pub(crate) fn one(alloc: Global, reach: Reach) -> Versions
-        ensures { result ≡ reach ∷ [] }
+    pub(crate) fn one(alloc: Global, version: Version) -> Versions
+        ensures { result ≡ version ∷ [] }
     {
         Versions {
-            first: reach,
+            first: version,
             others: Vec::new(alloc),
         }
     }
@@ -117,9 +167,20 @@ impl Versions {
         ensures { slice_get self.now at ≡ Some result }
     {
         if at == 0 {
-            return self.first;
+            return self.first.reach();
         }
-        self.others[at - 1]
+        self.others[at - 1].reach()
+    }
+
+    /// Where the entry of the reach at a place is looked for first.
+    pub(crate) fn hint(&self, at: usize) -> usize {
+        if at == 0 {
+            return self.first.number();
+        }
+        match self.others.get(at - 1) {
+            None => 0,
+            Some(version) => version.number(),
+        }
     }
 
     // The better of the best so far and the reach at `i`.
@@ -171,7 +232,7 @@ impl Versions {
     pub(crate) fn position(&self, lo: Stamp) -> Option<usize>
         ensures { result ≡ position (λ i. i.lo == lo) self.now }
     {
-        if self.first.lo() == lo {
+        if self.first.reach().lo() == lo {
             return Some(0);
         }
         match begins_at(&self.others, lo) {
@@ -181,12 +242,13 @@ impl Versions {
     }
 
     /// Puts a reach first.
-    pub(crate) fn add(&mut self, reach: Reach) -> Result<(), AllocError>
-        ensures after { OnOk result (self.new ≡ reach ∷ self.old) }
+    pub(crate) fn add(&mut self, version: Version) -> Result<(), AllocError>
+        ensures after { OnOk result (self.new ≡ version ∷ self.old) }
         ensures unchanged { OnErr result (self.new ≡ self.old) }
     {
-        self.others.insert(0, self.first)?;
-        self.first = reach;
+        self.others.reserve(1)?;
+        let first = mem::replace(&mut self.first, version);
+        self.others.insert(0, first).unwrap();
         Ok(())
     }
 
@@ -196,17 +258,18 @@ impl Versions {
         ensures { self.new ≡ reach ∷ remove self.old at }
     {
         if at > 0 {
-            self.others.remove(at - 1);
-            self.others.insert(0, self.first).unwrap();
+            let version = self.others.remove(at - 1);
+            let first = mem::replace(&mut self.first, version);
+            self.others.insert(0, first).unwrap();
         }
-        self.first = reach;
+        self.first.set(reach);
     }
 
     /// Changes the reach that begins alike.
     pub(crate) fn set(&mut self, reach: Reach)
         ensures { self.new ≡ map (in_stead reach) self.old }
     {
-        self.first = in_stead(reach, self.first);
+        self.first.set_in_stead(reach);
         change_all(&mut self.others, reach);
     }
 
@@ -238,7 +301,7 @@ impl Versions {
         ensures none { IsFalse result → lasting sweep.now.processed sweep.now.horizon self.old ≡ [] }
     {
         keep_lasting(&mut self.others, sweep);
-        if !sweep.ends(self.first) {
+        if !sweep.ends(self.first.reach()) {
             return true;
         }
         self.drop_first()
