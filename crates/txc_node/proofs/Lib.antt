@@ -20,6 +20,8 @@ pub mod Listed
 pub mod Buckets
 pub mod Puts
 pub mod Pairs
+pub mod Logs
+pub mod Numbers
 pub mod Sweepings
 pub mod Lasting
 pub mod History
