@@ -88,6 +88,9 @@ pushed_log last log n h l i below =
           omega (arith, lens, num, l)
     ]) refl
 
+pub empty_log : (last log : List ℕ) → log ≡ [] → IsLog last log
+empty_log last log none i below = absurd (omega (arith, ap (λ (ns : List ℕ). length ns) none, below))
+
 -- ---- what a removal leaves
 
 pub removed_log : (last log : List ℕ) (n at : ℕ) → IsLog last log → IsLog (set last n at) log

@@ -185,8 +185,7 @@ impl Held {
     /// How many there are.
     pub(crate) fn len(&self) -> usize
         ensures len { result ≡ length self.now.entries }
-        ensures within { length self.now.entries ≤ self.now.cap }
-        ensures some { 0 < self.now.cap }
+        ensures valid { (length self.now.entries ≤ self.now.cap) × (0 < self.now.cap) }
     {
         self.len
     }
@@ -270,7 +269,7 @@ impl Held {
     ) -> Option<(Place, Stored)>
         requires apart { StandApart self.old.entries }
         requires there { IsSome (lookup (equal_places place) self.old.entries) }
-        ensures before { result ≡ displaced equal_places self.old place stored }
+        ensures old { result ≡ displaced equal_places self.old place stored }
         ensures entries { self.new ≡ lru_cache (put_entries equal_places self.old place stored) self.old.cap }
     {
         match find(&self.slots, &place, hint) {
@@ -321,16 +320,16 @@ impl Held {
     }
 
     /// A new entry first. Returns the last one where there is no room for it.
-    pub(crate) fn add(
+    pub(crate) fn push(
         &mut self,
         place: Place,
         stored: Stored,
     ) -> Result<Option<(Place, Stored)>, AllocFailed<(Place, Stored)>>
-        ensures last { IfOk result (λ r. r ≡ slice_get self.old.entries (self.old.cap - 1)) }
+        ensures old { IfOk result (λ r. r ≡ slice_get self.old.entries (self.old.cap - 1)) }
         ensures entries { OnOk result (self.new
             ≡ lru_cache ((place, stored) ∷ take (self.old.cap - 1) self.old.entries) self.old.cap) }
-        ensures unchanged { OnErr result (self.new ≡ self.old) }
-        ensures handed_back { IfErr result (λ e. e.value ≡ (place, stored)) }
+        ensures err { OnErr result (self.new ≡ self.old) }
+        ensures value_returned { IfErr result (λ e. e.value ≡ (place, stored)) }
     {
         if self.len < self.capacity.get() {
             self.add_first(place, stored)?;
@@ -354,7 +353,7 @@ impl Held {
     }
 
     /// Takes the least recently used entry out.
-    pub(crate) fn pop_last(&mut self) -> Option<(Place, Stored)>
+    pub(crate) fn pop_lru(&mut self) -> Option<(Place, Stored)>
         ensures value { result ≡ last_entry self.old.entries }
         ensures entries { self.new ≡ lru_cache (take (length self.old.entries - 1) self.old.entries) self.old.cap }
     {

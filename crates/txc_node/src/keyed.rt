@@ -209,7 +209,7 @@ impl KeyedEntries {
                 value: (place, stored),
             });
         };
-        match self.cache.add(place, stored) {
+        match self.cache.push(place, stored) {
             Err(failed) => {
                 let (place, stored) = failed.value;
                 self.keys.drop_first(&place.key);

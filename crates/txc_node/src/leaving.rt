@@ -36,6 +36,6 @@ impl Leaving {
             ((self.old ≡ []) × (self.new ≡ []))
             (λ e. self.old ≡ self.new ++ e ∷ []) }
     {
-        join_some(self.cache.pop_last())
+        join_some(self.cache.pop_lru())
     }
 }

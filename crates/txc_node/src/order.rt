@@ -95,7 +95,7 @@ fn push(last: &mut Vec<usize>, log: &mut Vec<usize>, number: usize)
     ensures front { (k : ℕ) → k ≤ length log.old.items → used last.old.items log.old.items k ≡ []
         → used last.new.items log.new.items k ≡ [] }
     ensures len { length log.old.items ≤ length log.new.items }
-    ensures capacity { vec_capacity log.new ≡ vec_capacity log.old }
+    ensures capacity { vec_capacity log.old ≤ vec_capacity log.new }
 {
     last[number] = log.len();
     log.push(number).unwrap();

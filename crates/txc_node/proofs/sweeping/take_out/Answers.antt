@@ -7,6 +7,9 @@ use Rattle.txc_node.specs.Sweeping.{AreStored}
 use Rattle.txc_node.proofs.Sweepings.{removed_elsewhere, taken_stored}
 use Rattle.txc_node.proofs.sweeping.take_out.Goals as goal
 
+pub pop-requires : goal.pop-requires
+pop-requires c = record { placed = c.requires.stored.placed; apart = c.requires.stored.apart }
+
 pub returns-in-Some-clause-stored : goal.returns-in-Some-clause-stored
 returns-in-Some-clause-stored c =
     let a = c.args in

@@ -45,9 +45,9 @@ invariant_of-self-in-Ok-None c =
     let ps = i.cache.entries in
     let absent = subst (λ (m : HeldEntries). find (λ o. same_place o (entry_of (a.place, a.stored))) m.entries ≡ None) (sym c.self.view_is) c.requires.absent in
     let put = absent_put i.cache a.place a.stored c.requires.placed absent c.self.invariant.placed in
-    let none : slice_get ps (i.cache.cap - 1) ≡ None = sym put.1 ∙ sym c.in-Ok-None.ensures.old ∙ c.in-Ok-None.field-0-is in
+    let none : slice_get ps (i.cache.cap - 1) ≡ None = sym c.in-Ok-None.ensures.old ∙ c.in-Ok-None.field-0-is in
     let new : c.push.new.self.entries ≡ (a.place, a.stored) ∷ ps =
-    ap (λ (m : LruCache Place Stored). m.entries) c.in-Ok-None.ensures.entries ∙ put.0 ∙ ap (λ (qs : List (Place × Stored)). (a.place, a.stored) ∷ qs) (take_past (i.cache.cap - 1) ps none) in
+    ap (λ (m : LruCache Place Stored). m.entries) c.in-Ok-None.ensures.entries ∙ ap (λ (qs : List (Place × Stored)). (a.place, a.stored) ∷ qs) (take_past (i.cache.cap - 1) ps none) in
     rw new (put_tied ps a.place a.stored i.keys.versions.entries c.add.new.self.versions.entries c.requires.placed absent c.self.invariant (rw c.in-Ok.is at c.add.ensures))
 
 pub invariant_of-self-in-Ok-Some : goal.invariant_of-self-in-Ok-Some
@@ -59,23 +59,25 @@ invariant_of-self-in-Ok-Some c =
     let p : Place × Stored = (a.place, a.stored) in
     let absent = subst (λ (m : HeldEntries). find (λ o. same_place o (entry_of (a.place, a.stored))) m.entries ≡ None) (sym c.self.view_is) c.requires.absent in
     let put = absent_put i.cache a.place a.stored c.requires.placed absent c.self.invariant.placed in
-    let last : slice_get ps (i.cache.cap - 1) ≡ Some x = sym put.1 ∙ sym c.in-Ok-Some.ensures.old ∙ c.in-Ok-Some.field-0-is in
-    let new : c.push.new.self.entries ≡ p ∷ take (i.cache.cap - 1) ps = ap (λ (m : LruCache Place Stored). m.entries) c.in-Ok-Some.ensures.entries ∙ put.0 in
+    let last : slice_get ps (i.cache.cap - 1) ≡ Some x = sym c.in-Ok-Some.ensures.old ∙ c.in-Ok-Some.field-0-is in
+    let new : c.push.new.self.entries ≡ p ∷ take (i.cache.cap - 1) ps = ap (λ (m : LruCache Place Stored). m.entries) c.in-Ok-Some.ensures.entries in
     let whole = put_tied ps a.place a.stored i.keys.versions.entries c.add.new.self.versions.entries c.requires.placed absent c.self.invariant (rw c.in-Ok.is at c.add.ensures) in
     let valid = c.len-len.ensures.valid in
-    rw new (pushed_out i.cache.cap ps p x c.add.new.self.versions.entries c.drop_last.new.self.versions.entries valid.2 (within_pairs ps i.cache.cap valid.1) last whole c.drop_last.ensures)
+    rw new (pushed_out i.cache.cap ps p x c.add.new.self.versions.entries c.drop_last.new.self.versions.entries valid.1 (within_pairs ps i.cache.cap valid.0) last whole c.drop_last.ensures)
 
 pub returns-in-Ok-None-clause-entries : goal.returns-in-Ok-None-clause-entries
 returns-in-Ok-None-clause-entries c =
     let a = c.args in
     let absent = subst (λ (m : HeldEntries). find (λ o. same_place o (entry_of (a.place, a.stored))) m.entries ≡ None) (sym c.self.view_is) c.requires.absent in
-    rw (← c.self.view_is) (ap (λ (m : LruCache Place Stored). entries_of m.entries) c.in-Ok-None.ensures.entries ∙ absent_entries c.self.inside.cache a.place a.stored c.requires.placed absent c.self.invariant.placed c.len-len.ensures.valid.2)
+    let put = absent_put c.self.inside.cache a.place a.stored c.requires.placed absent c.self.invariant.placed in
+    rw (← c.self.view_is) (ap (λ (m : LruCache Place Stored). entries_of m.entries) c.in-Ok-None.ensures.entries ∙ ap entries_of (sym put.0) ∙ absent_entries c.self.inside.cache a.place a.stored c.requires.placed absent c.self.invariant.placed c.len-len.ensures.valid.1)
 
 pub returns-in-Ok-Some-clause-entries : goal.returns-in-Ok-Some-clause-entries
 returns-in-Ok-Some-clause-entries c =
     let a = c.args in
     let absent = subst (λ (m : HeldEntries). find (λ o. same_place o (entry_of (a.place, a.stored))) m.entries ≡ None) (sym c.self.view_is) c.requires.absent in
-    rw (← c.self.view_is) (ap (λ (m : LruCache Place Stored). entries_of m.entries) c.in-Ok-Some.ensures.entries ∙ absent_entries c.self.inside.cache a.place a.stored c.requires.placed absent c.self.invariant.placed c.len-len.ensures.valid.2)
+    let put = absent_put c.self.inside.cache a.place a.stored c.requires.placed absent c.self.invariant.placed in
+    rw (← c.self.view_is) (ap (λ (m : LruCache Place Stored). entries_of m.entries) c.in-Ok-Some.ensures.entries ∙ ap entries_of (sym put.0) ∙ absent_entries c.self.inside.cache a.place a.stored c.requires.placed absent c.self.invariant.placed c.len-len.ensures.valid.1)
 
 pub returns-in-Ok-None-clause-evicted : goal.returns-in-Ok-None-clause-evicted
 returns-in-Ok-None-clause-evicted c =
@@ -83,7 +85,7 @@ returns-in-Ok-None-clause-evicted c =
     let i = c.self.inside in
     let absent = subst (λ (m : HeldEntries). find (λ o. same_place o (entry_of (a.place, a.stored))) m.entries ≡ None) (sym c.self.view_is) c.requires.absent in
     let put = absent_put i.cache a.place a.stored c.requires.placed absent c.self.invariant.placed in
-    evicted_is i.cache.cap i.cache.entries (entry_of (a.place, a.stored)) None c.len-len.ensures.valid.2 absent (sym c.in-Ok-None.field-0-is ∙ c.in-Ok-None.ensures.old ∙ put.1)
+    evicted_is i.cache.cap i.cache.entries (entry_of (a.place, a.stored)) None c.len-len.ensures.valid.1 absent (sym c.in-Ok-None.field-0-is ∙ c.in-Ok-None.ensures.old)
     ∙ ap (λ (m : HeldEntries). slice_get (with_first (entry_of (a.place, a.stored)) m.entries) m.capacity) c.self.view_is
 
 pub returns-in-Ok-Some-clause-evicted : goal.returns-in-Ok-Some-clause-evicted
@@ -93,5 +95,5 @@ returns-in-Ok-Some-clause-evicted c =
     let x : Place × Stored = (c.in-Ok-Some.place, c.in-Ok-Some.stored) in
     let absent = subst (λ (m : HeldEntries). find (λ o. same_place o (entry_of (a.place, a.stored))) m.entries ≡ None) (sym c.self.view_is) c.requires.absent in
     let put = absent_put i.cache a.place a.stored c.requires.placed absent c.self.invariant.placed in
-    ap (λ (e : Entry). Some e) c.join.ensures ∙ evicted_is i.cache.cap i.cache.entries (entry_of (a.place, a.stored)) (Some x) c.len-len.ensures.valid.2 absent (sym c.in-Ok-Some.field-0-is ∙ c.in-Ok-Some.ensures.old ∙ put.1)
+    ap (λ (e : Entry). Some e) c.join.ensures ∙ evicted_is i.cache.cap i.cache.entries (entry_of (a.place, a.stored)) (Some x) c.len-len.ensures.valid.1 absent (sym c.in-Ok-Some.field-0-is ∙ c.in-Ok-Some.ensures.old)
     ∙ ap (λ (m : HeldEntries). slice_get (with_first (entry_of (a.place, a.stored)) m.entries) m.capacity) c.self.view_is

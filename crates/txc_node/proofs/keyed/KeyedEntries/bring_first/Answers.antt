@@ -11,6 +11,9 @@ use Rattle.txc_node.specs.Indexed.{HeldEntries, entries_of, entries_under, reach
 use Rattle.txc_node.proofs.Fronts.{brought_entries, brought_tied}
 use Rattle.txc_node.proofs.keyed.KeyedEntries.bring_first.Goals as goal
 
+pub promote-requires : goal.promote-requires
+promote-requires c = record { placed = c.self.invariant.placed; apart = c.self.invariant.apart }
+
 pub bring_found-requires : goal.bring_found-requires
 bring_found-requires c =
     let a = c.args in
@@ -23,7 +26,7 @@ invariant_of-self c =
     let i = c.self.inside in
     let is = subst (λ (m : HeldEntries). slice_get (reaches_under a.key.now m.entries) a.found.at ≡ Some a.found.reach) (sym c.self.view_is) c.requires in
     let moved : c.promote.new.self.entries ≡ promoted (equal_places (place_at a.key.now a.found.reach.lo)) i.cache.entries =
-    ap (λ (m : LruCache Place Stored). m.entries) c.promote.ensures.entries ∙ ap (λ (q : Place). promoted (equal_places q) i.cache.entries) (c.new-place.ensures ∙ ap (place_at a.key.now) c.lo.ensures) in
+    ap (λ (m : LruCache Place Stored). m.entries) c.promote.ensures ∙ ap (λ (q : Place). promoted (equal_places q) i.cache.entries) (c.new-place.ensures ∙ ap (place_at a.key.now) c.lo.ensures) in
     rw moved (brought_tied i.cache.entries i.keys.versions.entries c.bring_found.new.keys.versions.entries a.key.now a.found.at a.found.reach c.self.invariant is c.bring_found.ensures)
 
 pub returns-clause-entries : goal.returns-clause-entries
@@ -31,5 +34,5 @@ returns-clause-entries c =
     let a = c.args in
     let i = c.self.inside in
     let moved : c.promote.new.self.entries ≡ promoted (equal_places (place_at a.key.now a.found.reach.lo)) i.cache.entries =
-    ap (λ (m : LruCache Place Stored). m.entries) c.promote.ensures.entries ∙ ap (λ (q : Place). promoted (equal_places q) i.cache.entries) (c.new-place.ensures ∙ ap (place_at a.key.now) c.lo.ensures) in
+    ap (λ (m : LruCache Place Stored). m.entries) c.promote.ensures ∙ ap (λ (q : Place). promoted (equal_places q) i.cache.entries) (c.new-place.ensures ∙ ap (place_at a.key.now) c.lo.ensures) in
     rw moved (subst (λ (m : HeldEntries). slice_get (reaches_under a.key.now m.entries) a.found.at ≡ Some a.found.reach → (e : Entry) → slice_get (entries_under a.key.now m.entries) a.found.at ≡ Some e → entries_of (promoted (equal_places (place_at a.key.now a.found.reach.lo)) i.cache.entries) ≡ e ∷ others e m.entries) c.self.view_is (λ is e at. brought_entries i.cache.entries a.key.now a.found.at a.found.reach e c.self.invariant.placed c.self.invariant.apart is at) c.requires)

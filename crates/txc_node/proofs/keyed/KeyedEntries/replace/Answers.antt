@@ -14,32 +14,35 @@ pub bring_first-requires : goal.bring_first-requires
 bring_first-requires c =
     let a = c.args in
     let i = c.self.inside in
-    let there = subst (λ (m : HeldEntries). StandsUnder (entry_of (a.place, a.stored)) m.entries a.at) (sym c.self.view_is) c.requires.there in
-    within_listed i.cache.entries i.keys.versions.entries (entry_of (a.place, a.stored)) a.at c.self.invariant.keys there
+    let there = subst (λ (m : HeldEntries). StandsUnder (entry_of (a.place, a.stored)) m.entries a.found.now.at) (sym c.self.view_is) c.requires.there in
+    within_listed i.cache.entries i.keys.versions.entries (entry_of (a.place, a.stored)) a.found.now.at c.self.invariant.keys there
 
-pub unwrap-requires : goal.unwrap-requires
-unwrap-requires c =
+pub replace-requires-clause-apart : goal.replace-requires-clause-apart
+replace-requires-clause-apart c = record { placed = c.self.invariant.placed; apart = c.self.invariant.apart }
+
+pub replace-requires-clause-there : goal.replace-requires-clause-there
+replace-requires-clause-there c =
     let a = c.args in
-    let there = subst (λ (m : HeldEntries). StandsUnder (entry_of (a.place, a.stored)) m.entries a.at) (sym c.self.view_is) c.requires.there in
-    c.push.ensures.succeeds (ap is_some (there_put c.self.inside.cache a.place a.stored a.at c.requires.placed there c.self.invariant.placed).3)
+    let there = subst (λ (m : HeldEntries). StandsUnder (entry_of (a.place, a.stored)) m.entries a.found.now.at) (sym c.self.view_is) c.requires.there in
+    (ap is_some (there_put c.self.inside.cache a.place a.stored a.found.now.at c.requires.placed there c.self.invariant.placed).3)
 
 pub invariant_of-self : goal.invariant_of-self
 invariant_of-self c =
     let a = c.args in
     let i = c.self.inside in
-    let there = subst (λ (m : HeldEntries). StandsUnder (entry_of (a.place, a.stored)) m.entries a.at) (sym c.self.view_is) c.requires.there in
-    let put = there_put i.cache a.place a.stored a.at c.requires.placed there c.self.invariant.placed in
-    let stands : c.push.new.self.entries ≡ (a.place, a.stored) ∷ remove_entry (equal_places a.place) i.cache.entries = ap (λ (m : LruCache Place Stored). m.entries) (rw c.unwrap.ensures at c.push.ensures.entries) ∙ put.1 in
-    rw stands (replaced_tied i.cache.entries a.place a.stored a.at i.keys.versions.entries c.bring_first.new.self.versions.entries c.requires.placed there c.self.invariant c.bring_first.ensures)
+    let there = subst (λ (m : HeldEntries). StandsUnder (entry_of (a.place, a.stored)) m.entries a.found.now.at) (sym c.self.view_is) c.requires.there in
+    let put = there_put i.cache a.place a.stored a.found.now.at c.requires.placed there c.self.invariant.placed in
+    let stands : c.replace.new.self.entries ≡ (a.place, a.stored) ∷ remove_entry (equal_places a.place) i.cache.entries = ap (λ (m : LruCache Place Stored). m.entries) (c.replace.ensures.entries) ∙ put.1 in
+    rw stands (replaced_tied i.cache.entries a.place a.stored a.found.now.at i.keys.versions.entries c.bring_first.new.self.versions.entries c.requires.placed there c.self.invariant c.bring_first.ensures)
 
 pub returns-clause-before : goal.returns-clause-before
 returns-clause-before c =
     let a = c.args in
-    let there = subst (λ (m : HeldEntries). StandsUnder (entry_of (a.place, a.stored)) m.entries a.at) (sym c.self.view_is) c.requires.there in
-    rw (← c.self.view_is) (c.join_some.ensures ∙ ap (option_map entry_of) (rw c.unwrap.ensures at c.push.ensures.old) ∙ there_before c.self.inside.cache a.place a.stored a.at c.requires.placed there c.self.invariant.placed)
+    let there = subst (λ (m : HeldEntries). StandsUnder (entry_of (a.place, a.stored)) m.entries a.found.now.at) (sym c.self.view_is) c.requires.there in
+    rw (← c.self.view_is) (c.join_some.ensures ∙ ap (option_map entry_of) (c.replace.ensures.old) ∙ there_before c.self.inside.cache a.place a.stored a.found.now.at c.requires.placed there c.self.invariant.placed)
 
 pub returns-clause-entries : goal.returns-clause-entries
 returns-clause-entries c =
     let a = c.args in
-    let there = subst (λ (m : HeldEntries). StandsUnder (entry_of (a.place, a.stored)) m.entries a.at) (sym c.self.view_is) c.requires.there in
-    rw (← c.self.view_is) (ap (λ (m : LruCache Place Stored). entries_of m.entries) (rw c.unwrap.ensures at c.push.ensures.entries) ∙ replaced_entries c.self.inside.cache a.place a.stored a.at c.requires.placed there c.self.invariant)
+    let there = subst (λ (m : HeldEntries). StandsUnder (entry_of (a.place, a.stored)) m.entries a.found.now.at) (sym c.self.view_is) c.requires.there in
+    rw (← c.self.view_is) (ap (λ (m : LruCache Place Stored). entries_of m.entries) (c.replace.ensures.entries) ∙ replaced_entries c.self.inside.cache a.place a.stored a.found.now.at c.requires.placed there c.self.invariant)

@@ -5,7 +5,10 @@ use Rattle.txc_node.specs.declared.entry.Entry.{Entry}
 use Rattle.txc_node.specs.Places.{place_of, equal_places}
 use Rattle.txc_node.specs.Indexed.{HeldEntries, stored_of}
 use Rattle.txc_node.proofs.Pairs.{stored_at}
-use Rattle.txc_node.proofs.keyed.KeyedEntries.get.Goals as goal
+use Rattle.txc_node.proofs.keyed.KeyedEntries.get_by.Goals as goal
+
+pub peek-requires : goal.peek-requires
+peek-requires c = record { placed = c.self.invariant.placed; apart = c.self.invariant.apart }
 
 pub returns : goal.returns
 returns c =
