@@ -3,8 +3,9 @@ use Rattle.std.proofs.Common.{◌≡◌, ℕ, ◌+◌, ◌-◌, ◌<◌, ◌≤�
 use borrow.Author.Tests.{eqb-true, eq-eqb, ne_eqb}
 use Rattle.std.proofs.lemmas.Bool.{false≢true}
 use Rattle.std.specs.List.{AllByRecursion}
-use Rattle.std.specs.Option.{option_map_or}
+use Rattle.std.specs.Option.{option_map, option_map_or}
 use Rattle.std.specs.Map.{lookup, lookup_entry, remove_entry, set_value}
+use Rattle.lru.specs.LruCache.{lru_cache, promoted, put_entries}
 use Rattle.txc_node.specs.declared.entry.Entry.{Entry}
 use Rattle.txc_node.specs.declared.place.Place.{Place}
 use Rattle.txc_node.specs.declared.stored.Stored.{Stored}
@@ -337,3 +338,67 @@ is_end slots front n k p once is len =
       last = ap (λ j. slice_get (pairs_at slots (front ++ n ∷ [])) j) at ∙ ap (λ (ps : List (Place × Stored)). slice_get ps (length xs)) whole ∙ get_end xs p;
       before = ap (λ j. take j (pairs_at slots (front ++ n ∷ []))) at ∙ ap (take (length xs)) whole ∙ take_front xs p ∙ sym (ap (pairs_at slots) (end_out front n once));
     }
+
+-- ---- what a test at a number says
+
+pub stands_from : (slots : Slots) (q : Place) (n : ℕ) → option_map_or (λ p. equal_places q p.0) (held_at slots n) false ≡ true → StandsAt slots q n
+stands_from slots q n h = (elim (held_at slots n) as (λ f. held_at slots n ≡ f → option_map_or (λ p. equal_places q p.0) f false ≡ true → StandsAt slots q n) [
+  | None ↦ λ t h. absurd (false≢true h)
+  | Some p ↦ λ t h. (p, t, h)
+]) refl h
+
+pub stands_not : (slots : Slots) (q : Place) (n : ℕ) → option_map_or (λ p. equal_places q p.0) (held_at slots n) false ≡ false → (p : Place × Stored) → held_at slots n ≡ Some p → equal_places q p.0 ≡ false
+stands_not slots q n h p is = sym (ap (λ f. option_map_or (λ (x : Place × Stored). equal_places q x.0) f false) is) ∙ h
+
+pub number_there : (slots : Slots) (ns : List ℕ) (q : Place) (n : ℕ) → StandApart (pairs_at slots ns) → OrdersAll slots ns → (s : StandsAt slots q n) → IsThere slots ns q n s.0
+number_there slots ns q n h o s = let at = o.all n (ap is_some s.1) in is_there slots ns q n at.0 s.0 h o.once at.1 s.1 s.2
+
+-- ---- the changes
+
+pub len_without : (n i : ℕ) (ns : List ℕ) → AreOnce ns → slice_get ns i ≡ Some n → suc (length (without n ns)) ≡ length ns
+len_without n i [] once at = let none : None ≡ Some n = at in cc
+len_without n i (m ∷ ns) once at = (elim i as (λ j. slice_get (m ∷ ns) j ≡ Some n → suc (length (without n (m ∷ ns))) ≡ suc (length ns)) [
+  | zero ↦ λ at.
+      let there : Some m ≡ Some n = at in
+      let same : m ≡ n = cc in
+      let left : without n (m ∷ ns) ≡ ns = ap (λ v. cond (not v) (m ∷ without n ns) (without n ns)) (eq-eqb m n same) ∙ all_other n ns (subst (λ k. AllByRecursion (λ x. eqb x k ≡ false) ns) same once.0) in
+      ap (λ (xs : List ℕ). suc (length xs)) left
+  | suc j ↦ λ at.
+      let other = later_other m n ns j once.0 at in
+      ap (λ v. suc (length (cond (not v) (m ∷ without n ns) (without n ns)))) other ∙ ap suc (len_without n j ns once.1 at)
+]) at
+
+-- a place that goes first
+pub first_pairs : (slots : Slots) (ns : List ℕ) (q : Place) (n : ℕ) (p : Place × Stored) → held_at slots n ≡ Some p → IsThere slots ns q n p → pairs_at slots (n ∷ without n ns) ≡ promoted (equal_places q) (pairs_at slots ns)
+first_pairs slots ns q n p is h =
+    pairs_one slots n (without n ns) (Some p) is ∙ ap (λ (ps : List (Place × Stored)). p ∷ ps) (sym h.removed)
+    ∙ sym (ap (λ f. option_map_or (λ (e : Place × Stored). e ∷ remove_entry (equal_places q) (pairs_at slots ns)) f (pairs_at slots ns)) h.entry)
+
+-- a pair that goes first in the stead of the one at its number
+pub put_pairs : (slots : Slots) (ns : List ℕ) (n : ℕ) (x : Place × Stored) → n < length slots → pairs_at (set slots n (Some x)) (n ∷ without n ns) ≡ x ∷ pairs_at slots (without n ns)
+put_pairs slots ns n x l =
+    pairs_one (set slots n (Some x)) n (without n ns) (Some x) (held_same slots n (Some x) l) ∙ ap (λ (ps : List (Place × Stored)). x ∷ ps) (pairs_same slots n (Some x) (without n ns) (others_out n ns))
+
+pub replaced_pairs : (slots : Slots) (ns : List ℕ) (n k : ℕ) (q : Place) (s : Stored) (p : Place × Stored) → n < length slots → equal_places q p.0 ≡ true → IsThere slots ns q n p
+    → pairs_at (set slots n (Some (q, s))) (n ∷ without n ns) ≡ put_entries equal_places (lru_cache (pairs_at slots ns) k) q s
+replaced_pairs slots ns n k q s p l same h =
+    let ps = pairs_at slots ns in
+    put_pairs slots ns n (q, s) l ∙ ap (λ (xs : List (Place × Stored)). (q, s) ∷ xs) (sym h.removed)
+    ∙ ap (λ (r : Place). (r, s) ∷ remove_entry (equal_places q) ps) (equal_places_is q p.0 same)
+    ∙ sym (ap (λ f. option_map_or (λ (e : Place × Stored). (e.0, s) ∷ remove_entry (equal_places q) ps) f ((q, s) ∷ take (k - 1) ps)) h.entry)
+
+-- a pair that is taken out
+pub removed_pairs : (slots : Slots) (ns : List ℕ) (q : Place) (n : ℕ) (p : Place × Stored) → IsThere slots ns q n p → pairs_at (set slots n None) (without n ns) ≡ remove_entry (equal_places q) (pairs_at slots ns)
+removed_pairs slots ns q n p h = pairs_same slots n None (without n ns) (others_out n ns) ∙ sym h.removed
+
+-- what is stored first
+pub first_stored : (slots : Slots) (ns : List ℕ) (n : ℕ) → AllByRecursion (λ m. is_some (held_at slots m) ≡ true) ns → slice_get ns 0 ≡ Some n → option_map (λ p. p.1) (held_at slots n) ≡ option_map (λ p. p.1) (slice_get (pairs_at slots ns) 0)
+first_stored slots [] n h at = let none : None ≡ Some n = at in cc
+first_stored slots (m ∷ ns) n h at =
+    let there : Some m ≡ Some n = at in
+    let same : m ≡ n = cc in
+    ap (λ (k : ℕ). option_map (λ (p : Place × Stored). p.1) (held_at slots k)) (sym same)
+    ∙ (elim (held_at slots m) as (λ f. is_some f ≡ true → option_map (λ (p : Place × Stored). p.1) f ≡ option_map (λ (p : Place × Stored). p.1) (slice_get (option_map_or (λ p. p ∷ pairs_at slots ns) f (pairs_at slots ns)) 0)) [
+      | None ↦ λ t. absurd (false≢true t)
+      | Some p ↦ λ t. refl
+    ]) h.0

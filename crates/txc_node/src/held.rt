@@ -190,20 +190,15 @@ impl Held {
         self.len
     }
 
-    /// The number that the next new entry gets.
-    pub(crate) fn next_number(&mut self) -> usize
-        ensures { self.new ≡ self.old }
-    {
+    /// Most often the number that the next new entry gets.
+    pub(crate) fn next_number(&self) -> usize {
         if self.len < self.capacity.get() {
             return match self.free.last() {
                 None => self.slots.len(),
                 Some(number) => *number,
             };
         }
-        match self.order.last() {
-            None => 0,
-            Some(number) => number,
-        }
+        self.order.last_hint()
     }
 
     /// What is stored at a place.

@@ -219,6 +219,14 @@ impl Order {
         last_counted(&self.last, &self.log)
     }
 
+    /// Most often the number that was used longest ago.
+    pub(crate) fn last_hint(&self) -> usize {
+        match self.log.get(next_counted(&self.last, &self.log, self.front)) {
+            None => 0,
+            Some(number) => *number,
+        }
+    }
+
     /// The number that was used longest ago.
     pub(crate) fn last(&mut self) -> Option<usize>
         ensures number { MatchOption result (self.old ≡ []) (EndsWith self.old) }

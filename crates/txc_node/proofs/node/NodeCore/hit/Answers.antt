@@ -18,7 +18,7 @@ returns c =
     let is = subst (λ (m : Cache). IsSearchOf m a.key.now s) (sym c.self.view_is) c.requires in
     let h = rw c.in-Some.is at is.stands in
     c.hit_of.ensures ∙ ap (option_map (shown_as i.processed)) (
-    (rw c.keyed.ensures at c.get.ensures)
+    (rw c.keyed.ensures at c.get_by.ensures)
     ∙ ap (λ (q : Place). option_map stored_of (find (λ (o : Entry). equal_places q (place_of o)) es)) (c.new-place.ensures ∙ ap (place_at a.key.now) c.lo.ensures)
     ∙ ap (option_map stored_of) (found_again a.key.now es c.in-Some.found.at h.0 c.in-Some.found.reach c.self.invariant.apart h.2 h.3)
     ) ∙ sym (ap (option_map (shown_of i.processed)) h.1) ∙ ap (λ (m : Cache). lookup_answer m a.key.now s.lo s.hi) c.self.view_is
