@@ -1,5 +1,5 @@
 -- The arguments of a process as words.
-use Rattle.std.specs.Prelude.{◌≡◌, ◌<◌, ⊤, ℕ, List}
+use Rattle.std.specs.Prelude.{◌≡◌, ◌<◌, ⊤, ℕ, List, ◌∷◌, codes}
 use Rattle.std.specs.Str.{IsUtf8}
 use Rattle.std.specs.Str.Lossy.{utf8_valid_len}
 use Rattle.txc_arguments.specs.declared.words.NotText.{NotText}
@@ -15,6 +15,10 @@ pub record HasNoText (fault : NotText) : Type 0 where
 abbrev pub IsNoText : WordsError → Type 0
 IsNoText (reasons.NotText fault) = HasNoText fault × (0 < fault.number)
 IsNoText reasons.Memory = ⊤
+
+-- the first of the words is the name of the program
+abbrev pub BeginWithName : List (List ℕ) → Type 0
+BeginWithName words = (others : List (List ℕ)) × (words ≡ codes "txcache" ∷ others)
 
 -- ---- only private functions need this
 

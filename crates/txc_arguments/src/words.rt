@@ -1,6 +1,6 @@
 //! The words of a command line, from the arguments of the process.
-ghost use Rattle.std.specs.Prelude.{◌≡◌, IfOk, IfErr, string_bytes};
-ghost use Rattle.txc_arguments.specs.WordsRead.{IsNoText, IsNotTextAt};
+ghost use Rattle.std.specs.Prelude.{◌≡◌, IfOk, IfErr, map, string_bytes};
+ghost use Rattle.txc_arguments.specs.WordsRead.{BeginWithName, IsNoText, IsNotTextAt};
 
 use std::alloc::{AllocError, AllocFailed, Global};
 use std::env::{Env, FillError};
@@ -104,6 +104,7 @@ fn word(number: usize, bytes: Vec<u8>) -> Result<String, NotText>
 /// The words of the process's command line. The first is `txcache`, by whatever name the program was called; where an
 /// argument is no text, the first such argument is named.
 pub fn read_words<R: Env>(rt: &R, alloc: Global) -> Result<Vec<String>, WordsError>
+    ensures named { IfOk result (λ words. BeginWithName (map string_bytes words.items)) }
     ensures refused { IfErr result IsNoText }
 {
     let mut words = Vec::new(alloc);

@@ -1,5 +1,5 @@
 -- The plain ports of a caller: a database, a pincushion and one node.
-use Rattle.std.specs.Prelude.{◌≡◌, ◌⊎◌, ◌≤◌, ℕ, Bool, true, false, List, Option, Some, None, Result, Ok, Err, [], ◌∷◌}
+use Rattle.std.specs.Prelude.{◌≡◌, ◌⊎◌, ◌≤◌, ℕ, Bool, true, false, List, Option, Some, None, Result, Ok, Err, [], ◌∷◌, map}
 use Rattle.txc_tags.specs.Keys.{Call}
 use Rattle.txc_rows.specs.declared.query.Query.{Query as RowQuery}
 use Rattle.txc_rows.specs.RowTags.{query_tag}
@@ -17,7 +17,8 @@ use Rattle.txc_db.specs.declared.answered.Answered.{Answered}
 use Rattle.txc_db.specs.declared.error.DbError.{DbError}
 use Rattle.txc_db.specs.declared.pinned.Pinned.{Pinned}
 use Rattle.txc_cushion.specs.declared.error.AddError.{AddError}
-use Rattle.txc_cushion.specs.Cushion.{CushionValue, after_add, after_give_back, after_retire, retired}
+use Rattle.txc_cushion.specs.Cushion.{CushionValue, after_add, after_fresh, after_give_back, after_retire, handed_out, retired}
+use Rattle.txc_cushion.specs.declared.pin.Pin.{Pin}
 use Rattle.txc_cushion.specs.Refusals.{IsAddRefused, IsFirstUnused}
 use Rattle.txc_app.specs.Eval.{Next}
 use Rattle.txc_shared.specs.Nodes.{NodeValue, after_call, seeing, insertion_of, IsLonger}
@@ -25,6 +26,7 @@ use Rattle.txc_shared.specs.Refusals.{IsLookupRefused, IsNodeLeft, IsStepRefused
 use Rattle.txc_shared.specs.declared.error.NodeError.{NodeError}
 use Rattle.txc_shared.specs.declared.insertion.Insertion.{Insertion}
 use Rattle.txc_shared.specs.declared.insertion.Insertion.TheVariants as insertions
+use Rattle.txc_ports.specs.declared.bounds.Bounds.{Bounds}
 use Rattle.txc_ports.specs.declared.kept.Kept.{Kept}
 use Rattle.txc_ports.specs.declared.kept.Kept.TheVariants as kepts
 use Rattle.txc_ports.specs.Asking.{IsFoundOver, IsOfRow, IsReplyTo}
@@ -76,6 +78,18 @@ CallerAddTransition pinned old new (Err e) = (new ≡ old) × IsAddRefused old.c
 abbrev pub AreGivenBack : List ℕ → CushionValue → CushionValue → Type 0
 AreGivenBack stamps old new =
     (new ≡ after_give_back old stamps) ⊎ ((new ≡ old) × ((stamp : ℕ) × IsFirstUnused old.entries stamps stamp))
+
+-- one user of each of the stamps is taken away, one after another
+abbrev pub AreEachGivenBack : List ℕ → CushionValue → CushionValue → Type 0
+AreEachGivenBack [] old new = new ≡ old
+AreEachGivenBack (stamp ∷ stamps) old new =
+    (after : CushionValue) × AreGivenBack (stamp ∷ []) old after × AreEachGivenBack stamps after new
+
+-- no pin is handed out for the bounds; or each was, and then a user of each is taken away
+abbrev pub IsNoneHandedOut : Bounds → CushionValue → CushionValue → Type 0
+IsNoneHandedOut bounds old new =
+    (new ≡ old) ⊎ AreEachGivenBack (map (λ (pin : Pin). pin.stamp) (handed_out old bounds.now bounds.staleness bounds.at_least))
+    (after_fresh old bounds.now bounds.staleness bounds.at_least) new
 
 -- there is one hold of the stamp fewer; or the database refused, and nothing has changed
 abbrev pub CallerUnpinTransition : {A : Type 0} → ℕ → CallerPorts → CallerPorts → Result A DbError → Type 0

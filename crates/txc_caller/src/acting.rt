@@ -3,11 +3,12 @@ ghost use Rattle.std.specs.Prelude.{◌≡◌, ◌++◌, ◌∷◌, [], List, Ok
 ghost use Rattle.txc_app.specs.Eval.{Next};
 ghost use Rattle.txc_tags.specs.Keys.{Call};
 ghost use Rattle.txc_ports.specs.declared.recorded.Recorded.{Recorded};
-ghost use Rattle.txc_txn.specs.Core.{open_call, IsIdle};
+ghost use Rattle.txc_txn.specs.Core.{left_pin, open_call, IsIdle};
 ghost use Rattle.txc_txn.specs.Kept.{TxnValue};
 ghost use Rattle.txc_shared.specs.Nodes.{NodeValue};
 ghost use Rattle.txc_caller.specs.Acting.{ask_of, HasCallerActed, HasRoomFor, HasRoomOnceTold, IsActOf, IsAwaitingCaller, IsComputedOnMiss, IsNotComputed};
 ghost use Rattle.txc_caller.specs.Looking.{is_miss, IsLookedUp};
+ghost use Rattle.txc_caller.specs.Ports.{IsLetGo};
 ghost use Rattle.txc_caller.specs.declared.step.Step.TheVariants.{Compute};
 ghost use Rattle.txc_caller.specs.Standing.{asks_next, IsKeptBack, IsStanding, KeepsOn};
 
@@ -148,6 +149,8 @@ pub(crate) fn end_call<A: App, C: Suppliable>(ports: &mut Ports<A>, txn: &mut Ru
     ensures idle { IsIdle txn.new.core }
     ensures recorded { txn.new.core.recorded ≡ txn.old.core.recorded }
     ensures keeps { KeepsOn txn.old txn.new }
+    ensures unpinned { IsLetGo (left_pin txn.old.core.pinning) ports.old.database ports.new.database }
+    ensures same { ports.new ≡ record ports.old { database = ports.new.database } }
     ensures events { ports.new.database.events ≡ ports.old.database.events }
 {
     let unpin = txn.give_up();

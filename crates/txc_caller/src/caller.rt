@@ -13,6 +13,7 @@ ghost use Rattle.txc_txn.specs.Core.{value_of, CoreHolds, IsCore, IsIdle};
 ghost use Rattle.txc_txn.specs.Kept.{IsTxn};
 ghost use Rattle.txc_node.specs.declared.node.TheConstants.{MAX_CAPACITY, MAX_RECENT};
 ghost use Rattle.txc_stream.specs.declared.row.TheConstants.{MAX_CAPACITY as MAX_ROW};
+ghost use Rattle.txc_caller.specs.Ports.{IsNoneHandedOut};
 ghost use Rattle.txc_caller.specs.Reading.{caller_of};
 
 use crate::caller_txn::CallerTxn;
@@ -70,6 +71,9 @@ fn begun<A: App>(
     ensures members { IfOk result (λ core. (value_of core).pins.members
         ≡ handed_out ports.old.cushion bounds.now bounds.staleness bounds.at_least) }
     ensures present { IfOk result (λ core. (value_of core).pins.has_present ≡ true) }
+    ensures handed_out { OnOk result (ports.new.cushion
+        ≡ after_fresh ports.old.cushion bounds.now bounds.staleness bounds.at_least) }
+    ensures given_back { OnErr result (IsNoneHandedOut bounds ports.old.cushion ports.new.cushion) }
     ensures same { ports.new ≡ record ports.old { cushion = ports.new.cushion } }
 {
     let Bounds {
@@ -129,8 +133,12 @@ impl<A: App, C: Suppliable> Caller<A, C> {
         ensures none { IfOk result (λ txn. txn.doing ≡ None) }
         ensures caller { IfOk result (λ txn. caller_of txn
             ≡ record self { ports = record self.ports { cushion = txn.ports.cushion } }) }
+        ensures handed_out { IfOk result (λ txn. txn.ports.cushion
+            ≡ after_fresh self.ports.cushion bounds.now bounds.staleness bounds.at_least) }
         ensures handed_back { IfErr result (λ caller. caller
             ≡ record self { ports = record self.ports { cushion = caller.ports.cushion } }) }
+        ensures given_back { IfErr result (λ caller.
+            IsNoneHandedOut bounds self.ports.cushion caller.ports.cushion) }
     {
         let Caller {
             ports,

@@ -145,6 +145,8 @@ impl<A: App, C: Suppliable> CallerTxn<A, C> {
         ensures answer { IsTrue result ↔ IsSome self.old.doing }
         ensures none { self.new.doing ≡ None }
         ensures recorded { self.new.txn.core.recorded ≡ self.old.txn.core.recorded }
+        ensures unpinned { IsLetGo (left_pin self.old.txn.core.pinning) self.old.ports.database self.new.ports.database }
+        ensures ports { self.new.ports ≡ record self.old.ports { database = self.new.ports.database } }
         ensures keeps { KeepsReading self.old self.new }
         ensures meant { IsTxn A.next self.new.txn }
     {

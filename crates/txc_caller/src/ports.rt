@@ -1,7 +1,7 @@
 //! The plain ports of a caller, for one thread.
-ghost use Rattle.std.specs.Prelude.{◌≡◌, ◌≤◌, [], All, IfErr, IfOk, IfSome, OnErr, OnOk, length};
+ghost use Rattle.std.specs.Prelude.{◌≡◌, ◌≤◌, [], All, IfErr, IfOk, IfSome, OnErr, OnOk, length, map};
 ghost use Rattle.txc_app.specs.Claims.{IsTrueIn};
-ghost use Rattle.txc_cushion.specs.Cushion.{after_retire, handed_out, retired};
+ghost use Rattle.txc_cushion.specs.Cushion.{after_fresh, after_retire, handed_out, retired};
 ghost use Rattle.txc_db.specs.Calls.{IsCommitRefused, IsLeft, IsQueryRefused, IsVacuumRefused};
 ghost use Rattle.txc_db.specs.DatabaseValue.{after_commit, after_vacuum, newest, next_horizon};
 ghost use Rattle.txc_db.specs.History.{state_at, IsAllowed};
@@ -11,7 +11,7 @@ ghost use Rattle.txc_db.specs.Seen.{FrontValue};
 ghost use Rattle.txc_node.specs.declared.node.TheConstants.{MAX_CAPACITY, MAX_RECENT};
 ghost use Rattle.txc_stream.specs.declared.row.TheConstants.{MAX_CAPACITY as MAX_ROW};
 ghost use Rattle.txc_shared.specs.Nodes.{start_of};
-ghost use Rattle.txc_caller.specs.Ports.{CallerAddTransition, CallerFindTransition, CallerInsertTransition, CallerPinTransition, CallerSweepTransition, CallerUnpinTransition, AreLetGo, AreGivenBack, HasRetired, IsLetGo};
+ghost use Rattle.txc_caller.specs.Ports.{CallerAddTransition, CallerFindTransition, CallerInsertTransition, CallerPinTransition, CallerSweepTransition, CallerUnpinTransition, AreEachGivenBack, AreLetGo, AreGivenBack, HasRetired, IsLetGo};
 
 use crate::nodes;
 use std::alloc::{AllocError, Global};
@@ -284,6 +284,8 @@ impl<A: App> Ports<A> {
         staleness: u64,
         at_least: Stamp,
     ) -> Result<Pins, AllocError>
+        ensures after { OnOk result (self.new.cushion ≡ after_fresh self.old.cushion now staleness at_least) }
+        ensures unchanged { OnErr result (self.new ≡ self.old) }
         ensures pins { IfOk result (λ pins. pins.pins.items ≡ handed_out self.old.cushion now staleness at_least) }
         ensures allowed { IfOk result (λ pins. All (λ pin. IsAllowed pins.front.history pin.stamp now staleness at_least) pins.pins.items) }
         ensures row { IfOk result (λ pins. pins.front.events ≡ self.old.database.events) }
@@ -305,6 +307,7 @@ impl<A: App> Ports<A> {
 
     /// Gives one user of each of the pins back. It takes no memory.
     pub(crate) fn give_back_each(&mut self, pins: &Pins)
+        ensures after { AreEachGivenBack (map (λ pin. pin.stamp) pins.now.pins.items) self.old.cushion self.new.cushion }
         ensures same { self.new ≡ record self.old { cushion = self.new.cushion } }
     {
         for pin in &pins.pins {
