@@ -221,7 +221,10 @@ impl Order {
 
     /// Most often the number that was used longest ago.
     pub(crate) fn last_hint(&self) -> usize {
-        match self.log.get(next_counted(&self.last, &self.log, self.front)) {
+        match self
+            .log
+            .get(next_counted(&self.last, &self.log, self.front))
+        {
             None => 0,
             Some(number) => *number,
         }
