@@ -8,5 +8,6 @@ pub mod Runs
 pub mod Idle
 pub mod Standing
 pub mod Called
+pub mod Replied
 pub mod Sessions
 pub mod StillFresh

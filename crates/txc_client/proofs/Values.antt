@@ -1,5 +1,6 @@
 -- What a transaction's answers and its pins say, one by one.
 use Rattle.std.proofs.Common.{◌≡◌, ℕ, List, [], ◌∷◌, ◌++◌, length, get_or, Some, Result, Ok, Err, IfOk, All, refl, subst, arith, length-append}
+use Rattle.std.specs.Prelude.{OnErr}
 use Rattle.std.proofs.lemmas.List.{get_or_push}
 use Rattle.txc_tags.specs.Keys.{Call}
 use Rattle.txc_db.specs.History.{History, moment_at, state_at, IsAllowed}
@@ -32,6 +33,16 @@ pub value_of_result : (next : Next) (c : CoreValue) (old : List Recorded) (k : C
     → c.recorded ≡ recorded_after old (Ended result) (Some k) → IfOk result (IsValueAtMembers next c k)
 value_of_result next c old k (Ok bytes) all is = value_of_last next c old k bytes all is
 value_of_result next c old k (Err error) all is = tt
+
+-- what was recorded, by how the call ended
+pub recorded_of_value : (old new : List Recorded) (k : Call) (result : Result (List ℕ) TxnError) → new ≡ recorded_after old (Ended result) (Some k)
+    → IfOk result (λ value. new ≡ old ++ record { key = k; value = value } ∷ [])
+recorded_of_value old new k (Ok bytes) is = is
+recorded_of_value old new k (Err error) is = tt
+
+pub recorded_of_refusal : (old new : List Recorded) (k : Call) (result : Result (List ℕ) TxnError) → new ≡ recorded_after old (Ended result) (Some k) → OnErr result (new ≡ old)
+recorded_of_refusal old new k (Ok bytes) is = tt
+recorded_of_refusal old new k (Err error) is = is
 
 -- pins that a history shows, and that the bounds allow, are fresh
 pub fresh_pins : (L : History) (bounds : Bounds) (pins : List Pin) → All (λ p. moment_at L p.stamp ≡ Some p.moment) pins

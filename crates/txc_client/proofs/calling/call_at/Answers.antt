@@ -1,7 +1,10 @@
-use Rattle.std.proofs.Common.{◌≡◌, length, refl, sym, ap, subst, ◌∙◌}
+use Rattle.std.proofs.Common.{◌≡◌, length, Some, Err, refl, sym, ap, subst, ◌∙◌}
+use Rattle.txc_call.specs.declared.error.CallError.TheVariants.{NoFunction}
 use Rattle.txc_db.specs.Seen.{FrontValue}
 use Rattle.txc_ports.specs.Asking.{TurnAddsSuch, MayAsk}
-use Rattle.txc_txn.specs.Core.{CoreValue, IsTurn}
+use Rattle.txc_ports.specs.declared.error.TxnError.TheVariants as errors
+use Rattle.txc_ports.specs.declared.turn.Turn.TheVariants.{Ended}
+use Rattle.txc_txn.specs.Core.{CoreValue, recorded_after, IsTurn}
 use Rattle.txc_ports.specs.Turns.{IsAsk}
 use Rattle.txc_txn.proofs.Offered.{adds_next, adds_none, is_answered, is_right, may_ask}
 use Rattle.txc_client.specs.Run.{HasBegun}
@@ -102,3 +105,33 @@ returns-in-Ended-clause-run g c =
     let after : RoTxnValue = record { txn = c.loop-turn.txn; passes = c.loop-turn.ports } in
     run_ended g.A.App.next g.J.Naming.database_history g.J.Naming.node_histories began c.args.key after c.in-Ended.result
     (subst (λ (t : PortTurn). HasRunTo g.A.App.next g.J.Naming.database_history g.J.Naming.node_histories began c.args.key after t) c.in-Ended.is c.loop-turn.invariant.run)
+
+pub start-turn-requires : goal.start-turn-requires
+start-turn-requires g c = c.requires.idle
+
+pub returns-in-Ended-clause-passes : goal.returns-in-Ended-clause-passes
+returns-in-Ended-clause-passes g c = c.loop-turn.invariant.passes
+
+pub returns-in-Ended-clause-idle : goal.returns-in-Ended-clause-idle
+returns-in-Ended-clause-idle g c = subst (IsTurn c.loop-turn.txn.core) c.in-Ended.is c.loop-turn.invariant.turn
+
+pub returns-in-Ended-clause-recorded : goal.returns-in-Ended-clause-recorded
+returns-in-Ended-clause-recorded g c =
+    c.loop-turn.invariant.recorded ∙ ap (λ (t : PortTurn). recorded_after c.args.txn.now.core.recorded t (Some c.args.key)) c.in-Ended.is
+
+pub returns-in-Ended-clause-settings : goal.returns-in-Ended-clause-settings
+returns-in-Ended-clause-settings g c = c.loop-turn.invariant.settings
+
+pub returns-in-Ended-clause-events : goal.returns-in-Ended-clause-events
+returns-in-Ended-clause-events g c = c.loop-turn.invariant.events
+
+pub returns-in-Ended-clause-longer : goal.returns-in-Ended-clause-longer
+returns-in-Ended-clause-longer g c = c.loop-turn.invariant.longer
+
+pub returns-in-Ended-clause-functions : goal.returns-in-Ended-clause-functions
+returns-in-Ended-clause-functions g c = c.loop-turn.invariant.functions
+
+pub returns-in-Ended-clause-missing : goal.returns-in-Ended-clause-missing
+returns-in-Ended-clause-missing g c = λ members none.
+    let both : Ended c.in-Ended.result ≡ Ended (Err (errors.Call (NoFunction c.args.key.function))) = sym c.in-Ended.is ∙ c.loop-turn.invariant.missing members none in
+    cc both
