@@ -6,7 +6,7 @@ use borrow.Author.Tests.{le-leb, lt-leb}
 use Rattle.std.specs.declared.cmp.Ordering.{Ordering}
 use Rattle.std.specs.declared.cmp.Ordering.TheVariants.{Less, Equal, Greater}
 use Rattle.std.specs.Ordering.{is_lt, nat_cmp, ordering_then}
-use Rattle.std.specs.List.{AllByRecursion}
+use Rattle.std.specs.List.{AllByRecursion, Contains}
 use Rattle.std.specs.List.Sorted.{IsPermutation, IsSorted}
 use Rattle.std.proofs.lemmas.List.Sorted.{IsPermutation-map}
 use Rattle.sqlite_trees.proofs.ListLemmas.{map-map, filter-map, filter_same, filter_all, all_of, all_weaker, all-map}
@@ -38,10 +38,13 @@ death_again n m None = refl
 death_again n m (Some d) = let same : (d - m) - n ≡ d - (n + m) = omega arith in ap (λ (k : ℕ). Some k) same
 
 counted_again : (n m : ℕ) (v : Versioned) → counted_from n (counted_from m v) ≡ counted_from (n + m) v
-counted_again n m v = let same : (v.born - m) - n ≡ v.born - (n + m) = omega arith in rw (same, death_again n m v.died) refl
+counted_again n m v =
+    let same : (v.born - m) - n ≡ v.born - (n + m) = omega arith in
+    ap (λ (b : ℕ). let w : Versioned = record { row = v.row; born = b; died = death_from n (death_from m v.died) } in w) same
+    ∙ ap (λ (d : Option ℕ). let w : Versioned = record { row = v.row; born = v.born - (n + m); died = d } in w) (death_again n m v.died)
 
 pub counted_twice : (n m : ℕ) (vs : List Versioned) → map (counted_from n) (map (counted_from m) vs) ≡ map (counted_from (n + m)) vs
-counted_twice n m vs = map-map (counted_from n) (counted_from m) vs ∙ mapped_alike _ _ vs (counted_again n m)
+counted_twice n m vs = map-map (counted_from n) (counted_from m) vs ∙ mapped_alike (λ v. counted_from n (counted_from m v)) (counted_from (n + m)) vs (counted_again n m)
 
 -- ---- a query
 
@@ -107,20 +110,22 @@ module _ (first : ℕ) where
     end_counted false (Some d) = refl
 
     closed_counted : (t i : ℕ) (v : Versioned) → closed t i s (counted_from first v) ≡ counted_from first (closed t i (s + first) v)
-    closed_counted t i v = rw (end_counted (is_at t i v.row) v.died) refl
+    closed_counted t i v = ap (λ (d : Option ℕ). let w : Versioned = record { row = v.row; born = v.born - first; died = d } in w) (end_counted (is_at t i v.row) v.died)
 
     removed_counted : (t i : ℕ) (vs : List Versioned) → removed t i s (map (counted_from first) vs) ≡ map (counted_from first) (removed t i (s + first) vs)
     removed_counted t i vs =
         map-map (closed t i s) (counted_from first) vs
-        ∙ (mapped_alike _ _ vs (closed_counted t i) ∙ sym (map-map (counted_from first) (closed t i (s + first)) vs))
+        ∙ (mapped_alike (λ v. closed t i s (counted_from first v)) (λ v. counted_from first (closed t i (s + first) v)) vs (closed_counted t i) ∙ sym (map-map (counted_from first) (closed t i (s + first)) vs))
 
     new_counted : (row : RowValue) → counted_from first (record { row = row; born = s + first; died = None }) ≡ record { row = row; born = s; died = None }
-    new_counted row = let same : (s + first) - first ≡ s = omega arith in rw same refl
+    new_counted row = let same : (s + first) - first ≡ s = omega arith in ap (λ (b : ℕ). let w : Versioned = record { row = row; born = b; died = None } in w) same
 
     put_counted : (row : RowValue) (vs : List Versioned) → put row s (map (counted_from first) vs) ≡ map (counted_from first) (put row (s + first) vs)
     put_counted row vs =
+        let ends = removed row.table row.id (s + first) vs in
         let new : Versioned = record { row = row; born = s + first; died = None } in
-        rw (map-append (counted_from first) (removed row.table row.id (s + first) vs) (new ∷ []), new_counted row, removed_counted row.table row.id vs) refl
+        ap (λ (xs : List Versioned). xs ++ record { row = row; born = s; died = None } ∷ []) (removed_counted row.table row.id vs)
+        ∙ (ap (λ (v : Versioned). map (counted_from first) ends ++ v ∷ []) (sym (new_counted row)) ∙ sym (map-append (counted_from first) ends (new ∷ [])))
 
     pub net_counted : (net : List Change) (vs : List Versioned) → after_net s net (map (counted_from first) vs) ≡ map (counted_from first) (after_net (s + first) net vs)
     net_counted [] vs = refl
@@ -132,53 +137,60 @@ module _ (first : ℕ) where
   death_low (Some d) most low k e = let same : d - first ≡ k = cc in let high = low d refl in omega arith
 
   storable_counted : (v : Versioned) → IsStorable v → IsStorable (counted_from first v)
-  storable_counted v is = record { row = is.row; born = let b = is.born in omega arith; died = death_low v.died MOST_STAMP is.died }
+  storable_counted v is = record { row = is.row; born = let b = is.born in let low : v.born - first ≤ MOST_STAMP = omega arith in low; died = death_low v.died MOST_STAMP is.died }
 
   pub each_counted : (vs : List Versioned) → AllByRecursion IsStorable vs → AllByRecursion IsStorable (map (counted_from first) vs)
   each_counted vs all = all-map IsStorable (counted_from first) vs (all_weaker IsStorable _ storable_counted vs all)
 
 -- ---- the versions of the newest state, as those of a first one
 
+-- it was born up to the stamp, and has not died
+record IsLeft (n : ℕ) (v : Versioned) : Type 0 where
+  pub born : v.born ≤ n
+  pub lives : v.died ≡ None
+
 module _ (n : ℕ) where
   seen_alike : (b : ℕ) (d : Option ℕ) → b ≤ n → d ≡ None → nat_le (b - n) 1 && lives_at 1 (death_from n d) ≡ nat_le b n && lives_at n d
   seen_alike b None low e = rw (le-leb (b - n) 1 (omega arith), le-leb b n low) refl
   seen_alike b (Some d) low e = absurd (let f = e in cc)
 
-  -- nothing has happened after the stamp, and none has died
-  record IsLeft (v : Versioned) : Type 0 where
-    pub born : v.born ≤ n
-    pub lives : v.died ≡ None
-
-  left_each : (vs : List Versioned) → AreUpTo n vs → AllByRecursion (λ v. is_current v ≡ true) vs → AllByRecursion IsLeft vs
+  left_each : (vs : List Versioned) → AreUpTo n vs → AllByRecursion (λ v. is_current v ≡ true) vs → AllByRecursion (IsLeft n) vs
   left_each [] upto lives = tt
   left_each (v ∷ vs) upto lives = (record { born = upto.0.0; lives = none_is v.died lives.0 }, left_each vs upto.1 lives.1)
 
-  visible_counted : (vs : List Versioned) → AllByRecursion IsLeft vs → visible_rows 1 (map (counted_from n) vs) ≡ visible_rows n vs
+  visible_counted : (vs : List Versioned) → AllByRecursion (IsLeft n) vs → visible_rows 1 (map (counted_from n) vs) ≡ visible_rows n vs
   visible_counted vs left =
-      let same : filter (λ v. is_visible 1 (counted_from n v)) vs ≡ filter (is_visible n) vs = filter_same _ (is_visible n) vs (all_weaker IsLeft _ (λ v is. seen_alike v.born v.died is.born is.lives) vs left) in
+      let same : filter (λ v. is_visible 1 (counted_from n v)) vs ≡ filter (is_visible n) vs = filter_same _ (is_visible n) vs (all_weaker (IsLeft n) _ (λ v is. seen_alike v.born v.died is.born is.lives) vs left) in
       ap (map row_of) (filter-map (is_visible 1) (counted_from n) vs)
       ∙ (map-map row_of (counted_from n) (filter (λ v. is_visible 1 (counted_from n v)) vs) ∙ ap (map row_of) same)
 
-  no_death : (v : Versioned) → IsLeft v → death_from n v.died ≡ None
+  no_death : (v : Versioned) → IsLeft n v → death_from n v.died ≡ None
   no_death v is = ap (death_from n) is.lives
 
-  upto_counted : (v : Versioned) → IsLeft v → ((counted_from n v).born ≤ 1) × ((d : ℕ) → (counted_from n v).died ≡ Some d → d ≤ 1)
-  upto_counted v is = (let b = is.born in omega arith, λ d e. absurd (let none = no_death v is in cc))
+  upto_counted : (v : Versioned) → IsLeft n v → ((counted_from n v).born ≤ 1) × ((d : ℕ) → (counted_from n v).died ≡ Some d → d ≤ 1)
+  upto_counted v is =
+      let b = is.born in
+      let low : v.born - n ≤ 1 = omega arith in
+      (low, λ d e. absurd (let none = no_death v is in let f : death_from n v.died ≡ Some d = e in cc))
 
-  clean_counted : (v : Versioned) → IsLeft v → not (has_died_by 1 (counted_from n v)) ≡ true
+  clean_counted : (v : Versioned) → IsLeft n v → not (has_died_by 1 (counted_from n v)) ≡ true
   clean_counted v is = rw (no_death v is) refl
 
-  version_counted : (v : Versioned) → IsLeft v → IsVersion v → IsVersion (counted_from n v)
-  version_counted v is h = record { row = h.row; born = let b = h.born in omega arith; life = λ d e. absurd (let none = no_death v is in cc) }
+  version_counted : (v : Versioned) → IsLeft n v → IsVersion v → IsVersion (counted_from n v)
+  version_counted v is h = record {
+    row = h.row;
+    born = let b = h.born in let low : v.born - n ≤ MOST_STAMP = omega arith in low;
+    life = λ d e. absurd (let none = no_death v is in let f : death_from n v.died ≡ Some d = e in cc);
+  }
 
-  versions_counted : (vs : List Versioned) → AllByRecursion IsLeft vs → AllByRecursion IsVersion vs → AllByRecursion IsVersion (map (counted_from n) vs)
+  versions_counted : (vs : List Versioned) → AllByRecursion (IsLeft n) vs → AllByRecursion IsVersion vs → AllByRecursion IsVersion (map (counted_from n) vs)
   versions_counted [] left each = tt
   versions_counted (v ∷ vs) left each = (version_counted v left.0 each.0, versions_counted vs left.1 each.1)
 
   follows_counted : (v w : Versioned) → v.died ≡ None → Follows v w → Follows (counted_from n v) (counted_from n w)
   follows_counted v w lives h = record { died = λ a b. let it = h.died a b in absurd (let e = it.1 in let none = lives in cc) }
 
-  apart_counted : (vs : List Versioned) → AllByRecursion IsLeft vs → Pairwise Follows vs → Pairwise Follows (map (counted_from n) vs)
+  apart_counted : (vs : List Versioned) → AllByRecursion (IsLeft n) vs → Pairwise Follows vs → Pairwise Follows (map (counted_from n) vs)
   apart_counted [] left pairs = tt
   apart_counted (v ∷ vs) left pairs = (all-map (Follows (counted_from n v)) (counted_from n) vs (all_weaker (Follows v) _ (λ w h. follows_counted v w left.0.lives h) vs pairs.0), apart_counted vs left.1 pairs.1)
 
@@ -186,14 +198,16 @@ module _ (n : ℕ) where
     abbrev counted : List Versioned
     counted = map (counted_from n) vs
 
-    left : AllByRecursion IsLeft vs
+    left : AllByRecursion (IsLeft n) vs
     left = left_each vs keeps.says.upto (subst (AllByRecursion (λ v. is_current v ≡ true)) (no_later n vs keeps.says.upto ∙ keeps.clean) (passing is_current vs))
 
     says_first : VersionsSay 1 counted (others 1)
-    says_first = let it = keeps.says.kept n (omega arith) (omega arith) in rw same (record {
-      each = λ r h. rw (visible_counted vs left) (it.each r h);
-      only = λ r h. it.only r (rw (visible_counted vs left) at h);
-    })
+    says_first =
+        let it = keeps.says.kept n (omega arith) (omega arith) in
+        subst (λ (s : State). VersionsSay 1 counted s) (sym same) (record {
+          each = λ r h. subst (λ (rows : List RowValue). Contains rows r) (sym (visible_counted vs left)) (it.each r h);
+          only = λ r h. it.only r (subst (λ (rows : List RowValue). Contains rows r) (visible_counted vs left) h);
+        })
 
     pub first_kept : KeepsStates others 1 1 counted
     first_kept = record {
@@ -201,11 +215,42 @@ module _ (n : ℕ) where
       each = λ t low high. let now : t ≡ 1 = omega arith in rw (now, same) (keeps.each n (omega arith) (omega arith));
       says = record {
         kept = λ t low high. let now : t ≡ 1 = omega arith in rw now says_first;
-        upto = all-map _ (counted_from n) vs (all_weaker IsLeft _ upto_counted vs left);
+        upto = all-map (λ v. (v.born ≤ 1) × ((d : ℕ) → v.died ≡ Some d → d ≤ 1)) (counted_from n) vs (all_weaker (IsLeft n) _ upto_counted vs left);
       };
-      clean = filter_all _ counted (all-map _ (counted_from n) vs (all_weaker IsLeft _ clean_counted vs left));
+      clean = filter_all (λ v. not (has_died_by 1 v)) counted (all-map (λ v. not (has_died_by 1 v) ≡ true) (counted_from n) vs (all_weaker (IsLeft n) _ clean_counted vs left));
       versions = record { each = versions_counted vs left keeps.versions.each; apart = apart_counted vs left keeps.versions.apart };
     }
 
 pub keeps_begun : (n : ℕ) (vs : List Versioned) → KeepsBegun n vs (map (counted_from n) (purged n vs))
 keeps_begun n vs states others horizon keeps same = first_kept n states others (purged n vs) same (keeps_purged n vs states horizon n keeps keeps.kept (omega arith))
+
+-- ---- the calls of a store whose stamps are counted so
+
+module _ (first : ℕ) (store old : List Versioned) (view : map (counted_from first) store ≡ old) where
+  pub found_counted : (q : Query) (found counted : List Versioned) → counted ≡ map (counted_from first) found → Finds q store found → Finds q old counted
+  found_counted q found counted is finds =
+      subst (λ (vs : List Versioned). Finds q vs counted) view (subst (λ (xs : List Versioned). Finds q (map (counted_from first) store) xs) (sym is) (finds_counted first q store found finds))
+
+  pub newest_counted : (q : Query) (found counted : List Versioned) → counted ≡ map (counted_from first) found → Finds q (current store) found → Finds q (current old) counted
+  newest_counted q found counted is finds =
+      let same : map (counted_from first) (current store) ≡ current old = sym (current_counted first store) ∙ ap current view in
+      subst (λ (vs : List Versioned). Finds q vs counted) same (subst (λ (xs : List Versioned). Finds q (map (counted_from first) (current store)) xs) (sym is) (finds_counted first q (current store) found finds))
+
+  pub as_many : (q : Query) → length (filter (suits q) old) ≡ length (filter (suits q) store)
+  as_many q = sym (ap (λ (vs : List Versioned). length (filter (suits q) vs)) view) ∙ many_counted first q store
+
+  module _ (stamp stored : ℕ) (same : stored ≡ stamp + first) (new : List Versioned) where
+    pub written_counted : (net : List Change) → new ≡ after_net stored net store → map (counted_from first) new ≡ after_net stamp net old
+    written_counted net is =
+        ap (map (counted_from first)) is
+        ∙ (ap (λ (s : ℕ). map (counted_from first) (after_net s net store)) same ∙ (sym (net_counted first stamp net store) ∙ ap (after_net stamp net) view))
+
+    pub dropped_counted : new ≡ purged stored store → map (counted_from first) new ≡ purged stamp old
+    dropped_counted is =
+        ap (map (counted_from first)) is
+        ∙ (ap (λ (s : ℕ). map (counted_from first) (purged s store)) same ∙ (sym (purged_counted first stamp store) ∙ ap (purged stamp) view))
+
+    pub begun_counted : new ≡ purged stored store → map (counted_from stored) new ≡ map (counted_from stamp) (purged stamp old)
+    begun_counted is =
+        ap (λ (s : ℕ). map (counted_from s) new) same
+        ∙ (sym (counted_twice stamp first new) ∙ ap (map (counted_from stamp)) (dropped_counted is))

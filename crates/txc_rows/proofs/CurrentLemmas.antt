@@ -56,7 +56,7 @@ module _ (q : Query) (from : ℕ) where
 
 -- ---- the newest state
 
-newest_answers : (q : Query) (vs found : List Versioned) → Finds q (current vs) found → AnswersNewest q vs found
+pub newest_answers : (q : Query) (vs found : List Versioned) → Finds q (current vs) found → AnswersNewest q vs found
 newest_answers q vs found finds states horizon newest keeps =
     let left = keeps_purged newest vs states horizon newest keeps keeps.kept (omega arith) in
     found_answers q (purged newest vs) found (subst (λ xs. Finds q xs found) (no_later newest vs keeps.says.upto) finds) states newest newest left

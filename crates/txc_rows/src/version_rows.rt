@@ -142,7 +142,8 @@ impl VersionRows {
         ensures refused { IfErr result IsStoreRefusal }
     {
         let stored = stored_stamp(stamp, self.first)?;
-        self.store.write(net, stored)
+        self.store.write(net, stored)?;
+        Ok(())
     }
 
     /// Deletes the versions that died at the horizon or before: no stamp from the horizon on has shown them.
@@ -153,7 +154,8 @@ impl VersionRows {
         ensures refused { IfErr result IsStoreRefusal }
     {
         let stored = stored_stamp(horizon, self.first)?;
-        self.store.purge(stored)
+        self.store.purge(stored)?;
+        Ok(())
     }
 
     /// Deletes the versions that died at the stamp or before, and counts stamps from it on: it is 0 from now on, as is
