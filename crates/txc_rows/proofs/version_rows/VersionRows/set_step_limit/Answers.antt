@@ -1,6 +1,5 @@
 use Rattle.std.proofs.Common.{◌∙◌, ap, map}
 use Rattle.txc_rows.specs.Versions.{counted_from}
-use Rattle.txc_rows.proofs.CountedLemmas.{keeps_begun}
 use Rattle.txc_rows.proofs.version_rows.VersionRows.set_step_limit.Goals as goal
 
 pub returns : goal.returns
