@@ -2,6 +2,7 @@
 ghost use Rattle.std.specs.Prelude.{◌≡◌, ◌≢◌, ◌⊎◌, ◌≤◌, [], true, false, length, max, Err, None, OnOk, OnErr, IfErr, IfSome};
 ghost use Rattle.txc_db.specs.DatabaseValue.{newest, newest_state, after_vacuum};
 ghost use Rattle.txc_carry.specs.Carried.{IsCarryRefused, IsNotTooMany};
+ghost use Rattle.txc_carry.specs.Renewed.{HasBegun};
 ghost use Rattle.txc_carry.specs.Rooms.{IsHistoryFor, room_for};
 
 use crate::carrying::carry;
@@ -9,6 +10,17 @@ use crate::error::CarryError;
 use std::alloc::Global;
 use txc_db::{DbCore, DbError};
 use txc_stream::{MAX_CAPACITY, Pen};
+
+/// Begins a new history in place, where none is to be stored. Where that is refused, nothing has changed.
+fn begins_in_place(alloc: Global, core: &mut DbCore, room: Option<usize>) -> bool
+    ensures begun { result ≡ true → HasBegun room core.old core.new }
+    ensures unchanged { result ≡ false → core.new ≡ core.old }
+{
+    match room {
+        Some(_) => false,
+        None => core.begin_anew(alloc, Pen::new()).is_ok(),
+    }
+}
 
 /// Makes the database one whose newest state is as it was: with a row for `room` events; or, where no number is given,
 /// with a history that is not stored.
@@ -29,7 +41,7 @@ pub fn renew(alloc: Global, core: &mut DbCore, room: Option<usize>) -> Result<()
     ensures taken { room ≡ None → result ≢ Err (CarryError.New DbError.Broken) }
     ensures one { core.old.holds ≡ [] → IfErr result IsNotTooMany }
 {
-    if room.is_none() && core.begin_anew(alloc, Pen::new()).is_ok() {
+    if begins_in_place(alloc, core, room) {
         return Ok(());
     }
     match carry(alloc, core, room) {
