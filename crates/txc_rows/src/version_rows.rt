@@ -1,6 +1,6 @@
 //! The store of row versions, by the stamps of one history after another.
 
-ghost use Rattle.std.specs.Prelude.{◌≡◌, ℕ, ◌+◌, ◌≤◌, [], Err, IfOk, IfErr, OnOk, OnErr, length, filter, map};
+ghost use Rattle.std.specs.Prelude.{◌≡◌, ℕ, ◌+◌, ◌<◌, ◌≤◌, [], Err, IfOk, IfErr, OnOk, OnErr, length, filter, map};
 ghost use Rattle.txc_rows.specs.Versions.{suits, current, purged, after_net, counted_from};
 ghost use Rattle.txc_rows.specs.States.{State};
 ghost use Rattle.txc_rows.specs.Found.{Finds};
@@ -105,13 +105,9 @@ impl VersionRows {
         ensures refused { result ≡ Err StoreError.TooManyRows
             → MAX_MATCHING < length (filter (suits query.now) self.old) }
     {
-        match self.store.matching(query) {
-            Ok(mut found) => {
-                count_all(&mut found, self.first);
-                Ok(found)
-            }
-            Err(refusal) => Err(refusal),
-        }
+        let mut found = self.store.matching(query)?;
+        count_all(&mut found, self.first);
+        Ok(found)
     }
 
     /// The versions that match and have not died, by id and then by birth: those that the newest state has. It is refused
@@ -124,13 +120,9 @@ impl VersionRows {
         ensures refused { result ≡ Err StoreError.TooManyRows
             → MAX_MATCHING < length (filter (suits query.now) self.old) }
     {
-        match self.store.current(query) {
-            Ok(mut found) => {
-                count_all(&mut found, self.first);
-                Ok(found)
-            }
-            Err(refusal) => Err(refusal),
-        }
+        let mut found = self.store.current(query)?;
+        count_all(&mut found, self.first);
+        Ok(found)
     }
 
     /// Writes the net changes of the commit with this stamp, all or none. A change ends the current version

@@ -12,9 +12,9 @@ returns-in_err-purge-clause-unchanged c =
 
 pub returns-clause-after : goal.returns-clause-after
 returns-clause-after c =
-    rw c.number.ensures.answer (begun_counted c.self.inside.first c.self.inside.store c.args.self.now c.self.view_is c.args.stamp c.in_ok-stored.stored c.in_ok-stored.ensures c.purge.new.self c.in_ok-purge.ensures.after)
+    rw c.number-self-inside.ensures.answer (begun_counted c.self.inside.first c.self.inside.store c.args.self.now c.self.view_is c.args.stamp c.in_ok-stored.stored c.in_ok-stored.ensures c.purge.new.self c.in_ok-purge.ensures.after)
 
 pub returns-clause-keeps : goal.returns-clause-keeps
 returns-clause-keeps c =
     let after = begun_counted c.self.inside.first c.self.inside.store c.args.self.now c.self.view_is c.args.stamp c.in_ok-stored.stored c.in_ok-stored.ensures c.purge.new.self c.in_ok-purge.ensures.after in
-    rw c.number.ensures.answer (subst (KeepsBegun c.args.stamp c.args.self.now) (sym after) (keeps_begun c.args.stamp c.args.self.now))
+    rw c.number-self-inside.ensures.answer (subst (KeepsBegun c.args.stamp c.args.self.now) (sym after) (keeps_begun c.args.stamp c.args.self.now))
