@@ -4,7 +4,7 @@ use Rattle.txc_db.specs.Facts.{EventValue}
 use Rattle.txc_db.specs.History.{History, state_after_event, state_event}
 use Rattle.txc_db.specs.DatabaseValue.{newest_state}
 use Rattle.txc_db.proofs.Begun.{beside_begun, begun_state, begun_sound}
-use Rattle.txc_db.proofs.beginning.DbCore.begin_anew.Goals as goal
+use Rattle.txc_db.proofs.db_core.DbCore.begin_anew.Goals as goal
 
 pub begun-requires-clause-tagged : goal.begun-requires-clause-tagged
 begun-requires-clause-tagged c =
