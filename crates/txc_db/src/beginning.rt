@@ -14,7 +14,7 @@ use txc_stamp::Stamp;
 use txc_stream::{Draft, Drafts, Pen};
 
 /// The event that makes the newest state of a database.
-struct AsState;
+pub(crate) struct AsState;
 
 impl Drafts<DbCore, Event> for AsState {
     ghost use Rattle.txc_db.specs.DatabaseValue.{newest_state};
