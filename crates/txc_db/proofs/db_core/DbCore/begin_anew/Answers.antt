@@ -35,4 +35,12 @@ pub returns-clause-state : goal.returns-clause-state
 returns-clause-state c =
     let begins = c.begun.ensures.history ∙ ap (λ (e : EventValue). let l : History = e ∷ [] in l) c.of-draft.ensures in
     let sound : IsSound c.args.self.now = subst IsSound c.self.view_is (c.self.invariant.1 c.if-self.false) in
-    begun_state c.states_are_maps.ensures.puts c.net_changes_are_differences.ensures.leads c.args.self.now _ begins sound
+    let new : DatabaseValue = record {
+      events = c.begun.result.events;
+      history = c.begun.result.history;
+      versions = c.begin_at.new.self;
+      horizon = c.after-self-inside.result;
+      holds = c.clear.new.self.items;
+      broken = c.self.inside.broken;
+    } in
+    begun_state c.states_are_maps.ensures.puts c.net_changes_are_differences.ensures.leads c.args.self.now new begins sound
