@@ -1,11 +1,12 @@
 #!/usr/bin/env python3
-"""Times a carry of a database's newest state beside a vacuum of the same database, by the processor time of the process.
+"""Times a carry of a database's newest state, in place and into a new store, beside a vacuum of the same database, by the processor
+time of the process.
 
 usage: bench/carry.py [ROWS..]      by default 1000 16000 100000 rows, of which half are replaced before the vacuum
 
 The program's source lies in bench/carry_bench; it is compiled with no proof. Each figure is the least of ROUNDS, each with
-a new database. That is vacuumed before it is carried over, so that a carry's own vacuum drops nothing. The last column has the events
-that the carry took.
+a new database. That is vacuumed before it is renewed and carried over, so that neither's own vacuum drops anything. The last column has
+the events that the carry took.
 """
 
 import os
@@ -61,21 +62,22 @@ class Bench:
 
 
 def measure(bench, rows):
-    vacuums, carries, events = [], [], 0
+    vacuums, renewals, carries, events = [], [], [], 0
     for _ in range(ROUNDS):
         bench.run(f"rows {rows}")
         bench.run(f"replace {rows // 2}")
         vacuums.append(bench.run("vacuum 1")[0])
+        renewals.append(bench.run("renew 1")[0])
         spent, events = bench.run("carry 1")
         carries.append(spent)
-    print(f"| {rows:,} | {min(vacuums):.2f} ms | {min(carries):.0f} ms | {events:,} |", flush=True)
+    print(f"| {rows:,} | {min(vacuums):.2f} ms | {min(renewals):.3f} ms | {min(carries):.0f} ms | {events:,} |", flush=True)
 
 
 def main():
     sizes = [int(it.replace(",", "")) for it in sys.argv[1:]] or [1000, 16000, 100000]
     with tempfile.TemporaryDirectory() as room:
         bench = Bench(built(room))
-        print("| Rows | A vacuum, where half as many have died | A carry after it | Its events |\n|---|---|---|---|")
+        print("| Rows | A vacuum, where half as many have died | A carry in place after it | One into a new store | Its events |\n|---|---|---|---|---|")
         for rows in sizes:
             measure(bench, rows)
         bench.close()

@@ -45,7 +45,7 @@ LOOPS = {
     },
     "txc_store_tests": {
         "call/functions.rt": ["for lines in 0..=FUNCTIONS.lines().count() {", "for (boxes, wanted) in BOXES {"],
-        "db/carries.rt": ["for case in cases {"],
+        "db/carries.rt": ["for case in cases {", "for case in &RENEWALS {"],
         "db/db/alone.rt": ["for script in scripts {"],
         "db/db/locked.rt": ["for script in scripts {"],
         "db/pins/shared.rt": ["for script in scripts {"],

@@ -78,10 +78,6 @@ pub filter_none : {X : Type 0} (p : X → Bool) (xs : List X) → AllByRecursion
 filter_none p [] h = refl
 filter_none p (x ∷ xs) h = rw h.0 (filter_none p xs h.1)
 
-pub filter_every : {X : Type 0} (p : X → Bool) (xs : List X) → AllByRecursion (λ x. p x ≡ true) xs → filter p xs ≡ xs
-filter_every p [] h = refl
-filter_every p (x ∷ xs) h = rw h.0 (ap (λ ys. x ∷ ys) (filter_every p xs h.1))
-
 every_in : {X : Type 0} (p : X → Bool) (xs : List X) → ((x : X) → IsIn x xs → p x ≡ true) → filter p xs ≡ xs
 every_in p [] h = refl
 every_in p (x ∷ xs) h = rw (h x (inl refl)) (ap (λ ys. x ∷ ys) (every_in p xs (λ y k. h y (inr k))))

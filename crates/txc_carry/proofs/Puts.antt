@@ -1,12 +1,11 @@
--- What puts of rows behind all others make of a state, and of the versions.
-use Rattle.std.proofs.Common.{◌≡◌, ◌≢◌, ℕ, suc, List, [], ◌∷◌, ◌++◌, filter, map, length, Bool, true, false, cond, None, ◌&&◌, ◌||◌, ◌==◌, nat_lt, refl, sym, ap, subst, ◌∙◌, arith, append_assoc, append-nil, add-one}
-use Rattle.std.proofs.lemmas.Bool.Decides.{nat_tests}
+-- What puts of rows make of the newest state, and of the versions.
+use Rattle.std.proofs.Common.{◌≡◌, ◌≢◌, ℕ, suc, List, [], ◌∷◌, ◌++◌, filter, map, length, Bool, true, false, cond, None, refl, sym, ap, ◌∙◌, add-one}
 use Rattle.std.proofs.lemmas.List.{length_push}
 use Rattle.std.specs.List.{AllByRecursion}
 use Rattle.txc_rows.specs.declared.query.Change.{Change}
 use Rattle.txc_rows.specs.declared.query.Change.TheVariants.{Put, Remove}
 use Rattle.txc_rows.specs.declared.version.Versioned.{Versioned}
-use Rattle.txc_rows.specs.States.{RowValue, State, IsState, row_before, after_change, after_changes}
+use Rattle.txc_rows.specs.States.{RowValue, State, after_changes}
 use Rattle.txc_rows.specs.Net.{same_key, key_before, changes_state, placed, settled, net_changes, IsNet}
 use Rattle.txc_rows.specs.Versions.{removed, after_write, after_net}
 use Rattle.txc_rows.specs.Laws.{ChangedIsState, NetLeads}
@@ -14,34 +13,6 @@ use Rattle.txc_db.specs.Facts.{EventValue}
 use Rattle.txc_db.specs.History.{History, state_at, commit_event}
 use Rattle.txc_db.specs.DatabaseValue.{DatabaseValue, newest, newest_state, newest_net, where_some, after_event_of, after_commit}
 use Rattle.txc_db.proofs.Histories.{is_state, state_pushed}
-use Rattle.txc_carry.proofs.Places.{filter_every, filter_none, all_to}
-
--- ---- the state
-
-not_back : (a b c d : ℕ) → nat_lt a c || ((a == c) && nat_lt b d) ≡ true → nat_lt c a || ((c == a) && nat_lt d b) ≡ false
-not_back a b c d h = grind (arith, nat_tests)
-
-at_row : {X : Type 0} (P : X → Type 0) (xs : List X) (x : X) (ys : List X) → AllByRecursion P (xs ++ x ∷ ys) → P x
-at_row P [] x ys a = a.0
-at_row P (z ∷ zs) x ys a = at_row P zs x ys a.1
-
-all_low : (s : State) (row : RowValue) (rows : List RowValue) → IsState (s ++ row ∷ rows) → AllByRecursion (λ x. row_before x row ≡ true) s
-all_low [] row rows h = tt
-all_low (x ∷ xs) row rows h = (at_row (λ y. row_before x y ≡ true) xs row rows h.0, all_low xs row rows h.1)
-
-put_last : (s : State) (row : RowValue) (rows : List RowValue) → IsState (s ++ row ∷ rows) → after_change (Put row) s ≡ s ++ row ∷ []
-put_last s row rows h =
-    let low = all_low s row rows h in
-    let every : filter (λ r. row_before r row) s ≡ s = filter_every (λ r. row_before r row) s low in
-    let none : filter (λ r. row_before row r) s ≡ [] = filter_none (λ r. row_before row r) s (all_to (λ x. row_before x row ≡ true) (λ x. row_before row x ≡ false) s (λ x k. not_back x.table x.id row.table row.id k) low) in
-    ap (λ xs. xs ++ row ∷ filter (λ r. row_before row r) s) every ∙ ap (λ ys. s ++ row ∷ ys) none
-
-pub puts_append : (rows : List RowValue) (s : State) → IsState (s ++ rows) → after_changes (map Put rows) s ≡ s ++ rows
-puts_append [] s h = sym (append-nil s)
-puts_append (row ∷ rows) s h =
-    let one = put_last s row rows h in
-    let whole : IsState ((s ++ row ∷ []) ++ rows) = subst IsState (sym (append_assoc s (row ∷ []) rows)) h in
-    ap (λ (x : State). after_changes (map Put rows) x) one ∙ (puts_append rows (s ++ row ∷ []) whole ∙ append_assoc s (row ∷ []) rows)
 
 -- ---- a commit
 

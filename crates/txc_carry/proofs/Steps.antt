@@ -8,7 +8,7 @@ use Rattle.txc_tags.specs.Tags.{sets_match}
 use Rattle.txc_tags.specs.declared.tag.TheConstants.{LAST_TABLE}
 use Rattle.txc_tags.specs.declared.text.number.TheConstants.{LAST_NUMBER}
 use Rattle.txc_tags.proofs.Lists.{bool_cases, IsIn}
-use Rattle.txc_rows.proofs.Offered.{is_in, filter_state}
+use Rattle.txc_rows.proofs.Offered.{is_in, filter_state, puts_append}
 use Rattle.txc_rows.specs.declared.query.Query.{Query}
 use Rattle.txc_rows.specs.declared.query.Query.TheVariants.{ById, Range}
 use Rattle.txc_rows.specs.declared.query.Change.{Change}
@@ -30,7 +30,7 @@ use Rattle.txc_carry.specs.Carried.{stands_before, HasCarried, IsReadRefusal, Is
 use Rattle.txc_carry.specs.Rooms.{IsHistoryFor, room_for}
 use Rattle.txc_carry.proofs.Places.{all_to, length_filter, range_joined, before_more, range_before, none_before, table_done, version_done, all_before, none_matching, range_in, one_matching}
 use Rattle.txc_carry.proofs.Refusing.{none_matches}
-use Rattle.txc_carry.proofs.Puts.{puts_append, after_either, commit_state, Puts, all_net, all_written, all_puts}
+use Rattle.txc_carry.proofs.Puts.{after_either, commit_state, Puts, all_net, all_written, all_puts}
 
 -- ---- histories
 

@@ -1,3 +1,4 @@
 pub mod Carried
+pub mod Renewed
 pub mod Rooms
 pub mod Worked

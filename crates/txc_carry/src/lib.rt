@@ -5,8 +5,10 @@ mod beginning;
 mod carrying;
 mod error;
 mod laws;
+mod renewing;
 
 pub use beginning::new_database;
 pub use carrying::carry;
 pub use error::CarryError;
 pub use laws::worked_order;
+pub use renewing::renew;

@@ -4,6 +4,7 @@ pub mod HeldStamps
 pub mod Settling
 pub mod NetRows
 pub mod Sound
+pub mod Begun
 pub mod Tagged
 pub mod Committed
 pub mod Refusing

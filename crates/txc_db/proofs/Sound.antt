@@ -22,7 +22,7 @@ kept_on agreed d e s = agreed (state_at d.history) (state_at (d.history ++ e ∷
 
 -- ---- a new database
 
-tagged_empty : AreTagged []
+pub tagged_empty : AreTagged []
 tagged_empty zero v is = absurd (cc is)
 tagged_empty (suc t) v is = absurd (cc is)
 

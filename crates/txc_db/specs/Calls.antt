@@ -60,6 +60,12 @@ IsVacuumRefused d Broken = d.broken ≡ true
 IsVacuumRefused d (Store cause) = (d.broken ≡ false) × (next_horizon d ≢ d.horizon) × IsOwn cause
 IsVacuumRefused d e = ⊥
 
+-- of a new beginning: broken; and then the store refused by itself
+abbrev pub IsBeginRefused : DatabaseValue → DbError → Type 0
+IsBeginRefused d Broken = d.broken ≡ true
+IsBeginRefused d (Store cause) = (d.broken ≡ false) × IsOwn cause
+IsBeginRefused d e = ⊥
+
 -- ---- pins
 
 -- a pin can be appended: the database is whole, the stamp asked for is at most the next one, and there is

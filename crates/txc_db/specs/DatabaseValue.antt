@@ -1,5 +1,5 @@
 -- What callers see of a database.
-use Rattle.std.specs.Prelude.{ℕ, ◌+◌, ◌≤◌, Bool, List, [], ◌∷◌, ◌++◌, length, min, ◌==◌, if◌then◌else◌}
+use Rattle.std.specs.Prelude.{ℕ, ◌+◌, ◌≤◌, Bool, List, [], ◌∷◌, ◌++◌, length, min, ◌==◌, if◌then◌else◌, map, false}
 use Rattle.std.specs.List.{AllByRecursion, list_any}
 use Rattle.txc_stream.specs.Names.{Name}
 use Rattle.txc_rows.specs.declared.version.Versioned.{Versioned}
@@ -7,10 +7,10 @@ use Rattle.txc_rows.specs.States.{State}
 use Rattle.txc_rows.specs.Keeping.{KeepsStates}
 use Rattle.txc_rows.specs.declared.query.Change.{Change}
 use Rattle.txc_rows.specs.Net.{net_changes}
-use Rattle.txc_rows.specs.Versions.{after_net, purged}
+use Rattle.txc_rows.specs.Versions.{after_net, purged, counted_from}
 use Rattle.txc_db.specs.Facts.{EventValue}
 use Rattle.txc_db.specs.Seen.{FrontValue}
-use Rattle.txc_db.specs.History.{History, state_at, AreTagged, pin_event, commit_event}
+use Rattle.txc_db.specs.History.{History, state_at, AreTagged, pin_event, commit_event, state_event}
 
 -- what the history of its events is called; the history; the versions that are kept; the horizon; the stamps
 -- that are held, one for each hold, the earliest hold first; and whether another record was found in its
@@ -113,3 +113,15 @@ where_some (c ∷ cs) d other = other
 abbrev pub after_commit : DatabaseValue → List Change → DatabaseValue
 after_commit d changes = where_some (newest_net d changes) d
     (after_event_of d (commit_event (newest_state d) changes) (newest_net d changes))
+
+-- another history begins, with the newest state as its one event. Of the versions those are left that have not died: each
+-- is older than the event. Nothing is held.
+abbrev pub begun_anew : DatabaseValue → Name → DatabaseValue
+begun_anew d events = record {
+  events = events;
+  history = state_event (newest_state d) ∷ [];
+  versions = map (counted_from (newest d)) (purged (newest d) d.versions);
+  horizon = 1;
+  holds = [];
+  broken = false;
+}

@@ -1,8 +1,9 @@
 -- A history: its states, the tags of its events, and its pins.
-use Rattle.std.specs.Prelude.{ℕ, zero, suc, ◌≡◌, ◌+◌, ◌≤◌, List, [], take, fold, Option, Some, None, slice_get}
+use Rattle.std.specs.Prelude.{ℕ, zero, suc, ◌≡◌, ◌+◌, ◌≤◌, List, [], map, take, fold, Option, Some, None, slice_get}
 use Rattle.txc_tags.specs.declared.tag.Tag.{Tag}
 use Rattle.txc_rows.specs.States.{State, after_changes}
 use Rattle.txc_rows.specs.declared.query.Change.{Change}
+use Rattle.txc_rows.specs.declared.query.Change.TheVariants.{Put}
 use Rattle.txc_rows.specs.Net.{net_changes}
 use Rattle.txc_rows.specs.RowTags.{tags_between}
 use Rattle.txc_db.specs.Facts.{Fact, commit, pin, EventValue}
@@ -60,6 +61,10 @@ pin_event moment = record { fact = pin moment; tags = [] }
 abbrev pub commit_event : State → List Change → EventValue
 commit_event s changes =
     record { fact = commit (net_changes s changes); tags = tags_between s (after_changes changes s) }
+
+-- the commit that makes the state of no rows: it puts each row
+abbrev pub state_event : State → EventValue
+state_event s = commit_event [] (map Put s)
 
 -- a transaction with these bounds may be serialised at this stamp: it was pinned, at a moment that is no
 -- more than `staleness` before `now`, and it isn't below the stamp asked for

@@ -41,7 +41,7 @@ pub struct DbCore {
     pub(crate) told: History,
     pub(crate) horizon: Stamp,
     // The earliest hold first, so that they rise.
-    holds: Vec<Stamp>,
+    pub(crate) holds: Vec<Stamp>,
     pub(crate) broken: bool,
 }
 

@@ -73,6 +73,23 @@ impl History {
         }
     }
 
+    /// In the proofs alone, with one event. Its tags are not kept.
+    pub(crate) fn begun(alloc: Global, mut pen: Pen<Event>, draft: Draft<Event>) -> History
+        requires none { pen.list ≡ [] }
+        requires tagged { draft.value.tags ≡ tags_between [] (state_after_event [] draft.value) }
+        ensures events { result.events ≡ unstored pen.number }
+        ensures history { result.history ≡ draft.value ∷ [] }
+        ensures first { result.first ≡ 1 }
+    {
+        let start = HistoryFront::unstored(pen.start());
+        let window = Window::begun(alloc, pen, draft);
+        History {
+            front: HistoryFront::unstored(window.front().again()),
+            start,
+            window: Some(window),
+        }
+    }
+
     /// A front that shows the whole of it.
     pub(crate) fn front(&self) -> &HistoryFront
         ensures { result.now ≡ front_in self.now }

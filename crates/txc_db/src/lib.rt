@@ -2,6 +2,7 @@
 #![tactic(auto)]
 
 mod answered;
+mod beginning;
 mod commit;
 mod database;
 mod db_core;

@@ -1,6 +1,5 @@
 -- What is found of the versions that have not died.
-use Rattle.std.proofs.Common.{◌≡◌, ◌≢◌, ℕ, ◌+◌, ◌≤◌, List, [], ◌∷◌, ◌++◌, map, filter, length, Bool, true, false, cond, Option, Some, None, is_none, not, Ok, Err, Result, Vec, Global, IfOk, refl, ap, subst, ◌∙◌, append-nil, length-append, arith}
-use borrow.Author.Tests.{le-leb}
+use Rattle.std.proofs.Common.{◌≡◌, ◌≢◌, ℕ, ◌+◌, ◌≤◌, List, [], ◌++◌, map, filter, length, false, Option, Some, None, is_none, Ok, Err, Result, Vec, Global, IfOk, refl, ap, subst, ◌∙◌, append-nil, length-append, arith}
 use Rattle.std.specs.List.{AllByRecursion}
 use Rattle.std.specs.List.Sorted.{IsPermutation}
 use Rattle.std.proofs.lemmas.List.{length-map}
@@ -13,16 +12,15 @@ use Rattle.txc_rows.specs.declared.store_error.TheConstants.{MAX_MATCHING}
 use Rattle.txc_rows.specs.declared.store_error.StoreError.{StoreError}
 use Rattle.txc_rows.specs.declared.version.Versioned.{Versioned}
 use Rattle.txc_rows.specs.declared.query.Query.{Query}
-use Rattle.txc_rows.specs.Versions.{suits, current, is_current, purged, died_by}
+use Rattle.txc_rows.specs.Versions.{suits, current, is_current, purged}
 use Rattle.txc_rows.specs.declared.placed.Placed.{Placed}
 use Rattle.txc_rows.specs.Placed.{version_of, is_left, left_from}
 use Rattle.txc_rows.specs.Found.{Finds}
-use Rattle.txc_rows.specs.Says.{AreUpTo}
 use Rattle.txc_rows.specs.Keeping.{AnswersNewest}
 use Rattle.txc_rows.specs.Kept.{latest_in, versions_of, IsFinding}
 use Rattle.txc_rows.proofs.Members.{few_left, filters_turned}
 use Rattle.txc_rows.proofs.FindLemmas.{asked, of_all, found_latest}
-use Rattle.txc_rows.proofs.KeepingLemmas.{keeps_purged, found_answers}
+use Rattle.txc_rows.proofs.KeepingLemmas.{no_later, keeps_purged, found_answers}
 
 -- ---- what is left out of a list
 
@@ -58,17 +56,7 @@ module _ (q : Query) (from : ℕ) where
 
 -- ---- the newest state
 
--- where nothing has happened after a stamp, those that have not died are those that a purge up to it leaves
-no_later : (t : ℕ) (vs : List Versioned) → AreUpTo t vs → current vs ≡ purged t vs
-no_later t [] all = refl
-no_later t (v ∷ vs) all = go v.died all.0.1 (no_later t vs all.1)
-  where
-    go : (d : Option ℕ) → ((s : ℕ) → d ≡ Some s → s ≤ t) → current vs ≡ purged t vs
-        → cond (is_none d) (v ∷ current vs) (current vs) ≡ cond (not (died_by t d)) (v ∷ purged t vs) (purged t vs)
-    go None low same = ap (λ xs. v ∷ xs) same
-    go (Some d) low same = rw (le-leb d t (low d refl)) same
-
-newest_answers : (q : Query) (vs found : List Versioned) → Finds q (current vs) found → AnswersNewest q vs found
+pub newest_answers : (q : Query) (vs found : List Versioned) → Finds q (current vs) found → AnswersNewest q vs found
 newest_answers q vs found finds states horizon newest keeps =
     let left = keeps_purged newest vs states horizon newest keeps keeps.kept (omega arith) in
     found_answers q (purged newest vs) found (subst (λ xs. Finds q xs found) (no_later newest vs keeps.says.upto) finds) states newest newest left

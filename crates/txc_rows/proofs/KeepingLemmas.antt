@@ -1,13 +1,15 @@
 -- The versions of a store go on saying the kept states, and what is found of them shows the answers.
-use Rattle.std.proofs.Common.{◌≡◌, inl, inr, ℕ, zero, suc, ◌+◌, ◌-◌, ◌≤◌, not, List, [], filter, refl, sym, subst, ◌∙◌, add-zero, arith}
+use Rattle.std.proofs.Common.{◌≡◌, inl, inr, ℕ, zero, suc, ◌+◌, ◌-◌, ◌≤◌, not, List, [], ◌∷◌, filter, cond, Option, Some, None, is_none, refl, sym, ap, subst, ◌∙◌, add-zero, arith}
+use borrow.Author.Tests.{le-leb}
 use Rattle.std.proofs.lemmas.List.Sorted.{IsPermutation-sym, Contains-permutation}
 use Rattle.txc_rows.specs.declared.version.Versioned.{Versioned}
 use Rattle.txc_rows.specs.declared.query.Query.{Query}
 use Rattle.txc_rows.specs.declared.query.Change.{Change}
 use Rattle.txc_rows.specs.States.{State, IsState}
 use Rattle.txc_rows.specs.Net.{IsNet}
-use Rattle.txc_rows.specs.Versions.{suits, after_net, purged, has_died_by}
+use Rattle.txc_rows.specs.Versions.{suits, current, after_net, purged, died_by, has_died_by}
 use Rattle.txc_rows.specs.Found.{Finds}
+use Rattle.txc_rows.specs.Says.{AreUpTo}
 use Rattle.txc_rows.specs.Holdable.{IsStorable}
 use Rattle.std.specs.List.{AllByRecursion}
 use Rattle.txc_rows.specs.Keeping.{KeepsStates, KeepsWritten, KeepsPurged, AnswersStates}
@@ -91,6 +93,18 @@ keeps_purged next vs states horizon newest keeps later known = record {
   clean = purged_twice next vs;
   versions = kept_versions (λ v. not (has_died_by next v)) vs keeps.versions;
 }
+
+-- ---- what has not died
+
+-- where nothing has happened after a stamp, those that have not died are those that a purge up to it leaves
+pub no_later : (t : ℕ) (vs : List Versioned) → AreUpTo t vs → current vs ≡ purged t vs
+no_later t [] all = refl
+no_later t (v ∷ vs) all = go v.died all.0.1 (no_later t vs all.1)
+  where
+    go : (d : Option ℕ) → ((s : ℕ) → d ≡ Some s → s ≤ t) → current vs ≡ purged t vs
+        → cond (is_none d) (v ∷ current vs) (current vs) ≡ cond (not (died_by t d)) (v ∷ purged t vs) (purged t vs)
+    go None low same = ap (λ xs. v ∷ xs) same
+    go (Some d) low same = rw (le-leb d t (low d refl)) same
 
 -- ---- what is found
 

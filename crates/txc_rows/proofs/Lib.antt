@@ -2,6 +2,7 @@ pub mod Members
 pub mod RowTests
 pub mod ChangeLemmas
 pub mod Rising
+pub mod PutStates
 pub mod Lookups
 pub mod NetLemmas
 pub mod NetTagLemmas
@@ -33,6 +34,7 @@ pub mod KeepingLemmas
 pub mod Listed
 pub mod FindLemmas
 pub mod CurrentLemmas
+pub mod CountedLemmas
 pub mod StoreLemmas
 pub mod UsesLemmas
 pub mod IndexLemmas

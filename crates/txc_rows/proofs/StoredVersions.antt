@@ -13,7 +13,7 @@ use Rattle.txc_rows.specs.Holdable.{IsStorable, HasEnded, AreHeld, IsWritable}
 use Rattle.txc_rows.proofs.Members.{both_true}
 use Rattle.txc_rows.proofs.Pairs.{pairs_mapped, pairs_pushed, pairs_left}
 
-none_is : (d : Option ℕ) → is_none d ≡ true → d ≡ None
+pub none_is : (d : Option ℕ) → is_none d ≡ true → d ≡ None
 none_is None e = refl
 none_is (Some d) e = absurd (let f = e in cc)
 

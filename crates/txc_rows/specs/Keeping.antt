@@ -37,6 +37,11 @@ abbrev pub KeepsPurged : ℕ → List Versioned → List Versioned → Type 0
 KeepsPurged next old new = (states : ℕ → State) (horizon newest : ℕ) → KeepsStates states horizon newest old
     → horizon ≤ next → next ≤ newest → KeepsStates states next newest new
 
+-- where the old versions keep the states up to a stamp, the new ones keep its state as the first one of another history
+abbrev pub KeepsBegun : ℕ → List Versioned → List Versioned → Type 0
+KeepsBegun stamp old new = (states others : ℕ → State) (horizon : ℕ) → KeepsStates states horizon stamp old
+    → others 1 ≡ states stamp → KeepsStates others 1 1 new
+
 -- what is visible of the found versions at a kept stamp is the query's answer in its state. Of one table
 -- and id the found versions follow one another: one at most is visible, and where one is born as another
 -- dies they differ.

@@ -1,5 +1,5 @@
 -- What follows from the definitions of states, answers, net changes and versions.
-use Rattle.std.specs.Prelude.{ℕ, suc, ◌≡◌, ◌≢◌, ◌≤◌, ◌↔◌, ◌&&◌, ◌==◌, true, Bool, List, [], ◌++◌, false, Option, Some, None, if◌then◌else◌}
+use Rattle.std.specs.Prelude.{ℕ, suc, ◌≡◌, ◌≢◌, ◌≤◌, ◌↔◌, ◌&&◌, ◌==◌, true, Bool, List, [], ◌++◌, map, false, Option, Some, None, if◌then◌else◌}
 use Rattle.std.specs.List.{list_any, flat_map, Contains}
 use Rattle.txc_tags.specs.declared.tag.Tag.{Tag}
 use Rattle.txc_tags.specs.Tags.{sets_match, set_of}
@@ -36,6 +36,10 @@ is_change_of table id c = (change_table c == table) && (change_id c == id)
 abbrev pub ChangeUpdates : Type 0
 ChangeUpdates = (c : Change) (s : State) (table id : ℕ) → IsState s
     → row_at table id (after_change c s) ≡ (if is_change_of table id c then made_by c else row_at table id s)
+
+-- puts of the rows of a state make it of no rows
+abbrev pub PutsMakeState : Type 0
+PutsMakeState = (s : State) → IsState s → after_changes (map Put s) [] ≡ s
 
 -- ---- net changes
 

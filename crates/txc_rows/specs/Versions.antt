@@ -1,5 +1,5 @@
 -- Row versions, what of them is visible at a stamp, and what writes and purges make of them.
-use Rattle.std.specs.Prelude.{◌≡◌, ◌≢◌, ◌<◌, ◌≤◌, ⊤, ℕ, Bool, true, false, ◌&&◌, nat_le, nat_lt, List, [], ◌∷◌, ◌++◌, filter, if◌then◌else◌, map, Option, Some, None, is_none, not}
+use Rattle.std.specs.Prelude.{◌≡◌, ◌≢◌, ◌<◌, ◌≤◌, ⊤, ℕ, ◌-◌, Bool, true, false, ◌&&◌, nat_le, nat_lt, List, [], ◌∷◌, ◌++◌, filter, if◌then◌else◌, map, Option, Some, None, is_none, not}
 use Rattle.std.specs.declared.cmp.Ordering.{Ordering}
 use Rattle.std.specs.Ordering.{nat_cmp, ordering_then}
 use Rattle.std.specs.List.{AllByRecursion}
@@ -85,6 +85,15 @@ has_died_by horizon v = died_by horizon v.died
 -- the versions that a purge leaves
 abbrev pub purged : ℕ → List Versioned → List Versioned
 purged horizon = filter (λ v. not (has_died_by horizon v))
+
+-- the stamp of a death, where stamps are counted from that one on
+abbrev pub death_from : ℕ → Option ℕ → Option ℕ
+death_from first None = None
+death_from first (Some died) = Some (died - first)
+
+-- the version, where stamps are counted from that one on: what was before it is at 0
+abbrev pub counted_from : ℕ → Versioned → Versioned
+counted_from first v = record v { born = v.born - first; died = death_from first v.died }
 
 -- ---- what a list of versions keeps
 

@@ -1,11 +1,12 @@
 //! What follows from the definitions. Each is a lemma: it has no code.
-ghost use Rattle.txc_rows.specs.Laws.{StatesAreRows, ChangedIsState, ChangeUpdates, NetLeads, NetIsDifference, NetTags, TagsAreSound, NoTagsBetween, SaysNothing, SaysAgree, SaysWritten, SaysQuiet, SaysPurged, SaysAnswer, NetIsWritable};
+ghost use Rattle.txc_rows.specs.Laws.{StatesAreRows, ChangedIsState, ChangeUpdates, PutsMakeState, NetLeads, NetIsDifference, NetTags, TagsAreSound, NoTagsBetween, SaysNothing, SaysAgree, SaysWritten, SaysQuiet, SaysPurged, SaysAnswer, NetIsWritable};
 
 /// States are finite maps from (table, id) to (group, body), and changes update them.
 pub fn states_are_maps()
     ensures rows { StatesAreRows }
     ensures states { ChangedIsState }
     ensures updates { ChangeUpdates }
+    ensures puts { PutsMakeState }
 {}
 
 /// The net changes of a list of changes are what differs between the states before and after it.

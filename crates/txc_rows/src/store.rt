@@ -1,14 +1,14 @@
-//! The store of row versions.
+//! The store of row versions, by the stamps that are stored.
 
 ghost use Rattle.std.specs.Prelude.{◌≡◌, ℕ, ◌+◌, ◌^◌, ◌<◌, ◌≤◌, [], Ok, IfOk, IfErr, OnOk, OnErr, length, filter, map};
+ghost use Rattle.std.specs.List.{AllByRecursion};
 ghost use Rattle.std.specs.List.Sorted.{IsPermutation, IsSorted};
 ghost use Rattle.txc_rows.specs.Versions.{suits, current, purged, after_net, version_cmp};
 ghost use Rattle.txc_rows.specs.declared.query.Query.TheVariants.{ById};
 ghost use Rattle.txc_rows.specs.Placed.{version_of, left_from, AreAmong, AreSwept, AreWellPlaced};
 ghost use Rattle.txc_rows.specs.Kept.{latest_in, versions_of, IsKept, IsCall, IsSame, IsRoom, IsFinding, IsStore};
-ghost use Rattle.txc_rows.specs.States.{State};
+ghost use Rattle.txc_rows.specs.Holdable.{IsStorable};
 ghost use Rattle.txc_rows.specs.Found.{Finds};
-ghost use Rattle.txc_rows.specs.Keeping.{KeepsStates, KeepsWritten, KeepsPurged, AnswersStates, AnswersNewest};
 ghost use Rattle.txc_rows.specs.StoreErrors.{IsStoreRefusal};
 ghost use Rattle.txc_rows.specs.declared.store_error.TheConstants.{MAX_MATCHING};
 
@@ -31,10 +31,10 @@ use txc_tags::Table;
 /// Where so many last versions are known, they are forgotten for others.
 const MOST_KNOWN: usize = 256;
 
-/// Row versions in a store in memory: the last of each table, id and group in a table of SQLite, and those that later ones
-/// replaced beside it. Contracts see the list of its versions, the earliest put first.
+/// Row versions by the stamps that are stored: the last of each table, id and group in a table of SQLite, and those that
+/// later ones replaced beside it. Contracts see the list of its versions, the earliest put first.
 #[derive(Drop)]
-pub struct VersionRows {
+pub(crate) struct Store {
     conn: Connection<MemStore>,
     replaced: Replaced,
     /// The place of the next version: each that is stored has a lower one.
@@ -47,7 +47,7 @@ pub struct VersionRows {
     alloc: Global,
 }
 
-impl Model for VersionRows {
+impl Model for Store {
     ghost use Rattle.std.specs.Prelude.{List};
     ghost use Rattle.txc_rows.specs.declared.version.Versioned.{Versioned};
     ghost use Rattle.txc_rows.specs.Placed.{left_from, AreAmong};
@@ -296,16 +296,13 @@ fn find_current(
     Ok(found)
 }
 
-impl VersionRows {
-    /// A store that has no version. It is refused where the store is out of memory.
-    pub fn open_in_memory(alloc: Global) -> Result<VersionRows, StoreError>
+impl Store {
+    pub(crate) fn open_in_memory(alloc: Global) -> Result<Store, StoreError>
         ensures answer { IfOk result (λ rows. rows ≡ []) }
-        ensures keeps { IfOk result (λ rows.
-            (states : ℕ → State) → states 0 ≡ [] → KeepsStates states 0 0 rows) }
         ensures refused { IfErr result IsStoreRefusal }
     {
         let conn = open_table(alloc)?;
-        Ok(VersionRows {
+        Ok(Store {
             conn,
             replaced: Replaced::new(alloc),
             next_place: 0,
@@ -316,12 +313,10 @@ impl VersionRows {
         })
     }
 
-    /// The versions that match, by id and then by birth. No other version is looked at.
-    pub fn matching(&mut self, query: &Query) -> Result<Vec<Versioned>, StoreError>
+    pub(crate) fn matching(&mut self, query: &Query) -> Result<Vec<Versioned>, StoreError>
         ensures same { self.new ≡ self.old }
         ensures answer { IfOk result (λ found. Finds query.now self.old found.items) }
         ensures bound { IfOk result (λ found. length found.items ≤ MAX_MATCHING) }
-        ensures answers { IfOk result (λ found. AnswersStates query.now self.old found.items) }
         ensures refused { result ≡ Err StoreError.TooManyRows
             → MAX_MATCHING < length (filter (suits query.now) self.old) }
     {
@@ -334,13 +329,10 @@ impl VersionRows {
         )
     }
 
-    /// The versions that match and have not died, by id and then by birth: those that the newest state has. It is refused
-    /// as [`VersionRows::matching`] is, also where versions that have died make too many.
-    pub fn current(&mut self, query: &Query) -> Result<Vec<Versioned>, StoreError>
+    pub(crate) fn current(&mut self, query: &Query) -> Result<Vec<Versioned>, StoreError>
         ensures same { self.new ≡ self.old }
         ensures answer { IfOk result (λ found. Finds query.now (current self.old) found.items) }
         ensures bound { OnOk result (length (filter (suits query.now) self.old) ≤ MAX_MATCHING) }
-        ensures answers { IfOk result (λ found. AnswersNewest query.now self.old found.items) }
         ensures refused { result ≡ Err StoreError.TooManyRows
             → MAX_MATCHING < length (filter (suits query.now) self.old) }
     {
@@ -354,11 +346,9 @@ impl VersionRows {
         )
     }
 
-    /// Writes the net changes of the commit with this stamp, all or none. A change ends the current version
-    /// of its table and id at the stamp; a put adds one that is born there.
-    pub fn write(&mut self, net: &[Change], stamp: Stamp) -> Result<(), StoreError>
+    pub(crate) fn write(&mut self, net: &[Change], stamp: Stamp) -> Result<(), StoreError>
         ensures after { OnOk result (self.new ≡ after_net stamp net.now self.old) }
-        ensures keeps { OnOk result (KeepsWritten net.now stamp self.old self.new) }
+        ensures each { OnOk result (AllByRecursion IsStorable self.new) }
         ensures unchanged { OnErr result (self.new ≡ self.old) }
         ensures refused { IfErr result IsStoreRefusal }
     {
@@ -390,10 +380,8 @@ impl VersionRows {
         Ok(())
     }
 
-    /// Deletes the versions that died at the horizon or before: no stamp from the horizon on has shown them.
-    pub fn purge(&mut self, horizon: Stamp) -> Result<(), StoreError>
+    pub(crate) fn purge(&mut self, horizon: Stamp) -> Result<(), StoreError>
         ensures after { OnOk result (self.new ≡ purged horizon self.old) }
-        ensures keeps { OnOk result (KeepsPurged horizon self.old self.new) }
         ensures unchanged { OnErr result (self.new ≡ self.old) }
         ensures refused { IfErr result IsStoreRefusal }
     {
@@ -406,9 +394,12 @@ impl VersionRows {
         Ok(())
     }
 
-    /// Limits the steps of each later statement of the store, or takes the limit away. It is for tests: it
-    /// stops a statement in the middle, with an error of the store, and nothing of that call is left written.
-    pub fn set_step_limit(&mut self, limit: Option<u64>)
+    /// Whether half of the places are given to versions already.
+    pub(crate) fn is_half_full(&self) -> bool {
+        self.next_place > u32::MAX / 2
+    }
+
+    pub(crate) fn set_step_limit(&mut self, limit: Option<u64>)
         ensures { self.new ≡ self.old }
     {
         self.conn.set_step_limit(limit);

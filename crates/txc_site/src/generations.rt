@@ -15,7 +15,7 @@ use std::alloc::{AllocError, Global};
 use std::sync::Wait;
 use std::thread::Threads;
 use txc_app::App;
-use txc_carry::carry;
+use txc_carry::renew;
 use txc_db::{Answered, DbCore, DbError, HistoryFront};
 use txc_definition::Definition;
 use txc_keeper::{Clock, CountedClock, SiteError};
@@ -181,10 +181,9 @@ fn next<A: App>(
     ensures refused { IfErr result (IsNextRefused plan.events (front_of core)) }
 {
     let whole = core.front();
-    let core = match carry(alloc, &mut core, plan.events) {
-        Ok(core) => core,
-        Err(cause) => return Err(GenerationError::Carry(cause)),
-    };
+    if let Err(cause) = renew(alloc, &mut core, plan.events) {
+        return Err(GenerationError::Carry(cause));
+    }
     let front = core.front()?;
     let warmth = warmth(left, whole, &front);
     Ok(Begun {
@@ -247,7 +246,7 @@ where
 }
 
 /// Opens a site as [`with_clock`](crate::with_clock) does, and lets the threads visit. Once all have ended, the
-/// visitors answer whether they come again. Where they do, the newest state is carried over to a new database
+/// visitors answer whether they come again. Where they do, the newest state goes on in a new history
 /// with the plan's room, with new nodes, and `count` threads visit that; and so on.
 ///
 /// Stamps begin anew in each generation. Where the plan stores no records, each node begins with what the one of its

@@ -10,7 +10,7 @@
 //! passed on, and so are the definitions that a clause may name.
 //!
 //! [`with_generations`] does so again and again, as often as the visitors are [`Returning`]: each [`Generation`]
-//! has a new database that begins with the state of the one before, and new nodes. Where no records are stored, these
+//! has a new history, which begins with the state of the one before, and new nodes. Where no records are stored, these
 //! begin with what was still valid.
 #![tactic(auto)]
 

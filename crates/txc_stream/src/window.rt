@@ -66,6 +66,24 @@ impl<T, N, M: Noted<T, N>> Window<T, N, M> {
         }
     }
 
+    /// The history of the pen, which begins with this record. There is no note of it.
+    pub fn begun(alloc: Global, mut pen: Pen<T>, draft: Draft<T>) -> Window<T, N, M>
+        requires { pen.list ≡ [] }
+        ensures name { result.name ≡ unstored pen.number }
+        ensures list { result.list ≡ draft.value ∷ [] }
+        ensures first { result.first ≡ 1 }
+    {
+        let mut front = pen.start();
+        pen.append(&mut front, draft);
+        Window {
+            pen,
+            front,
+            first: 1,
+            notes: VecDeque::new(alloc),
+            of: PhantomData,
+        }
+    }
+
     /// A front that shows the whole of it.
     pub fn front(&self) -> &Front<T>
         ensures { result.now ≡ front_of_window self.now }

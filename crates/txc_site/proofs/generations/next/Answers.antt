@@ -3,7 +3,7 @@ use Rattle.txc_site.proofs.Turns.{no_next_front, same_front}
 use Rattle.txc_site.proofs.generations.next.Goals as goal
 
 pub returns-in-Err-clause-refused : goal.returns-in-Err-clause-refused
-returns-in-Err-clause-refused g c = (c.carry.new.old, same_front c.args.core c.carry.new.old c.in-Err.ensures.left, c.in-Err.ensures.refused)
+returns-in-Err-clause-refused g c = (c.renew.new.core, same_front c.args.core c.renew.new.core c.in-Err.ensures.left, c.in-Err.ensures.refused)
 
 pub returns-in_err-front-clause-refused : goal.returns-in_err-front-clause-refused
 returns-in_err-front-clause-refused g c =

@@ -1,12 +1,10 @@
 use Rattle.std.proofs.Common.{sym, ap, subst, ◌∙◌}
 use Rattle.std.proofs.lemmas.Result.{err_from_is_err_and}
+use Rattle.std.specs.List.{AllByRecursion}
+use Rattle.txc_rows.specs.Holdable.{IsStorable}
 use Rattle.txc_rows.specs.Versions.{after_net}
-use Rattle.txc_rows.specs.Keeping.{KeepsWritten}
-use Rattle.txc_rows.specs.Placed.{left_from}
-use Rattle.txc_rows.specs.Kept.{versions_of}
-use Rattle.txc_rows.proofs.KeepingLemmas.{keeps_written}
 use Rattle.txc_rows.proofs.StoreLemmas.{written_store, unwritten_store}
-use Rattle.txc_rows.proofs.store.VersionRows.write.Goals as goal
+use Rattle.txc_rows.proofs.store.Store.write.Goals as goal
 
 pub invariant_of-self : goal.invariant_of-self
 invariant_of-self c = ((c.in_err-kept_from.ensures.room c.self.inside.next_place c.self.invariant.0).store, rw (c.replace-known.ensures.after, c.new.ensures.items) tt)
@@ -50,10 +48,9 @@ returns-clause-after c =
     let room = c.in_ok-kept_from.ensures.room was.next_place c.self.invariant.0 in
     (written_store was.kept_from c.in_ok-kept_from.kept_from c.number-number.result c.args.stamp was.next_place c.args.net.now was.replaced was.conn c.make_room.new.replaced c.make_room.new.conn c.number-number.ensures.answer room c.write_all.new.replaced c.write_all.new.conn _ c.in_ok-written.ensures.call).1 ∙ ap (after_net c.args.stamp c.args.net.now) c.self.view_is
 
-pub returns-clause-keeps : goal.returns-clause-keeps
-returns-clause-keeps c =
+pub returns-clause-each : goal.returns-clause-each
+returns-clause-each c =
     let was = c.self.inside in
     let room = c.in_ok-kept_from.ensures.room was.next_place c.self.invariant.0 in
-    let before = left_from was.kept_from (versions_of was.replaced was.conn) in
     let done = written_store was.kept_from c.in_ok-kept_from.kept_from c.number-number.result c.args.stamp was.next_place c.args.net.now was.replaced was.conn c.make_room.new.replaced c.make_room.new.conn c.number-number.ensures.answer room c.write_all.new.replaced c.write_all.new.conn _ c.in_ok-written.ensures.call in
-    rw (← c.self.view_is) (subst (KeepsWritten c.args.net.now c.args.stamp before) (sym done.1) (keeps_written c.args.net.now c.args.stamp before done.2))
+    subst (AllByRecursion IsStorable) (sym done.1) done.2

@@ -1,12 +1,10 @@
-use Rattle.std.proofs.Common.{◌≡◌, ◌+◌, max, Ok, sym, ap, subst, ◌∙◌, arith, rules}
+use Rattle.std.proofs.Common.{◌≡◌, ◌+◌, max, Ok, ap, ◌∙◌, arith, rules}
 use Rattle.std.proofs.lemmas.Result.{err_from_is_err_and}
 use Rattle.txc_rows.specs.Versions.{purged}
-use Rattle.txc_rows.specs.Keeping.{KeepsPurged}
 use Rattle.txc_rows.specs.Placed.{AreSwept}
 use Rattle.txc_rows.specs.Kept.{latest_in, IsCall}
-use Rattle.txc_rows.proofs.KeepingLemmas.{keeps_purged}
 use Rattle.txc_rows.proofs.StoreLemmas.{still_store, same_view, purged_store}
-use Rattle.txc_rows.proofs.store.VersionRows.purge.Goals as goal
+use Rattle.txc_rows.proofs.store.Store.purge.Goals as goal
 
 pub invariant_of-self : goal.invariant_of-self
 invariant_of-self c =
@@ -32,11 +30,3 @@ returns-clause-after c =
     let first : c.max-from.result ≡ max was.kept_from (c.args.horizon + 1) = search (arith, rules) in
     let call : IsCall (AreSwept (max was.kept_from (c.args.horizon + 1)) (latest_in was.conn)) was.conn c.sweep.new.conn (Ok c.in_ok-sweep.field-0) = rw (← first) c.in_ok-sweep.ensures in
     rw (c.purge.ensures, first) ((purged_store was.kept_from c.args.horizon was.next_place was.replaced was.conn c.sweep.new.conn _ c.self.invariant.0 call).1 ∙ ap (purged c.args.horizon) c.self.view_is)
-
-pub returns-clause-keeps : goal.returns-clause-keeps
-returns-clause-keeps c =
-    let was = c.self.inside in
-    let first : c.max-from.result ≡ max was.kept_from (c.args.horizon + 1) = search (arith, rules) in
-    let call : IsCall (AreSwept (max was.kept_from (c.args.horizon + 1)) (latest_in was.conn)) was.conn c.sweep.new.conn (Ok c.in_ok-sweep.field-0) = rw (← first) c.in_ok-sweep.ensures in
-    let done = purged_store was.kept_from c.args.horizon was.next_place was.replaced was.conn c.sweep.new.conn _ c.self.invariant.0 call in
-    rw (c.purge.ensures, first) (subst (KeepsPurged c.args.horizon c.args.self.now) (sym (done.1 ∙ ap (purged c.args.horizon) c.self.view_is)) (keeps_purged c.args.horizon c.args.self.now))

@@ -1,9 +1,6 @@
 use Rattle.std.proofs.Common.{◌∙◌}
-use Rattle.txc_rows.specs.Placed.{left_from}
-use Rattle.txc_rows.specs.Kept.{versions_of}
-use Rattle.txc_rows.proofs.CurrentLemmas.{all_newest}
 use Rattle.txc_rows.proofs.StoreLemmas.{still_store, still_known, same_view}
-use Rattle.txc_rows.proofs.store.VersionRows.current.Goals as goal
+use Rattle.txc_rows.proofs.store.Store.current.Goals as goal
 
 pub invariant_of-self : goal.invariant_of-self
 invariant_of-self c =
@@ -13,6 +10,3 @@ invariant_of-self c =
 
 pub returns-clause-same : goal.returns-clause-same
 returns-clause-same c = same_view c.self.inside.replaced c.self.inside.conn c.find_current.new.conn c.find_current.ensures.same.trees c.self.inside.kept_from ∙ c.self.view_is
-
-pub returns-clause-answers : goal.returns-clause-answers
-returns-clause-answers c = rw (← c.self.view_is) (all_newest c.args.query.now (left_from c.self.inside.kept_from (versions_of c.self.inside.replaced c.self.inside.conn)) c.find_current.result c.find_current.ensures.finds)

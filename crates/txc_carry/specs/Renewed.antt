@@ -1,0 +1,16 @@
+-- Databases that went on in place: words that only this crate's private functions promise.
+use Rattle.std.specs.Prelude.{◌≡◌, ℕ, false, [], Option, None}
+use Rattle.txc_stream.specs.Names.{HasRow}
+use Rattle.txc_db.specs.DatabaseValue.{DatabaseValue, newest, newest_state}
+
+-- no row was asked for, and the database was whole: its newest state is the one event of another history, from which on
+-- it can be read
+pub record IsRenewed (room : Option ℕ) (old new : DatabaseValue) : Type 0 where
+  pub asked : room ≡ None
+  pub was : old.broken ≡ false
+  pub whole : new.broken ≡ false
+  pub unstored : ¬ (HasRow new.events)
+  pub state : newest_state new ≡ newest_state old
+  pub one : newest new ≡ 1
+  pub horizon : new.horizon ≡ 1
+  pub holds : new.holds ≡ []

@@ -1,0 +1,54 @@
+//! A carry in place.
+ghost use Rattle.std.specs.Prelude.{◌≡◌, ◌≢◌, ◌⊎◌, ◌≤◌, [], true, false, length, max, Err, None, OnOk, OnErr, IfErr, IfSome};
+ghost use Rattle.txc_db.specs.DatabaseValue.{newest, newest_state, after_vacuum};
+ghost use Rattle.txc_carry.specs.Carried.{IsCarryRefused, IsNotTooMany};
+ghost use Rattle.txc_carry.specs.Renewed.{IsRenewed};
+ghost use Rattle.txc_carry.specs.Rooms.{IsHistoryFor, room_for};
+
+use crate::carrying::carry;
+use crate::error::CarryError;
+use std::alloc::Global;
+use txc_db::{DbCore, DbError};
+use txc_stream::{MAX_CAPACITY, Pen};
+
+/// Begins a new history in place, where none is to be stored. Where that is refused, nothing has changed.
+fn begins_in_place(alloc: Global, core: &mut DbCore, room: Option<usize>) -> bool
+    ensures begun { result ≡ true → IsRenewed room core.old core.new }
+    ensures unchanged { result ≡ false → core.new ≡ core.old }
+{
+    match room {
+        Some(_) => false,
+        None => core.begin_anew(alloc, Pen::new()).is_ok(),
+    }
+}
+
+/// Makes the database one whose newest state is as it was: with a row for `room` events; or, where no number is given,
+/// with a history that is not stored.
+///
+/// Where no number is given, the rows stay in their store, and the new history begins with one event that puts them all: that takes
+/// a vacuum, and no work for each row. Where it is refused, and where a number is given, the rows are put as [`carry`] does it.
+pub fn renew(alloc: Global, core: &mut DbCore, room: Option<usize>) -> Result<(), CarryError>
+    requires { IfSome room (λ room. (1 ≤ room) × (room ≤ MAX_CAPACITY)) }
+    ensures state { OnOk result (newest_state core.new ≡ newest_state core.old) }
+    ensures whole { OnOk result (core.new.broken ≡ false) }
+    ensures holds { OnOk result (core.new.holds ≡ []) }
+    ensures kept { OnOk result (core.new.horizon ≤ 1) }
+    ensures room { OnOk result (IsHistoryFor room core.new.events) }
+    ensures few { OnOk result (newest core.new ≤ max 1 (length (newest_state core.new))) }
+    ensures left { OnErr result ((core.new ≡ core.old) ⊎ (core.new ≡ after_vacuum core.old)) }
+    ensures refused { IfErr result (IsCarryRefused core.new (room_for room)) }
+    ensures broken { core.old.broken ≡ true → result ≡ Err (CarryError.Old DbError.Broken) }
+    ensures taken { room ≡ None → result ≢ Err (CarryError.New DbError.Broken) }
+    ensures one { core.old.holds ≡ [] → IfErr result IsNotTooMany }
+{
+    if begins_in_place(alloc, core, room) {
+        return Ok(());
+    }
+    match carry(alloc, core, room) {
+        Ok(new) => {
+            *core = new;
+            Ok(())
+        }
+        Err(refusal) => Err(refusal),
+    }
+}
