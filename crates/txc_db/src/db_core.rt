@@ -1,12 +1,12 @@
 //! The database for one thread, which its lock holds too.
-ghost use Rattle.std.specs.Prelude.{◌≡◌, ◌≢◌, ◌+◌, ◌≤◌, ◌∷◌, [], ◌↔◌, true, false, length, Ok, Err, IfOk, OnOk, OnErr, IfErr, ◌⊎◌, IsOk, IsTrue, MatchOption};
+ghost use Rattle.std.specs.Prelude.{◌≡◌, ◌≢◌, ◌+◌, ◌<◌, ◌≤◌, ◌∷◌, [], ◌↔◌, true, false, length, Ok, Err, IfOk, OnOk, OnErr, IfErr, ◌⊎◌, IsOk, IsTrue, MatchOption};
 ghost use mathlib.Core.List.{IsPrefix};
 ghost use Rattle.txc_rows.specs.RowTags.{query_tag};
 ghost use Rattle.txc_validity.specs.Answers.{IsAnswer};
 ghost use Rattle.txc_stream.specs.Names.{stored, unstored, HasRow};
 ghost use Rattle.std.specs.Arc.{arc_value};
 ghost use Rattle.txc_db.specs.History.{state_at, tags_at};
-ghost use Rattle.txc_db.specs.Room.{HasCapacity};
+ghost use Rattle.txc_db.specs.Room.{HasCapacity, AreTagsGone};
 ghost use Rattle.txc_db.specs.Refusals.{IsWant};
 ghost use Rattle.txc_db.specs.Calls.{IsLeft, IsHoldable, IsHoldRefused, IsUnpinRefused, IsVacuumRefused, IsPinnable, IsPinRefused, IsAnswerable, matching_of, IsQueryRefused};
 ghost use Rattle.txc_rows.specs.declared.store_error.TheConstants.{MAX_MATCHING};
@@ -160,6 +160,18 @@ impl DbCore {
             (λ tags. arc_value tags ≡ tags_at self.now.history (newest self.now))) }
     {
         self.told.last_tags()
+    }
+
+    /// The tags of the event after the first `base` ones. None where there is no such event, or its tags are not kept.
+    pub fn tags_after(&self, base: Stamp) -> Option<&TagSet>
+        ensures { MatchOption result
+            ((newest self.now ≤ base) ⊎ AreTagsGone self.now.events self.now.horizon base)
+            (λ tags. (base < newest self.now) × (tags.now ≡ tags_at self.now.history (base + 1))) }
+    {
+        if self.told.newest() <= base || !self.told.keeps_tags(self.horizon, base) {
+            return None;
+        }
+        Some(self.told.tags_of(base.number() as usize + 1))
     }
 
     /// A front of the history that shows nothing yet.

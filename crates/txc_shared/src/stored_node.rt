@@ -223,6 +223,13 @@ impl<A: App> StoredNode<A> {
         &self.seen
     }
 
+    /// How many events it has taken, with those that came before it.
+    pub fn processed(&self) -> Stamp
+        ensures { result ≡ self.now.cache.processed }
+    {
+        self.core.processed()
+    }
+
     /// How many passes there are.
     pub fn passes(&self) -> usize
         ensures { result ≡ self.now.passes }

@@ -1,5 +1,5 @@
 -- What a transaction's requests do to holds and users.
-use Rattle.std.proofs.Common.{◌≡◌, ◌∙◌, ℕ, suc, ◌+◌, ◌<◌, ◌≤◌, ◌==◌, Bool, true, false, List, [], ◌∷◌, ◌++◌, length, map, ◌&&◌, All, Contains, Result, Ok, Err, Option, Some, None, refl, ap, sym, subst, inl, inr, arith, eqb-true, length-append, get_or, drop, add-one}
+use Rattle.std.proofs.Common.{◌≡◌, ◌∙◌, ℕ, suc, ◌+◌, ◌<◌, ◌≤◌, ◌==◌, Bool, true, false, List, [], ◌∷◌, ◌++◌, length, map, ◌&&◌, All, Contains, Result, Ok, Err, None, refl, ap, sym, subst, inl, inr, arith, eqb-true, length-append, get_or, drop, add-one}
 use Rattle.std.proofs.Math.Seq.{drop-cons}
 use Rattle.std.proofs.lemmas.List.{drop_all}
 use Rattle.std.proofs.lemmas.List.Elements.{All-head}

@@ -1,4 +1,4 @@
-use Rattle.std.proofs.Common.{◌≡◌, ◌+◌, ◌≤◌, ap, sym, ◌∙◌, arith}
+use Rattle.std.proofs.Common.{◌≤◌, ap, sym, ◌∙◌, arith}
 use Rattle.txc_tags.specs.Tags.{sets_match}
 use Rattle.txc_db.proofs.Tagged.{none_more}
 use Rattle.txc_db.proofs.commit.first_conflict.Goals as goal

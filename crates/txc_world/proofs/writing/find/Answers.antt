@@ -1,4 +1,4 @@
-use Rattle.std.proofs.Common.{ap, sym, ◌∙◌}
+use Rattle.std.proofs.Common.{ap, ◌∙◌}
 use Rattle.txc_rw.specs.Core.{RwValue}
 use Rattle.txc_world.proofs.WritingCounts.{loss_found}
 use Rattle.txc_world.proofs.WritingLemmas.{answered_at, holds_asking, own_answers, own_leads, own_read, own_same, right_answer}

@@ -1,5 +1,4 @@
 use Rattle.std.proofs.Common.{◌≡◌, ◌≤◌, refl, sym, subst, arith}
-use Rattle.txc_stream.specs.Names.{HasRow}
 use Rattle.txc_db.specs.DatabaseValue.{DatabaseValue}
 use Rattle.txc_db.specs.Room.{AreTagsKept}
 use Rattle.txc_db.specs.Calls.{IsLeft, IsCommitRefused}
