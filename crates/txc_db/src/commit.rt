@@ -135,8 +135,8 @@ impl DbCore {
         Ok(stamp)
     }
 
-    /// The newest stamp, where the base is known and the tags of the events after it are kept.
-    pub(crate) fn check_base(&self, base: Stamp) -> Result<Stamp, DbError>
+    /// The newest stamp, where a commit may have that base: it is known, and the tags of the events after it are kept.
+    pub fn check_base(&self, base: Stamp) -> Result<Stamp, DbError>
         ensures only_if { IsOk result ↔ IsBase self.now base }
         ensures answer { IfOk result (λ stamp. stamp ≡ newest self.now) }
         ensures refused { IfErr result (IsBaseRefused self.now base) }

@@ -174,6 +174,13 @@ impl DbCore {
         Some(self.told.tags_of(base.number() as usize + 1))
     }
 
+    /// The newest stamp.
+    pub fn newest(&self) -> Stamp
+        ensures { result ≡ newest self.now }
+    {
+        self.told.newest()
+    }
+
     /// A front of the history that shows nothing yet.
     pub fn reader(&self) -> Result<HistoryFront, AllocError>
         ensures { IfOk result (λ front. front ≡ record { events = self.now.events; history = [] }) }
