@@ -33,9 +33,9 @@ pub record CallerWriting : Type 0 where
   pub given : Option Answer
 
 -- nothing is read, changed or computed yet
-pub record IsBegunWrite (c : CallerValue) (base : ℕ) (w : CallerWriting) : Type 0 where
+pub record IsBegunWrite (c : CallerValue) (stamp : ℕ) (w : CallerWriting) : Type 0 where
   pub caller : w.caller ≡ c
-  pub base : w.base ≡ base
+  pub base : w.base ≡ stamp
   pub read : w.read ≡ []
   pub changes : w.changes ≡ []
   pub inner : w.inner ≡ None
