@@ -3,6 +3,7 @@ ghost use Rattle.std.specs.Prelude.{◌≡◌, ◌≢◌, ◌<◌, ◌≤◌, �
 ghost use Rattle.txc_db.specs.Calls.{IsBase, IsCommittable, IsLeft, IsQueryRefused};
 ghost use Rattle.txc_db.specs.DatabaseValue.{after_commit, newest};
 ghost use Rattle.txc_db.specs.Steps.{IsBaseRefused};
+ghost use Rattle.txc_caller.specs.Ports.{MayHaveTaken};
 ghost use Rattle.txc_caller.specs.declared.step.WriteError.TheVariants.{Database};
 
 use crate::caller::Caller;
@@ -99,7 +100,7 @@ impl<A: App, C: Suppliable> Caller<A, C> {
 }
 
 impl<A: App, C: Suppliable> CallerWrite<A, C> {
-    ghost use Rattle.txc_caller.specs.Writing.{after_call_of, after_query, without_calls, HasGivenValue, IsCallRefused, IsChangeRefused, IsFinishRefused, IsWriteAfter, IsWriteLeft, IsWriteRefused};
+    ghost use Rattle.txc_caller.specs.Writing.{after_call_of, after_query, without_calls, HasGivenValue, IsWriteCallRefused, IsChangeRefused, IsWriteFinishRefused, IsWriteAfter, IsWriteLeft, IsWriteCommitRefused};
 
     /// Asks for the rows of the query in the state that the transaction reads; they are its [`CallerWrite::answer`]. They count
     /// as read. It does not see the changes of its own.
@@ -118,7 +119,7 @@ impl<A: App, C: Suppliable> CallerWrite<A, C> {
     /// looked for, since the transaction uses no node.
     pub fn call(&mut self, function: u8) -> Result<(), CallerError>
         ensures after { OnOk result (self.new ≡ after_call_of function self.old) }
-        ensures refused { IfErr result (IsCallRefused function self.old self.new) }
+        ensures refused { IfErr result (IsWriteCallRefused function self.old self.new) }
     {
         if let Some(inner) = self.inner {
             if inner <= function {
@@ -139,7 +140,7 @@ impl<A: App, C: Suppliable> CallerWrite<A, C> {
     /// waited for it goes on, if one did.
     pub fn finish(&mut self, bytes: Vec<u8>) -> Result<(), CallerError>
         ensures after { OnOk result (HasGivenValue bytes.items self.old self.new) }
-        ensures refused { IfErr result (IsFinishRefused bytes.items self.old self.new) }
+        ensures refused { IfErr result (IsWriteFinishRefused bytes.items self.old self.new) }
     {
         if self.inner.is_none() {
             return Err(CallerError::NoFunction);
@@ -222,8 +223,10 @@ impl<A: App, C: Suppliable> CallerWrite<A, C> {
         ensures answer { IfOk result (λ stamp. stamp ≡ newest self.new.caller.ports.database) }
         ensures only_if { IsOk result
             → IsCommittable self.old.caller.ports.database self.old.base self.old.read self.old.changes }
+        ensures node { OnOk result (MayHaveTaken self.new.caller.ports.database
+            self.old.caller.ports.node self.new.caller.ports.node) }
         ensures same { OnOk result (IsWriteAfter self.old self.new) }
-        ensures refused { IfErr result (λ error. IsWriteRefused self.old (Database error)) }
+        ensures refused { IfErr result (λ error. IsWriteCommitRefused self.old (Database error)) }
         ensures left { IfErr result (λ error. IsWriteLeft self.old (Database error) self.new) }
     {
         let base = self.base;
@@ -247,10 +250,12 @@ impl<A: App, C: Suppliable> CallerWrite<A, C> {
         ensures none { IsOk result → self.inner ≡ None }
         ensures only_if { IsOk result
             → IsCommittable self.caller.ports.database self.base self.read self.changes }
+        ensures node { IfOk result (λ done.
+            MayHaveTaken done.1.ports.database self.caller.ports.node done.1.ports.node) }
         ensures same { IfOk result (λ done. done.1 ≡ record self.caller {
           ports = record self.caller.ports { database = done.1.ports.database; node = done.1.ports.node };
         }) }
-        ensures refused { IfErr result (λ back. IsWriteRefused self back.0) }
+        ensures refused { IfErr result (λ back. IsWriteCommitRefused self back.0) }
         ensures left { IfErr result (λ back. IsWriteLeft self back.0 back.1) }
     {
         if self.inner.is_some() {
