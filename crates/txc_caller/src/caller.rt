@@ -93,8 +93,8 @@ fn begun<A: App>(
 }
 
 impl<A: App, C: Suppliable> Caller<A, C> {
-    /// An empty database with room for so many events, or, where no number is given, for as many as there are stamps, which
-    /// are not stored; an empty pincushion and an empty node, for the functions of the registry.
+    /// An empty database with room for so many events, or that stores none, for as many as there are stamps; an empty
+    /// pincushion and an empty node, for the functions of the registry.
     pub fn new(
         alloc: Global,
         room: Option<usize>,
@@ -211,8 +211,8 @@ impl<A: App, C: Suppliable> Caller<A, C> {
         self.ports.commit(alloc, base, read, changes)
     }
 
-    /// Has the node take the events that it has not taken yet, and says whether it took them all; it does not where memory is
-    /// wanting. It has nothing for the stamps from an event on that it has not taken.
+    /// Has the node take the events that it has not taken yet, and says whether it took all: memory may be wanting. It has
+    /// nothing at stamps beyond those.
     pub fn take_events(&mut self, alloc: Global) -> bool
         ensures node { GoesOnByEvents self.old.ports.node self.new.ports.node }
         ensures all { result ≡ true → HasNoEventFor self.new.ports.database self.new.ports.node }

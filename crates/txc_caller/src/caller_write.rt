@@ -102,8 +102,8 @@ impl<A: App, C: Suppliable> Caller<A, C> {
 impl<A: App, C: Suppliable> CallerWrite<A, C> {
     ghost use Rattle.txc_caller.specs.Writing.{after_call_of, after_query, without_calls, HasGivenValue, IsWriteCallRefused, IsChangeRefused, IsWriteFinishRefused, IsWriteAfter, IsWriteLeft, IsWriteCommitRefused};
 
-    /// Asks for the rows of the query in the state that the transaction reads; they are its [`CallerWrite::answer`]. They count
-    /// as read. It does not see the changes of its own.
+    /// Asks for the rows of the query, which are its [`CallerWrite::answer`] and count as read. It does not see the changes of
+    /// its own.
     pub fn query(&mut self, alloc: Global, query: &Query) -> Result<(), DbError>
         ensures after { OnOk result (self.new ≡ after_query query.now self.old) }
         ensures refused { IfErr result (IsQueryRefused self.old.caller.ports.database query.now self.old.base) }
@@ -115,8 +115,7 @@ impl<A: App, C: Suppliable> CallerWrite<A, C> {
         Ok(())
     }
 
-    /// Begins to compute a function: the outermost, or one that the function asks for that is computed. Its value is not
-    /// looked for, since the transaction uses no node.
+    /// Begins to compute a function, which the one asks for that is computed, if one is.
     pub fn call(&mut self, function: u8) -> Result<(), CallerError>
         ensures after { OnOk result (self.new ≡ after_call_of function self.old) }
         ensures refused { IfErr result (IsWriteCallRefused function self.old self.new) }
@@ -136,8 +135,8 @@ impl<A: App, C: Suppliable> CallerWrite<A, C> {
         Ok(())
     }
 
-    /// Says that the function that is computed gives these bytes, which are its [`CallerWrite::answer`]. The function that
-    /// waited for it goes on, if one did.
+    /// Says that the function that is computed gives these bytes, which are the [`CallerWrite::answer`] to the one that waits,
+    /// if one does.
     pub fn finish(&mut self, bytes: Vec<u8>) -> Result<(), CallerError>
         ensures after { OnOk result (HasGivenValue bytes.items self.old self.new) }
         ensures refused { IfErr result (IsWriteFinishRefused bytes.items self.old self.new) }
@@ -155,7 +154,7 @@ impl<A: App, C: Suppliable> CallerWrite<A, C> {
         Ok(())
     }
 
-    /// Gives the open call up, if one is, and returns whether one was. What was read counts as read.
+    /// Gives the open call up, if one is, and returns whether one was.
     pub fn give_up(&mut self) -> bool
         ensures answer { IsTrue result ↔ IsSome self.old.inner }
         ensures after { self.new ≡ without_calls self.old }
@@ -237,9 +236,8 @@ impl<A: App, C: Suppliable> CallerWrite<A, C> {
         Ok(stamp)
     }
 
-    /// Commits the changes, where no event after the stamp that it reads matches what it has read, and answers the newest
-    /// stamp that they leave. The node then takes the events that it has not taken yet. A refusal returns the transaction,
-    /// open.
+    /// Commits the changes, where no event after its stamp matches what it has read, and answers the newest stamp that they
+    /// leave. The node then takes the events. A refusal returns the transaction, open.
     pub fn commit(
         self,
         alloc: Global,

@@ -24,9 +24,8 @@ impl<A: App, C: Suppliable> Caller<A, C> {
         self.ports.retire(alloc, now, age)
     }
 
-    /// Has the node take the events that it has not taken yet; where it can't, memory is wanting. Then makes the horizon the
-    /// least stamp that is held, or the newest where none is, and drops what only stamps before it need: versions of rows, and
-    /// the tags of events that are not stored.
+    /// Has the node take the events. Then makes the horizon the least stamp that is held, or the newest where none is, and drops
+    /// what only stamps before it need.
     pub fn vacuum(&mut self, alloc: Global) -> Result<Stamp, DbError>
         ensures after { OnOk result (HasVacuumedPorts self.old.ports self.new.ports) }
         ensures node { GoesOnByEvents self.old.ports.node self.new.ports.node }
