@@ -124,6 +124,7 @@ def text_of(it, before, most, wrong):
 def judge(said, sizes, seconds, generations):
     """Prints what came, and returns what was not as it is to be."""
     found, wrong, most, before, bids = read(said), [], [], None, 0
+    print("".join(f"{it}\n" for it in re.findall(r"^  refused at .*$", said, re.M)), end="")
     # the program's clock, where that is another than this one's
     ahead = sizes[0][0] - found[0].begun if found and abs(sizes[0][0] - found[0].begun) > 10_000 else 0
     for it in found:
