@@ -24,7 +24,7 @@ pub use site_handle::{TxcSite, site_crosses};
 pub use txc_c_site::{TxcKept, TxcQuery, TxcReceipt, TxcRow};
 pub use txc_crossing::{TxcCounts, TxcKey, TxcReach, TxcStored, TxcTag};
 pub use txn::{
-    txc_abort, txc_answer, txc_begin, txc_begin_write, txc_call, txc_commit, txc_commit_write,
-    txc_finish, txc_give_up, txc_keep, txc_put, txc_query_rows, txc_remove, txc_row_at,
-    txc_site_close, txc_site_open,
+    txc_abort, txc_answer, txc_begin, txc_begin_write, txc_begin_write_at, txc_call, txc_commit,
+    txc_commit_write, txc_finish, txc_give_up, txc_keep, txc_put, txc_query_rows, txc_remove,
+    txc_row_at, txc_site_close, txc_site_open,
 };
