@@ -1,10 +1,10 @@
 """Random scripts of mode world that a site can say, and what `txcache` replies to them: for scripts/boundary.py.
 
-A site has one transaction and one node, so the lines are those of actor 0 and of a keeper, who does something meanwhile only right after
+A site has one transaction and one node, so the lines are those of actor 0 and of a keeper, who changes something meanwhile only right after
 `rw 0` (bindings/c/README.md has the list). bindings/c/tests/play_site.c plays a script and prints each line with its reply, a sweep after each
 `tidy` among them. In the world the node takes events by lines `advance`: a site's node takes all of them as it commits a change, begins
 a transaction that reads, or keeps itself, so they are put in here, and their replies left out. What a site does not say is the stamp of
-`open`, where a transaction begins that writes, and the numbers of a refusal."""
+`open`, where a transaction begins that writes, and that of the event which a commit met."""
 
 import re
 import subprocess
@@ -47,20 +47,19 @@ def update(rng):
     return [*inside, end(rng)]
 
 
-def late_update(rng, now, is_stored):
-    """An update of one before whom the keeper was: it may be refused, and is open then. Below the horizon one can begin where events are stored."""
-    between = [change(rng) if rng.random() < 0.8 or not is_stored else f"tidy {now} {rng.choice(AGES)}" for _ in range(rng.randrange(1, 4))]
-    return [*between, *update(rng), "abort 0"]
+def late_update(rng):
+    """An update before which the keeper changed something. It may be refused, and is open then."""
+    return [*(change(rng) for _ in range(rng.randrange(1, 3))), *update(rng), "abort 0"]
 
 
-def script(rng, is_stored):
+def script(rng):
     """Lines, most of them of pages, with a moment that goes on."""
     now, lines = 1000, ["put 1 0 0 a"]
     for _ in range(rng.randrange(5, 40)):
         now += rng.choice(MOMENTS)
         kind = rng.random()
         lines += (page(rng, now) if kind < 0.5 else [change(rng)] if kind < 0.7 else ["rw 0", *update(rng)] if kind < 0.8
-                  else ["rw 0", *late_update(rng, now, is_stored)] if kind < 0.9 else [f"tidy {now} {rng.choice(AGES)}"])
+                  else ["rw 0", *late_update(rng)] if kind < 0.9 else [f"tidy {now} {rng.choice(AGES)}"])
     return lines
 
 
@@ -69,10 +68,10 @@ def plays(room, count, rng):
     event is stored."""
     found = []
     for number in range(count):
-        file, events = f"{room}/world{number:05}", rng.choice([0, 4096])
+        file = f"{room}/world{number:05}"
         with open(file, "w", encoding="utf-8") as it:
-            it.write("\n".join(script(rng, events > 0)) + "\n")
-        found.append((events, rng.choice([1, 2, 3, 8, 65536]), rng.choice([1, 2, 4, 4096]), rng.choice([0, 500, 5000]), file))
+            it.write("\n".join(script(rng)) + "\n")
+        found.append((rng.choice([0, 4096]), rng.choice([1, 2, 3, 8, 65536]), rng.choice([1, 2, 4, 4096]), rng.choice([0, 500, 5000]), file))
     return found
 
 
@@ -92,7 +91,7 @@ def of_world(told):
 
 def as_said(reply):
     """A reply of `txcache`, as a site says it."""
-    return re.sub(r"^(open|refused \w+)( \d+)*$", r"\1", reply)
+    return re.sub(r"^(open|refused B2) \d+$", r"\1", reply)
 
 
 def unlike(program, play, said):

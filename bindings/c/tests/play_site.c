@@ -3,8 +3,8 @@
  * usage: play_site LIST       each line of LIST: EVENTS CAPACITY RECENT RENEW FILE; prints `== FILE`, and then its lines
  *
  * Which lines there are, README.md has: those of one actor, whose functions are computed here. `call` plays `finish` too, and
- * `tidy` the sweep of the node. What the keeper does right after `rw 0`, he does while nothing is open; and then the transaction
- * begins over the state that was the newest. */
+ * `tidy` the sweep of the node. What the keeper changes right after `rw 0` is committed first, and the transaction then begins over
+ * the state before. */
 #include "txc.h"
 #include <inttypes.h>
 #include <stdio.h>
@@ -26,12 +26,11 @@ static bool begins(const char *line, const char *word) { return !strncmp(line, w
 
 static void say(const char *line, const char *reply) { printf("%s\t%s\n", line, reply); }
 
-/* The reply, or which other number the call returned: as the world names it, without its numbers, where scripts meet it. */
+/* The reply, or which other number the call returned; as the world names it, but for its stamp, where a script may meet it. */
 static void say_if(uint32_t number, uint32_t wanted, const char *line, const char *reply) {
     char other[32];
     snprintf(other, sizeof other, "number %u", number);
     say(line, number == wanted ? reply
-        : number == TXC_REFUSED ? "refused B1"
         : number == TXC_CONFLICT ? "refused B2"
         : number == TXC_NOT_OPEN ? "refused O2"
         : other);
@@ -174,32 +173,11 @@ static void play_keepers_change(const char *line) {
         say_if(number, TXC_DONE, line, "");
 }
 
-static void play_tidy(const char *line) {
-    uint64_t now, age;
-    txc_kept kept = {0, 0, 0};
-    char reply[64], sweep[32];
-    if (sscanf(line, "tidy %" SCNu64 " %" SCNu64, &now, &age) != 2)
-        abort();
-    uint32_t number = txc_keep(&site, now, age, &kept);
-    snprintf(reply, sizeof reply, "retired %zu horizon %" PRIu32, kept.retired, kept.horizon);
-    say_if(number, TXC_DONE, line, reply);
-    snprintf(sweep, sizeof sweep, "sweep 0 %" PRIu32, kept.horizon);
-    snprintf(reply, sizeof reply, "swept %zu", kept.swept);
-    say_if(number, TXC_DONE, sweep, reply);
-}
-
-static void play_keepers_line(const char *line) {
-    if (begins(line, "tidy "))
-        play_tidy(line);
-    else
-        play_keepers_change(line);
-}
-
 /* The same with a transaction that has just begun: it begins anew, over the state that it had. */
-static void play_keepers_line_meanwhile(const char *line) {
+static void play_change_meanwhile(const char *line) {
     if (is_begun_anew ? txc_abort(&site) : txc_commit_write(&site, &base))
         abort();
-    play_keepers_line(line);
+    play_keepers_change(line);
     is_begun_anew = true;
     uint32_t number = txc_begin_write_at(&site, base);
     if (number != TXC_DONE)
@@ -270,9 +248,27 @@ static void play_commit(const char *line) {
     say_if(number, TXC_DONE, line, reply);
 }
 
+static void play_tidy(const char *line) {
+    uint64_t now, age;
+    txc_kept kept = {0, 0, 0};
+    char reply[64], sweep[32];
+    if (sscanf(line, "tidy %" SCNu64 " %" SCNu64, &now, &age) != 2)
+        abort();
+    uint32_t number = txc_keep(&site, now, age, &kept);
+    snprintf(reply, sizeof reply, "retired %zu horizon %" PRIu32, kept.retired, kept.horizon);
+    say_if(number, TXC_DONE, line, reply);
+    snprintf(sweep, sizeof sweep, "sweep 0 %" PRIu32, kept.horizon);
+    snprintf(reply, sizeof reply, "swept %zu", kept.swept);
+    say_if(number, TXC_DONE, sweep, reply);
+}
+
 /* ---- scripts */
 
-static void play_actors_line(const char *line) {
+static void play_line(const char *line) {
+    if (begins(line, "put ") || begins(line, "remove ")) {
+        is_begun ? play_change_meanwhile(line) : play_keepers_change(line);
+        return;
+    }
     if (begins(line, "ro ") || begins(line, "session "))
         play_begin(line);
     else if (begins(line, "rw "))
@@ -287,18 +283,11 @@ static void play_actors_line(const char *line) {
         play_commit(line);
     else if (begins(line, "abort "))
         say_if(txc_abort(&site), TXC_DONE, line, "aborted");
+    else if (begins(line, "tidy "))
+        play_tidy(line);
     else
         say(line, "no line of these");
     is_begun = begins(line, "rw ");
-}
-
-static void play_line(const char *line) {
-    if (!begins(line, "put ") && !begins(line, "remove ") && !begins(line, "tidy "))
-        play_actors_line(line);
-    else if (is_begun)
-        play_keepers_line_meanwhile(line);
-    else
-        play_keepers_line(line);
 }
 
 static int play(size_t events, size_t capacity, size_t recent, uint64_t renew, const char *name) {
