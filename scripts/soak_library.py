@@ -44,7 +44,7 @@ def readings(program, commits):
     found, last = [], "it was killed"
     try:
         for line in process.stdout:
-            if re.fullmatch(r"(\d+ ?){5}\n", line):
+            if re.fullmatch(r"(\d+ ?){7}\n", line):
                 found.append(tuple(map(int, line.split())))
             else:
                 last = line.strip()
@@ -61,9 +61,9 @@ def judge(found, last, wanted, seconds):
     if not ended or not found:
         sys.exit(f"soak_library.py: it ended after {found[-1][0] if found else 0:,} commits and {seconds:.0f} s: {last}")
     total, commits, stamp = map(int, ended.groups())
-    _, pages, torn, conflicts, at_end = found[-1]
+    _, pages, torn, calls, hits, conflicts, at_end = found[-1]
     at_third, most = found[(len(found) - 1) // 3][-1], max(it[-1] for it in found)
-    said = (f"{commits:,} commits to stamp {stamp:,}, {commits - total:,} lost, {conflicts:,} conflicts, {pages:,} pages, {torn:,} torn: "
+    said = (f"{commits:,} commits to stamp {stamp:,}, {commits - total:,} lost, {conflicts:,} conflicts, {pages:,} pages, {torn:,} torn, {calls:,} calls, {hits:,} hits: "
             f"{at_third:,} KB after a third, {at_end:,} KB at the end, {most:,} KB at most, {seconds:.0f} s")
     if torn or total != commits or commits < wanted or at_end > at_third + GROWTH_KB:
         sys.exit(f"soak_library.py: not so: {said}")

@@ -1,20 +1,20 @@
 /* Commits through one site that stores no events: `soak COMMITS EVERY`. scripts/soak_library.py compiles and judges it.
  *
- * There are ITEMS counters, each as two rows: a page of an item shows both by cached functions, and is torn where they differ. Each
- * round reads such a page, and adds one to both rows over the state of its receipt; in every fourth round somebody else does so
- * first, and then it is a conflict, and one is added over the newest state. Whenever so many commits were made a line is printed:
- * commits, pages, torn pages, conflicts, and what the process has in memory, in KB. The last line says the sum of all counters, which is
- * to be that of commits, and the last stamp. */
+ * There are ITEMS counters, each as two rows. A page shows SHOWN of them, both rows by cached functions, and is torn where they
+ * differ. Each round reads a page, and adds one to the first counter over the state of its receipt; in every fourth round somebody
+ * else does so first, and then it is a conflict, and one is added over the newest state. Whenever so many commits were made a line is
+ * printed: commits, pages, torn pages, calls, hits, conflicts, and what the process has in memory, in KB. The last line says the sum of
+ * all counters, which is to be that of commits, and the last stamp. */
 #include "txc.h"
 #include <stdio.h>
 #include <stdlib.h>
 #include <string.h>
 #include <unistd.h>
 
-enum { ITEMS = 512, CAPACITY = 1024, RECENT = 64, STALE = 40, RENEW = 10, KEEP_EVERY = 300, LONGEST = 16 };
+enum { ITEMS = 512, SHOWN = 4, OFTEN = 64, CAPACITY = 768, RECENT = 64, STALE = 40, RENEW = 10, KEEP_EVERY = 300, LONGEST = 16 };
 
 static txc_site site = TXC_SITE_CLOSED;
-static unsigned long commits, pages, torn, conflicts;
+static unsigned long commits, pages, torn, calls, hits, conflicts;
 
 static void must(uint32_t got, uint32_t wanted) {
     if (got != wanted) {
@@ -40,6 +40,8 @@ static unsigned long called(uint8_t function, uint32_t item) {
     uint8_t value[LONGEST + 1], bytes[LONGEST];
     size_t len;
     uint32_t number = txc_call(&site, &key, value, LONGEST, &len);
+    calls++;
+    hits += number == TXC_DONE;
     if (number == TXC_COMPUTE)
         number = txc_finish(&site, bytes, computed(function, item, bytes), value, LONGEST, &len);
     must(number, TXC_DONE);
@@ -47,13 +49,22 @@ static unsigned long called(uint8_t function, uint32_t item) {
     return strtoul((char *)value, NULL, 10);
 }
 
-/* Reads the page of an item, and returns the stamp at which it is right. */
-static uint32_t page(uint64_t now, uint32_t item) {
+/* Which item is shown at that place of the page of a round: at the first any of them, at the others often the same. */
+static uint32_t shown(unsigned long round, uint32_t place) {
+    return ((uint32_t)(round + place) * 2654435761u >> 8) % (place ? OFTEN : ITEMS);
+}
+
+/* Reads the page of a round, and returns the stamp at which it is right. */
+static uint32_t page(unsigned long round) {
     txc_receipt receipt;
-    must(txc_begin(&site, now, STALE, 0), TXC_DONE);
-    unsigned long one = called(1, item), other = called(2, item);
+    bool is_torn = false;
+    must(txc_begin(&site, commits, STALE, 0), TXC_DONE);
+    for (uint32_t place = 0; place < SHOWN; place++) {
+        uint32_t item = shown(round, place);
+        is_torn |= called(1, item) != called(2, item);
+    }
     must(txc_commit(&site, &receipt), TXC_DONE);
-    torn += one != other || receipt.answers != 2 || !receipt.has_pin;
+    torn += is_torn || receipt.answers != 2 * SHOWN || !receipt.has_pin;
     pages++;
     return receipt.stamp;
 }
@@ -76,7 +87,7 @@ static void add_to_newest(uint32_t item) {
 }
 
 static void play_round(unsigned long round) {
-    uint32_t item = (uint32_t)(round * 2654435761u) % ITEMS, stamp = page(commits, item);
+    uint32_t item = shown(round, 0), stamp = page(round);
     if (round % 4 == 0)
         add_to_newest(item);
     must(txc_begin_write_at(&site, stamp), TXC_DONE);
@@ -96,7 +107,7 @@ static void say(void) {
         exit(1);
     fclose(file);
     kb *= (unsigned long)sysconf(_SC_PAGESIZE) / 1024;
-    printf("%lu %lu %lu %lu %lu\n", commits, pages, torn, conflicts, kb);
+    printf("%lu %lu %lu %lu %lu %lu %lu\n", commits, pages, torn, calls, hits, conflicts, kb);
     fflush(stdout);
 }
 
