@@ -233,7 +233,8 @@ uint32_t txc_site_close(txc_site *site);
 uint32_t txc_begin(txc_site *site, uint64_t now, uint64_t staleness, uint32_t at_least);
 
 /* Asks for the value of a call, in either transaction. TXC_DONE or TXC_ANSWERED write it; TXC_NO_ROOM writes its length alone, and
- * txc_answer gives it once more. In a transaction that writes it is TXC_COMPUTE. A call that is too deep in others is TXC_REFUSED.
+ * txc_answer gives it once more. In a transaction that writes it is TXC_COMPUTE. A function calls functions of lower numbers: another
+ * call is TXC_REFUSED.
  * TXC_DONE, TXC_ANSWERED, TXC_COMPUTE, TXC_NO_ROOM, TXC_NOT_OPEN, TXC_BAD_ARGUMENT, TXC_REFUSED, TXC_OTHER_ASK or TXC_NO_MEMORY. */
 uint32_t txc_call(txc_site *site, const txc_key *key, uint8_t *value, size_t room, size_t *len);
 

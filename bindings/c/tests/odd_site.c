@@ -149,12 +149,13 @@ static void try_calls_in_a_write(txc_site *site) {
     CHECK(rows(site) == TXC_ANSWERED && count == 1 && row_at(site, 0, 8) == TXC_DONE && !memcmp(body, "110", 3));
     CHECK(finish(site, "110") == TXC_DONE && len == 3 && !memcmp(value, "110", 3) && row_at(site, 0, 8) == TXC_MISS);
     CHECK(txc_answer(site, value, 2, &len) == TXC_NO_ROOM && len == 3 && txc_answer(site, value, 3, &len) == TXC_DONE);
-    CHECK(call(site, &HIGHEST, 8) == TXC_COMPUTE && call(site, &BIDS, 8) == TXC_COMPUTE && rows(site) == TXC_ANSWERED && count == 1);
+    CHECK(call(site, &BIDS, 8) == TXC_COMPUTE && call(site, &HIGHEST, 8) == TXC_COMPUTE && rows(site) == TXC_ANSWERED && count == 1);
     CHECK(txc_finish(site, (const uint8_t *)"110", 3, value, 2, &len) == TXC_NO_ROOM && len == 3);
     CHECK(txc_answer(site, value, 8, &len) == TXC_ANSWERED && len == 3 && row_at(site, 0, 8) == TXC_MISS);
     CHECK(finish(site, "1") == TXC_DONE && len == 1 && finish(site, "1") == TXC_NOT_OPEN);
     CHECK(call(site, &BIDS, 8) == TXC_COMPUTE && call(site, &HIGHEST, 8) == TXC_COMPUTE && txc_give_up(site) == TXC_DONE);
     CHECK(txc_give_up(site) == TXC_MISS && finish(site, "1") == TXC_NOT_OPEN);
+    CHECK(call(site, &HIGHEST, 8) == TXC_COMPUTE && call(site, &BIDS, 8) == TXC_REFUSED && finish(site, "1") == TXC_NOT_OPEN);
     CHECK(call(site, &HIGHEST, 8) == TXC_COMPUTE && txc_abort(site) == TXC_DONE && txc_abort(site) == TXC_NOT_OPEN);
 }
 
@@ -186,6 +187,7 @@ static void try_reading(txc_site *site) {
     CHECK(txc_commit(site, &receipt) == TXC_MID_CALL);
     CHECK(rows(site) == TXC_ANSWERED && count == 1 && row_at(site, 0, 8) == TXC_DONE && row_at(site, 1, 8) == TXC_MISS);
     CHECK(txc_give_up(site) == TXC_DONE && txc_give_up(site) == TXC_MISS);
+    CHECK(call(site, &HIGHEST, 8) == TXC_COMPUTE && call(site, &BIDS, 8) == TXC_REFUSED && finish(site, "1") == TXC_NOT_OPEN);
     CHECK(call(site, &HIGHEST, 8) == TXC_COMPUTE && rows(site) == TXC_ANSWERED && finish(site, "110") == TXC_DONE && len == 3);
     CHECK(call(site, &HIGHEST, 2) == TXC_NO_ROOM && len == 3);
     CHECK(txc_answer(site, value, 3, &len) == TXC_DONE && !memcmp(value, "110", 3));
