@@ -9,7 +9,7 @@ use Rattle.txc_rows.specs.declared.query.Change.TheVariants.{Put, Remove}
 use Rattle.txc_rows.specs.States.{answer}
 use Rattle.txc_rows.specs.Values.{RowValue, IsBody}
 use Rattle.txc_db.specs.Calls.{IsQueryRefused}
-use Rattle.txc_db.specs.DatabaseValue.{newest_state}
+use Rattle.txc_db.specs.History.{state_at}
 use Rattle.txc_db.specs.declared.error.DbError.{DbError}
 use Rattle.txc_app.specs.declared.ask.Ask.{Ask}
 use Rattle.txc_app.specs.declared.ask.Answer.{Answer}
@@ -19,7 +19,7 @@ use Rattle.txc_ports.specs.declared.error.TxnError.TheVariants.{Memory}
 use Rattle.txc_txn.specs.Kept.{IsTxn}
 use Rattle.txc_caller.specs.Acting.{IsComputedOnMiss, IsStepOf}
 use Rattle.txc_caller.specs.Reading.{top_or, AsksNext, CallerReading, KeepsReading}
-use Rattle.txc_caller.specs.Writing.{CallerWriting, IsChangeRefused}
+use Rattle.txc_caller.specs.Writing.{after_call_of, after_query, without_calls, CallerWriting, HasGivenValue, IsCallRefused, IsChangeRefused, IsFinishRefused}
 use Rattle.txc_caller.specs.declared.frames.OpenCall.{OpenCall}
 use Rattle.txc_caller.specs.declared.step.CallerError.{CallerError}
 use Rattle.txc_caller.specs.declared.step.Step.{Step}
@@ -27,14 +27,14 @@ use Rattle.txc_crossing.specs.Crossing.{is_call, named_call}
 use Rattle.txc_c_site.specs.Opaque.{opaque_next}
 use Rattle.txc_c_site.specs.Receipts.{crossing_row, is_query, query_of}
 use Rattle.txc_c_site.specs.Sites.{Stays}
-use Rattle.txc_c_site.specs.Telling.{last_given, last_bytes, last_len, last_number, step_bytes, step_len, step_number}
+use Rattle.txc_c_site.specs.Telling.{error_number, given_bytes, given_len, last_given, last_bytes, last_len, last_number, step_bytes, step_len, step_number, written_number}
 use Rattle.txc_crossing.specs.Numbers.{bytes_number}
 use Rattle.txc_crossing.specs.Crossing.{written_in}
 use Rattle.txc_c_site.specs.Turning.{database_number}
 use Rattle.txc_crossing.specs.declared.crossing.TxcKey.{TxcKey}
 use Rattle.txc_c_site.specs.declared.receipts.TxcQuery.{TxcQuery}
 use Rattle.txc_c_site.specs.declared.receipts.TxcRow.{TxcRow}
-use Rattle.txc_crossing.specs.declared.numbers.TheConstants.{DONE, MISS, BAD_ARGUMENT, NO_MEMORY, NOT_OPEN, ANSWERED, REFUSED}
+use Rattle.txc_crossing.specs.declared.numbers.TheConstants.{DONE, MISS, BAD_ARGUMENT, NO_MEMORY, NOT_OPEN, COMPUTE, ANSWERED, REFUSED}
 use Rattle.txc_c_site.specs.declared.site.Site.{Site}
 use Rattle.txc_c_site.specs.declared.site.Site.TheVariants.{Resting, Reading, Writing}
 
@@ -74,9 +74,16 @@ HasOpenCallStepped None old new number was is = (number ≡ NOT_OPEN) × (new �
 
 -- ---- a call
 
+-- in a transaction that writes its function is to be computed; or the call is refused
+abbrev pub HasCalledToWrite : ℕ → CallerWriting → ℕ → CallerWriting → Type 0
+HasCalledToWrite function old number new = ((number ≡ COMPUTE) × (new ≡ after_call_of function old))
+    ⊎ ((error : CallerError) × (number ≡ error_number error) × IsCallRefused function old new error)
+
 abbrev pub CallSiteComesTo : Call → Buffer → Buffer → Site → ℕ → Site → Type 0
 CallSiteComesTo k was is (Reading old) number (Reading new) = HasCallStepped (top_or old.doing k) old new number was is
 CallSiteComesTo k was is (Reading old) number new = ⊥
+CallSiteComesTo k was is (Writing old) number (Writing new) = HasCalledToWrite k.function old number new × (is ≡ was)
+CallSiteComesTo k was is (Writing old) number new = ⊥
 CallSiteComesTo k was is old number new = Stays NOT_OPEN old number new × (is ≡ was)
 
 abbrev pub CallComesTo : TxcKey → Buffer → Buffer → Site → ℕ → Site → Type 0
@@ -91,38 +98,54 @@ abbrev pub HasFinished : CallerReading → CallerReading → ℕ → Buffer → 
 HasFinished old new number was is =
     HasOpenCallStepped old.doing old new number was is ⊎ ((number ≡ NO_MEMORY) × (new ≡ old) × (is ≡ was))
 
-abbrev pub FinishComesTo : Buffer → Buffer → Site → ℕ → Site → Type 0
-FinishComesTo was is (Reading old) number (Reading new) = HasFinished old new number was is
-FinishComesTo was is (Reading old) number new = ⊥
-FinishComesTo was is old number new = Stays NOT_OPEN old number new × (is ≡ was)
+-- in a transaction that writes it is told and written; or it is refused
+pub record HasToldWritten (bytes : List ℕ) (old : CallerWriting) (number : ℕ) (was is : Buffer) (new : CallerWriting) : Type 0 where
+  pub given : HasGivenValue bytes old new
+  pub number_is : number ≡ written_number (length was.bytes) new.inner new.given
+  pub len_is : is.len ≡ given_len new.given was.len
+  pub bytes_are : is.bytes ≡ given_bytes new.given was.bytes
+
+abbrev pub HasFinishedToWrite : List ℕ → CallerWriting → ℕ → Buffer → Buffer → CallerWriting → Type 0
+HasFinishedToWrite bytes old number was is new = HasToldWritten bytes old number was is new
+    ⊎ ((error : CallerError) × (number ≡ error_number error) × IsFinishRefused bytes old new error × (is ≡ was))
+
+abbrev pub HasFinishedWrite : List ℕ → CallerWriting → ℕ → Buffer → Buffer → CallerWriting → Type 0
+HasFinishedWrite bytes old number was is new =
+    HasFinishedToWrite bytes old number was is new ⊎ ((number ≡ NO_MEMORY) × (new ≡ old) × (is ≡ was))
+
+abbrev pub FinishComesTo : List ℕ → Buffer → Buffer → Site → ℕ → Site → Type 0
+FinishComesTo bytes was is (Reading old) number (Reading new) = HasFinished old new number was is
+FinishComesTo bytes was is (Reading old) number new = ⊥
+FinishComesTo bytes was is (Writing old) number (Writing new) = HasFinishedWrite bytes old number was is new
+FinishComesTo bytes was is (Writing old) number new = ⊥
+FinishComesTo bytes was is (Resting c) number new = Stays NOT_OPEN (Resting c) number new × (is ≡ was)
 
 -- ---- a query
 
--- the transaction that writes finds the rows in the newest state
-pub record HasFoundRows (query : Query) (old : CallerWriting) (number count count' : ℕ) (rows : List RowValue) : Type 0 where
+-- the transaction that writes finds the rows in the state that it reads
+pub record HasFoundRows (query : Query) (old : CallerWriting) (number count' : ℕ) (new : CallerWriting) : Type 0 where
   pub number_is : number ≡ ANSWERED
-  pub rows_are : rows ≡ answer query (newest_state old.caller.ports.database)
-  pub count_is : count' ≡ length rows
+  pub after : new ≡ after_query query old
+  pub count_is : count' ≡ length (answer query (state_at old.caller.ports.database.history old.base))
 
--- or the database refuses, and what it found last stays
-pub record HasRefusedRows (query : Query) (old : CallerWriting) (number count count' : ℕ) (found rows : List RowValue) : Type 0 where
+-- or the database refuses, and what was answered last stays
+pub record HasRefusedRows (query : Query) (old : CallerWriting) (number count count' : ℕ) (new : CallerWriting) : Type 0 where
   pub error : DbError
   pub number_is : number ≡ database_number error
   pub refused : IsQueryRefused old.caller.ports.database query old.base error
+  pub same : new ≡ old
   pub count_is : count' ≡ count
-  pub rows_are : rows ≡ found
 
-abbrev pub HasAskedRows : Query → CallerWriting → ℕ → ℕ → ℕ → List RowValue → List RowValue → Type 0
-HasAskedRows query old number count count' found rows =
-    HasFoundRows query old number count count' rows ⊎ HasRefusedRows query old number count count' found rows
+abbrev pub HasAskedRows : Query → CallerWriting → ℕ → ℕ → ℕ → CallerWriting → Type 0
+HasAskedRows query old number count count' new =
+    HasFoundRows query old number count' new ⊎ HasRefusedRows query old number count count' new
 
 abbrev pub QuerySiteComesTo : Query → ℕ → ℕ → Site → ℕ → Site → Type 0
 QuerySiteComesTo query count count' (Reading old) number (Reading new) =
     HasOpenCallStepped old.doing old new number (buffer [] count) (buffer [] count')
 QuerySiteComesTo query count count' (Reading old) number new = ⊥
-QuerySiteComesTo query count count' (Writing old found) number (Writing new rows) =
-    (new ≡ old) × HasAskedRows query old number count count' found.items rows.items
-QuerySiteComesTo query count count' (Writing old found) number new = ⊥
+QuerySiteComesTo query count count' (Writing old) number (Writing new) = HasAskedRows query old number count count' new
+QuerySiteComesTo query count count' (Writing old) number new = ⊥
 QuerySiteComesTo query count count' (Resting c) number new = Stays NOT_OPEN (Resting c) number new × (count' ≡ count)
 
 abbrev pub QueryComesTo : TxcQuery → ℕ → ℕ → Site → ℕ → Site → Type 0
@@ -137,12 +160,12 @@ given_rows given = []
 
 abbrev pub rows_found : Site → List RowValue
 rows_found (Reading r) = given_rows (last_given r)
-rows_found (Writing w rows) = rows.items
+rows_found (Writing w) = given_rows w.given
 rows_found (Resting c) = []
 
 -- ---- giving up
 
-abbrev pub given_up_number : Option OpenCall → ℕ
+abbrev pub given_up_number : {A : Type 0} → Option A → ℕ
 given_up_number (Some o) = DONE
 given_up_number None = MISS
 
@@ -157,7 +180,9 @@ pub record HasGivenCallUp (old : CallerReading) (number : ℕ) (new : CallerRead
 abbrev pub GiveUpComesTo : Site → ℕ → Site → Type 0
 GiveUpComesTo (Reading old) number (Reading new) = HasGivenCallUp old number new
 GiveUpComesTo (Reading old) number new = ⊥
-GiveUpComesTo old number new = Stays NOT_OPEN old number new
+GiveUpComesTo (Writing old) number (Writing new) = (number ≡ given_up_number old.inner) × (new ≡ without_calls old)
+GiveUpComesTo (Writing old) number new = ⊥
+GiveUpComesTo (Resting c) number new = Stays NOT_OPEN (Resting c) number new
 
 -- ---- changes
 
@@ -177,8 +202,8 @@ ChangeKept change old number new = (kept : Result (Unit {0}) TxnError) × (numbe
     × ChangeLeaves change old new kept
 
 abbrev pub ChangeComesTo : Change → Site → ℕ → Site → Type 0
-ChangeComesTo change (Writing old found) number (Writing new rows) = ChangeKept change old number new × (rows ≡ found)
-ChangeComesTo change (Writing old found) number new = ⊥
+ChangeComesTo change (Writing old) number (Writing new) = ChangeKept change old number new
+ChangeComesTo change (Writing old) number new = ⊥
 ChangeComesTo change old number new = Stays NOT_OPEN old number new
 
 -- a put of that row: there is no such table; or its body is none, or memory is wanting; or it is kept as a change
@@ -211,7 +236,9 @@ RowComesTo at row row' was is old number new =
 abbrev pub LastTold : Buffer → Buffer → Site → ℕ → Type 0
 LastTold was is (Reading r) number = (number ≡ last_number (length was.bytes) r)
     × (is.len ≡ last_len r was.len) × (is.bytes ≡ last_bytes r was.bytes)
-LastTold was is site number = (number ≡ NOT_OPEN) × (is ≡ was)
+LastTold was is (Writing w) number = (number ≡ written_number (length was.bytes) w.inner w.given)
+    × (is.len ≡ given_len w.given was.len) × (is.bytes ≡ given_bytes w.given was.bytes)
+LastTold was is (Resting c) number = (number ≡ NOT_OPEN) × (is ≡ was)
 
 abbrev pub LastComesTo : Buffer → Buffer → Site → ℕ → Site → Type 0
 LastComesTo was is old number new = (new ≡ old) × LastTold was is old number

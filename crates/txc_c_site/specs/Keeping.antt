@@ -1,12 +1,11 @@
 -- What a keep comes to.
 use Rattle.std.specs.Prelude.{◌≡◌, ◌⊎◌, ℕ, length, Result, Ok, Err}
 use Rattle.txc_cushion.specs.Cushion.{retired}
-use Rattle.txc_db.specs.Calls.{IsVacuumRefused}
-use Rattle.txc_db.specs.DatabaseValue.{after_vacuum, next_horizon}
+use Rattle.txc_db.specs.DatabaseValue.{next_horizon}
 use Rattle.txc_db.specs.declared.error.DbError.{DbError}
 use Rattle.txc_shared.specs.declared.error.NodeError.{NodeError}
 use Rattle.txc_shared.specs.declared.error.NodeError.TheVariants.{Memory}
-use Rattle.txc_caller.specs.Ports.{CallerSweepTransition, HasRetired}
+use Rattle.txc_caller.specs.Ports.{CallerSweepTransition, HasRetired, HasVacuumedPorts, IsKeepRefused}
 use Rattle.txc_caller.specs.Reading.{CallerValue}
 use Rattle.txc_c_site.specs.Sites.{Stays}
 use Rattle.txc_c_site.specs.Turning.{database_number}
@@ -40,22 +39,25 @@ pub record HasSweptNode (horizon : ℕ) (old : CallerValue) (number : ℕ) (was 
 
 -- ---- the database
 
-abbrev pub vacuumed : CallerValue → CallerValue
-vacuumed c = record c { ports = record c.ports { database = after_vacuum c.ports.database } }
-
--- the database refused
+-- it refused, and what changed is that the node took events
 pub record HasRefusedVacuum (old : CallerValue) (number : ℕ) (was is : TxcKept) (new : CallerValue) : Type 0 where
   pub error : DbError
   pub number_is : number ≡ database_number error
-  pub refused : IsVacuumRefused old.ports.database error
-  pub same : new ≡ old
+  pub refused : IsKeepRefused old.ports.database old.ports.node error
+  pub same : new ≡ record old { ports = record old.ports { node = new.ports.node } }
   pub told : is ≡ was
 
--- the horizon is the least stamp held, or the newest, and is told, and the node is swept up to it
+-- the node has taken the events; the horizon is the least stamp held, or the newest, and is told; and the node is swept up
+-- to it
+pub record HasVacuumedOn (old : CallerValue) (number : ℕ) (was is : TxcKept) (new : CallerValue) : Type 0 where
+  pub after : CallerValue
+  pub vacuumed : HasVacuumedPorts old.ports after.ports
+  pub same : after ≡ record old { ports = after.ports }
+  pub rest : HasSweptNode (next_horizon old.ports.database) after number
+      (record was { horizon = next_horizon old.ports.database }) is new
+
 abbrev pub HasVacuumed : CallerValue → ℕ → TxcKept → TxcKept → CallerValue → Type 0
-HasVacuumed old number was is new =
-    HasSweptNode (next_horizon old.ports.database) (vacuumed old) number (record was { horizon = next_horizon old.ports.database }) is new
-    ⊎ HasRefusedVacuum old number was is new
+HasVacuumed old number was is new = HasVacuumedOn old number was is new ⊎ HasRefusedVacuum old number was is new
 
 -- ---- the pins
 

@@ -95,6 +95,17 @@ abbrev pub computed_number : ℕ → Option Answer → ℕ
 computed_number room (Some answer) = answer_number room answer
 computed_number room None = MISS
 
+-- outside all functions of a transaction that writes: the value of the outermost call, or of rows how many they are
+abbrev pub outside_number : ℕ → Answer → ℕ
+outside_number room (answers.Value value) = bytes_number DONE room value
+outside_number room (answers.Rows rows) = ANSWERED
+
+-- in such a transaction, to the function that is computed, or else outside all
+abbrev pub written_number : ℕ → Option ℕ → Option Answer → ℕ
+written_number room (Some function) given = computed_number room given
+written_number room None (Some answer) = outside_number room answer
+written_number room None None = MISS
+
 -- to the function that is computed, or else to the outermost call
 abbrev pub last_number_in : ℕ → Option OpenCall → List Recorded → ℕ
 last_number_in room (Some o) recorded = computed_number room o.given

@@ -45,7 +45,7 @@ impl Site {
         ensures { ChangeComesTo (Put row) self.old result self.new }
     {
         match self {
-            Site::Writing(write, _) => put(write, row),
+            Site::Writing(write) => put(write, row),
             Site::Resting(_) => NOT_OPEN,
             Site::Reading(_) => NOT_OPEN,
         }
@@ -81,7 +81,7 @@ impl Site {
         ensures { ChangeComesTo (Remove table id) self.old result self.new }
     {
         match self {
-            Site::Writing(write, _) => remove(write, table, id),
+            Site::Writing(write) => remove(write, table, id),
             Site::Resting(_) => NOT_OPEN,
             Site::Reading(_) => NOT_OPEN,
         }

@@ -48,11 +48,12 @@ fn sweep(
     }
 }
 
-// The database drops the versions that no stamp from the horizon on shows, and then the node what ends there.
+// The node takes the events, the database drops the versions that no stamp from the horizon on shows, and then the node
+// what ends there.
 fn vacuum(alloc: Global, caller: &mut Caller<Opaque, Object>, kept: &mut TxcKept) -> u32
     ensures { HasVacuumed caller.old result kept.old kept.new caller.new }
 {
-    match caller.vacuum() {
+    match caller.vacuum(alloc) {
         Ok(horizon) => {
             kept.horizon = horizon.number();
             sweep(alloc, caller, horizon, kept)
@@ -79,14 +80,15 @@ fn keep(
 }
 
 impl Site {
-    /// Retires the pins that are more than `age` before `now`, both in milliseconds, and drops what no transaction can read any more.
+    /// Retires the pins that are more than `age` before `now`, both in milliseconds, has the node take the events, and drops what no
+    /// transaction can read any more.
     pub fn keep(&mut self, alloc: Global, now: u64, age: u64, kept: &mut TxcKept) -> u32
         ensures { KeepComesTo now age kept.old kept.new self.old result self.new }
     {
         match self {
             Site::Resting(caller) => keep(alloc, caller, now, age, kept),
             Site::Reading(_) => ALREADY_OPEN,
-            Site::Writing(_, _) => ALREADY_OPEN,
+            Site::Writing(_) => ALREADY_OPEN,
         }
     }
 }

@@ -10,10 +10,10 @@ use crate::asking;
 use crate::opaque::Opaque;
 use crate::receipts::{TxcQuery, TxcRow};
 use crate::site::{Object, Site};
-use crate::telling::{given, tell_last};
+use crate::telling::{given, tell_last, tell_written};
 use std::alloc::Global;
 use txc_app::Answer;
-use txc_caller::CallerTxn;
+use txc_caller::{CallerTxn, CallerWrite};
 use txc_crossing::{BAD_ARGUMENT, DONE, MISS, NOT_OPEN, TxcKey, tell};
 use txc_rows::{Query, Row};
 use txc_tags::Key;
@@ -50,6 +50,17 @@ fn row_given(txn: &CallerTxn<Opaque, Object>, at: usize) -> Option<&Row>
     }
 }
 
+// The same of those that a transaction that writes was answered last.
+fn row_written(write: &CallerWrite<Opaque, Object>, at: usize) -> Option<&Row>
+    ensures { MatchOption result (slice_get (given_rows write.now.given) at ≡ None)
+        (λ row. slice_get (given_rows write.now.given) at ≡ Some row.now) }
+{
+    match write.answer() {
+        Some(answer) => row_in(answer, at),
+        None => None,
+    }
+}
+
 impl Site {
     // Asks for the value of a call.
     fn call_key(&mut self, alloc: Global, key: Key, value: &mut [u8], len: &mut usize) -> u32
@@ -59,8 +70,8 @@ impl Site {
     {
         match self {
             Site::Reading(txn) => asking::call(alloc, txn, key, value, len),
+            Site::Writing(write) => asking::call_to_write(write, &key),
             Site::Resting(_) => NOT_OPEN,
-            Site::Writing(_, _) => NOT_OPEN,
         }
     }
 
@@ -83,7 +94,7 @@ impl Site {
     {
         match self {
             Site::Reading(txn) => asking::query(alloc, txn, query, count),
-            Site::Writing(write, rows) => asking::query_to_write(alloc, write, &query, rows, count),
+            Site::Writing(write) => asking::query_to_write(alloc, write, &query, count),
             Site::Resting(_) => NOT_OPEN,
         }
     }
@@ -106,7 +117,7 @@ impl Site {
     {
         match self {
             Site::Reading(txn) => row_given(txn, at),
-            Site::Writing(_, rows) => row_of(rows, at),
+            Site::Writing(write) => row_written(write, at),
             Site::Resting(_) => None,
         }
     }
@@ -126,13 +137,13 @@ impl Site {
     /// The function that is computed gives these bytes.
     pub fn finish(&mut self, alloc: Global, bytes: &[u8], value: &mut [u8], len: &mut usize) -> u32
         requires { SiteAsksNext (asks.Done bytes.now) self.old }
-        ensures { FinishComesTo (buffer value.old len.old) (buffer value.new len.new)
+        ensures { FinishComesTo bytes.now (buffer value.old len.old) (buffer value.new len.new)
             self.old result self.new }
     {
         match self {
             Site::Reading(txn) => asking::finish(alloc, txn, bytes, value, len),
+            Site::Writing(write) => asking::finish_write(alloc, write, bytes, value, len),
             Site::Resting(_) => NOT_OPEN,
-            Site::Writing(_, _) => NOT_OPEN,
         }
     }
 
@@ -142,8 +153,8 @@ impl Site {
     {
         match self {
             Site::Reading(txn) => tell_last(txn, value, len),
+            Site::Writing(write) => tell_written(write, value, len),
             Site::Resting(_) => NOT_OPEN,
-            Site::Writing(_, _) => NOT_OPEN,
         }
     }
 
@@ -153,8 +164,8 @@ impl Site {
     {
         match self {
             Site::Reading(txn) => asking::give_up(txn),
+            Site::Writing(write) => asking::give_up_write(write),
             Site::Resting(_) => NOT_OPEN,
-            Site::Writing(_, _) => NOT_OPEN,
         }
     }
 }

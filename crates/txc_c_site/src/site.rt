@@ -4,7 +4,7 @@ ghost use Rattle.txc_db.specs.Refusals.{IsWant};
 ghost use Rattle.txc_registry.specs.Objects.{numbers_of, AllIdle};
 ghost use Rattle.txc_node.specs.declared.node.TheConstants.{MAX_CAPACITY, MAX_RECENT};
 ghost use Rattle.txc_stream.specs.declared.row.TheConstants.{MAX_CAPACITY as MAX_EVENTS};
-ghost use Rattle.txc_c_site.specs.Sites.{is_room, HaveAllFunctions, IsNewSite};
+ghost use Rattle.txc_c_site.specs.Sites.{is_room, room_of, HaveAllFunctions, IsNewSite};
 
 use crate::opaque::Opaque;
 use std::alloc::{AllocError, Global};
@@ -12,7 +12,6 @@ use std::marker::Model;
 use txc_caller::{Caller, CallerTxn, CallerWrite};
 use txc_db::DbError;
 use txc_registry::{Cacheable, Registry, enlist};
-use txc_rows::Row;
 use txc_shared::NodeSettings;
 use txc_stream::MAX_CAPACITY as MAX_EVENTS;
 use txc_supply::Supplied;
@@ -21,12 +20,12 @@ use txc_tags::LAST_FUNCTION;
 /// The object of a function.
 pub(crate) type Object = Supplied<Opaque>;
 
-/// At rest, or with a transaction that only reads, or with one that writes, and the rows that it found last.
+/// At rest, or with a transaction that only reads, or with one that writes.
 #[derive(Drop)]
 pub enum Site {
     Resting(Caller<Opaque, Object>),
     Reading(CallerTxn<Opaque, Object>),
-    Writing(CallerWrite<Opaque, Object>, Vec<Row>),
+    Writing(CallerWrite<Opaque, Object>),
 }
 
 /// Idle objects of functions. A contract sees the functions' numbers.
@@ -91,30 +90,36 @@ fn registry(alloc: Global) -> Result<Registry<Opaque, Object>, AllocError>
     Ok(registry)
 }
 
-/// Whether a database may have room for so many events.
+/// Whether a database may have room for so many events. 0 says that it stores none.
 pub fn is_room(events: usize) -> bool
     ensures { result ≡ is_room events }
 {
-    1 <= events && events <= MAX_EVENTS
+    events <= MAX_EVENTS
+}
+
+// For how many events there is to be room, if they are stored.
+fn room_of(events: usize) -> Option<usize>
+    ensures { result ≡ room_of events }
+{
+    if events == 0 { None } else { Some(events) }
 }
 
 impl Site {
-    /// An empty database with room for so many events, an empty pincushion and an empty node.
+    /// An empty database with room for so many events, or, for 0, that stores none; an empty pincushion and an empty node.
     pub fn new(
         alloc: Global,
         events: usize,
         settings: NodeSettings,
         renew_after: u64,
     ) -> Result<Site, DbError>
-        requires least { 1 ≤ events }
-        requires most { events ≤ MAX_EVENTS }
+        requires room { events ≤ MAX_EVENTS }
         requires node { (1 ≤ settings.capacity) × (settings.capacity ≤ MAX_CAPACITY) }
         requires recent { (1 ≤ settings.recent) × (settings.recent ≤ MAX_RECENT) }
-        ensures made { IfOk result (IsNewSite settings renew_after) }
+        ensures made { IfOk result (IsNewSite events settings renew_after) }
         ensures refused { IfErr result IsWant }
     {
         let registry = registry(alloc)?;
-        let caller = Caller::new(alloc, events, settings, renew_after, registry)?;
+        let caller = Caller::new(alloc, room_of(events), settings, renew_after, registry)?;
         Ok(Site::Resting(caller))
     }
 }

@@ -1,13 +1,13 @@
 //! What is told of a step, and written for the caller.
 ghost use Rattle.std.specs.Prelude.{◌≡◌, MatchOption, None, Some, length};
-ghost use Rattle.txc_c_site.specs.Telling.{answer_bytes, answer_len, answer_number, computed_number, error_number, given_bytes, given_len, given_number, last_bytes, last_given, last_len, last_number, last_recorded, step_bytes, step_len, step_number, value_bytes, value_len, value_number};
+ghost use Rattle.txc_c_site.specs.Telling.{answer_bytes, answer_len, answer_number, computed_number, error_number, given_bytes, given_len, given_number, last_bytes, last_given, last_len, last_number, last_recorded, outside_number, step_bytes, step_len, step_number, value_bytes, value_len, value_number, written_number};
 ghost use Rattle.txc_crossing.specs.Numbers.{bytes_number};
 ghost use Rattle.txc_crossing.specs.Crossing.{written_in};
 
 use crate::opaque::Opaque;
 use crate::site::Object;
 use txc_app::Answer;
-use txc_caller::{CallerError, CallerTxn, Step};
+use txc_caller::{CallerError, CallerTxn, CallerWrite, Step};
 use txc_crossing::{
     ANSWERED, COMPUTE, DONE, MISS, NO_MEMORY, NO_ROOM, NOT_OPEN, OTHER_ASK, REFUSED, tell,
 };
@@ -28,8 +28,8 @@ fn tell_answer(answer: &Answer, value: &mut [u8], len: &mut usize) -> u32
     }
 }
 
-// The number of a refusal.
-fn error_number(error: CallerError) -> u32
+/// The number of a refusal.
+pub(crate) fn error_number(error: CallerError) -> u32
     ensures { result ≡ error_number error }
 {
     match error {
@@ -95,6 +95,36 @@ pub(crate) fn tell_last(txn: &CallerTxn<Opaque, Object>, value: &mut [u8], len: 
         return tell_given(txn, value, len);
     }
     tell_value(txn, value, len)
+}
+
+// Writes what was answered last outside all functions.
+fn tell_outside(answer: &Answer, value: &mut [u8], len: &mut usize) -> u32
+    ensures number { result ≡ outside_number (length value.old) answer.now }
+    ensures len { len.new ≡ answer_len answer.now }
+    ensures bytes { value.new ≡ answer_bytes answer.now value.old }
+{
+    match answer {
+        Answer::Value(given) => tell(DONE, given.bytes(), value, len),
+        Answer::Rows(rows) => {
+            *len = rows.as_slice().len();
+            ANSWERED
+        }
+    }
+}
+
+/// Writes what a transaction that writes was answered last.
+pub(crate) fn tell_written(write: &CallerWrite<Opaque, Object>, value: &mut [u8], len: &mut usize) -> u32
+    ensures number { result ≡ written_number (length value.old) write.now.inner write.now.given }
+    ensures len { len.new ≡ given_len write.now.given len.old }
+    ensures bytes { value.new ≡ given_bytes write.now.given value.old }
+{
+    let Some(answer) = write.answer() else {
+        return MISS;
+    };
+    if write.is_computing() {
+        return tell_answer(answer, value, len);
+    }
+    tell_outside(answer, value, len)
 }
 
 // The answer of the function that goes on with it.

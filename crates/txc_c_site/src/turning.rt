@@ -1,19 +1,18 @@
 //! Transactions of a site that begin and end.
-ghost use Rattle.std.specs.Prelude.{◌≡◌};
-ghost use Rattle.txc_c_site.specs.Turning.{database_number, BegunComesTo, BegunWriteComesTo, CommittedComesTo, WrittenComesTo};
+ghost use Rattle.std.specs.Prelude.{◌≡◌, is_some, IfSome};
+ghost use Rattle.txc_c_site.specs.Turning.{database_number, is_site_stamp, write_number, BegunComesTo, BegunWriteAtComesTo, BegunWriteComesTo, CommittedComesTo, WrittenComesTo};
 
 use crate::opaque::Opaque;
 use crate::receipts::TxcReceipt;
 use crate::site::{Object, Site};
 use std::alloc::Global;
-use txc_caller::{Caller, CallerTxn, CallerWrite};
+use txc_caller::{Caller, CallerTxn, CallerWrite, WriteError};
 use txc_crossing::{
     ALREADY_OPEN, BAD_ARGUMENT, CONFLICT, DONE, MID_CALL, NO_MEMORY, NOT_OPEN, REFUSED,
 };
 use txc_db::DbError;
 use txc_ports::Bounds;
-use txc_rows::Row;
-use txc_stamp::Stamp;
+use txc_stamp::{MOST_STAMP, Stamp};
 
 /// The number of a refusal of the database.
 pub(crate) fn database_number(error: DbError) -> u32
@@ -26,23 +25,55 @@ pub(crate) fn database_number(error: DbError) -> u32
     }
 }
 
-// A site at rest begins a transaction that only reads.
-fn begun(alloc: Global, caller: Caller<Opaque, Object>, bounds: Bounds) -> (u32, Site)
+// The number of what keeps a transaction that writes from being committed.
+fn write_number(error: WriteError) -> u32
+    ensures { result ≡ write_number error }
+{
+    match error {
+        WriteError::MidCall => MID_CALL,
+        WriteError::Database(cause) => database_number(cause),
+    }
+}
+
+// A stamp of a site; none if the number is above its limit.
+fn site_stamp(number: u32) -> Option<Stamp>
+    ensures there { is_some result ≡ is_site_stamp number }
+    ensures stamp { IfSome result (λ stamp. stamp ≡ number) }
+{
+    if number > MOST_STAMP {
+        return None;
+    }
+    Some(Stamp::after(number as usize))
+}
+
+// A site at rest begins a transaction that only reads, once the node has taken the events.
+fn begun(alloc: Global, mut caller: Caller<Opaque, Object>, bounds: Bounds) -> (u32, Site)
     ensures { BegunComesTo bounds caller result.0 result.1 }
 {
+    let _has_all = caller.take_events(alloc);
     match caller.begin(alloc, bounds) {
         Ok(txn) => (DONE, Site::Reading(txn)),
         Err(caller) => (NO_MEMORY, Site::Resting(caller)),
     }
 }
 
-// A site at rest begins a transaction that writes.
+// A site at rest begins a transaction that writes over the newest state.
 fn begun_write(alloc: Global, caller: Caller<Opaque, Object>) -> (u32, Site)
     ensures { BegunWriteComesTo caller result.0 result.1 }
 {
-    match caller.begin_write(alloc) {
-        Ok(write) => (DONE, Site::Writing(write, Vec::new(alloc))),
-        Err(caller) => (NO_MEMORY, Site::Resting(caller)),
+    (DONE, Site::Writing(caller.begin_write(alloc)))
+}
+
+// The same over the state of that stamp.
+fn begun_write_at(alloc: Global, caller: Caller<Opaque, Object>, base: Stamp) -> (u32, Site)
+    ensures { BegunWriteAtComesTo base caller result.0 result.1 }
+{
+    match caller.begin_write_at(alloc, base) {
+        Ok(write) => (DONE, Site::Writing(write)),
+        Err(back) => {
+            let (error, caller) = back;
+            (database_number(error), Site::Resting(caller))
+        }
     }
 }
 
@@ -61,13 +92,8 @@ fn committed(txn: CallerTxn<Opaque, Object>, receipt: &mut TxcReceipt) -> (u32, 
 }
 
 // A transaction that writes ends, and the newest stamp is written.
-fn written(
-    alloc: Global,
-    write: CallerWrite<Opaque, Object>,
-    rows: Vec<Row>,
-    stamp: &mut u32,
-) -> (u32, Site)
-    ensures { WrittenComesTo write rows.items stamp.old stamp.new result.0 result.1 }
+fn written(alloc: Global, write: CallerWrite<Opaque, Object>, stamp: &mut u32) -> (u32, Site)
+    ensures { WrittenComesTo write stamp.old stamp.new result.0 result.1 }
 {
     match write.commit(alloc) {
         Ok(done) => {
@@ -77,19 +103,19 @@ fn written(
         }
         Err(back) => {
             let (error, write) = back;
-            (database_number(error), Site::Writing(write, rows))
+            (write_number(error), Site::Writing(write))
         }
     }
 }
 
 impl Site {
-    ghost use Rattle.txc_c_site.specs.Turning.{AbortComesTo, BeginComesTo, BeginWriteComesTo, CommitComesTo, CommitWriteComesTo};
+    ghost use Rattle.txc_c_site.specs.Turning.{AbortComesTo, BeginComesTo, BeginWriteAtComesTo, BeginWriteComesTo, CommitComesTo, CommitWriteComesTo};
 
     /// Begins a transaction that only reads.
     pub fn begin(self, alloc: Global, now: u64, staleness: u64, at_least: u32) -> (u32, Site)
         ensures { BeginComesTo now staleness at_least self result.0 result.1 }
     {
-        let Ok(at_least) = Stamp::new(at_least) else {
+        let Some(at_least) = site_stamp(at_least) else {
             return (BAD_ARGUMENT, self);
         };
         let bounds = Bounds {
@@ -100,18 +126,32 @@ impl Site {
         match self {
             Site::Resting(caller) => begun(alloc, caller, bounds),
             Site::Reading(txn) => (ALREADY_OPEN, Site::Reading(txn)),
-            Site::Writing(write, rows) => (ALREADY_OPEN, Site::Writing(write, rows)),
+            Site::Writing(write) => (ALREADY_OPEN, Site::Writing(write)),
         }
     }
 
-    /// Begins a transaction that writes.
+    /// Begins a transaction that writes over the newest state.
     pub fn begin_write(self, alloc: Global) -> (u32, Site)
         ensures { BeginWriteComesTo self result.0 result.1 }
     {
         match self {
             Site::Resting(caller) => begun_write(alloc, caller),
             Site::Reading(txn) => (ALREADY_OPEN, Site::Reading(txn)),
-            Site::Writing(write, rows) => (ALREADY_OPEN, Site::Writing(write, rows)),
+            Site::Writing(write) => (ALREADY_OPEN, Site::Writing(write)),
+        }
+    }
+
+    /// Begins a transaction that writes over the state of that stamp.
+    pub fn begin_write_at(self, alloc: Global, stamp: u32) -> (u32, Site)
+        ensures { BeginWriteAtComesTo stamp self result.0 result.1 }
+    {
+        let Some(base) = site_stamp(stamp) else {
+            return (BAD_ARGUMENT, self);
+        };
+        match self {
+            Site::Resting(caller) => begun_write_at(alloc, caller, base),
+            Site::Reading(txn) => (ALREADY_OPEN, Site::Reading(txn)),
+            Site::Writing(write) => (ALREADY_OPEN, Site::Writing(write)),
         }
     }
 
@@ -122,7 +162,7 @@ impl Site {
         match self {
             Site::Reading(txn) => committed(txn, receipt),
             Site::Resting(caller) => (NOT_OPEN, Site::Resting(caller)),
-            Site::Writing(write, rows) => (NOT_OPEN, Site::Writing(write, rows)),
+            Site::Writing(write) => (NOT_OPEN, Site::Writing(write)),
         }
     }
 
@@ -131,7 +171,7 @@ impl Site {
         ensures { CommitWriteComesTo stamp.old stamp.new self result.0 result.1 }
     {
         match self {
-            Site::Writing(write, rows) => written(alloc, write, rows, stamp),
+            Site::Writing(write) => written(alloc, write, stamp),
             Site::Resting(caller) => (NOT_OPEN, Site::Resting(caller)),
             Site::Reading(txn) => (NOT_OPEN, Site::Reading(txn)),
         }
@@ -144,7 +184,7 @@ impl Site {
         match self {
             Site::Resting(caller) => (NOT_OPEN, Site::Resting(caller)),
             Site::Reading(txn) => (DONE, Site::Resting(txn.abort())),
-            Site::Writing(write, _) => (DONE, Site::Resting(write.abort())),
+            Site::Writing(write) => (DONE, Site::Resting(write.abort())),
         }
     }
 }

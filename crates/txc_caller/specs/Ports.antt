@@ -1,5 +1,5 @@
 -- The plain ports of a caller: a database, a pincushion and one node.
-use Rattle.std.specs.Prelude.{◌≡◌, ◌⊎◌, ◌≤◌, ℕ, Bool, true, false, List, Option, Some, None, Result, Ok, Err, [], ◌∷◌}
+use Rattle.std.specs.Prelude.{◌≡◌, ◌⊎◌, ◌<◌, ◌≤◌, ℕ, Bool, true, false, List, Option, Some, None, Result, Ok, Err, [], ◌∷◌}
 use Rattle.txc_tags.specs.Keys.{Call}
 use Rattle.txc_rows.specs.declared.query.Query.{Query as RowQuery}
 use Rattle.txc_rows.specs.RowTags.{query_tag}
@@ -9,12 +9,15 @@ use Rattle.txc_node.specs.Cache.{lookup_answer, outcome, swept_count}
 use Rattle.txc_node.specs.declared.entry.Entry.{Entry}
 use Rattle.txc_node.specs.declared.hit.Shown.{Shown}
 use Rattle.txc_node.specs.declared.op.Op.TheVariants.{Insert, Lookup, Sweep}
-use Rattle.txc_db.specs.Calls.{IsLeft, IsQueryRefused, IsPinRefused, IsUnpinRefused}
-use Rattle.txc_db.specs.DatabaseValue.{DatabaseValue, after_pin, after_unpin, front_of, is_held, newest}
+use Rattle.txc_stream.specs.Names.{Name, HasRow}
+use Rattle.txc_db.specs.Room.{HasCapacity, AreTagsGone}
+use Rattle.txc_db.specs.Calls.{IsLeft, IsQueryRefused, IsPinRefused, IsUnpinRefused, IsVacuumRefused}
+use Rattle.txc_db.specs.DatabaseValue.{DatabaseValue, after_pin, after_unpin, after_vacuum, front_of, is_held, newest}
 use Rattle.txc_db.specs.History.{moment_at, state_at}
 use Rattle.txc_db.specs.Seen.{FrontValue}
 use Rattle.txc_db.specs.declared.answered.Answered.{Answered}
 use Rattle.txc_db.specs.declared.error.DbError.{DbError}
+use Rattle.txc_db.specs.declared.error.DbError.TheVariants.{Memory}
 use Rattle.txc_db.specs.declared.pinned.Pinned.{Pinned}
 use Rattle.txc_cushion.specs.declared.error.AddError.{AddError}
 use Rattle.txc_cushion.specs.Cushion.{CushionValue, after_add, after_give_back, after_retire, retired}
@@ -45,6 +48,11 @@ pub record AreCallerPorts (p : CallerPorts) : Type 0 where
   pub cushion : p.cushion.events ≡ p.database.events
   pub node : p.node.seen.events ≡ p.database.events
   pub pass : p.node.passes ≡ 1
+
+-- the database has room for so many events; or, where no number is given, it stores none
+abbrev pub HasRoomFor : Option ℕ → Name → Type 0
+HasRoomFor (Some events) name = HasCapacity name events
+HasRoomFor None name = ¬ (HasRow name)
 
 -- ---- pins
 
@@ -159,6 +167,28 @@ CallerSweepTransition horizon old new (Err e) = IsStepRefused old e × IsNodeLef
 pub record KeepsNode (old new : NodeValue) : Type 0 where
   pub row : new.seen.events ≡ old.seen.events
   pub passes : new.passes ≡ old.passes
+
+-- there is no event that the node has not taken and whose tags are kept
+abbrev pub HasNoEventFor : DatabaseValue → NodeValue → Type 0
+HasNoEventFor d n = (newest d ≤ n.cache.processed) ⊎ AreTagsGone d.events d.horizon n.cache.processed
+
+-- it has not taken them all
+abbrev pub IsBehind : DatabaseValue → NodeValue → Type 0
+IsBehind d n = n.cache.processed < newest d
+
+-- it has taken those that it had not taken; or memory was wanting for one
+abbrev pub MayHaveTaken : DatabaseValue → NodeValue → NodeValue → Type 0
+MayHaveTaken d old new = HasNoEventFor d new ⊎ IsBehind d old
+
+-- the node has taken the events, and only the versions are left that a stamp from the least held one on shows
+pub record HasVacuumedPorts (old new : CallerPorts) : Type 0 where
+  pub taken : HasNoEventFor old.database new.node
+  pub is : new ≡ record old { database = after_vacuum old.database; node = new.node }
+
+-- of a vacuum after that: as of the database's; or memory was wanting for an event
+abbrev pub IsKeepRefused : DatabaseValue → NodeValue → DbError → Type 0
+IsKeepRefused d n Memory = IsBehind d n
+IsKeepRefused d n e = IsVacuumRefused d e
 
 -- ---- requests
 

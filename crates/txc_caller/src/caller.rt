@@ -1,8 +1,10 @@
 //! Who computes his functions himself, at rest.
-ghost use Rattle.std.specs.Prelude.{◌≡◌, ◌≤◌, [], All, IfErr, IfOk, IfSome, None, OnErr, OnOk, map, true};
+ghost use Rattle.std.specs.Prelude.{◌≡◌, ◌≤◌, ◌↔◌, ◌∷◌, [], All, IfErr, IfOk, IfSome, IsOk, None, OnErr, OnOk, map, true, false};
 ghost use Rattle.txc_app.specs.Eval.{Next};
 ghost use Rattle.txc_cushion.specs.Cushion.{after_fresh, empty_cushion, handed_out};
-ghost use Rattle.txc_db.specs.Calls.{IsCommitRefused, IsLeft, IsQueryRefused};
+ghost use Rattle.txc_db.specs.Calls.{IsAnswerable, IsBase, IsCommitRefused, IsCommittable, IsLeft, IsQueryRefused};
+ghost use Rattle.txc_db.specs.Steps.{IsBaseRefused};
+ghost use Rattle.txc_rows.specs.RowTags.{query_tag};
 ghost use Rattle.txc_db.specs.DatabaseValue.{after_commit, front_of, newest};
 ghost use Rattle.txc_db.specs.History.{state_at};
 ghost use Rattle.txc_rows.specs.States.{answer};
@@ -13,6 +15,7 @@ ghost use Rattle.txc_txn.specs.Core.{value_of, CoreHolds, IsCore, IsIdle};
 ghost use Rattle.txc_txn.specs.Kept.{IsTxn};
 ghost use Rattle.txc_node.specs.declared.node.TheConstants.{MAX_CAPACITY, MAX_RECENT};
 ghost use Rattle.txc_stream.specs.declared.row.TheConstants.{MAX_CAPACITY as MAX_ROW};
+ghost use Rattle.txc_caller.specs.Ports.{HasNoEventFor, HasRoomFor, IsBehind};
 ghost use Rattle.txc_caller.specs.Reading.{caller_of};
 
 use crate::caller_txn::CallerTxn;
@@ -24,11 +27,13 @@ use txc_cushion::CushionCore;
 use txc_db::{DbCore, DbError};
 use txc_ports::Bounds;
 use txc_registry::{Registry, Suppliable};
-use txc_rows::{Change, Query, Row};
+use txc_rows::{Change, Query};
 use txc_shared::{NodeSettings, StoredNode};
 use txc_stamp::Stamp;
 use txc_stream::Pen;
+use txc_tags::TagSet;
 use txc_txn::{RunningTxn, TxnCore};
+use txc_validity::Found;
 
 /// A database, its pincushion and one node of a caller in one thread, and the objects of the functions that he
 /// computes himself. No transaction is open.
@@ -88,20 +93,20 @@ fn begun<A: App>(
 }
 
 impl<A: App, C: Suppliable> Caller<A, C> {
-    /// An empty database with room for so many events, an empty pincushion and an empty node, for the functions of the
-    /// registry.
+    /// An empty database with room for so many events, or, where no number is given, for as many as there are stamps, which
+    /// are not stored; an empty pincushion and an empty node, for the functions of the registry.
     pub fn new(
         alloc: Global,
-        capacity: usize,
+        room: Option<usize>,
         node: NodeSettings,
         renew_after: u64,
         registry: Registry<A, C>,
     ) -> Result<Caller<A, C>, DbError>
-        requires least { 1 ≤ capacity }
-        requires most { capacity ≤ MAX_ROW }
+        requires room { IfSome room (λ events. (1 ≤ events) × (events ≤ MAX_ROW)) }
         requires node { (1 ≤ node.capacity) × (node.capacity ≤ MAX_CAPACITY) }
         requires recent { (1 ≤ node.recent) × (node.recent ≤ MAX_RECENT) }
         requires idle { AllIdle registry }
+        ensures room { IfOk result (λ caller. HasRoomFor room caller.ports.database.events) }
         ensures history { IfOk result (λ caller. caller.ports.database.history ≡ []) }
         ensures cushion { IfOk result (λ caller. caller.ports.cushion.entries ≡ []) }
         ensures node { IfOk result (λ caller. caller.ports.node.cache ≡ start_of node 0) }
@@ -109,7 +114,7 @@ impl<A: App, C: Suppliable> Caller<A, C> {
         ensures functions { IfOk result (λ caller. caller.objects ≡ registry) }
         ensures refused { IfErr result IsWant }
     {
-        let ports = Ports::new(alloc, capacity, node)?;
+        let ports = Ports::new(alloc, room, node)?;
         Ok(Caller {
             ports,
             renew_after,
@@ -153,51 +158,66 @@ impl<A: App, C: Suppliable> Caller<A, C> {
         }
     }
 
-    // The newest stamp; None where it is out of memory.
-    pub(crate) fn newest(&self) -> Option<Stamp>
-        ensures { IfSome result (λ stamp. stamp ≡ newest self.now.ports.database) }
+    // The newest stamp.
+    pub(crate) fn newest(&self) -> Stamp
+        ensures { result ≡ newest self.now.ports.database }
     {
         self.ports.newest()
     }
 
-    // The rows that the query gives at the stamp.
+    // Refuses a stamp at which no commit may have its base.
+    pub(crate) fn check_base(&self, base: Stamp) -> Result<Stamp, DbError>
+        ensures only_if { IsOk result ↔ IsBase self.now.ports.database base }
+        ensures refused { IfErr result (IsBaseRefused self.now.ports.database base) }
+    {
+        self.ports.check_base(base)
+    }
+
+    // The rows that the query gives at the stamp, with its tag.
     pub(crate) fn rows_at(
         &mut self,
         alloc: Global,
         query: &Query,
         stamp: Stamp,
-    ) -> Result<Vec<Row>, DbError>
-        ensures answer { IfOk result (λ rows.
-            rows.items ≡ answer query.now (state_at self.old.ports.database.history stamp)) }
+    ) -> Result<Found, DbError>
+        ensures answer { IfOk result (λ found.
+            found.rows.items ≡ answer query.now (state_at self.old.ports.database.history stamp)) }
+        ensures tag { IfOk result (λ found. found.tags ≡ query_tag query.now ∷ []) }
+        ensures only_if { IsOk result → IsAnswerable self.old.ports.database stamp }
         ensures refused { IfErr result (IsQueryRefused self.old.ports.database query.now stamp) }
         ensures same { self.new ≡ self.old }
     {
         self.ports.rows_at(alloc, query, stamp)
     }
 
-    // Commits the changes with nothing read.
+    // Commits the changes, where no event after the base matches what was read.
     pub(crate) fn commit_at(
         &mut self,
         alloc: Global,
         base: Stamp,
+        read: &TagSet,
         changes: &[Change],
     ) -> Result<Stamp, DbError>
         ensures after { OnOk result
             (self.new.ports.database ≡ after_commit self.old.ports.database changes.now) }
         ensures answer { IfOk result (λ stamp. stamp ≡ newest self.new.ports.database) }
-        ensures refused { IfErr result (IsCommitRefused self.old.ports.database base [] changes.now) }
+        ensures only_if { IsOk result → IsCommittable self.old.ports.database base read.now changes.now }
+        ensures refused { IfErr result (IsCommitRefused self.old.ports.database base read.now changes.now) }
         ensures left { IfErr result (IsLeft self.old.ports.database self.new.ports.database) }
         ensures same { self.new ≡ record self.old {
           ports = record self.old.ports { database = self.new.ports.database };
         } }
     {
-        self.ports.commit(alloc, base, changes)
+        self.ports.commit(alloc, base, read, changes)
     }
 
-    // Has the node take the events that it has not taken yet.
-    pub(crate) fn take_events(&mut self, alloc: Global)
-        ensures { self.new ≡ record self.old { ports = record self.old.ports { node = self.new.ports.node } } }
+    /// Has the node take the events that it has not taken yet, and says whether it took them all; it does not where memory is
+    /// wanting. It has nothing for the stamps from an event on that it has not taken.
+    pub fn take_events(&mut self, alloc: Global) -> bool
+        ensures all { result ≡ true → HasNoEventFor self.new.ports.database self.new.ports.node }
+        ensures left { result ≡ false → IsBehind self.old.ports.database self.old.ports.node }
+        ensures same { self.new ≡ record self.old { ports = record self.old.ports { node = self.new.ports.node } } }
     {
-        self.ports.take_events(alloc);
+        self.ports.take_events(alloc)
     }
 }

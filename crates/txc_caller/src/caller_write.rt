@@ -1,73 +1,183 @@
 //! A caller's transaction that writes.
-ghost use Rattle.std.specs.Prelude.{◌≡◌, ◌<◌, ◌≤◌, ◌++◌, ◌∷◌, [], IfErr, IfOk, OnErr, OnOk, length};
-ghost use Rattle.txc_db.specs.Calls.{IsCommitRefused, IsLeft, IsQueryRefused};
-ghost use Rattle.txc_db.specs.DatabaseValue.{after_commit, newest, newest_state};
-ghost use Rattle.txc_rows.specs.States.{answer};
+ghost use Rattle.std.specs.Prelude.{◌≡◌, ◌≢◌, ◌<◌, ◌≤◌, ◌++◌, ◌∷◌, ◌↔◌, [], IfErr, IfOk, IsOk, IsSome, IsTrue, MatchOption, None, OnErr, OnOk, Some, length, vec_len};
+ghost use Rattle.txc_db.specs.Calls.{IsBase, IsCommittable, IsLeft, IsQueryRefused};
+ghost use Rattle.txc_db.specs.DatabaseValue.{after_commit, newest};
+ghost use Rattle.txc_db.specs.Steps.{IsBaseRefused};
+ghost use Rattle.txc_caller.specs.declared.step.WriteError.TheVariants.{Database};
 
 use crate::caller::Caller;
+use crate::step::{CallerError, WriteError};
 use std::alloc::Global;
 use std::marker::Model;
-use txc_app::App;
+use txc_app::{Answer, App, Rows};
+use txc_call::CallError;
 use txc_db::DbError;
+use txc_node::Value;
 use txc_ports::TxnError;
 use txc_registry::Suppliable;
 use txc_rows::{Change, Query, Row};
 use txc_stamp::Stamp;
-use txc_tags::Table;
+use txc_tags::{Table, TagSet};
 
 /// The most changes of a transaction.
 pub const MAX_CHANGES: usize = 256;
 
-/// A transaction that writes. It reads the newest state, and keeps its changes until it commits. Nothing else is
-/// committed meanwhile, so what it has read is so still when they are made.
+/// A transaction that writes. It reads the state of one stamp, uses no node, and keeps its changes until it commits, which it
+/// does where nothing that it has read has changed since that stamp.
 #[derive(Drop)]
 pub struct CallerWrite<A: App, C: Suppliable> {
     pub(crate) caller: Caller<A, C>,
     pub(crate) base: Stamp,
+    pub(crate) read: TagSet,
     pub(crate) changes: Vec<Change>,
+    // The number of the function that the caller computes, and those of the functions that wait for its value, the
+    // outermost first.
+    pub(crate) inner: Option<u8>,
+    pub(crate) outer: Vec<u8>,
+    pub(crate) given: Option<Answer>,
 }
 
 impl<A: App, C: Suppliable> Model for CallerWrite<A, C> {
-    ghost use Rattle.txc_caller.specs.Writing.{CallerWriting, IsWriting};
+    ghost use Rattle.txc_caller.specs.Writing.{CallerWriting};
 
     ghost Value = { CallerWriting };
 
-    ghost view = { λ w. record { caller = w.caller; base = w.base; changes = w.changes.items } };
-
-    ghost invariant = { λ w. IsWriting (record { caller = w.caller; base = w.base; changes = w.changes.items }) };
+    ghost view = { λ w. record {
+      caller = w.caller;
+      base = w.base;
+      read = w.read;
+      changes = w.changes.items;
+      inner = w.inner;
+      outer = w.outer.items;
+      given = w.given;
+    } };
 }
 
 impl<A: App, C: Suppliable> Caller<A, C> {
     ghost use Rattle.txc_caller.specs.Writing.{IsBegunWrite};
 
-    /// Begins a transaction that writes. Out of memory, the caller is handed back.
-    pub fn begin_write(self, alloc: Global) -> Result<CallerWrite<A, C>, Caller<A, C>>
-        ensures begun { IfOk result (IsBegunWrite self) }
-        ensures handed_back { IfErr result (λ caller. caller ≡ self) }
+    // Begins a transaction that writes over the state of that stamp.
+    fn begin_over(self, alloc: Global, base: Stamp) -> CallerWrite<A, C>
+        ensures { IsBegunWrite self base result }
     {
-        match self.newest() {
-            Some(base) => Ok(CallerWrite {
-                caller: self,
-                base,
-                changes: Vec::new(alloc),
-            }),
-            None => Err(self),
+        CallerWrite {
+            caller: self,
+            base,
+            read: TagSet::new(alloc),
+            changes: Vec::new(alloc),
+            inner: None,
+            outer: Vec::new(alloc),
+            given: None,
+        }
+    }
+
+    /// Begins a transaction that writes, and reads the newest state. It takes no memory.
+    pub fn begin_write(self, alloc: Global) -> CallerWrite<A, C>
+        ensures { IsBegunWrite self (newest self.ports.database) result }
+    {
+        let base = self.newest();
+        self.begin_over(alloc, base)
+    }
+
+    /// Begins a transaction that writes, and reads the state of that stamp, which a transaction that only reads told by its
+    /// receipt. Where that can be no base of a commit, the caller is handed back.
+    pub fn begin_write_at(
+        self,
+        alloc: Global,
+        base: Stamp,
+    ) -> Result<CallerWrite<A, C>, (DbError, Caller<A, C>)>
+        ensures begun { IfOk result (IsBegunWrite self base) }
+        ensures only_if { IsOk result ↔ IsBase self.ports.database base }
+        ensures refused { IfErr result (λ back. IsBaseRefused self.ports.database base back.0) }
+        ensures handed_back { IfErr result (λ back. back.1 ≡ self) }
+    {
+        match self.check_base(base) {
+            Ok(_) => Ok(self.begin_over(alloc, base)),
+            Err(error) => Err((error, self)),
         }
     }
 }
 
 impl<A: App, C: Suppliable> CallerWrite<A, C> {
-    ghost use Rattle.txc_caller.specs.Writing.{IsChangeRefused};
+    ghost use Rattle.txc_caller.specs.Writing.{after_call_of, after_query, without_calls, HasGivenValue, IsCallRefused, IsChangeRefused, IsFinishRefused, IsWriteAfter, IsWriteLeft, IsWriteRefused};
 
-    /// The rows of the query in the newest state. It does not see the changes of its own.
-    pub fn query(&mut self, alloc: Global, query: &Query) -> Result<Vec<Row>, DbError>
-        ensures answer { IfOk result (λ rows.
-            rows.items ≡ answer query.now (newest_state self.old.caller.ports.database)) }
+    /// Asks for the rows of the query in the state that the transaction reads; they are its [`CallerWrite::answer`]. They count
+    /// as read. It does not see the changes of its own.
+    pub fn query(&mut self, alloc: Global, query: &Query) -> Result<(), DbError>
+        ensures after { OnOk result (self.new ≡ after_query query.now self.old) }
         ensures refused { IfErr result (IsQueryRefused self.old.caller.ports.database query.now self.old.base) }
-        ensures same { self.new ≡ self.old }
+        ensures unchanged { OnErr result (self.new ≡ self.old) }
     {
-        let base = self.base;
-        self.caller.rows_at(alloc, query, base)
+        let found = self.caller.rows_at(alloc, query, self.base)?;
+        self.read.join(&found.tags)?;
+        self.given = Some(Answer::Rows(Rows::new(found.rows)));
+        Ok(())
+    }
+
+    /// Begins to compute a function: the outermost, or one that the function asks for that is computed. Its value is not
+    /// looked for, since the transaction uses no node.
+    pub fn call(&mut self, function: u8) -> Result<(), CallerError>
+        ensures after { OnOk result (self.new ≡ after_call_of function self.old) }
+        ensures refused { IfErr result (IsCallRefused function self.old self.new) }
+    {
+        if let Some(inner) = self.inner {
+            if inner <= function {
+                let _given_up = self.give_up();
+                let refusal = TxnError::Call(CallError::CallOrder(inner, function));
+                return Err(CallerError::Txn(refusal));
+            }
+            let Ok(()) = self.outer.push(inner) else {
+                return Err(CallerError::Memory);
+            };
+        }
+        self.inner = Some(function);
+        self.given = None;
+        Ok(())
+    }
+
+    /// Says that the function that is computed gives these bytes, which are its [`CallerWrite::answer`]. The function that
+    /// waited for it goes on, if one did.
+    pub fn finish(&mut self, bytes: Vec<u8>) -> Result<(), CallerError>
+        ensures after { OnOk result (HasGivenValue bytes.items self.old self.new) }
+        ensures refused { IfErr result (IsFinishRefused bytes.items self.old self.new) }
+    {
+        if self.inner.is_none() {
+            return Err(CallerError::NoFunction);
+        }
+        let Some(value) = Value::new(bytes) else {
+            let _given_up = self.give_up();
+            let refusal = TxnError::Call(CallError::ValueTooLong);
+            return Err(CallerError::Txn(refusal));
+        };
+        self.inner = self.outer.pop();
+        self.given = Some(Answer::Value(value));
+        Ok(())
+    }
+
+    /// Gives the open call up, if one is, and returns whether one was. What was read counts as read.
+    pub fn give_up(&mut self) -> bool
+        ensures answer { IsTrue result ↔ IsSome self.old.inner }
+        ensures after { self.new ≡ without_calls self.old }
+    {
+        let was_open = self.inner.is_some();
+        self.inner = None;
+        self.outer.clear();
+        self.given = None;
+        was_open
+    }
+
+    /// Whether a function is computed, so that a call is open.
+    pub fn is_computing(&self) -> bool
+        ensures { IsTrue result ↔ IsSome self.now.inner }
+    {
+        self.inner.is_some()
+    }
+
+    /// What was answered last: rows, or the value of a call; none where nothing was, or a call has begun since.
+    pub fn answer(&self) -> Option<&Answer>
+        ensures { MatchOption result (self.now.given ≡ None) (λ answer. self.now.given ≡ Some answer.now) }
+    {
+        self.given.as_ref()
     }
 
     // One change more.
@@ -105,58 +215,64 @@ impl<A: App, C: Suppliable> CallerWrite<A, C> {
         self.write(Change::Remove(table, id))
     }
 
-    /// Commits the changes over the state that it has read, and answers the newest stamp that they leave. The node then
-    /// takes the events that it has not taken yet. A refusal returns the transaction, open.
+    // Commits the changes. The node then takes the events.
+    fn commit_changes(&mut self, alloc: Global) -> Result<Stamp, DbError>
+        ensures after { OnOk result (self.new.caller.ports.database
+            ≡ after_commit self.old.caller.ports.database self.old.changes) }
+        ensures answer { IfOk result (λ stamp. stamp ≡ newest self.new.caller.ports.database) }
+        ensures only_if { IsOk result
+            → IsCommittable self.old.caller.ports.database self.old.base self.old.read self.old.changes }
+        ensures same { OnOk result (IsWriteAfter self.old self.new) }
+        ensures refused { IfErr result (λ error. IsWriteRefused self.old (Database error)) }
+        ensures left { IfErr result (λ error. IsWriteLeft self.old (Database error) self.new) }
+    {
+        let base = self.base;
+        let stamp = self.caller.commit_at(alloc, base, &self.read, &self.changes)?;
+        let _has_all = self.caller.take_events(alloc);
+        Ok(stamp)
+    }
+
+    /// Commits the changes, where no event after the stamp that it reads matches what it has read, and answers the newest
+    /// stamp that they leave. The node then takes the events that it has not taken yet. A refusal returns the transaction,
+    /// open.
     pub fn commit(
         self,
         alloc: Global,
-    ) -> Result<(Stamp, Caller<A, C>), (DbError, CallerWrite<A, C>)>
+    ) -> Result<(Stamp, Caller<A, C>), (WriteError, CallerWrite<A, C>)>
         ensures after { IfOk result (λ done. done.1.ports.database
             ≡ after_commit self.caller.ports.database self.changes) }
         ensures answer { IfOk result (λ done. done.0 ≡ newest done.1.ports.database) }
+        ensures none { IsOk result → self.inner ≡ None }
+        ensures only_if { IsOk result
+            → IsCommittable self.caller.ports.database self.base self.read self.changes }
         ensures same { IfOk result (λ done. done.1 ≡ record self.caller {
           ports = record self.caller.ports { database = done.1.ports.database; node = done.1.ports.node };
         }) }
-        ensures refused { IfErr result (λ back.
-            IsCommitRefused self.caller.ports.database self.base [] self.changes back.0) }
-        ensures left { IfErr result (λ back.
-            IsLeft self.caller.ports.database back.1.caller.ports.database back.0) }
-        ensures handed_back { IfErr result (λ back. back.1 ≡ record self {
-          caller = record self.caller {
-            ports = record self.caller.ports { database = back.1.caller.ports.database };
-          };
-        }) }
+        ensures refused { IfErr result (λ back. IsWriteRefused self back.0) }
+        ensures left { IfErr result (λ back. IsWriteLeft self back.0 back.1) }
     {
-        let CallerWrite {
-            caller,
-            base,
-            changes,
-        } = self;
-        let mut caller = caller;
-        match caller.commit_at(alloc, base, &changes) {
-            Ok(stamp) => {
-                caller.take_events(alloc);
-                Ok((stamp, caller))
-            }
-            Err(error) => Err((
-                error,
-                CallerWrite {
-                    caller,
-                    base,
-                    changes,
-                },
-            )),
+        if self.inner.is_some() {
+            return Err((WriteError::MidCall, self));
+        }
+        let mut write = self;
+        match write.commit_changes(alloc) {
+            Ok(stamp) => Ok((stamp, write.abort())),
+            Err(error) => Err((WriteError::Database(error), write)),
         }
     }
 
-    /// Gives the transaction up, and returns the caller.
+    /// Gives the transaction up, in the middle of a call too, and returns the caller.
     pub fn abort(self) -> Caller<A, C>
         ensures { result ≡ self.caller }
     {
         let CallerWrite {
             caller,
             base: _,
+            read: _,
             changes: _,
+            inner: _,
+            outer: _,
+            given: _,
         } = self;
         caller
     }

@@ -1,9 +1,8 @@
 //! What keeps a caller small, with no transaction open.
 ghost use Rattle.std.specs.Prelude.{◌≡◌, IfErr, IfOk, OnErr, OnOk, length};
 ghost use Rattle.txc_cushion.specs.Cushion.{retired};
-ghost use Rattle.txc_db.specs.Calls.{IsVacuumRefused};
-ghost use Rattle.txc_db.specs.DatabaseValue.{after_vacuum, next_horizon};
-ghost use Rattle.txc_caller.specs.Ports.{CallerSweepTransition, HasRetired};
+ghost use Rattle.txc_db.specs.DatabaseValue.{next_horizon};
+ghost use Rattle.txc_caller.specs.Ports.{CallerSweepTransition, HasRetired, HasVacuumedPorts, IsKeepRefused};
 
 use crate::caller::Caller;
 use std::alloc::{AllocError, Global};
@@ -25,17 +24,17 @@ impl<A: App, C: Suppliable> Caller<A, C> {
         self.ports.retire(alloc, now, age)
     }
 
-    /// Makes the horizon the least stamp that is held, or the newest where none is, and drops the versions of rows that
-    /// no stamp from there on shows.
-    pub fn vacuum(&mut self) -> Result<Stamp, DbError>
-        ensures after { OnOk result (self.new ≡ record self.old {
-          ports = record self.old.ports { database = after_vacuum self.old.ports.database };
-        }) }
+    /// Has the node take the events that it has not taken yet; where it can't, memory is wanting. Then makes the horizon the
+    /// least stamp that is held, or the newest where none is, and drops what only stamps before it need: versions of rows, and
+    /// the tags of events that are not stored.
+    pub fn vacuum(&mut self, alloc: Global) -> Result<Stamp, DbError>
+        ensures after { OnOk result (HasVacuumedPorts self.old.ports self.new.ports) }
         ensures answer { IfOk result (λ horizon. horizon ≡ next_horizon self.old.ports.database) }
-        ensures refused { IfErr result (IsVacuumRefused self.old.ports.database) }
-        ensures unchanged { OnErr result (self.new ≡ self.old) }
+        ensures refused { IfErr result (IsKeepRefused self.old.ports.database self.old.ports.node) }
+        ensures unchanged { OnErr result (self.new.ports ≡ record self.old.ports { node = self.new.ports.node }) }
+        ensures same { self.new ≡ record self.old { ports = self.new.ports } }
     {
-        self.ports.vacuum()
+        self.ports.vacuum(alloc)
     }
 
     /// Has the node drop the entries that end at the horizon or before it, and counts them.

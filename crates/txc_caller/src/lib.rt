@@ -24,4 +24,4 @@ pub use caller::Caller;
 pub use caller_txn::CallerTxn;
 pub use caller_write::{CallerWrite, MAX_CHANGES};
 pub use frames::{Called, Frames, OpenCall};
-pub use step::{CallerError, Step};
+pub use step::{CallerError, Step, WriteError};

@@ -1,6 +1,7 @@
 //! Steps at the node, for one thread.
 ghost use Rattle.std.specs.Prelude.{◌≡◌};
 ghost use Rattle.txc_app.specs.Claims.{IsTrueIn};
+ghost use Rattle.txc_shared.specs.Nodes.{next_stamp, HasTags};
 ghost use Rattle.txc_caller.specs.Ports.{kept_as, CallerInsertTransition, CallerSweepTransition, KeepsNode};
 
 use std::alloc::Global;
@@ -10,6 +11,7 @@ use txc_node::Entry;
 use txc_ports::Kept;
 use txc_shared::{Advanced, Insertion, NodeError, StoredNode};
 use txc_stamp::Stamp;
+use txc_tags::TagSet;
 
 // What a node keeps that made the insertion.
 fn kept_as(insertion: Insertion) -> Kept
@@ -39,17 +41,19 @@ pub(crate) fn insert<A: App>(
     }
 }
 
-/// Has the node take the next event of the history that it or the front has seen, and says whether it took one.
+/// Has the node take the next event of the history that the front shows, which has these tags, and says whether it did.
 pub(crate) fn take_event<A: App>(
     alloc: Global,
     node: &mut StoredNode<A>,
     front: &HistoryFront,
+    tags: &TagSet,
 ) -> bool
     requires pass { node.old.passes ≡ 1 }
     requires row { front.now.events ≡ node.old.seen.events }
+    requires tags { HasTags front.now.history (next_stamp node.old) tags.now }
     ensures { KeepsNode node.old node.new }
 {
-    match node.advance(alloc, 0, front) {
+    match node.advance_by(alloc, 0, front, Some(tags)) {
         Ok(Advanced::Taken { .. }) => true,
         Ok(Advanced::Idle) => false,
         Err(refusal) => {

@@ -1,9 +1,11 @@
 //! The plain ports of a caller, for one thread.
-ghost use Rattle.std.specs.Prelude.{◌≡◌, ◌≤◌, [], All, IfErr, IfOk, IfSome, OnErr, OnOk, length};
+ghost use Rattle.std.specs.Prelude.{◌≡◌, ◌≤◌, ◌↔◌, ◌∷◌, [], true, false, All, IfErr, IfOk, IfSome, IsOk, OnErr, OnOk, length};
 ghost use Rattle.txc_app.specs.Claims.{IsTrueIn};
 ghost use Rattle.txc_cushion.specs.Cushion.{after_retire, handed_out, retired};
-ghost use Rattle.txc_db.specs.Calls.{IsCommitRefused, IsLeft, IsQueryRefused, IsVacuumRefused};
-ghost use Rattle.txc_db.specs.DatabaseValue.{after_commit, after_vacuum, newest, next_horizon};
+ghost use Rattle.txc_db.specs.Calls.{IsAnswerable, IsBase, IsCommitRefused, IsCommittable, IsLeft, IsQueryRefused, IsVacuumRefused};
+ghost use Rattle.txc_db.specs.DatabaseValue.{after_commit, after_vacuum, front_of, newest, next_horizon};
+ghost use Rattle.txc_db.specs.Steps.{IsBaseRefused};
+ghost use Rattle.txc_rows.specs.RowTags.{query_tag};
 ghost use Rattle.txc_db.specs.History.{state_at, IsAllowed};
 ghost use Rattle.txc_rows.specs.States.{answer};
 ghost use Rattle.txc_db.specs.Refusals.{IsWant};
@@ -11,7 +13,7 @@ ghost use Rattle.txc_db.specs.Seen.{FrontValue};
 ghost use Rattle.txc_node.specs.declared.node.TheConstants.{MAX_CAPACITY, MAX_RECENT};
 ghost use Rattle.txc_stream.specs.declared.row.TheConstants.{MAX_CAPACITY as MAX_ROW};
 ghost use Rattle.txc_shared.specs.Nodes.{start_of};
-ghost use Rattle.txc_caller.specs.Ports.{CallerAddTransition, CallerFindTransition, CallerInsertTransition, CallerPinTransition, CallerSweepTransition, CallerUnpinTransition, AreLetGo, AreGivenBack, HasRetired, IsLetGo};
+ghost use Rattle.txc_caller.specs.Ports.{CallerAddTransition, CallerFindTransition, CallerInsertTransition, CallerPinTransition, CallerSweepTransition, CallerUnpinTransition, AreLetGo, AreGivenBack, HasNoEventFor, HasRetired, HasRoomFor, HasVacuumedPorts, IsBehind, IsKeepRefused, IsLetGo};
 
 use crate::nodes;
 use std::alloc::{AllocError, Global};
@@ -22,7 +24,7 @@ use txc_cushion::{AddError, CushionCore, Pins};
 use txc_db::{Answered, DbCore, DbError, HistoryFront, Pinned};
 use txc_node::Entry;
 use txc_ports::{Kept, PortReply, PortRequest};
-use txc_rows::{Change, Query, Row};
+use txc_rows::{Change, Query};
 use txc_shared::{NodeError, NodeSettings, StoredNode};
 use txc_stamp::Stamp;
 use txc_stream::Pen;
@@ -46,6 +48,19 @@ impl<A: App> Model for Ports<A> {
     ghost view = { λ p. record { database = p.database; cushion = p.cushion; node = p.node } };
 
     ghost invariant = { λ p. AreCallerPorts (record { database = p.database; cushion = p.cushion; node = p.node }) };
+}
+
+// An empty database with room for so many events, or that stores none.
+fn empty_database(alloc: Global, room: Option<usize>) -> Result<DbCore, DbError>
+    requires { IfSome room (λ events. (1 ≤ events) × (events ≤ MAX_ROW)) }
+    ensures room { IfOk result (λ d. HasRoomFor room d.events) }
+    ensures history { IfOk result (λ d. d.history ≡ []) }
+    ensures refused { IfErr result IsWant }
+{
+    match room {
+        Some(events) => DbCore::new(alloc, events),
+        None => DbCore::unstored(alloc, Pen::new()),
+    }
 }
 
 impl<A: App> Ports<A> {
@@ -77,70 +92,94 @@ impl<A: App> Ports<A> {
         Ok(Answered { answer, front })
     }
 
-    /// The newest stamp; None where it is out of memory.
-    pub(crate) fn newest(&self) -> Option<Stamp>
-        ensures { IfSome result (λ stamp. stamp ≡ newest self.now.database) }
+    /// The newest stamp.
+    pub(crate) fn newest(&self) -> Stamp
+        ensures { result ≡ newest self.now.database }
     {
-        match self.database.front() {
-            Ok(front) => Some(front.newest()),
-            Err(_) => None,
-        }
+        self.database.newest()
     }
 
-    /// The rows that the query gives at the stamp.
+    /// Refuses a stamp at which no commit may have its base.
+    pub(crate) fn check_base(&self, base: Stamp) -> Result<Stamp, DbError>
+        ensures only_if { IsOk result ↔ IsBase self.now.database base }
+        ensures refused { IfErr result (IsBaseRefused self.now.database base) }
+    {
+        self.database.check_base(base)
+    }
+
+    /// The rows that the query gives at the stamp, with its tag.
     pub(crate) fn rows_at(
         &mut self,
         alloc: Global,
         query: &Query,
         stamp: Stamp,
-    ) -> Result<Vec<Row>, DbError>
-        ensures answer { IfOk result (λ rows.
-            rows.items ≡ answer query.now (state_at self.old.database.history stamp)) }
+    ) -> Result<Found, DbError>
+        ensures answer { IfOk result (λ found.
+            found.rows.items ≡ answer query.now (state_at self.old.database.history stamp)) }
+        ensures tag { IfOk result (λ found. found.tags ≡ query_tag query.now ∷ []) }
+        ensures only_if { IsOk result → IsAnswerable self.old.database stamp }
         ensures refused { IfErr result (IsQueryRefused self.old.database query.now stamp) }
         ensures same { self.new ≡ self.old }
     {
-        let found = self.database.query(alloc, query, stamp)?;
-        Ok(found.rows)
+        self.database.query(alloc, query, stamp)
     }
 
-    /// Commits the changes with nothing read.
+    /// Commits the changes, where no event after the base matches what was read.
     pub(crate) fn commit(
         &mut self,
         alloc: Global,
         base: Stamp,
+        read: &TagSet,
         changes: &[Change],
     ) -> Result<Stamp, DbError>
         ensures after { OnOk result (self.new.database ≡ after_commit self.old.database changes.now) }
         ensures answer { IfOk result (λ stamp. stamp ≡ newest self.new.database) }
-        ensures refused { IfErr result (IsCommitRefused self.old.database base [] changes.now) }
+        ensures only_if { IsOk result → IsCommittable self.old.database base read.now changes.now }
+        ensures refused { IfErr result (IsCommitRefused self.old.database base read.now changes.now) }
         ensures left { IfErr result (IsLeft self.old.database self.new.database) }
         ensures same { self.new ≡ record self.old { database = self.new.database } }
     {
-        let read = TagSet::new(alloc);
-        let stamp = self.database.commit(alloc, base, &read, changes)?;
+        let stamp = self.database.commit(alloc, base, read, changes)?;
         Ok(stamp)
     }
 
-    // Has the node take the next event that the front shows, and says whether it took one.
+    // Has the node take the next event, and says whether it took one. The front shows them all.
     fn take_event(&mut self, alloc: Global, front: &HistoryFront) -> bool
-        requires { front.now.events ≡ self.old.database.events }
+        requires { front.now ≡ front_of self.old.database }
         ensures { self.new ≡ record self.old { node = self.new.node } }
     {
-        nodes::take_event(alloc, &mut self.node, front)
+        let Some(tags) = self.database.tags_after(self.node.processed()) else {
+            return false;
+        };
+        nodes::take_event(alloc, &mut self.node, front, tags)
     }
 
-    /// Has the node take the events that it has not taken yet, as far as it does.
-    pub(crate) fn take_events(&mut self, alloc: Global)
-        ensures { self.new ≡ record self.old { node = self.new.node } }
+    // Whether there is no event that the node can take.
+    fn has_taken_all(&self) -> bool
+        ensures all { result ≡ true → HasNoEventFor self.now.database self.now.node }
+        ensures left { result ≡ false → IsBehind self.now.database self.now.node }
     {
+        self.database.tags_after(self.node.processed()).is_none()
+    }
+
+    /// Has the node take the events that it has not taken yet, and says whether it took them all.
+    pub(crate) fn take_events(&mut self, alloc: Global) -> bool
+        ensures all { result ≡ true → HasNoEventFor self.new.database self.new.node }
+        ensures left { result ≡ false → IsBehind self.old.database self.old.node }
+        ensures same { self.new ≡ record self.old { node = self.new.node } }
+    {
+        if self.has_taken_all() {
+            return true;
+        }
         let Ok(front) = self.database.front() else {
-            return;
+            return false;
         };
         for number in 0..front.len() {
             if !self.take_event(alloc, &front) {
-                return;
+                break;
             }
         }
+        self.has_taken_all()
     }
 
     // Gives the node an entry to keep.
@@ -226,9 +265,9 @@ impl<A: App> Ports<A> {
         Ok(stamps.len())
     }
 
-    /// Makes the horizon the least stamp that is held, or the newest, and drops the versions that no stamp from there
-    /// on shows.
-    pub(crate) fn vacuum(&mut self) -> Result<Stamp, DbError>
+    // Makes the horizon the least stamp that is held, or the newest, and drops the versions that no stamp from there
+    // on shows.
+    fn vacuum_database(&mut self) -> Result<Stamp, DbError>
         ensures after { OnOk result (self.new
             ≡ record self.old { database = after_vacuum self.old.database }) }
         ensures answer { IfOk result (λ horizon. horizon ≡ next_horizon self.old.database) }
@@ -239,6 +278,20 @@ impl<A: App> Ports<A> {
         Ok(horizon)
     }
 
+    /// Has the node take the events that it has not taken yet; the tags of those may be dropped then. Where it can't, there
+    /// is no memory for it. Then does the same.
+    pub(crate) fn vacuum(&mut self, alloc: Global) -> Result<Stamp, DbError>
+        ensures after { OnOk result (HasVacuumedPorts self.old self.new) }
+        ensures answer { IfOk result (λ horizon. horizon ≡ next_horizon self.old.database) }
+        ensures refused { IfErr result (IsKeepRefused self.old.database self.old.node) }
+        ensures unchanged { OnErr result (self.new ≡ record self.old { node = self.new.node }) }
+    {
+        if !self.take_events(alloc) {
+            return Err(DbError::Memory);
+        }
+        self.vacuum_database()
+    }
+
     /// Has the node drop the entries that end at the horizon or before it, and counts them.
     pub(crate) fn sweep(&mut self, alloc: Global, horizon: Stamp) -> Result<usize, NodeError>
         ensures leads { CallerSweepTransition horizon self.old.node self.new.node result }
@@ -247,22 +300,23 @@ impl<A: App> Ports<A> {
         nodes::sweep(alloc, &mut self.node, horizon)
     }
 
-    /// An empty database with room for so many events, an empty pincushion and an empty node.
+    /// An empty database with room for so many events, or that stores none where no number is given; an empty pincushion and
+    /// an empty node.
     pub(crate) fn new(
         alloc: Global,
-        capacity: usize,
+        room: Option<usize>,
         settings: NodeSettings,
     ) -> Result<Ports<A>, DbError>
-        requires least { 1 ≤ capacity }
-        requires most { capacity ≤ MAX_ROW }
+        requires room { IfSome room (λ events. (1 ≤ events) × (events ≤ MAX_ROW)) }
         requires node { (1 ≤ settings.capacity) × (settings.capacity ≤ MAX_CAPACITY) }
         requires recent { (1 ≤ settings.recent) × (settings.recent ≤ MAX_RECENT) }
+        ensures room { IfOk result (λ ports. HasRoomFor room ports.database.events) }
         ensures history { IfOk result (λ ports. ports.database.history ≡ []) }
         ensures cushion { IfOk result (λ ports. ports.cushion.entries ≡ []) }
         ensures node { IfOk result (λ ports. ports.node.cache ≡ start_of settings 0) }
         ensures refused { IfErr result IsWant }
     {
-        let database = DbCore::new(alloc, capacity)?;
+        let database = empty_database(alloc, room)?;
         let cushion = CushionCore::new(alloc, database.reader()?);
         let mut node = StoredNode::unstored(alloc, settings, Pen::new(), database.reader()?)?;
         // The one pass of a new node, number 0.

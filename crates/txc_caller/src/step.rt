@@ -1,5 +1,6 @@
 use std::alloc::AllocError;
 use thiserror::Error;
+use txc_db::DbError;
 use txc_node::Value;
 use txc_ports::TxnError;
 use txc_registry::OtherAsk;
@@ -30,6 +31,17 @@ pub enum CallerError {
     /// Out of memory, before anything was asked: all is as it was.
     #[error("out of memory")]
     Memory,
+}
+
+/// Why a transaction that writes was not committed.
+#[derive(Clone, Copy, Debug, PartialEq, Eq, Error)]
+pub enum WriteError {
+    /// A function is computed.
+    #[error("a call is open")]
+    MidCall,
+    /// The database refused.
+    #[error("{0}")]
+    Database(DbError),
 }
 
 impl From<AllocError> for CallerError {
