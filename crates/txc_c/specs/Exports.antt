@@ -15,9 +15,9 @@ open_site_number None events capacity recent =
     if is_room events && are_sizes capacity recent then DONE else BAD_ARGUMENT
 
 -- the handle has such a site
-abbrev pub HasNewSite : NodeSettings → ℕ → Option Site → Type 0
-HasNewSite settings renew_after (Some site) = IsNewSite settings renew_after site
-HasNewSite settings renew_after None = ⊥
+abbrev pub HasNewSite : ℕ → NodeSettings → ℕ → Option Site → Type 0
+HasNewSite events settings renew_after (Some site) = IsNewSite events settings renew_after site
+HasNewSite events settings renew_after None = ⊥
 
 -- the same of the site of a handle, if it has one
 abbrev pub HeldAsksNext : Ask → Option Site → Type 0

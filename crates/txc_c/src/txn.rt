@@ -10,7 +10,7 @@ ghost use Rattle.txc_stream.specs.declared.row.TheConstants.{MAX_CAPACITY as MAX
 ghost use Rattle.txc_c.specs.Exports.{open_site_number, ComesTo, HasNewSite, HeldAsksNext};
 ghost use Rattle.txc_c.specs.SiteHeld.{site_held};
 ghost use Rattle.txc_c.specs.Life.{close_number};
-ghost use Rattle.txc_c_site.specs.Turning.{AbortComesTo, BeginComesTo, BeginWriteComesTo, CommitComesTo, CommitWriteComesTo};
+ghost use Rattle.txc_c_site.specs.Turning.{AbortComesTo, BeginComesTo, BeginWriteAtComesTo, BeginWriteComesTo, CommitComesTo, CommitWriteComesTo};
 ghost use Rattle.txc_c_site.specs.Asking.{buffer, CallComesTo, FinishComesTo, GiveUpComesTo, LastComesTo, PutComesTo, QueryComesTo, RemoveComesTo, RowComesTo};
 
 use crate::site_handle::TxcSite;
@@ -29,10 +29,10 @@ fn may_open(events: usize, capacity: usize, recent: usize) -> bool
 
 // A new site; None if memory is wanting.
 fn new_site(alloc: Global, events: usize, settings: NodeSettings, renew_after: u64) -> Option<Site>
-    requires events { (1 ≤ events) × (events ≤ MAX_EVENTS) }
+    requires events { events ≤ MAX_EVENTS }
     requires node { (1 ≤ settings.capacity) × (settings.capacity ≤ MAX_CAPACITY) }
     requires recent { (1 ≤ settings.recent) × (settings.recent ≤ MAX_RECENT) }
-    ensures { IfSome result (IsNewSite settings renew_after) }
+    ensures { IfSome result (IsNewSite events settings renew_after) }
 {
     Site::new(alloc, events, settings, renew_after).ok()
 }
@@ -50,7 +50,7 @@ fn open(
         → result ≡ open_site_number None events settings.capacity settings.recent }
     ensures no_memory { result ≡ NO_MEMORY
         → open_site_number None events settings.capacity settings.recent ≡ DONE }
-    ensures opened { result ≡ DONE → HasNewSite settings renew_after (site_held handle.new) }
+    ensures opened { result ≡ DONE → HasNewSite events settings renew_after (site_held handle.new) }
     ensures unchanged { result ≢ DONE → site_held handle.new ≡ None }
 {
     if !may_open(events, settings.capacity, settings.recent) {
@@ -66,8 +66,8 @@ fn open(
     DONE
 }
 
-/// Makes a database with room for so many events, a pincushion and a node. The newest pin is renewed after so many
-/// milliseconds.
+/// Makes a database with room for so many events, or, for 0, that stores none; a pincushion and a node. The newest pin is
+/// renewed after so many milliseconds.
 #[unsafe(no_mangle)]
 pub extern "C" fn txc_site_open(
     alloc: Global,
@@ -82,7 +82,7 @@ pub extern "C" fn txc_site_open(
     ensures no_memory { result ≡ NO_MEMORY
         → open_site_number (site_held handle.old) events capacity recent ≡ DONE }
     ensures opened { result ≡ DONE
-        → HasNewSite (record { number = 0; capacity = capacity; recent = recent }) renew_after (site_held handle.new) }
+        → HasNewSite events (record { number = 0; capacity = capacity; recent = recent }) renew_after (site_held handle.new) }
     ensures unchanged { result ≢ DONE → site_held handle.new ≡ site_held handle.old }
 {
     let Some((site, room)) = handle.take(alloc) else {
@@ -224,7 +224,7 @@ pub extern "C" fn txc_finish(
     len: &mut usize,
 ) -> u32
     requires { HeldAsksNext (asks.Done bytes.now) (site_held handle.old) }
-    ensures leads { ComesTo (FinishComesTo (buffer value.old len.old) (buffer value.new len.new)) (site_held handle.old) result (site_held handle.new) }
+    ensures leads { ComesTo (FinishComesTo bytes.now (buffer value.old len.old) (buffer value.new len.new)) (site_held handle.old) result (site_held handle.new) }
     ensures closed { site_held handle.old ≡ None → (value.new ≡ value.old) × (len.new ≡ len.old) }
 {
     let Some((mut site, room)) = handle.take(alloc) else {
@@ -275,7 +275,7 @@ pub extern "C" fn txc_abort(alloc: Global, handle: &mut TxcSite) -> u32
     number
 }
 
-/// Begins a transaction that writes.
+/// Begins a transaction that writes over the newest state.
 #[unsafe(no_mangle)]
 pub extern "C" fn txc_begin_write(alloc: Global, handle: &mut TxcSite) -> u32
     ensures { ComesTo BeginWriteComesTo (site_held handle.old) result (site_held handle.new) }
@@ -284,6 +284,19 @@ pub extern "C" fn txc_begin_write(alloc: Global, handle: &mut TxcSite) -> u32
         return CLOSED;
     };
     let (number, site) = site.begin_write(alloc);
+    handle.put(site, room);
+    number
+}
+
+/// Begins a transaction that writes over the state of that stamp.
+#[unsafe(no_mangle)]
+pub extern "C" fn txc_begin_write_at(alloc: Global, handle: &mut TxcSite, stamp: u32) -> u32
+    ensures { ComesTo (BeginWriteAtComesTo stamp) (site_held handle.old) result (site_held handle.new) }
+{
+    let Some((site, room)) = handle.take(alloc) else {
+        return CLOSED;
+    };
+    let (number, site) = site.begin_write_at(alloc, stamp);
     handle.put(site, room);
     number
 }
@@ -335,8 +348,8 @@ pub extern "C" fn txc_commit_write(alloc: Global, handle: &mut TxcSite, stamp: &
     number
 }
 
-/// Retires the pins that are more than `age` before `now`, both in milliseconds, and drops what no transaction can read any
-/// more, and writes what that came to.
+/// Retires the pins that are more than `age` before `now`, both in milliseconds, has the node take the events, drops what no
+/// transaction can read any more, and writes what that came to.
 #[unsafe(no_mangle)]
 pub extern "C" fn txc_keep(
     alloc: Global,

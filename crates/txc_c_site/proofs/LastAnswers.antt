@@ -1,10 +1,13 @@
 -- What was answered last.
 use Rattle.std.proofs.Common.{◌≡◌, ◌∙◌, ℕ, List, Bool, true, false, Option, Some, None, refl, sym}
 use Rattle.std.specs.Prelude.{MatchOption, IsSome, IsTrue, ◌≢◌, ◌↔◌, is_some}
+use Rattle.txc_rows.specs.Values.{RowValue}
 use Rattle.txc_app.specs.declared.ask.Answer.{Answer}
+use Rattle.txc_app.specs.declared.ask.Answer.TheVariants.{Rows}
 use Rattle.txc_ports.specs.declared.recorded.Recorded.{Recorded}
 use Rattle.txc_caller.specs.declared.frames.OpenCall.{OpenCall}
-use Rattle.txc_c_site.specs.Telling.{computed_number, given_bytes, given_in, given_len, last_bytes_in, last_len_in, last_number_in, last_recorded, value_bytes, value_len, value_number}
+use Rattle.txc_crossing.specs.declared.numbers.TheConstants.{ANSWERED}
+use Rattle.txc_c_site.specs.Telling.{computed_number, given_bytes, given_in, given_len, last_bytes_in, last_len_in, last_number_in, last_recorded, value_bytes, value_len, value_number, written_number}
 
 -- ---- to the function that is computed
 
@@ -45,3 +48,10 @@ len_valued len recorded (Some o) none = absurd (cc none)
 pub bytes_valued : (bytes : List ℕ) (recorded : List Recorded) (doing : Option OpenCall) → is_some doing ≡ false → value_bytes (last_recorded recorded) bytes ≡ last_bytes_in doing recorded bytes
 bytes_valued bytes recorded None none = refl
 bytes_valued bytes recorded (Some o) none = absurd (cc none)
+
+-- ---- in a transaction that writes
+
+-- of rows it is told how many they are, whatever is computed
+pub rows_number : (room : ℕ) (inner : Option ℕ) (rows : List RowValue) → written_number room inner (Some (Rows rows)) ≡ ANSWERED
+rows_number room None rows = refl
+rows_number room (Some function) rows = refl

@@ -3,3 +3,4 @@ pub mod Changes
 pub mod LastAnswers
 pub mod Kept
 pub mod Functions
+pub mod Taking

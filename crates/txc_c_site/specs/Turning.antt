@@ -1,5 +1,5 @@
 -- What comes of transactions that begin and end.
-use Rattle.std.specs.Prelude.{◌≡◌, ◌⊎◌, ℕ, nat_le, Bool, true, [], length, IsSome, None}
+use Rattle.std.specs.Prelude.{◌≡◌, ℕ, nat_le, Bool, true, [], length, IsSome, None}
 use Rattle.std.specs.Bool.{MatchBool}
 use Rattle.txc_cushion.specs.Cushion.{handed_out}
 use Rattle.txc_stamp.specs.declared.stamp.TheConstants.{MOST_STAMP}

@@ -113,7 +113,11 @@ fn tell_outside(answer: &Answer, value: &mut [u8], len: &mut usize) -> u32
 }
 
 /// Writes what a transaction that writes was answered last.
-pub(crate) fn tell_written(write: &CallerWrite<Opaque, Object>, value: &mut [u8], len: &mut usize) -> u32
+pub(crate) fn tell_written(
+    write: &CallerWrite<Opaque, Object>,
+    value: &mut [u8],
+    len: &mut usize,
+) -> u32
     ensures number { result ≡ written_number (length value.old) write.now.inner write.now.given }
     ensures len { len.new ≡ given_len write.now.given len.old }
     ensures bytes { value.new ≡ given_bytes write.now.given value.old }

@@ -1,5 +1,5 @@
 -- A caller's transaction that writes.
-use Rattle.std.specs.Prelude.{◌≡◌, ⊤, ℕ, ◌≤◌, ◌<◌, List, [], ◌∷◌, ◌++◌, length, Option, Some, None, IsSome}
+use Rattle.std.specs.Prelude.{◌≡◌, ℕ, ◌≤◌, ◌<◌, List, [], ◌∷◌, ◌++◌, length, Option, Some, None, IsSome}
 use Rattle.txc_tags.specs.declared.tag.Tag.{Tag}
 use Rattle.txc_tags.specs.Tags.{with_tags}
 use Rattle.txc_node.specs.declared.value.TheConstants.{MAX_VALUE_LEN}
@@ -33,9 +33,9 @@ pub record CallerWriting : Type 0 where
   pub given : Option Answer
 
 -- nothing is read, changed or computed yet
-pub record IsBegunWrite (c : CallerValue) (base : ℕ) (w : CallerWriting) : Type 0 where
+pub record IsBegunWrite (c : CallerValue) (stamp : ℕ) (w : CallerWriting) : Type 0 where
   pub caller : w.caller ≡ c
-  pub base : w.base ≡ base
+  pub base : w.base ≡ stamp
   pub read : w.read ≡ []
   pub changes : w.changes ≡ []
   pub inner : w.inner ≡ None

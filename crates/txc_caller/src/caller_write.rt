@@ -227,7 +227,9 @@ impl<A: App, C: Suppliable> CallerWrite<A, C> {
         ensures left { IfErr result (λ error. IsWriteLeft self.old (Database error) self.new) }
     {
         let base = self.base;
-        let stamp = self.caller.commit_at(alloc, base, &self.read, &self.changes)?;
+        let stamp = self
+            .caller
+            .commit_at(alloc, base, &self.read, &self.changes)?;
         let _has_all = self.caller.take_events(alloc);
         Ok(stamp)
     }

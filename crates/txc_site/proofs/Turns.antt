@@ -1,5 +1,5 @@
 -- One generation more.
-use Rattle.std.proofs.Common.{◌≡◌, ◌⊎◌, inl, inr, ◌∙◌, ℕ, ◌+◌, ◌≤◌, Bool, true, false, List, [], ◌∷◌, ◌++◌, Option, Result, Ok, Err, map, length, refl, sym, ap, subst, append-nil, length-append, arith}
+use Rattle.std.proofs.Common.{◌≡◌, ◌⊎◌, inl, inr, ◌∙◌, ℕ, ◌+◌, ◌≤◌, max, Bool, true, false, List, [], ◌∷◌, ◌++◌, Option, Result, Ok, Err, map, length, refl, sym, ap, subst, append-nil, length-append, arith}
 use Rattle.std.specs.Prelude.{All, IfErr, Vec}
 use Rattle.std.specs.Result.{IsErrAnd}
 use Rattle.std.specs.declared.alloc.Global.{Global}
@@ -8,14 +8,14 @@ use Rattle.std.proofs.lemmas.List.Elements.{All-nil, All-push}
 use mathlib.Core.List.{IsPrefix}
 use Rattle.txc_db.specs.declared.error.DbError.{DbError}
 use Rattle.txc_db.specs.declared.error.DbError.TheVariants as databases
-use Rattle.txc_db.specs.DatabaseValue.{DatabaseValue, after_vacuum, front_of}
+use Rattle.txc_db.specs.DatabaseValue.{DatabaseValue, after_vacuum, front_of, newest, newest_state}
 use Rattle.txc_db.specs.Seen.{FrontValue}
 use Rattle.txc_stream.specs.Names.{Name}
 use Rattle.txc_site.specs.declared.error.GenerationError.{GenerationError}
 use Rattle.txc_site.specs.declared.error.GenerationError.TheVariants as generations
 use Rattle.txc_visits.specs.declared.plan.Plan.{Plan}
 use Rattle.txc_site.specs.declared.returning.Generation.{Generation}
-use Rattle.txc_site.specs.Generations.{AreInTurn, ComeAfter, ComesAfter, GenerationsHaveEnded, HaveServed, IsEndRefused, IsGeneration, IsGenerationRefused, IsNextRefused, last_state}
+use Rattle.txc_site.specs.Generations.{AreInTurn, ComeAfter, ComesAfter, GenerationsHaveEnded, HaveServed, IsEndRefused, IsGeneration, IsGenerationRefused, IsNextRefused, IsShort, last_state}
 
 -- of two beginnings the one that is not longer is a beginning of the other
 pub shorter_begins : {X : Type 0} (xs ys : List X) → IsPrefix ys xs ⊎ IsPrefix xs ys → length xs ≤ length ys → IsPrefix xs ys
@@ -30,6 +30,10 @@ shorter_begins {X} xs ys (inl (rest, is)) short = go rest is
 pub same_front : (d e : DatabaseValue) → (e ≡ d) ⊎ (e ≡ after_vacuum d) → front_of e ≡ front_of d
 same_front d e (inl is) = ap front_of is
 same_front d e (inr is) = ap front_of is
+
+-- a front of the whole of a short history is short
+pub short_front : (d : DatabaseValue) (front : FrontValue) → front ≡ front_of d → newest d ≤ max 1 (length (newest_state d)) → IsShort front
+short_front d front is few = subst IsShort (sym is) few
 
 module _ {T : Type 0} where
   come_after_more : (first : Generation T) (gs : List (Generation T)) (g next : Generation T) → ComeAfter first (gs ++ g ∷ [])
@@ -131,8 +135,8 @@ module _ {T : Type 0} (plan : Plan) (tells : ℕ → Type 0) (count : ℕ) (numb
     turns_more : AreInTurn opened (before.generations ++ g ∷ [])
     turns_more = before.next g (number ∙ many came before.generations before.outputs) begins
 
-    pub one_more : (next : FrontValue) → goes g true → last_state next ≡ last_state g.ended → HaveGoneOn more next
-    one_more next goes_on state = record {
+    pub one_more : (next : FrontValue) → goes g true → last_state next ≡ last_state g.ended → IsShort next → HaveGoneOn more next
+    one_more next goes_on state anew = record {
       generations = before.generations ++ g ∷ [];
       outputs = outputs_more came more before.generations g before.outputs added;
       each = All-push (IsGeneration plan tells count gives) before.generations g before.each one;
@@ -141,6 +145,7 @@ module _ {T : Type 0} (plan : Plan) (tells : ℕ → Type 0) (count : ℕ) (numb
       next = λ h h_number h_begun. in_turn_more opened before.generations g h turns_more (record {
         number = h_number ∙ length-append before.generations (g ∷ []) ∙ ap (λ (n : ℕ). n + 1) (sym (number ∙ many came before.generations before.outputs));
         state = ap last_state h_begun ∙ state;
+        anew = subst IsShort (sym h_begun) anew;
       });
     }
 

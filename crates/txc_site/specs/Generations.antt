@@ -1,5 +1,5 @@
 -- The generations of a site, one after the other.
-use Rattle.std.specs.Prelude.{◌≡◌, ◌⊎◌, ℕ, ◌+◌, Bool, true, false, List, [], ◌∷◌, ◌++◌, All, Option, Result, Ok, Err, Vec, length, map, vec_len}
+use Rattle.std.specs.Prelude.{◌≡◌, ◌⊎◌, ℕ, ◌+◌, ◌≤◌, max, Bool, true, false, List, [], ◌∷◌, ◌++◌, All, Option, Result, Ok, Err, Vec, length, map, vec_len}
 use Rattle.std.specs.declared.alloc.Global.{Global}
 use Rattle.txc_stream.specs.Names.{Name}
 use mathlib.Core.List.{IsPrefix}
@@ -27,6 +27,10 @@ use Rattle.txc_ledger.specs.Writes.{IsWritten}
 abbrev pub last_state : FrontValue → State
 last_state front = state_at front.history (length front.history)
 
+-- as short as a history that has just begun with its state: no more events than that has rows, or one
+abbrev pub IsShort : FrontValue → Type 0
+IsShort front = length front.history ≤ max 1 (length (last_state front))
+
 -- A generation over a database whose history is kept as the plan says. Its history at the end goes on from that at the beginning.
 -- There are so many outputs, each of which is what the thread of its number gives there. Its own keeper did what the plan
 -- says, at moments of the clock.
@@ -38,10 +42,12 @@ pub record IsGeneration {T : Type 0} (plan : Plan) (tells : ℕ → Type 0) (cou
   pub came : HaveCome (gives plan g.begun.events) g.outputs.items
   pub tended : IsTendedAsPlanned plan tells g.begun.events g.tended
 
--- the next generation has the next number, and begins with the state that the one before ended with
+-- The next generation has the next number. It begins with the state that the one before ended with, in a history as short as one
+-- that has just begun.
 pub record ComesAfter {T : Type 0} (g next : Generation T) : Type 0 where
   pub number : next.number ≡ g.number + 1
   pub state : last_state next.begun ≡ last_state g.ended
+  pub anew : IsShort next.begun
 
 -- each comes after the one before it
 abbrev pub ComeAfter : {T : Type 0} → Generation T → List (Generation T) → Type 0

@@ -3,7 +3,7 @@ ghost use Rattle.std.specs.Prelude.{◌≡◌, ◌<◌, ◌⊎◌, [], All, Err,
 ghost use mathlib.Core.List.{IsPrefix};
 ghost use Rattle.txc_carry.specs.Rooms.{IsHistoryFor};
 ghost use Rattle.txc_db.specs.DatabaseValue.{front_of};
-ghost use Rattle.txc_site.specs.Generations.{HaveServed, IsGeneration, IsGenerationRefused, IsNextRefused, IsServed, committed_with, last_state};
+ghost use Rattle.txc_site.specs.Generations.{HaveServed, IsGeneration, IsGenerationRefused, IsNextRefused, IsServed, IsShort, committed_with, last_state};
 ghost use Rattle.txc_site.specs.Opened.{IsOpenRefused};
 ghost use Rattle.txc_visits.specs.Plans.{IsPlan};
 ghost use Rattle.txc_visits.specs.Warming.{EndInOneState};
@@ -178,6 +178,7 @@ fn next<A: App>(
     ensures room { IfOk result (λ begun. IsHistoryFor plan.events begun.front.events) }
     ensures warm { IfOk result (λ begun. IfSome begun.warmth (λ w. w.front.events ≡ begun.core.events)) }
     ensures state { IfOk result (λ begun. last_state begun.front ≡ last_state (front_of core)) }
+    ensures anew { IfOk result (λ begun. IsShort begun.front) }
     ensures refused { IfErr result (IsNextRefused plan.events (front_of core)) }
 {
     let whole = core.front();

@@ -29,25 +29,37 @@ fn computed(alloc: Global, txn: &mut CallerTxn<OneRow, Objects>, key: Key)
     let _step = txn.finish(alloc, Vec::new(alloc));
 }
 
-// A transaction that writes a row and takes another away.
-fn written(
+// A transaction that writes over the state of a stamp, and computes a function.
+fn written_at(
     alloc: Global,
     caller: Caller<OneRow, Objects>,
-    row: Row,
-) -> Option<Caller<OneRow, Objects>> {
-    let Ok(mut write) = caller.begin_write(alloc) else {
-        return None;
+    base: Stamp,
+) -> Caller<OneRow, Objects> {
+    let mut write = match caller.begin_write_at(alloc, base) {
+        Ok(write) => write,
+        Err((_error, caller)) => return caller,
     };
+    let called = write.call(7);
+    let finished = write.finish(Vec::new(alloc));
+    if called.is_err() || finished.is_err() || write.answer().is_none() || write.is_computing() {
+        let _was_open = write.give_up();
+    }
+    write.abort()
+}
+
+// A transaction that writes a row and takes another away.
+fn written(alloc: Global, caller: Caller<OneRow, Objects>, row: Row) -> Caller<OneRow, Objects> {
+    let mut write = caller.begin_write(alloc);
     let table = Table::new(1).unwrap();
     let found = write.query(alloc, &Query::All(table));
     let put = write.put(row);
     let removed = write.remove(table, 9);
     if found.is_err() || put.is_err() || removed.is_err() {
-        return Some(write.abort());
+        return write.abort();
     }
     match write.commit(alloc) {
-        Ok((_stamp, caller)) => Some(caller),
-        Err((_error, write)) => Some(write.abort()),
+        Ok((_stamp, caller)) => caller,
+        Err((_error, write)) => write.abort(),
     }
 }
 
@@ -60,10 +72,12 @@ pub fn page(alloc: Global) -> Result<usize> {
         capacity: 8,
         recent: 8,
     };
-    let caller = Caller::new(alloc, 64, node, 1000, registry(alloc)?)?;
-    let Some(caller) = written(alloc, caller, row) else {
-        return Ok(0);
-    };
+    let caller = Caller::new(alloc, None, node, 1000, registry(alloc)?)?;
+    let caller = written_at(alloc, caller, Stamp::ZERO);
+    let mut caller = written(alloc, caller, row);
+    let _has_all = caller.take_events(alloc);
+    let (_retired, _horizon) = (caller.retire(alloc, 9, 9), caller.vacuum(alloc));
+    let _swept = caller.sweep(alloc, Stamp::ZERO);
     let bounds = Bounds {
         now: 0,
         staleness: 0,

@@ -11,5 +11,5 @@ of_ok P (Err e) h = tt
 
 pub returns : goal.returns
 returns c =
-    subst (λ (o : Option Site). IfSome o (IsNewSite c.args.settings c.args.renew_after)) (sym c.ok.ensures.value)
-    (of_ok (IsNewSite c.args.settings c.args.renew_after) c.new.result c.new.ensures.made)
+    subst (λ (o : Option Site). IfSome o (IsNewSite c.args.events c.args.settings c.args.renew_after)) (sym c.ok.ensures.value)
+    (of_ok (IsNewSite c.args.events c.args.settings c.args.renew_after) c.new.result c.new.ensures.made)

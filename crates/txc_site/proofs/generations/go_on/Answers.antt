@@ -55,7 +55,7 @@ loop-preserved g c =
           one_more c.args.plan (g.C.Clock.tells c.args.clock.now) c.args.count g.A.Application.numbers (g.V.Visitor.gives c.args.visitors.now) (g.V.Returning.goes c.args.visitors.now) c.args.begun.front
           c.loop.generations.items c.push_reserved.new.self.items c.loop.begun.front c.loop.invariant.came one c.in_ok-ended.ensures.generation number
           c.in_ok-ended.ensures.begun added c.in_ok-begun.begun.front c.if-not-goes_on.ensures
-          (c.in_ok-begun.ensures.state ∙ ap last_state (sym c.in_ok-ended.ensures.ended));
+          (c.in_ok-begun.ensures.state ∙ ap last_state (sym c.in_ok-ended.ensures.ended)) c.in_ok-begun.ensures.anew;
       row = c.in_ok-begun.ensures.row;
       room = c.in_ok-begun.ensures.room;
       warm = c.in_ok-begun.ensures.warm;

@@ -1,19 +1,12 @@
-use Rattle.std.proofs.Common.{◌∙◌, List, [], ap, subst}
-use Rattle.txc_rows.specs.declared.query.Change.{Change}
-use Rattle.txc_db.specs.Calls.{IsCommitRefused}
-use Rattle.txc_db.specs.DatabaseValue.{after_commit}
-use Rattle.txc_caller.specs.Reading.{CallerValue}
+use Rattle.std.proofs.Common.{◌≡◌, ◌∙◌, Option, Some, None, false, refl, sym, ap}
+use Rattle.std.specs.Prelude.{is_some}
 use Rattle.txc_caller.specs.Writing.{CallerWriting}
 use Rattle.txc_caller.proofs.caller_write.CallerWrite.commit.Goals as goal
 
-pub returns-in-Ok-clause-after : goal.returns-in-Ok-clause-after
-returns-in-Ok-clause-after g c =
-    ap (λ (v : CallerValue). v.ports.database) c.take_events.ensures
-    ∙ (c.in-Ok.ensures.after
-    ∙ (ap (λ (xs : List Change). after_commit c.self.inside.caller.ports.database xs) c.deref.ensures.value
-    ∙ ap (λ (w : CallerWriting). after_commit w.caller.ports.database w.changes) c.self.view_is))
+none_of : {A : Type 0} (o : Option A) → is_some o ≡ false → o ≡ None
+none_of None h = refl
+none_of (Some x) h = absurd (cc h)
 
-pub returns-in-Err-clause-refused : goal.returns-in-Err-clause-refused
-returns-in-Err-clause-refused g c =
-    subst (λ (w : CallerWriting). IsCommitRefused w.caller.ports.database w.base [] w.changes c.in-Err.error) c.self.view_is
-    (subst (λ (xs : List Change). IsCommitRefused c.self.inside.caller.ports.database c.self.inside.base [] xs c.in-Err.error) c.deref.ensures.value c.in-Err.ensures.refused)
+pub returns-in-Ok-clause-none : goal.returns-in-Ok-clause-none
+returns-in-Ok-clause-none g c = λ ok.
+    none_of c.args.self.inner (ap (λ (w : CallerWriting). is_some w.inner) (sym c.self.view_is) ∙ (sym c.is_some.ensures ∙ c.if-is_some.false))
