@@ -5,7 +5,7 @@ use Rattle.txc_c_site.proofs.turning.begun.Goals as goal
 pub returns-in-Ok : goal.returns-in-Ok
 returns-in-Ok c = (
   refl,
-  began_after c.args.bounds c.args.caller c.take_events.new.self c.in-Ok.txn c.take_events.result c.take_events.ensures.same c.take_events.ensures.all c.take_events.ensures.left
+  began_after c.args.bounds c.args.caller c.take_events-has_all.new.self c.in-Ok.txn c.take_events-has_all.result c.take_events-has_all.ensures.same c.take_events-has_all.ensures.all c.take_events-has_all.ensures.left
       (record {
         bounds = c.in-Ok.ensures.bounds;
         recorded = c.in-Ok.ensures.recorded;
@@ -17,4 +17,4 @@ returns-in-Ok c = (
 )
 
 pub returns-in-Err : goal.returns-in-Err
-returns-in-Err c = (refl, left_after c.args.caller c.take_events.new.self c.in-Err.caller c.take_events.ensures.same c.in-Err.ensures.handed_back)
+returns-in-Err c = (refl, left_after c.args.caller c.take_events-has_all.new.self c.in-Err.caller c.take_events-has_all.ensures.same c.in-Err.ensures.handed_back)
