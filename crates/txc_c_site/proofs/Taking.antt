@@ -3,17 +3,17 @@ use Rattle.std.proofs.Common.{◌≡◌, ◌∙◌, Bool, true, false, [], inl, 
 use Rattle.std.specs.Prelude.{None}
 use Rattle.txc_cushion.specs.Cushion.{handed_out}
 use Rattle.txc_ports.specs.declared.bounds.Bounds.{Bounds}
-use Rattle.txc_caller.specs.Ports.{HasNoEventFor, IsBehind, MayHaveTaken}
+use Rattle.txc_caller.specs.Ports.{GoesOnByEvents, HasNoEventFor, IsBehind, MayHaveTaken}
 use Rattle.txc_caller.specs.Reading.{caller_of, CallerReading, CallerValue}
 use Rattle.txc_c_site.specs.Turning.{IsReadBegun}
 
 -- it took them all, or memory was wanting
-pub took : (c mid : CallerValue) (has_all : Bool) → (has_all ≡ true → HasNoEventFor mid.ports.database mid.ports.node)
+pub took : (c mid : CallerValue) (has_all : Bool) → GoesOnByEvents c.ports.node mid.ports.node → (has_all ≡ true → HasNoEventFor mid.ports.database mid.ports.node)
     → (has_all ≡ false → IsBehind c.ports.database c.ports.node) → mid ≡ record c { ports = record c.ports { node = mid.ports.node } }
     → MayHaveTaken c.ports.database c.ports.node mid.ports.node
-took c mid true all left same =
-    inl (subst (λ (m : CallerValue). HasNoEventFor m.ports.database mid.ports.node) same (all refl))
-took c mid false all left same = inr (left refl)
+took c mid true goes all left same =
+    (goes, inl (subst (λ (m : CallerValue). HasNoEventFor m.ports.database mid.ports.node) same (all refl)))
+took c mid false goes all left same = (goes, inr (left refl))
 
 -- what a transaction began with that changed the pincushion alone
 pub record HasBegunThen (asked : Bounds) (mid : CallerValue) (r : CallerReading) : Type 0 where
@@ -24,6 +24,11 @@ pub record HasBegunThen (asked : Bounds) (mid : CallerValue) (r : CallerReading)
   pub none : r.doing ≡ None
   pub caller : caller_of r ≡ record mid { ports = record mid.ports { cushion = r.ports.cushion } }
 
+-- and what was left where it could not begin
+pub left_taken : (c mid left : CallerValue) → MayHaveTaken c.ports.database c.ports.node mid.ports.node → left ≡ record mid { ports = record mid.ports { cushion = left.ports.cushion } }
+    → MayHaveTaken c.ports.database c.ports.node left.ports.node
+left_taken c mid left taken is = subst (λ n. MayHaveTaken c.ports.database c.ports.node n) (sym (ap (λ (v : CallerValue). v.ports.node) is)) taken
+
 pub left_after : (c mid left : CallerValue) → mid ≡ record c { ports = record c.ports { node = mid.ports.node } }
     → left ≡ record mid { ports = record mid.ports { cushion = left.ports.cushion } }
     → left ≡ record c { ports = record c.ports { cushion = left.ports.cushion; node = left.ports.node } }
@@ -33,15 +38,14 @@ left_after c mid left took left_is =
     ∙ ap (λ (v : CallerValue). record v { ports = record v.ports { cushion = left.ports.cushion } }) took
     ∙ ap (λ n. record c { ports = record c.ports { cushion = left.ports.cushion; node = n } }) (sym node)
 
-pub began_after : (asked : Bounds) (c mid : CallerValue) (r : CallerReading) (has_all : Bool) → mid ≡ record c { ports = record c.ports { node = mid.ports.node } }
-    → (has_all ≡ true → HasNoEventFor mid.ports.database mid.ports.node) → (has_all ≡ false → IsBehind c.ports.database c.ports.node)
+pub began_after : (asked : Bounds) (c mid : CallerValue) (r : CallerReading) → MayHaveTaken c.ports.database c.ports.node mid.ports.node → mid ≡ record c { ports = record c.ports { node = mid.ports.node } }
     → HasBegunThen asked mid r → IsReadBegun asked c r
-began_after asked c mid r has_all same all left begun = record {
+began_after asked c mid r taken same begun = record {
   bounds = begun.bounds;
   recorded = begun.recorded;
   members = begun.members ∙ ap (λ (v : CallerValue). handed_out v.ports.cushion asked.now asked.staleness asked.at_least) same;
   present = begun.present;
   none = begun.none;
-  taken = subst (λ n. MayHaveTaken c.ports.database c.ports.node n) (sym (ap (λ (v : CallerValue). v.ports.node) begun.caller)) (took c mid has_all all left same);
+  taken = subst (λ n. MayHaveTaken c.ports.database c.ports.node n) (sym (ap (λ (v : CallerValue). v.ports.node) begun.caller)) taken;
   caller = left_after c mid (caller_of r) same begun.caller;
 }

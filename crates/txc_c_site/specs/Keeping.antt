@@ -5,7 +5,7 @@ use Rattle.txc_db.specs.DatabaseValue.{next_horizon}
 use Rattle.txc_db.specs.declared.error.DbError.{DbError}
 use Rattle.txc_shared.specs.declared.error.NodeError.{NodeError}
 use Rattle.txc_shared.specs.declared.error.NodeError.TheVariants.{Memory}
-use Rattle.txc_caller.specs.Ports.{CallerSweepTransition, HasRetired, HasVacuumedPorts, IsKeepRefused}
+use Rattle.txc_caller.specs.Ports.{CallerSweepTransition, GoesOnByEvents, HasRetired, HasVacuumedPorts, IsKeepRefused}
 use Rattle.txc_caller.specs.Reading.{CallerValue}
 use Rattle.txc_c_site.specs.Sites.{Stays}
 use Rattle.txc_c_site.specs.Turning.{database_number}
@@ -44,6 +44,7 @@ pub record HasRefusedVacuum (old : CallerValue) (number : ℕ) (was is : TxcKept
   pub error : DbError
   pub number_is : number ≡ database_number error
   pub refused : IsKeepRefused old.ports.database old.ports.node error
+  pub node : GoesOnByEvents old.ports.node new.ports.node
   pub same : new ≡ record old { ports = record old.ports { node = new.ports.node } }
   pub told : is ≡ was
 

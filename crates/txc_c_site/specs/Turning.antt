@@ -14,7 +14,7 @@ use Rattle.txc_txn.specs.Core.{left_pin, receipt_pin, Explains}
 use Rattle.txc_txn.specs.Sessions.{IsAtLeast}
 use Rattle.txc_caller.specs.Ports.{AreGivenBack, IsLetGo, MayHaveTaken}
 use Rattle.txc_caller.specs.Reading.{caller_of, CallerReading, CallerValue}
-use Rattle.txc_caller.specs.Writing.{CallerWriting, IsBegunWrite, IsWriteLeft, IsWriteRefused}
+use Rattle.txc_caller.specs.Writing.{CallerWriting, IsBegunWrite, IsWriteLeft, IsWriteCommitRefused}
 use Rattle.txc_caller.specs.declared.step.WriteError.{WriteError}
 use Rattle.txc_caller.specs.declared.step.WriteError.TheVariants.{Database, MidCall}
 use Rattle.txc_c_site.specs.Opaque.{opaque_next}
@@ -57,6 +57,7 @@ pub record IsReadBegun (asked : Bounds) (c : CallerValue) (r : CallerReading) : 
 abbrev pub BegunComesTo : Bounds → CallerValue → ℕ → Site → Type 0
 BegunComesTo bounds c number (Reading r) = (number ≡ DONE) × IsReadBegun bounds c r
 BegunComesTo bounds c number (Resting left) = (number ≡ NO_MEMORY)
+    × MayHaveTaken c.ports.database c.ports.node left.ports.node
     × (left ≡ record c { ports = record c.ports { cushion = left.ports.cushion; node = left.ports.node } })
 BegunComesTo bounds c number (Writing w) = ⊥
 
@@ -123,6 +124,7 @@ pub record HasCommittedWrite (w : CallerWriting) (stamp : ℕ) (c : CallerValue)
   pub could : IsCommittable w.caller.ports.database w.base w.read w.changes
   pub after : c.ports.database ≡ after_commit w.caller.ports.database w.changes
   pub told : stamp ≡ newest c.ports.database
+  pub taken : MayHaveTaken c.ports.database w.caller.ports.node c.ports.node
   pub same : c ≡ record w.caller {
     ports = record w.caller.ports { database = c.ports.database; node = c.ports.node };
   }
@@ -131,7 +133,7 @@ pub record HasCommittedWrite (w : CallerWriting) (stamp : ℕ) (c : CallerValue)
 pub record HasRefusedWrite (w : CallerWriting) (number : ℕ) (left : CallerWriting) : Type 0 where
   pub error : WriteError
   pub number_is : number ≡ write_number error
-  pub refused : IsWriteRefused w error
+  pub refused : IsWriteCommitRefused w error
   pub left_so : IsWriteLeft w error left
 
 abbrev pub WrittenComesTo : CallerWriting → ℕ → ℕ → ℕ → Site → Type 0

@@ -6,3 +6,4 @@ pub mod Asked
 pub mod Reading
 pub mod Committing
 pub mod Letting
+pub mod Taken

@@ -1,5 +1,6 @@
 -- The plain ports of a caller: a database, a pincushion and one node.
-use Rattle.std.specs.Prelude.{◌≡◌, ◌⊎◌, ◌<◌, ◌≤◌, ℕ, Bool, true, false, List, Option, Some, None, Result, Ok, Err, [], ◌∷◌}
+use Rattle.std.specs.Prelude.{◌≡◌, ◌⊎◌, ◌<◌, ◌≤◌, ℕ, Bool, true, false, List, Option, Some, None, Result, Ok, Err, [], ◌∷◌, ◌++◌}
+use Rattle.std.specs.List.{AllByRecursion}
 use Rattle.txc_tags.specs.Keys.{Call}
 use Rattle.txc_rows.specs.declared.query.Query.{Query as RowQuery}
 use Rattle.txc_rows.specs.RowTags.{query_tag}
@@ -8,7 +9,9 @@ use Rattle.txc_validity.specs.Answers.{IsAnswer}
 use Rattle.txc_node.specs.Cache.{lookup_answer, outcome, swept_count}
 use Rattle.txc_node.specs.declared.entry.Entry.{Entry}
 use Rattle.txc_node.specs.declared.hit.Shown.{Shown}
-use Rattle.txc_node.specs.declared.op.Op.TheVariants.{Insert, Lookup, Sweep}
+use Rattle.txc_node.specs.declared.op.Op.{Op}
+use Rattle.txc_node.specs.declared.op.Op.TheVariants.{Event, Insert, Lookup, Sweep}
+use Rattle.txc_node.specs.declared.record.Record.{Record}
 use Rattle.txc_stream.specs.Names.{Name, HasRow}
 use Rattle.txc_db.specs.Room.{HasCapacity, AreTagsGone}
 use Rattle.txc_db.specs.Calls.{IsLeft, IsQueryRefused, IsPinRefused, IsUnpinRefused, IsVacuumRefused}
@@ -50,9 +53,9 @@ pub record AreCallerPorts (p : CallerPorts) : Type 0 where
   pub pass : p.node.passes ≡ 1
 
 -- the database has room for so many events; or, where no number is given, it stores none
-abbrev pub HasRoomFor : Option ℕ → Name → Type 0
-HasRoomFor (Some events) name = HasCapacity name events
-HasRoomFor None name = ¬ (HasRow name)
+abbrev pub HasEventRoom : Option ℕ → Name → Type 0
+HasEventRoom (Some events) name = HasCapacity name events
+HasEventRoom None name = ¬ (HasRow name)
 
 -- ---- pins
 
@@ -168,6 +171,18 @@ pub record KeepsNode (old new : NodeValue) : Type 0 where
   pub row : new.seen.events ≡ old.seen.events
   pub passes : new.passes ≡ old.passes
 
+-- a step is one of taking an event
+abbrev pub IsOfEvent : Op → Type 0
+IsOfEvent (Event stamp tags) = Unit {0}
+IsOfEvent op = ⊥
+
+-- its history goes on by such steps alone
+pub record GoesOnByEvents (old new : NodeValue) : Type 0 where
+  pub keeps : KeepsNode old new
+  pub more : List Record
+  pub records : new.records ≡ old.records ++ more
+  pub events : AllByRecursion (λ r. IsOfEvent r.op) more
+
 -- there is no event that the node has not taken and whose tags are kept
 abbrev pub HasNoEventFor : DatabaseValue → NodeValue → Type 0
 HasNoEventFor d n = (newest d ≤ n.cache.processed) ⊎ AreTagsGone d.events d.horizon n.cache.processed
@@ -178,10 +193,11 @@ IsBehind d n = n.cache.processed < newest d
 
 -- it has taken those that it had not taken; or memory was wanting for one
 abbrev pub MayHaveTaken : DatabaseValue → NodeValue → NodeValue → Type 0
-MayHaveTaken d old new = HasNoEventFor d new ⊎ IsBehind d old
+MayHaveTaken d old new = GoesOnByEvents old new × (HasNoEventFor d new ⊎ IsBehind d old)
 
 -- the node has taken the events, and only the versions are left that a stamp from the least held one on shows
 pub record HasVacuumedPorts (old new : CallerPorts) : Type 0 where
+  pub node : GoesOnByEvents old.node new.node
   pub taken : HasNoEventFor old.database new.node
   pub is : new ≡ record old { database = after_vacuum old.database; node = new.node }
 

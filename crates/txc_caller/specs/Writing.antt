@@ -21,8 +21,8 @@ use Rattle.txc_caller.specs.declared.step.WriteError.{WriteError}
 use Rattle.txc_caller.specs.declared.step.WriteError.TheVariants as writes
 use Rattle.txc_caller.specs.Reading.{CallerValue}
 
--- the caller; the stamp that it reads; the tags of what it has read; its changes, in order; the function that is
--- computed, if one is, and those that wait for its value, the outermost first; and what was answered last
+-- The caller; the stamp that it reads; the tags of what it has read; and its changes, in order. Then the function that is
+-- computed, if one is, and those that wait for its value, the outermost first; and what was answered last.
 pub record CallerWriting : Type 0 where
   pub caller : CallerValue
   pub base : ℕ
@@ -73,22 +73,22 @@ pub record HasGivenValue (bytes : List ℕ) (old new : CallerWriting) : Type 0 w
 
 -- of a call: the function is not below the one that is computed, and none is computed any more; or memory is wanting, and
 -- nothing has changed
-abbrev pub IsCallRefused : ℕ → CallerWriting → CallerWriting → CallerError → Type 0
-IsCallRefused function old new (errors.Txn (Call (CallOrder inner called))) =
+abbrev pub IsWriteCallRefused : ℕ → CallerWriting → CallerWriting → CallerError → Type 0
+IsWriteCallRefused function old new (errors.Txn (Call (CallOrder inner called))) =
     (old.inner ≡ Some inner) × (called ≡ function) × (inner ≤ function) × (new ≡ without_calls old)
-IsCallRefused function old new errors.Memory = IsSome old.inner × (new ≡ old)
-IsCallRefused function old new error = ⊥
+IsWriteCallRefused function old new errors.Memory = IsSome old.inner × (new ≡ old)
+IsWriteCallRefused function old new error = ⊥
 
 -- of a value: no function is computed, and nothing has changed; or it is too long, and none is computed any more
-abbrev pub IsFinishRefused : List ℕ → CallerWriting → CallerWriting → CallerError → Type 0
-IsFinishRefused bytes old new errors.NoFunction = (old.inner ≡ None) × (new ≡ old)
-IsFinishRefused bytes old new (errors.Txn (Call ValueTooLong)) = (MAX_VALUE_LEN < length bytes) × (new ≡ without_calls old)
-IsFinishRefused bytes old new error = ⊥
+abbrev pub IsWriteFinishRefused : List ℕ → CallerWriting → CallerWriting → CallerError → Type 0
+IsWriteFinishRefused bytes old new errors.NoFunction = (old.inner ≡ None) × (new ≡ old)
+IsWriteFinishRefused bytes old new (errors.Txn (Call ValueTooLong)) = (MAX_VALUE_LEN < length bytes) × (new ≡ without_calls old)
+IsWriteFinishRefused bytes old new error = ⊥
 
 -- of the end: a function is computed; or the database refused
-abbrev pub IsWriteRefused : CallerWriting → WriteError → Type 0
-IsWriteRefused w writes.MidCall = IsSome w.inner
-IsWriteRefused w (writes.Database error) = IsCommitRefused w.caller.ports.database w.base w.read w.changes error
+abbrev pub IsWriteCommitRefused : CallerWriting → WriteError → Type 0
+IsWriteCommitRefused w writes.MidCall = IsSome w.inner
+IsWriteCommitRefused w (writes.Database error) = IsCommitRefused w.caller.ports.database w.base w.read w.changes error
 
 -- what a refusal leaves: all as it was, but that the database may have found itself broken
 abbrev pub IsWriteLeft : CallerWriting → WriteError → CallerWriting → Type 0

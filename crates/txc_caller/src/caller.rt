@@ -15,7 +15,7 @@ ghost use Rattle.txc_txn.specs.Core.{value_of, CoreHolds, IsCore, IsIdle};
 ghost use Rattle.txc_txn.specs.Kept.{IsTxn};
 ghost use Rattle.txc_node.specs.declared.node.TheConstants.{MAX_CAPACITY, MAX_RECENT};
 ghost use Rattle.txc_stream.specs.declared.row.TheConstants.{MAX_CAPACITY as MAX_ROW};
-ghost use Rattle.txc_caller.specs.Ports.{HasNoEventFor, HasRoomFor, IsBehind};
+ghost use Rattle.txc_caller.specs.Ports.{GoesOnByEvents, HasEventRoom, HasNoEventFor, IsBehind};
 ghost use Rattle.txc_caller.specs.Reading.{caller_of};
 
 use crate::caller_txn::CallerTxn;
@@ -93,8 +93,8 @@ fn begun<A: App>(
 }
 
 impl<A: App, C: Suppliable> Caller<A, C> {
-    /// An empty database with room for so many events, or, where no number is given, for as many as there are stamps, which
-    /// are not stored; an empty pincushion and an empty node, for the functions of the registry.
+    /// An empty database with room for so many events, or that stores none, for as many as there are stamps; an empty
+    /// pincushion and an empty node, for the functions of the registry.
     pub fn new(
         alloc: Global,
         room: Option<usize>,
@@ -106,7 +106,7 @@ impl<A: App, C: Suppliable> Caller<A, C> {
         requires node { (1 ≤ node.capacity) × (node.capacity ≤ MAX_CAPACITY) }
         requires recent { (1 ≤ node.recent) × (node.recent ≤ MAX_RECENT) }
         requires idle { AllIdle registry }
-        ensures room { IfOk result (λ caller. HasRoomFor room caller.ports.database.events) }
+        ensures room { IfOk result (λ caller. HasEventRoom room caller.ports.database.events) }
         ensures history { IfOk result (λ caller. caller.ports.database.history ≡ []) }
         ensures cushion { IfOk result (λ caller. caller.ports.cushion.entries ≡ []) }
         ensures node { IfOk result (λ caller. caller.ports.node.cache ≡ start_of node 0) }
@@ -211,9 +211,10 @@ impl<A: App, C: Suppliable> Caller<A, C> {
         self.ports.commit(alloc, base, read, changes)
     }
 
-    /// Has the node take the events that it has not taken yet, and says whether it took them all; it does not where memory is
-    /// wanting. It has nothing for the stamps from an event on that it has not taken.
+    /// Has the node take the events that it has not taken yet, and says whether it took all: memory may be wanting. It has
+    /// nothing at stamps beyond those.
     pub fn take_events(&mut self, alloc: Global) -> bool
+        ensures node { GoesOnByEvents self.old.ports.node self.new.ports.node }
         ensures all { result ≡ true → HasNoEventFor self.new.ports.database self.new.ports.node }
         ensures left { result ≡ false → IsBehind self.old.ports.database self.old.ports.node }
         ensures same { self.new ≡ record self.old { ports = record self.old.ports { node = self.new.ports.node } } }

@@ -3,6 +3,7 @@ ghost use Rattle.std.specs.Prelude.{◌≡◌, ◌≢◌, ◌<◌, ◌≤◌, �
 ghost use Rattle.txc_db.specs.Calls.{IsBase, IsCommittable, IsLeft, IsQueryRefused};
 ghost use Rattle.txc_db.specs.DatabaseValue.{after_commit, newest};
 ghost use Rattle.txc_db.specs.Steps.{IsBaseRefused};
+ghost use Rattle.txc_caller.specs.Ports.{MayHaveTaken};
 ghost use Rattle.txc_caller.specs.declared.step.WriteError.TheVariants.{Database};
 
 use crate::caller::Caller;
@@ -99,10 +100,10 @@ impl<A: App, C: Suppliable> Caller<A, C> {
 }
 
 impl<A: App, C: Suppliable> CallerWrite<A, C> {
-    ghost use Rattle.txc_caller.specs.Writing.{after_call_of, after_query, without_calls, HasGivenValue, IsCallRefused, IsChangeRefused, IsFinishRefused, IsWriteAfter, IsWriteLeft, IsWriteRefused};
+    ghost use Rattle.txc_caller.specs.Writing.{after_call_of, after_query, without_calls, HasGivenValue, IsWriteCallRefused, IsChangeRefused, IsWriteFinishRefused, IsWriteAfter, IsWriteLeft, IsWriteCommitRefused};
 
-    /// Asks for the rows of the query in the state that the transaction reads; they are its [`CallerWrite::answer`]. They count
-    /// as read. It does not see the changes of its own.
+    /// Asks for the rows of the query, which are its [`CallerWrite::answer`] and count as read. It does not see the changes of
+    /// its own.
     pub fn query(&mut self, alloc: Global, query: &Query) -> Result<(), DbError>
         ensures after { OnOk result (self.new ≡ after_query query.now self.old) }
         ensures refused { IfErr result (IsQueryRefused self.old.caller.ports.database query.now self.old.base) }
@@ -114,11 +115,10 @@ impl<A: App, C: Suppliable> CallerWrite<A, C> {
         Ok(())
     }
 
-    /// Begins to compute a function: the outermost, or one that the function asks for that is computed. Its value is not
-    /// looked for, since the transaction uses no node.
+    /// Begins to compute a function, which the one asks for that is computed, if one is.
     pub fn call(&mut self, function: u8) -> Result<(), CallerError>
         ensures after { OnOk result (self.new ≡ after_call_of function self.old) }
-        ensures refused { IfErr result (IsCallRefused function self.old self.new) }
+        ensures refused { IfErr result (IsWriteCallRefused function self.old self.new) }
     {
         if let Some(inner) = self.inner {
             if inner <= function {
@@ -135,11 +135,11 @@ impl<A: App, C: Suppliable> CallerWrite<A, C> {
         Ok(())
     }
 
-    /// Says that the function that is computed gives these bytes, which are its [`CallerWrite::answer`]. The function that
-    /// waited for it goes on, if one did.
+    /// Says that the function that is computed gives these bytes, which are the [`CallerWrite::answer`] to the one that waits,
+    /// if one does.
     pub fn finish(&mut self, bytes: Vec<u8>) -> Result<(), CallerError>
         ensures after { OnOk result (HasGivenValue bytes.items self.old self.new) }
-        ensures refused { IfErr result (IsFinishRefused bytes.items self.old self.new) }
+        ensures refused { IfErr result (IsWriteFinishRefused bytes.items self.old self.new) }
     {
         if self.inner.is_none() {
             return Err(CallerError::NoFunction);
@@ -154,7 +154,7 @@ impl<A: App, C: Suppliable> CallerWrite<A, C> {
         Ok(())
     }
 
-    /// Gives the open call up, if one is, and returns whether one was. What was read counts as read.
+    /// Gives the open call up, if one is, and returns whether one was.
     pub fn give_up(&mut self) -> bool
         ensures answer { IsTrue result ↔ IsSome self.old.inner }
         ensures after { self.new ≡ without_calls self.old }
@@ -222,8 +222,10 @@ impl<A: App, C: Suppliable> CallerWrite<A, C> {
         ensures answer { IfOk result (λ stamp. stamp ≡ newest self.new.caller.ports.database) }
         ensures only_if { IsOk result
             → IsCommittable self.old.caller.ports.database self.old.base self.old.read self.old.changes }
+        ensures node { OnOk result (MayHaveTaken self.new.caller.ports.database
+            self.old.caller.ports.node self.new.caller.ports.node) }
         ensures same { OnOk result (IsWriteAfter self.old self.new) }
-        ensures refused { IfErr result (λ error. IsWriteRefused self.old (Database error)) }
+        ensures refused { IfErr result (λ error. IsWriteCommitRefused self.old (Database error)) }
         ensures left { IfErr result (λ error. IsWriteLeft self.old (Database error) self.new) }
     {
         let base = self.base;
@@ -234,9 +236,8 @@ impl<A: App, C: Suppliable> CallerWrite<A, C> {
         Ok(stamp)
     }
 
-    /// Commits the changes, where no event after the stamp that it reads matches what it has read, and answers the newest
-    /// stamp that they leave. The node then takes the events that it has not taken yet. A refusal returns the transaction,
-    /// open.
+    /// Commits the changes, where no event after its stamp matches what it has read, and answers the newest stamp that they
+    /// leave. The node then takes the events. A refusal returns the transaction, open.
     pub fn commit(
         self,
         alloc: Global,
@@ -247,10 +248,12 @@ impl<A: App, C: Suppliable> CallerWrite<A, C> {
         ensures none { IsOk result → self.inner ≡ None }
         ensures only_if { IsOk result
             → IsCommittable self.caller.ports.database self.base self.read self.changes }
+        ensures node { IfOk result (λ done.
+            MayHaveTaken done.1.ports.database self.caller.ports.node done.1.ports.node) }
         ensures same { IfOk result (λ done. done.1 ≡ record self.caller {
           ports = record self.caller.ports { database = done.1.ports.database; node = done.1.ports.node };
         }) }
-        ensures refused { IfErr result (λ back. IsWriteRefused self back.0) }
+        ensures refused { IfErr result (λ back. IsWriteCommitRefused self back.0) }
         ensures left { IfErr result (λ back. IsWriteLeft self back.0 back.1) }
     {
         if self.inner.is_some() {

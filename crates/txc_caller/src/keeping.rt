@@ -2,7 +2,7 @@
 ghost use Rattle.std.specs.Prelude.{◌≡◌, IfErr, IfOk, OnErr, OnOk, length};
 ghost use Rattle.txc_cushion.specs.Cushion.{retired};
 ghost use Rattle.txc_db.specs.DatabaseValue.{next_horizon};
-ghost use Rattle.txc_caller.specs.Ports.{CallerSweepTransition, HasRetired, HasVacuumedPorts, IsKeepRefused};
+ghost use Rattle.txc_caller.specs.Ports.{CallerSweepTransition, GoesOnByEvents, HasRetired, HasVacuumedPorts, IsKeepRefused};
 
 use crate::caller::Caller;
 use std::alloc::{AllocError, Global};
@@ -24,11 +24,11 @@ impl<A: App, C: Suppliable> Caller<A, C> {
         self.ports.retire(alloc, now, age)
     }
 
-    /// Has the node take the events that it has not taken yet; where it can't, memory is wanting. Then makes the horizon the
-    /// least stamp that is held, or the newest where none is, and drops what only stamps before it need: versions of rows, and
-    /// the tags of events that are not stored.
+    /// Has the node take the events. Then makes the horizon the least stamp that is held, or the newest where none is, and drops
+    /// what only stamps before it need.
     pub fn vacuum(&mut self, alloc: Global) -> Result<Stamp, DbError>
         ensures after { OnOk result (HasVacuumedPorts self.old.ports self.new.ports) }
+        ensures node { GoesOnByEvents self.old.ports.node self.new.ports.node }
         ensures answer { IfOk result (λ horizon. horizon ≡ next_horizon self.old.ports.database) }
         ensures refused { IfErr result (IsKeepRefused self.old.ports.database self.old.ports.node) }
         ensures unchanged { OnErr result (self.new.ports ≡ record self.old.ports { node = self.new.ports.node }) }

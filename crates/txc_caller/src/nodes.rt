@@ -2,7 +2,7 @@
 ghost use Rattle.std.specs.Prelude.{◌≡◌};
 ghost use Rattle.txc_app.specs.Claims.{IsTrueIn};
 ghost use Rattle.txc_shared.specs.Nodes.{next_stamp, HasTags};
-ghost use Rattle.txc_caller.specs.Ports.{kept_as, CallerInsertTransition, CallerSweepTransition, KeepsNode};
+ghost use Rattle.txc_caller.specs.Ports.{kept_as, CallerInsertTransition, CallerSweepTransition, GoesOnByEvents, KeepsNode};
 
 use std::alloc::Global;
 use txc_app::App;
@@ -51,7 +51,7 @@ pub(crate) fn take_event<A: App>(
     requires pass { node.old.passes ≡ 1 }
     requires row { front.now.events ≡ node.old.seen.events }
     requires tags { HasTags front.now.history (next_stamp node.old) tags.now }
-    ensures { KeepsNode node.old node.new }
+    ensures { GoesOnByEvents node.old node.new }
 {
     match node.advance_by(alloc, 0, front, Some(tags)) {
         Ok(Advanced::Taken { .. }) => true,

@@ -13,7 +13,7 @@ ghost use Rattle.txc_db.specs.Seen.{FrontValue};
 ghost use Rattle.txc_node.specs.declared.node.TheConstants.{MAX_CAPACITY, MAX_RECENT};
 ghost use Rattle.txc_stream.specs.declared.row.TheConstants.{MAX_CAPACITY as MAX_ROW};
 ghost use Rattle.txc_shared.specs.Nodes.{start_of};
-ghost use Rattle.txc_caller.specs.Ports.{CallerAddTransition, CallerFindTransition, CallerInsertTransition, CallerPinTransition, CallerSweepTransition, CallerUnpinTransition, AreLetGo, AreGivenBack, HasNoEventFor, HasRetired, HasRoomFor, HasVacuumedPorts, IsBehind, IsKeepRefused, IsLetGo};
+ghost use Rattle.txc_caller.specs.Ports.{CallerAddTransition, CallerFindTransition, CallerInsertTransition, CallerPinTransition, CallerSweepTransition, CallerUnpinTransition, AreLetGo, AreGivenBack, HasNoEventFor, HasRetired, HasEventRoom, HasVacuumedPorts, GoesOnByEvents, IsBehind, IsKeepRefused, IsLetGo};
 
 use crate::nodes;
 use std::alloc::{AllocError, Global};
@@ -53,7 +53,7 @@ impl<A: App> Model for Ports<A> {
 // An empty database with room for so many events, or that stores none.
 fn empty_database(alloc: Global, room: Option<usize>) -> Result<DbCore, DbError>
     requires { IfSome room (λ events. (1 ≤ events) × (events ≤ MAX_ROW)) }
-    ensures room { IfOk result (λ d. HasRoomFor room d.events) }
+    ensures room { IfOk result (λ d. HasEventRoom room d.events) }
     ensures history { IfOk result (λ d. d.history ≡ []) }
     ensures refused { IfErr result IsWant }
 {
@@ -146,7 +146,8 @@ impl<A: App> Ports<A> {
     // Has the node take the next event, and says whether it took one. The front shows them all.
     fn take_event(&mut self, alloc: Global, front: &HistoryFront) -> bool
         requires { front.now ≡ front_of self.old.database }
-        ensures { self.new ≡ record self.old { node = self.new.node } }
+        ensures node { GoesOnByEvents self.old.node self.new.node }
+        ensures same { self.new ≡ record self.old { node = self.new.node } }
     {
         let Some(tags) = self.database.tags_after(self.node.processed()) else {
             return false;
@@ -164,6 +165,7 @@ impl<A: App> Ports<A> {
 
     /// Has the node take the events that it has not taken yet, and says whether it took them all.
     pub(crate) fn take_events(&mut self, alloc: Global) -> bool
+        ensures node { GoesOnByEvents self.old.node self.new.node }
         ensures all { result ≡ true → HasNoEventFor self.new.database self.new.node }
         ensures left { result ≡ false → IsBehind self.old.database self.old.node }
         ensures same { self.new ≡ record self.old { node = self.new.node } }
@@ -282,6 +284,7 @@ impl<A: App> Ports<A> {
     /// is no memory for it. Then does the same.
     pub(crate) fn vacuum(&mut self, alloc: Global) -> Result<Stamp, DbError>
         ensures after { OnOk result (HasVacuumedPorts self.old self.new) }
+        ensures node { GoesOnByEvents self.old.node self.new.node }
         ensures answer { IfOk result (λ horizon. horizon ≡ next_horizon self.old.database) }
         ensures refused { IfErr result (IsKeepRefused self.old.database self.old.node) }
         ensures unchanged { OnErr result (self.new ≡ record self.old { node = self.new.node }) }
@@ -310,7 +313,7 @@ impl<A: App> Ports<A> {
         requires room { IfSome room (λ events. (1 ≤ events) × (events ≤ MAX_ROW)) }
         requires node { (1 ≤ settings.capacity) × (settings.capacity ≤ MAX_CAPACITY) }
         requires recent { (1 ≤ settings.recent) × (settings.recent ≤ MAX_RECENT) }
-        ensures room { IfOk result (λ ports. HasRoomFor room ports.database.events) }
+        ensures room { IfOk result (λ ports. HasEventRoom room ports.database.events) }
         ensures history { IfOk result (λ ports. ports.database.history ≡ []) }
         ensures cushion { IfOk result (λ ports. ports.cushion.entries ≡ []) }
         ensures node { IfOk result (λ ports. ports.node.cache ≡ start_of settings 0) }

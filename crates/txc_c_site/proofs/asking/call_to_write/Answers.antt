@@ -1,5 +1,5 @@
 use Rattle.std.proofs.Common.{◌∙◌, ℕ, inl, inr, ap, refl, subst}
-use Rattle.txc_caller.specs.Writing.{after_call_of, IsCallRefused}
+use Rattle.txc_caller.specs.Writing.{after_call_of, IsWriteCallRefused}
 use Rattle.txc_c_site.proofs.asking.call_to_write.Goals as goal
 
 pub returns-in-Ok : goal.returns-in-Ok
@@ -7,4 +7,4 @@ returns-in-Ok c = inl (refl, c.in-Ok.ensures.after ∙ ap (λ (f : ℕ). after_c
 
 pub returns-in-Err : goal.returns-in-Err
 returns-in-Err c =
-    inr (c.in-Err.error, c.error_number.ensures, subst (λ (f : ℕ). IsCallRefused f c.args.write.now c.call.new.self c.in-Err.error) c.function.ensures.answer c.in-Err.ensures.refused)
+    inr (c.in-Err.error, c.error_number.ensures, subst (λ (f : ℕ). IsWriteCallRefused f c.args.write.now c.call.new.self c.in-Err.error) c.function.ensures.answer c.in-Err.ensures.refused)

@@ -18,6 +18,7 @@ returns-in-Err c = inr (record {
   error = c.in-Err.error;
   number_is = c.database_number.ensures;
   refused = c.in-Err.ensures.refused;
+  node = c.vacuum.ensures.node;
   same = c.vacuum.ensures.same ∙ ap (λ (p : CallerPorts). record c.args.caller.now { ports = p }) c.in-Err.ensures.unchanged;
   told = refl;
 })

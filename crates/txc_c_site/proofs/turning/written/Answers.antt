@@ -9,6 +9,7 @@ returns-in-Ok c = (
     could = c.in-Ok.ensures.only_if refl;
     after = c.in-Ok.ensures.after;
     told = c.number.ensures.answer ∙ c.in-Ok.ensures.answer;
+    taken = c.in-Ok.ensures.node;
     same = c.in-Ok.ensures.same;
   },
 )

@@ -1,12 +1,12 @@
 use Rattle.std.proofs.Common.{ℕ, Option, sym, subst}
-use Rattle.txc_caller.specs.Ports.{HasRoomFor}
+use Rattle.txc_caller.specs.Ports.{HasEventRoom}
 use Rattle.txc_registry.specs.Objects.{numbers_of, Objects}
 use Rattle.txc_c_site.specs.Sites.{HaveAllFunctions}
 use Rattle.txc_c_site.proofs.site.Site.new.Goals as goal
 
 pub returns-clause-made : goal.returns-clause-made
 returns-clause-made c = record {
-  room = subst (λ (room : Option ℕ). HasRoomFor room c.in_ok-caller.caller.ports.database.events) c.room_of.ensures c.in_ok-caller.ensures.room;
+  room = subst (λ (room : Option ℕ). HasEventRoom room c.in_ok-caller.caller.ports.database.events) c.room_of.ensures c.in_ok-caller.ensures.room;
   history = c.in_ok-caller.ensures.history;
   cushion = c.in_ok-caller.ensures.cushion;
   node = c.in_ok-caller.ensures.node;

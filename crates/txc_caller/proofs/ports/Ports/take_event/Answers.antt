@@ -10,4 +10,4 @@ take_event-requires-clause-row g c = ap (λ (f : FrontValue). f.events) c.requir
 pub invariant_of-self : goal.invariant_of-self
 invariant_of-self g c =
     let p : CallerPorts = record { database = c.self.inside.database; cushion = c.self.inside.cushion; node = c.self.inside.node } in
-    ports_with_node p c.take_event.new.node c.self.invariant c.take_event.ensures
+    ports_with_node p c.take_event.new.node c.self.invariant c.take_event.ensures.keeps

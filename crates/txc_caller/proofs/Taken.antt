@@ -1,0 +1,74 @@
+-- A node that takes events.
+use Rattle.std.proofs.Common.{◌≡◌, ◌∙◌, Bool, true, false, List, [], ◌∷◌, ◌++◌, append-nil, inl, inr, refl, ap, sym}
+use Rattle.std.specs.List.{AllByRecursion}
+use Rattle.std.proofs.lemmas.List.{append_assoc}
+use Rattle.txc_db.specs.DatabaseValue.{DatabaseValue}
+use Rattle.txc_db.specs.Seen.{FrontValue}
+use Rattle.txc_node.specs.declared.record.Record.{Record}
+use Rattle.txc_shared.specs.Nodes.{seeing, HasAdvanced, NodeValue}
+use Rattle.txc_shared.specs.Refusals.{IsNodeLeft}
+use Rattle.txc_shared.specs.declared.advanced.Advanced.{Advanced}
+use Rattle.txc_shared.specs.declared.advanced.Advanced.TheVariants as advances
+use Rattle.txc_shared.specs.declared.error.NodeError.{NodeError}
+use Rattle.txc_shared.specs.declared.error.NodeError.TheVariants as errors
+use Rattle.txc_caller.specs.Ports.{GoesOnByEvents, HasNoEventFor, IsBehind, IsOfEvent, MayHaveTaken}
+use Rattle.txc_caller.proofs.Asked.{node_left}
+
+both : (rs ss : List Record) → AllByRecursion (λ r. IsOfEvent r.op) rs → AllByRecursion (λ r. IsOfEvent r.op) ss → AllByRecursion (λ r. IsOfEvent r.op) (rs ++ ss)
+both [] ss hr hs = hs
+both (r ∷ rs) ss hr hs = (hr.0, both rs ss hr.1 hs)
+
+-- none was taken
+pub none_taken : (old new : NodeValue) → new ≡ old → GoesOnByEvents old new
+none_taken old new is = record {
+  keeps = record { row = ap (λ (n : NodeValue). n.seen.events) is; passes = ap (λ (n : NodeValue). n.passes) is };
+  more = [];
+  records = ap (λ (n : NodeValue). n.records) is ∙ sym (append-nil old.records);
+  events = tt;
+}
+
+-- some were taken, and then some more
+pub taken_then : (old mid new : NodeValue) → GoesOnByEvents old mid → GoesOnByEvents mid new → GoesOnByEvents old new
+taken_then old mid new a b = record {
+  keeps = record { row = b.keeps.row ∙ a.keeps.row; passes = b.keeps.passes ∙ a.keeps.passes };
+  more = a.more ++ b.more;
+  records = b.records ∙ (ap (λ (rs : List Record). rs ++ b.more) a.records ∙ append_assoc old.records a.more b.more);
+  events = both a.more b.more a.events b.events;
+}
+
+-- the next was taken, or there was none
+pub advanced_so : (old new : NodeValue) (seen : FrontValue) (advanced : Advanced) → seen.events ≡ old.seen.events → HasAdvanced (seeing old seen) 0 new advanced → GoesOnByEvents old new
+advanced_so old new seen (advances.Taken stamp closed) row h = record {
+  keeps = record { row = ap (λ (n : NodeValue). n.seen.events) h.0 ∙ row; passes = ap (λ (n : NodeValue). n.passes) h.0 };
+  more = _;
+  records = ap (λ (n : NodeValue). n.records) h.0;
+  events = (tt, tt);
+}
+advanced_so old new seen advances.Idle row h = record {
+  keeps = record { row = ap (λ (n : NodeValue). n.seen.events) h.0 ∙ row; passes = ap (λ (n : NodeValue). n.passes) h.0 };
+  more = [];
+  records = ap (λ (n : NodeValue). n.records) h.0 ∙ sym (append-nil old.records);
+  events = tt;
+}
+
+-- the node refused
+pub refused_so : (old new : NodeValue) (e : NodeError) → IsNodeLeft old new e → GoesOnByEvents old new
+refused_so old new e left = record {
+  keeps = node_left old new e left;
+  more = [];
+  records = records_left old new e left ∙ sym (append-nil old.records);
+  events = tt;
+}
+  where
+    records_left : (old new : NodeValue) (e : NodeError) → IsNodeLeft old new e → new.records ≡ old.records
+    records_left old new errors.Broken (inl same) = ap (λ (n : NodeValue). n.records) same.0
+    records_left old new errors.Broken (inr broke) = ap (λ (n : NodeValue). n.records) broke.is
+    records_left old new errors.EmptyRange same = ap (λ (n : NodeValue). n.records) same
+    records_left old new errors.HistoryFull same = ap (λ (n : NodeValue). n.records) same
+    records_left old new errors.PassesFull same = ap (λ (n : NodeValue). n.records) same
+    records_left old new errors.Memory same = ap (λ (n : NodeValue). n.records) same
+
+-- they were taken, whichever is said
+pub said_so : (d : DatabaseValue) (old new : NodeValue) (has_all : Bool) → GoesOnByEvents old new → (has_all ≡ true → HasNoEventFor d new) → (has_all ≡ false → IsBehind d old) → MayHaveTaken d old new
+said_so d old new true goes all left = (goes, inl (all refl))
+said_so d old new false goes all left = (goes, inr (left refl))
