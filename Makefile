@@ -6,7 +6,8 @@
 # make try-library: the same with no proof, in some four minutes of one core.
 # make edits [CRATE=NAME]: all wrong bodies, also those that `make prove` leaves out for its time.
 # make refusals [TEST=NAME]: every allocation of the tests and of the program, refused in its turn.
-# make soak: 3,000,000 lookups through one node that stores no records, in a process of a fixed size.
+# make soak: 3,000,000 lookups through one node that stores no records, and 3,000,000 commits from C through one site that stores no
+#   events, each in a process of a fixed size.
 # make docs: the parts of the documents and of the tests that are made by script.
 SCRIPT ?= examples/1_page.txc
 MODE ?=
@@ -43,6 +44,7 @@ refusals:
 
 soak:
 	@scripts/soak.py
+	@scripts/soak_library.py
 
 docs:
 	scripts/docs.py

@@ -256,7 +256,7 @@ def main():
         trial.note(f"txcache: the {sum(text is not None for *_, text in played)} examples and rows", not unlike, "\n".join(unlike))
         sites = worlds.plays(room, count, random.Random(int(os.environ.get("SEED", 1))))
         with open(f"{room}/worlds", "w", encoding="utf-8") as it:
-            it.writelines(f"{capacity} {recent} {renew} {file}\n" for capacity, recent, renew, file in sites)
+            it.writelines(f"{events} {capacity} {recent} {renew} {file}\n" for events, capacity, recent, renew, file in sites)
         of_sites = {}, program, sites
         for compiler in ("gcc", "clang"):
             if shutil.which(compiler):

@@ -17,9 +17,10 @@ CONST = re.compile(r"^pub const (\w+): \w+ = ([\d_]+);$", re.M)
 
 # The size of a number, and how C calls it.
 NUMBERS = {"u8": (1, "uint8_t"), "bool": (1, "bool"), "u32": (4, "uint32_t"), "u64": (8, "uint64_t"), "usize": (8, "size_t"), "*mut u8": (8, "void *")}
-# The limits that the header repeats, and the constants that they are.
-LIMITS = {"LAST_FUNCTION": "txc_tags", "MAX_ARGS": "txc_tags", "LAST_TABLE": "txc_tags", "LAST_STAMP": "txc_stamp",
+# The limits that the header repeats, with the crates of the constants that they are, and the one of another name.
+LIMITS = {"LAST_FUNCTION": "txc_tags", "MAX_ARGS": "txc_tags", "LAST_TABLE": "txc_tags", "LAST_STAMP": "txc_stamp", "LAST_SITE_STAMP": "txc_stamp",
           "MAX_VALUE_LEN": "txc_node", "MAX_CAPACITY": "txc_node", "MAX_RECENT": "txc_node"}
+OTHER_NAMES = {"LAST_SITE_STAMP": "MOST_STAMP"}
 
 
 def texts(crate):
@@ -45,7 +46,7 @@ def numbers():
     with open(f"{ROOT}/crates/txc_crossing/src/numbers.rt", encoding="utf-8") as it:
         found = {name: int(value) for name, value in CONST.findall(it.read())}
     for name, crate in LIMITS.items():
-        found[name] = next(int(value) for it in texts(crate) for const, value in CONST.findall(it) if const == name)
+        found[name] = next(int(value) for it in texts(crate) for const, value in CONST.findall(it) if const == OTHER_NAMES.get(name, name))
     return found
 
 

@@ -70,7 +70,7 @@ static void page(uint64_t now, int both) {
 }
 
 int main(void) {
-    must(txc_site_open(&site, 1000, 100, 64, 20000), TXC_DONE);
+    must(txc_site_open(&site, 0, 100, 64, 20000), TXC_DONE); /* with no bound on its events */
     bid(1, "110");
     page(1000, 0); /* the node keeps the highest bid alone */
     bid(2, "130");

@@ -32,7 +32,8 @@ extern "C" {
 #define TXC_LAST_FUNCTION 63       /* functions are 0 to 63 */
 #define TXC_MAX_ARGS 4             /* arguments of a call */
 #define TXC_LAST_TABLE 15          /* tables are 0 to 15 */
-#define TXC_LAST_STAMP 1048576     /* stamps are 0 to 1,048,576 */
+#define TXC_LAST_STAMP 1048576     /* stamps of a node are 0 to 1,048,576; and so many events a site stores at most */
+#define TXC_LAST_SITE_STAMP 4294967294 /* stamps of a site are 0 to 4,294,967,294 */
 #define TXC_MAX_VALUE_LEN 1024     /* bytes of a value */
 #define TXC_MAX_CAPACITY 65536     /* entries of a node */
 #define TXC_MAX_RECENT 4096        /* events whose tags a node keeps */
@@ -111,9 +112,9 @@ enum {
     TXC_NOT_OPEN = 14,       /* no transaction is open of which this can be asked, or no function is computed */
     TXC_MID_CALL = 15,       /* a call is open: finish it, give it up, or abort */
     TXC_REFUSED = 16,        /* the open call was refused, and is no more; or the query or change was. The transaction is open,
-                              * and its answers are as before */
+                              * and its answers are as before. Or there is no such state to begin at */
     TXC_OTHER_ASK = 17,      /* another ask was supplied for the same answers; the call is open */
-    TXC_CONFLICT = 18        /* what was read has changed; the transaction is open */
+    TXC_CONFLICT = 18        /* what was read has changed: nothing is committed, and the transaction is open, to be aborted */
 };
 
 /* A row, but for its body. */
@@ -200,68 +201,104 @@ uint32_t txc_node_count(txc_node *node, uint8_t function, txc_counts *counts);
 /* ---- transactions, whose functions you compute
  *
  * A site has one transaction open at most. One that only reads is answered as if nothing had been cached: all it was answered
- * is right in one state, that of its receipt's stamp.
+ * is right in one state, that of its receipt's stamp. One that writes reads one state, and is committed only if nothing that it
+ * read of it has changed since.
  *
  * txc_call asks for the value of a call. TXC_DONE gives it. TXC_COMPUTE says that you are to compute its function: ask by
  * txc_query_rows for rows and by txc_call for other calls, and then give its value by txc_finish. Inside a function
- * TXC_ANSWERED gives the value of a call, or says how many rows there are.
+ * TXC_ANSWERED gives the value of a call, or says how many rows there are. A transaction that writes uses no cache: there each
+ * function is computed, and nothing of it is kept.
  *
  * What you owe: what a function asks next, or gives, is determined by its number, its arguments and what it was answered so far;
- * and it refuses no arguments. Of your functions nothing else is assumed. */
+ * and it refuses no arguments. Of your functions nothing else is assumed.
+ *
+ * Where a value or a body is longer than the buffer, TXC_NO_ROOM comes in the place of TXC_DONE or TXC_ANSWERED: its length is
+ * written and no byte of it, and it can be had again. Every call answers TXC_CLOSED where the handle has no site. No other number
+ * than those that a call names is returned, and a refusal writes nothing but where that is said. */
 
-/* Makes a database with room for `events` commits and pins, and a node as txc_node_open does. A pin that is older than
- * `renew_after` milliseconds is renewed. */
+/* Makes a database, its pins and a node as txc_node_open does. With `events` 0 what was committed and pinned is not stored: there
+ * is room for TXC_LAST_SITE_STAMP commits and pins, and what no transaction can read any more txc_keep lets go. With `events` from
+ * 1 to TXC_LAST_STAMP there is room for so many, and they are stored until the site is closed. A pin that is older than
+ * `renew_after` milliseconds is renewed.
+ * TXC_DONE, TXC_ALREADY_OPEN, TXC_BAD_ARGUMENT or TXC_NO_MEMORY. */
 uint32_t txc_site_open(txc_site *site, size_t events, size_t capacity, size_t recent, uint64_t renew_after);
 
-/* Frees all of it. */
+/* Frees all of it. An open transaction is given up. The handle may be opened again.
+ * TXC_DONE. */
 uint32_t txc_site_close(txc_site *site);
 
 /* Begins a transaction that only reads: now is `now`, in milliseconds; what it reads is no more than `staleness` older, and not
- * before the stamp `at_least`. */
+ * before the stamp `at_least`. The node takes the events that it has not taken.
+ * TXC_DONE, TXC_ALREADY_OPEN, TXC_BAD_ARGUMENT where `at_least` is above TXC_LAST_SITE_STAMP, or TXC_NO_MEMORY. */
 uint32_t txc_begin(txc_site *site, uint64_t now, uint64_t staleness, uint32_t at_least);
 
-/* Asks for the value of a call. TXC_DONE or TXC_ANSWERED write it; TXC_NO_ROOM writes its length alone, and txc_answer gives it
- * once more. */
+/* Asks for the value of a call, in either transaction. TXC_DONE or TXC_ANSWERED write it; TXC_NO_ROOM writes its length alone, and
+ * txc_answer gives it once more. In a transaction that writes it is TXC_COMPUTE. A function calls functions of lower numbers: another
+ * call is TXC_REFUSED.
+ * TXC_DONE, TXC_ANSWERED, TXC_COMPUTE, TXC_NO_ROOM, TXC_NOT_OPEN, TXC_BAD_ARGUMENT, TXC_REFUSED, TXC_OTHER_ASK or TXC_NO_MEMORY. */
 uint32_t txc_call(txc_site *site, const txc_key *key, uint8_t *value, size_t room, size_t *len);
 
-/* Asks for the rows of a query, by the function that you compute or by a transaction that writes, and writes how many they are. */
+/* Asks for the rows of a query, by the function that you compute or by a transaction that writes, and writes how many they are.
+ * TXC_ANSWERED, TXC_NOT_OPEN, TXC_BAD_ARGUMENT, TXC_REFUSED, TXC_OTHER_ASK or TXC_NO_MEMORY. */
 uint32_t txc_query_rows(txc_site *site, const txc_query *query, size_t *count);
 
-/* Writes one of the rows that the last query found. */
+/* Writes one of the rows that the last query found, counted from 0, while nothing else was answered since. TXC_NO_ROOM writes *row
+ * too.
+ * TXC_DONE, TXC_NO_ROOM, or TXC_MISS where there is no such row. */
 uint32_t txc_row_at(txc_site *site, size_t at, txc_row *row, uint8_t *body, size_t room, size_t *len);
 
-/* Writes the last answer once more: TXC_DONE of a call, TXC_ANSWERED inside a function. */
+/* Writes the last answer once more: TXC_DONE of a call; TXC_ANSWERED inside a function, or of a query, whose length is how many
+ * rows there are.
+ * TXC_DONE, TXC_ANSWERED, TXC_NO_ROOM, TXC_NOT_OPEN, or TXC_MISS where there was none. */
 uint32_t txc_answer(txc_site *site, uint8_t *value, size_t room, size_t *len);
 
 /* Says that the function that you compute gives these bytes. TXC_DONE gives the value of the outermost call; TXC_ANSWERED gives
- * the value to the function around. */
+ * the value to the function around. More than TXC_MAX_VALUE_LEN bytes are TXC_REFUSED.
+ * TXC_DONE, TXC_ANSWERED, TXC_NO_ROOM, TXC_NOT_OPEN, TXC_REFUSED, TXC_OTHER_ASK or TXC_NO_MEMORY. */
 uint32_t txc_finish(txc_site *site, const uint8_t *bytes, size_t count, uint8_t *value, size_t room, size_t *len);
 
-/* Gives the open call up. The transaction stays open. TXC_MISS where none was open. */
+/* Gives the open call up, with the calls around it. The transaction stays open, with its answers and changes.
+ * TXC_DONE, TXC_NOT_OPEN, or TXC_MISS where no call was open. */
 uint32_t txc_give_up(txc_site *site);
 
-/* Ends the transaction that only reads, and writes its receipt. */
+/* Ends the transaction that only reads, and writes its receipt. With TXC_MID_CALL it stays open.
+ * TXC_DONE, TXC_NOT_OPEN or TXC_MID_CALL. */
 uint32_t txc_commit(txc_site *site, txc_receipt *receipt);
 
-/* Gives the open transaction up. */
+/* Gives the open transaction up, in the middle of a call too.
+ * TXC_DONE or TXC_NOT_OPEN. */
 uint32_t txc_abort(txc_site *site);
 
-/* Begins a transaction that writes. It reads the newest state by txc_query_rows, and does not see its own changes. */
+/* Begins a transaction that writes over the newest state. It reads that state by txc_query_rows and txc_call, and does not see its
+ * own changes. It meets no conflict.
+ * TXC_DONE or TXC_ALREADY_OPEN. */
 uint32_t txc_begin_write(txc_site *site);
 
-/* The row is to stand at its table and id once the transaction is committed. */
+/* The same over the state `stamp`, such as a receipt's: what was decided by what was read there is committed only if no later event
+ * changed what this transaction reads of it. So of two who read one state and then change what they read, the second is told.
+ * TXC_DONE, TXC_ALREADY_OPEN, TXC_BAD_ARGUMENT where `stamp` is above TXC_LAST_SITE_STAMP, or TXC_REFUSED where there is no such
+ * state: it is beyond the newest, or below the horizon of a keep. With stored events one can begin below the horizon, and then each
+ * query is TXC_REFUSED. */
+uint32_t txc_begin_write_at(txc_site *site, uint32_t stamp);
+
+/* The row is to stand at its table and id once the transaction is committed. A body has 1 to 256 bytes, each from 0x21 to 0x7E; and
+ * a transaction keeps 256 changes at most.
+ * TXC_DONE, TXC_NOT_OPEN, TXC_BAD_ARGUMENT, TXC_REFUSED or TXC_NO_MEMORY. */
 uint32_t txc_put(txc_site *site, uint8_t table, uint32_t id, uint32_t group, const uint8_t *body, size_t len);
 
-/* No row is to stand there. */
+/* No row is to stand there.
+ * TXC_DONE, TXC_NOT_OPEN, TXC_BAD_ARGUMENT, TXC_REFUSED or TXC_NO_MEMORY. */
 uint32_t txc_remove(txc_site *site, uint8_t table, uint32_t id);
 
-/* Commits the changes, and writes the newest stamp that they leave. */
+/* Commits the changes, and writes the newest stamp that they leave. What is not TXC_DONE has committed nothing, and the transaction
+ * stays open with its changes; of TXC_CONFLICT it can only be aborted.
+ * TXC_DONE, TXC_NOT_OPEN, TXC_MID_CALL, TXC_CONFLICT, TXC_NO_MEMORY, or TXC_REFUSED where there is no room for an event. */
 uint32_t txc_commit_write(txc_site *site, uint32_t *stamp);
 
-/* Tidies, while no transaction is open: retires the pins that are more than `age` milliseconds before `now`, and drops the
- * versions of rows and the results that no transaction can read any more. Call it now and then: there is room for so many
- * pins. What was done before a refusal is written and stays done.
- * TXC_DONE, TXC_CLOSED, TXC_ALREADY_OPEN where a transaction is open, TXC_NO_MEMORY or TXC_REFUSED. */
+/* Tidies, while no transaction is open: the node takes the events that it has not taken; the pins are retired that are more than
+ * `age` milliseconds before `now`; and the versions of rows, the events that are not stored and the results go that no transaction
+ * can read any more. Call it now and then: there is room for 1,024 pins. What was done before a refusal is written and stays done.
+ * TXC_DONE, TXC_ALREADY_OPEN where a transaction is open, TXC_NO_MEMORY or TXC_REFUSED. */
 uint32_t txc_keep(txc_site *site, uint64_t now, uint64_t age, txc_kept *kept);
 
 #ifdef __cplusplus

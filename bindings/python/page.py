@@ -18,7 +18,7 @@ def summary(call, item):
     return b"highest " + call(highest, item) + b", bids " + call(bids, item)
 
 
-with Site(1000, 100, 64) as site:
+with Site(None, 100, 64) as site:
     with site.write() as write:
         write.put(1, 1, 7, b"110")
     with site.read(now=1000, staleness=30_000) as page:

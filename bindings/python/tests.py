@@ -3,7 +3,7 @@
 import threading
 import unittest
 
-from txcache_site import Kept, Query, Site, cacheable
+from txcache_site import LAST_SITE_STAMP, Conflict, Kept, Query, Site, cacheable
 from txcache_node import LAST_STAMP, MAX_VALUE_LEN, Counts, Hit, Key, Node, OutOfOrder, Reach, Refused, Stored, Tag
 
 
@@ -72,8 +72,10 @@ def twice(call, item):
 
 
 class Transactions(unittest.TestCase):
+    events = None
+
     def setUp(self):
-        self.site = Site(1000, 100, 64)
+        self.site = Site(self.events, 100, 64)
         self.bid(1, b"110")
 
     def tearDown(self):
@@ -82,6 +84,19 @@ class Transactions(unittest.TestCase):
     def bid(self, number, body):
         with self.site.write() as write:
             write.put(1, number, 7, body)
+        return write.stamp
+
+    def seen(self):
+        """The stamp at which the highest bid was read."""
+        with self.site.read(now=1000, staleness=30_000) as page:
+            page(highest, 7)
+        return page.receipt.stamp
+
+    def change(self, at, body, wanted=b"110"):
+        """Reads the first bid over a state, and changes it."""
+        with self.site.write(at=at) as write:
+            self.assertEqual([row.body for row in write.rows(Query.id(1, 1))], [wanted])
+            write.put(1, 1, 7, body)
         return write.stamp
 
     def test_a_receipt_explains_each_answer(self):
@@ -114,12 +129,62 @@ class Transactions(unittest.TestCase):
         with self.site.write() as write:
             self.assertRaises(Refused, lambda: write.put(1, 1, 7, b""))
 
+    def test_an_update_is_not_lost(self):
+        stamp = self.seen()
+        self.assertEqual(self.seen(), stamp)
+        self.assertEqual(self.change(stamp, b"120"), stamp + 1)
+        self.assertRaises(Conflict, lambda: self.change(stamp, b"115"))
+        self.assertEqual(self.change(None, b"125", wanted=b"120"), stamp + 2)
+
+    def test_what_a_function_reads_is_read(self):
+        stamp = self.seen()
+        with self.site.write(at=stamp) as write:
+            self.assertEqual(write(twice, 7), b"110 110")
+            self.assertRaises(ZeroDivisionError, lambda: write(cacheable(2)(lambda call: 1 / 0)))
+            self.assertRaises(Refused, lambda: write(cacheable(2)(lambda call: bytes(MAX_VALUE_LEN + 1))))
+            write.put(2, 1, 0, b"seen")
+        self.bid(2, b"130")
+        with self.assertRaises(Conflict), self.site.write(at=stamp) as write:
+            self.assertEqual(write(highest, 7), b"110")
+            write.put(2, 1, 0, b"late")
+        with self.site.write(at=stamp) as write:
+            self.assertEqual(write.rows(Query.all(3)), [])
+            write.put(3, 1, 0, b"other")
+
+    def test_what_cannot_begin(self):
+        for events in (0, LAST_STAMP + 1, -1, 2**64):
+            self.assertRaises(Refused, lambda: Site(events, 100, 64))
+        for stamp in (-1, 2, LAST_SITE_STAMP, LAST_SITE_STAMP + 1, 2**32):
+            self.assertRaises(Refused, lambda: self.site.write(at=stamp))
+        for stamp in (-1, LAST_SITE_STAMP + 1, 2**32 + 1):
+            self.assertRaises(Refused, lambda: self.site.read(0, 0, at_least=stamp))
+        with self.site.read(0, 0, at_least=LAST_SITE_STAMP):
+            pass
+
+    def test_below_the_horizon_nothing_is_read(self):
+        self.assertEqual(self.bid(1, b"120"), 2)
+        self.assertEqual(self.site.keep(0, 0).horizon, 2)
+        with self.assertRaises(Refused), self.site.write(at=1) as write:
+            write.rows(Query.all(1))
+        self.assertEqual(self.change(2, b"130", wanted=b"120"), 3)
+
+    def test_numbers_are_not_cut(self):
+        with self.site.write() as write:
+            for wrong in (lambda: write.put(257, 1, 7, b"1"), lambda: write.remove(1, 2**32 + 1), lambda: write.rows(Query.all(257)),
+                          lambda: write.rows(Query.id(1, 2**32 + 1))):
+                self.assertRaises(Refused, wrong)
+        with self.site.write() as write:
+            self.assertEqual([row.body for row in write.rows(Query.all(1))], [b"110"])
+
     def test_pins_stay_for_their_age(self):
-        with self.site.read(now=1000, staleness=30_000) as page:
-            page(highest, 7)
+        self.seen()
         newest = self.bid(2, b"130")
         self.assertEqual(self.site.keep(2000, 30_000).retired, 0)
         self.assertEqual(self.site.keep(40_000, 30_000), Kept(1, newest, 1))
+
+
+class StoredTransactions(Transactions):
+    events = 1000
 
 
 if __name__ == "__main__":

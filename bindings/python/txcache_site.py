@@ -7,28 +7,33 @@ its arguments and what it was answered so far.
     def highest(call, item):
         return str(max((int(row.body) for row in call.rows(Query.group(1, item))), default=0)).encode()
 
-    with Site(1000, 100, 64) as site:
+    with Site(None, 100, 64) as site:
         with site.write() as write:
             write.put(1, 1, 7, b"110")
         with site.read(now=0, staleness=30_000) as page:
             page(highest, 7)        # b"110"
         page.receipt.stamp          # the state in which each answer is right
+        with site.write(at=page.receipt.stamp) as write:
+            write(highest, 7)       # what the page showed is to be so still, else the block ends with Conflict
+            write.put(1, 2, 7, b"130")
 """
 
 import ctypes as c
 from typing import NamedTuple, Optional
 
-from txcache_node import MAX_VALUE_LEN, Key, Refused, _Handle, _Key, _TXC
+from txcache_node import MAX_VALUE_LEN, Key, Refused, _Handle, _Key, _number, _TXC
 
-_DONE, _MISS, _NO_ROOM, _NO_MEMORY = 0, 1, 3, 11
+LAST_SITE_STAMP = 4_294_967_294
+
+_DONE, _MISS, _NO_ROOM, _BAD_ARGUMENT, _NO_MEMORY = 0, 1, 3, 6, 11
 _COMPUTE, _ANSWERED, _NOT_OPEN, _MID_CALL, _REFUSED, _OTHER_ASK, _CONFLICT = range(12, 19)
 _SAID = {
     4: "the site is closed",
-    6: "a number is above its limit, or a size is 0",
+    _BAD_ARGUMENT: "a number is above its limit, or a size is 0",
     5: "a transaction is open already",
     _NOT_OPEN: "no transaction is open of which this can be asked, or no function is computed",
     _MID_CALL: "a call is open",
-    _REFUSED: "the call, or what was asked, was refused",
+    _REFUSED: "the call, or what was asked, was refused; or there is no such state",
     _OTHER_ASK: "another ask was supplied for the same answers",
     _CONFLICT: "what was read has changed",
 }
@@ -66,6 +71,7 @@ def _declare():
         "commit": [c.POINTER(_Receipt)],
         "abort": [],
         "begin_write": [],
+        "begin_write_at": [u32],
         "put": [c.c_uint8, u32, u32, *text],
         "remove": [c.c_uint8, u32],
         "commit_write": [c.POINTER(u32)],
@@ -79,9 +85,15 @@ def _declare():
 _declare()
 
 
+class Conflict(Refused):
+    """What was read has changed: nothing is committed."""
+
+
 def _refuse(number):
     if number == _NO_MEMORY:
         raise MemoryError
+    if number == _CONFLICT:
+        raise Conflict(_SAID[number])
     raise Refused(_SAID.get(number, f"refused: {number}"))
 
 
@@ -142,7 +154,7 @@ def cacheable(number):
 
 
 class _Asking:
-    """Who asks: a page outside its functions, or a function."""
+    """Who asks: a transaction outside its functions, or a function."""
 
     def __init__(self, site):
         self._site = site
@@ -150,7 +162,8 @@ class _Asking:
     def rows(self, query):
         """The rows of a query."""
         count = c.c_size_t()
-        number = self._site._ask("query_rows", c.byref(_Query(*query)), c.byref(count))
+        words = map(_number, query, (255, 255, 2**32 - 1, 2**32 - 1))
+        number = self._site._ask("query_rows", c.byref(_Query(*words)), c.byref(count))
         if number != _ANSWERED:
             _refuse(number)
         return [self._site._row(at) for at in range(count.value)]
@@ -166,6 +179,8 @@ class _Asking:
                 site._ask("give_up")
                 raise
             number, value = site._told("finish", given, len(given))
+            if number not in (_DONE, _ANSWERED):
+                site._ask("give_up")
         if number not in (_DONE, _ANSWERED):
             _refuse(number)
         return value
@@ -193,7 +208,8 @@ class _Page(_Asking):
 
 
 class _Write(_Asking):
-    """A transaction that writes; it is committed where the block ends well. It does not see its own changes."""
+    """A transaction that writes; it is committed where the block ends well, and given up where that is refused. It does not see
+    its own changes, and uses no cache: each function is computed."""
 
     stamp = None
 
@@ -224,11 +240,14 @@ class _Write(_Asking):
 
 
 class Site:
-    """A database with room for `events` commits and pins, its pins, and a node of so many entries."""
+    """A database, its pins, and a node of so many entries. It has room for `events` commits and pins, which it stores; or, where that is
+    None, no bound on them, and none is stored: `keep` lets go what no transaction can read any more."""
 
     def __init__(self, events, capacity, recent, renew_after=20_000):
         self._handle = _Handle(None, False)
-        number = self._ask("site_open", events, capacity, recent, renew_after)
+        if events == 0:
+            _refuse(_BAD_ARGUMENT)
+        number = self._ask("site_open", events or 0, capacity, recent, renew_after)
         if number != _DONE:
             _refuse(number)
 
@@ -238,7 +257,12 @@ class Site:
     def __exit__(self, *_):
         self.close()
 
+    def __del__(self):
+        if hasattr(self, "_handle"):
+            self.close()
+
     def close(self):
+        """Frees all of it. A site that is closed stays so."""
         self._ask("site_close")
 
     def read(self, now, staleness, at_least=0):
@@ -248,9 +272,10 @@ class Site:
             _refuse(number)
         return _Page(self)
 
-    def write(self):
-        """Begins a transaction that writes."""
-        number = self._ask("begin_write")
+    def write(self, at=None):
+        """Begins a transaction that writes, over the newest state; or over that of the stamp `at`, such as a receipt's, and then it is
+        committed only if no later event changed what it has read."""
+        number = self._ask("begin_write") if at is None else self._ask("begin_write_at", at)
         if number != _DONE:
             _refuse(number)
         return _Write(self)
@@ -265,7 +290,11 @@ class Site:
         return Kept(kept.retired, kept.horizon, kept.swept)
 
     def _ask(self, name, *words):
-        return getattr(_TXC, f"txc_{name}")(c.byref(self._handle), *words)
+        function = getattr(_TXC, f"txc_{name}")
+        for word, kind in zip(words, function.argtypes[1:]):
+            if isinstance(word, int):
+                _number(word, 256 ** c.sizeof(kind) - 1)
+        return function(c.byref(self._handle), *words)
 
     def _told(self, name, *words):
         buffer, size = c.create_string_buffer(MAX_VALUE_LEN), c.c_size_t()

@@ -1,9 +1,10 @@
 /* Plays lines of mode world with a site, and prints each as a world would be told it, with the reply, after a tab.
  *
- * usage: play_site LIST       each line of LIST: CAPACITY RECENT RENEW FILE; prints `== FILE`, and then its lines
+ * usage: play_site LIST       each line of LIST: EVENTS CAPACITY RECENT RENEW FILE; prints `== FILE`, and then its lines
  *
  * Which lines there are, README.md has: those of one actor, whose functions are computed here. `call` plays `finish` too, and
- * `tidy` the sweep of the node. */
+ * `tidy` the sweep of the node. What the keeper changes right after `rw 0` is committed first, and the transaction then begins over
+ * the state before. */
 #include "txc.h"
 #include <inttypes.h>
 #include <stdio.h>
@@ -13,18 +14,26 @@
 enum { LONGEST = 512 };
 
 static txc_site site;
-static bool is_writing;     /* the open transaction writes */
+static bool is_writing;     /* the last transaction writes */
+static bool is_begun;       /* it has just begun, and was asked nothing yet */
+static bool is_begun_anew;  /* over the state `base` */
+static uint32_t base;
 static uint32_t floor_seen; /* the greatest stamp that was answered: the floor of the session */
+
+static bool begins(const char *line, const char *word) { return !strncmp(line, word, strlen(word)); }
 
 /* ---- what is printed */
 
 static void say(const char *line, const char *reply) { printf("%s\t%s\n", line, reply); }
 
-/* The reply, or which other number the call returned. */
+/* The reply, or which other number the call returned; as the world names it, but for its stamp, where a script may meet it. */
 static void say_if(uint32_t number, uint32_t wanted, const char *line, const char *reply) {
     char other[32];
     snprintf(other, sizeof other, "number %u", number);
-    say(line, number == wanted ? reply : other);
+    say(line, number == wanted ? reply
+        : number == TXC_CONFLICT ? "refused B2"
+        : number == TXC_NOT_OPEN ? "refused O2"
+        : other);
 }
 
 /* ---- functions */
@@ -119,6 +128,8 @@ static void play_call(const char *line) {
     char reply[2 * TXC_MAX_VALUE_LEN + 16] = "value -";
     for (size_t at = 0; at < got.len && at < TXC_MAX_VALUE_LEN; at++)
         sprintf(reply + strlen("value ") + 2 * at, "%02x", got.bytes[at]);
+    if (number != TXC_DONE)
+        txc_give_up(&site);
     say_if(number, TXC_DONE, "finish 0", reply);
 }
 
@@ -160,6 +171,17 @@ static void play_keepers_change(const char *line) {
         play_commit_write(line, false);
     else
         say_if(number, TXC_DONE, line, "");
+}
+
+/* The same with a transaction that has just begun: it begins anew, over the state that it had. */
+static void play_change_meanwhile(const char *line) {
+    if (is_begun_anew ? txc_abort(&site) : txc_commit_write(&site, &base))
+        abort();
+    play_keepers_change(line);
+    is_begun_anew = true;
+    uint32_t number = txc_begin_write_at(&site, base);
+    if (number != TXC_DONE)
+        say_if(number, TXC_DONE, "rw 0", "");
 }
 
 static bool read_query(const char *words, txc_query *query) {
@@ -207,6 +229,7 @@ static void play_begin(const char *line) {
 
 static void play_begin_write(const char *line) {
     is_writing = true;
+    is_begun_anew = false;
     say_if(txc_begin_write(&site), TXC_DONE, line, "open");
 }
 
@@ -241,12 +264,12 @@ static void play_tidy(const char *line) {
 
 /* ---- scripts */
 
-static bool begins(const char *line, const char *word) { return !strncmp(line, word, strlen(word)); }
-
 static void play_line(const char *line) {
-    if (begins(line, "put ") || begins(line, "remove "))
-        play_keepers_change(line);
-    else if (begins(line, "ro ") || begins(line, "session "))
+    if (begins(line, "put ") || begins(line, "remove ")) {
+        is_begun ? play_change_meanwhile(line) : play_keepers_change(line);
+        return;
+    }
+    if (begins(line, "ro ") || begins(line, "session "))
         play_begin(line);
     else if (begins(line, "rw "))
         play_begin_write(line);
@@ -264,14 +287,16 @@ static void play_line(const char *line) {
         play_tidy(line);
     else
         say(line, "no line of these");
+    is_begun = begins(line, "rw ");
 }
 
-static int play(size_t capacity, size_t recent, uint64_t renew, const char *name) {
+static int play(size_t events, size_t capacity, size_t recent, uint64_t renew, const char *name) {
     FILE *file = fopen(name, "r");
     char line[LONGEST];
     site = (txc_site)TXC_SITE_CLOSED;
     floor_seen = 0;
-    if (!file || txc_site_open(&site, 4096, capacity, recent, renew) != TXC_DONE)
+    is_begun = false;
+    if (!file || txc_site_open(&site, events, capacity, recent, renew) != TXC_DONE)
         return 1;
     printf("== %s\n", name);
     while (fgets(line, sizeof line, file)) {
@@ -284,12 +309,12 @@ static int play(size_t capacity, size_t recent, uint64_t renew, const char *name
 
 int main(int count, char **words) {
     FILE *list = count == 2 ? fopen(words[1], "r") : NULL;
-    size_t capacity, recent;
+    size_t events, capacity, recent;
     uint64_t renew;
     char name[LONGEST];
     int wrong = !list;
-    while (list && fscanf(list, "%zu %zu %" SCNu64 " %511s", &capacity, &recent, &renew, name) == 4)
-        wrong |= play(capacity, recent, renew, name);
+    while (list && fscanf(list, "%zu %zu %zu %" SCNu64 " %511s", &events, &capacity, &recent, &renew, name) == 5)
+        wrong |= play(events, capacity, recent, renew, name);
     if (list)
         fclose(list);
     return wrong;

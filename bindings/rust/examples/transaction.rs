@@ -27,7 +27,7 @@ fn bid(site: &mut Site, id: u32, amount: &[u8]) -> Result<u32, Error> {
 }
 
 fn main() -> Result<(), Error> {
-    let mut site = Site::new(1000, 100, 64, 20_000)?;
+    let mut site = Site::new(None, 100, 64, 20_000)?;
     bid(&mut site, 1, b"110")?;
     let mut page = site.read(1000, 30_000)?;
     page.cached(Key::new(0, &[7])?, |asking| highest(asking, 7))?;

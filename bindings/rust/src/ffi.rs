@@ -157,6 +157,7 @@ extern "C" {
     pub fn txc_commit(site: *mut Handle, receipt: *mut Receipt) -> u32;
     pub fn txc_abort(site: *mut Handle) -> u32;
     pub fn txc_begin_write(site: *mut Handle) -> u32;
+    pub fn txc_begin_write_at(site: *mut Handle, stamp: u32) -> u32;
     pub fn txc_put(site: *mut Handle, table: u8, id: u32, group: u32, body: *const u8, len: usize) -> u32;
     pub fn txc_remove(site: *mut Handle, table: u8, id: u32) -> u32;
     pub fn txc_commit_write(site: *mut Handle, stamp: *mut u32) -> u32;

@@ -9,15 +9,18 @@
 //!     Ok(rows.iter().map(|row| row.body.clone()).max().unwrap_or_default())
 //! }
 //!
-//! let mut site = Site::new(1000, 100, 64, 20_000)?;
+//! let mut site = Site::new(None, 100, 64, 20_000)?;
 //! let mut write = site.write()?;
 //! write.put(1, 1, 7, b"110")?;
 //! write.commit()?;
 //! let mut page = site.read(0, 30_000)?;
 //! let key = Key::new(0, &[7])?;
 //! assert_eq!(page.cached(key, |asking| highest(asking, 7))?, b"110");
-//! let receipt = page.commit()?; // each answer is right at its stamp
-//! assert_eq!(receipt.answers, 1);
+//! let (stamp, _) = page.commit()?.pin.unwrap(); // each answer is right at that stamp
+//! let mut write = site.write_at(stamp)?; // what the page showed is to be so still
+//! assert_eq!(write.cached(key, |asking| highest(asking, 7))?, b"110");
+//! write.put(1, 2, 7, b"130")?;
+//! write.commit()?;
 //! # Ok::<(), Error>(())
 //! ```
 use crate::ffi;
@@ -34,11 +37,11 @@ pub enum Error {
     BadArgument,
     /// A call is open.
     MidCall,
-    /// The call was refused, and is no more, or what was asked was. The transaction is open.
+    /// The call was refused, and is no more, or what was asked was: the transaction is open. Or there is no such state.
     Refused,
     /// Another ask was supplied for the same answers: the function is not determined by its arguments and answers.
     OtherAsk,
-    /// What was read has changed.
+    /// What was read has changed, and nothing is committed.
     Conflict,
     /// Memory was refused.
     NoMemory,
@@ -163,9 +166,14 @@ pub struct Site {
 }
 
 impl Site {
-    /// A database with room for so many events, and a node of so many entries that keeps the tags of so many events. A pin
-    /// that is older than `renew_after` milliseconds is renewed.
-    pub fn new(events: usize, capacity: usize, recent: usize, renew_after: u64) -> Result<Site, Error> {
+    /// A database, and a node of so many entries that keeps the tags of the last `recent` events. With no bound on its events,
+    /// which are its commits and pins, they are not stored, and [`Site::keep`] lets go what no transaction can read any more; else
+    /// it has room for so many. A pin that is older than `renew_after` milliseconds is renewed.
+    pub fn new(events: Option<usize>, capacity: usize, recent: usize, renew_after: u64) -> Result<Site, Error> {
+        if events == Some(0) {
+            return Err(Error::BadArgument);
+        }
+        let events = events.unwrap_or(0); // as the library has it
         let mut handle = ffi::Handle {
             slot: std::ptr::null_mut(),
             is_open: false,
@@ -186,9 +194,16 @@ impl Site {
         Ok(Transaction { site: self })
     }
 
-    /// Begins a transaction that writes. It does not see its own changes.
+    /// Begins a transaction that writes over the newest state. It does not see its own changes, and meets no conflict.
     pub fn write(&mut self) -> Result<Write<'_>, Error> {
         done(unsafe { ffi::txc_begin_write(&mut self.handle) })?;
+        Ok(Write { site: self })
+    }
+
+    /// The same over the state of that stamp, such as a receipt's: it is committed only if no later event changed what it has read.
+    /// Where nobody can read that state any more, this is refused, or what is asked is.
+    pub fn write_at(&mut self, stamp: u32) -> Result<Write<'_>, Error> {
+        done(unsafe { ffi::txc_begin_write_at(&mut self.handle, stamp) })?;
         Ok(Write { site: self })
     }
 
@@ -240,13 +255,7 @@ impl Site {
         let mut number =
             unsafe { ffi::txc_call(&mut self.handle, &key.0, value.as_mut_ptr(), value.len(), &mut len) };
         if number == ffi::COMPUTE {
-            let given = match compute(&mut Function { site: self }) {
-                Ok(given) => given,
-                Err(error) => {
-                    unsafe { ffi::txc_give_up(&mut self.handle) };
-                    return Err(error);
-                }
-            };
+            let given = compute(&mut Function { site: self }).map_err(|error| self.given_up(error))?;
             number = unsafe {
                 ffi::txc_finish(
                     &mut self.handle,
@@ -257,6 +266,9 @@ impl Site {
                     &mut len,
                 )
             };
+            if number != ffi::DONE && number != ffi::ANSWERED {
+                return Err(self.given_up(error(number)));
+            }
         }
         if number != ffi::DONE && number != ffi::ANSWERED {
             return Err(error(number));
@@ -264,7 +276,16 @@ impl Site {
         value.truncate(len);
         Ok(value)
     }
+
+    // The error of a function whose value there is not: its call is no more.
+    fn given_up(&mut self, error: Error) -> Error {
+        unsafe { ffi::txc_give_up(&mut self.handle) };
+        error
+    }
 }
+
+// That a handle may go to another thread is proved (`site_crosses` in crates/txc_c). Each call takes it by `&mut`.
+unsafe impl Send for Site {}
 
 impl Drop for Site {
     fn drop(&mut self) {
@@ -333,9 +354,18 @@ pub struct Write<'a> {
 }
 
 impl Write<'_> {
-    /// The rows of a query in the newest state.
+    /// The rows of a query in the state that it reads.
     pub fn rows(&mut self, query: Query) -> Result<Vec<Row>, Error> {
         self.site.found(query)
+    }
+
+    /// The value of a call there: by this function, since no transaction that writes uses a cache.
+    pub fn cached(
+        &mut self,
+        key: Key,
+        mut compute: impl FnMut(&mut dyn Asking) -> Result<Vec<u8>, Error>,
+    ) -> Result<Vec<u8>, Error> {
+        self.site.value(key, &mut compute)
     }
 
     /// The row is to stand at its table and id.
@@ -348,7 +378,7 @@ impl Write<'_> {
         done(unsafe { ffi::txc_remove(&mut self.site.handle, table, id) })
     }
 
-    /// Commits the changes, and gives the newest stamp.
+    /// Commits the changes, and gives the newest stamp. Refused, it is given up.
     pub fn commit(self) -> Result<u32, Error> {
         let mut stamp = 0;
         done(unsafe { ffi::txc_commit_write(&mut self.site.handle, &mut stamp) })?;

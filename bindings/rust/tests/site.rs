@@ -1,10 +1,15 @@
-//! Transactions of a site, and what they refuse.
+//! Transactions of a site, and what they refuse; with events that are stored, and with none.
 use txcache_node::site::{Asking, Error, Kept, Query, Site};
-use txcache_node::Key;
+use txcache_node::{Key, LAST_SITE_STAMP, LAST_STAMP};
 
 fn highest(asking: &mut dyn Asking) -> Result<Vec<u8>, Error> {
     let rows = asking.rows(Query::group(1, 7))?;
     Ok(rows.into_iter().map(|row| row.body).max().unwrap_or_default())
+}
+
+fn twice(asking: &mut dyn Asking) -> Result<Vec<u8>, Error> {
+    let one = asking.call(key(0), &mut highest)?;
+    Ok([&one[..], b" ", &highest(asking)?].concat())
 }
 
 fn key(function: u8) -> Key {
@@ -17,57 +22,133 @@ fn bid(site: &mut Site, id: u32, amount: &[u8]) -> u32 {
     write.commit().unwrap()
 }
 
-fn site() -> Site {
-    let mut site = Site::new(1000, 100, 64, 20_000).unwrap();
-    bid(&mut site, 1, b"110");
-    site
+fn sites() -> [Site; 2] {
+    [None, Some(1000)].map(|events| {
+        let mut site = Site::new(events, 100, 64, 20_000).unwrap();
+        bid(&mut site, 1, b"110");
+        site
+    })
+}
+
+/// The highest bid, and the stamp at which it was read.
+fn seen(site: &mut Site, now: u64) -> (Vec<u8>, u32) {
+    let mut page = site.read(now, 30_000).unwrap();
+    let amount = page.cached(key(0), highest).unwrap();
+    (amount, page.commit().unwrap().pin.unwrap().0)
 }
 
 #[test]
 fn a_receipt_explains_each_answer() {
-    let mut site = site();
-    let mut page = site.read(1000, 30_000).unwrap();
-    assert_eq!(page.cached(key(0), highest).unwrap(), b"110");
-    let first = page.commit().unwrap();
-    bid(&mut site, 2, b"130");
-    let mut page = site.read(2000, 30_000).unwrap();
-    let both = page.cached(key(1), |asking| {
-        let one = asking.call(key(0), &mut highest)?;
-        Ok([&one[..], b" ", &highest(asking)?].concat())
-    });
-    assert_eq!(both.unwrap(), b"110 110");
-    assert_eq!(page.commit().unwrap(), first);
-    let mut page = site.read(40_000, 30_000).unwrap();
-    assert_eq!(page.cached(key(0), highest).unwrap(), b"130");
-    assert!(page.commit().unwrap().pin > first.pin);
+    for mut site in sites() {
+        let first = seen(&mut site, 1000);
+        assert_eq!(first.0, b"110");
+        bid(&mut site, 2, b"130");
+        let mut page = site.read(2000, 30_000).unwrap();
+        assert_eq!(page.cached(key(1), twice).unwrap(), b"110 110");
+        assert_eq!(page.commit().unwrap().pin, Some((first.1, 1000)));
+        let last = seen(&mut site, 40_000);
+        assert_eq!(last.0, b"130");
+        assert!(last.1 > first.1);
+    }
 }
 
 #[test]
 fn what_is_given_up_leaves_nothing() {
-    let mut site = site();
-    let mut write = site.write().unwrap();
-    write.remove(1, 1).unwrap();
-    drop(write);
-    let mut page = site.read(1000, 30_000).unwrap();
-    assert_eq!(page.cached(key(0), |_| Err(Error::Refused)), Err(Error::Refused));
-    assert_eq!(page.cached(key(0), highest).unwrap(), b"110");
-    drop(page);
-    let mut write = site.write().unwrap();
-    assert_eq!(write.rows(Query::all(1)).unwrap().len(), 1);
-    assert_eq!(write.put(1, 2, 7, b""), Err(Error::BadArgument));
-    write.remove(1, 1).unwrap();
-    write.commit().unwrap();
-    assert!(site.write().unwrap().rows(Query::all(1)).unwrap().is_empty());
+    for mut site in sites() {
+        let mut write = site.write().unwrap();
+        write.remove(1, 1).unwrap();
+        drop(write);
+        let mut page = site.read(1000, 30_000).unwrap();
+        assert_eq!(page.cached(key(0), |_| Err(Error::Refused)), Err(Error::Refused));
+        assert_eq!(page.cached(key(0), highest).unwrap(), b"110");
+        drop(page);
+        let mut write = site.write().unwrap();
+        assert_eq!(write.rows(Query::all(1)).unwrap().len(), 1);
+        assert_eq!(write.put(1, 2, 7, b""), Err(Error::BadArgument));
+        write.remove(1, 1).unwrap();
+        write.commit().unwrap();
+        assert!(site.write().unwrap().rows(Query::all(1)).unwrap().is_empty());
+    }
 }
 
 #[test]
 fn pins_stay_for_their_age() {
-    let mut site = site();
-    let mut page = site.read(1000, 30_000).unwrap();
-    page.cached(key(0), highest).unwrap();
-    page.commit().unwrap();
-    let horizon = bid(&mut site, 2, b"130");
-    assert_eq!(site.keep(2000, 30_000).unwrap().retired, 0);
-    let kept = site.keep(40_000, 30_000).unwrap();
-    assert_eq!(kept, Kept { retired: 1, horizon, swept: 1 });
+    for mut site in sites() {
+        seen(&mut site, 1000);
+        let horizon = bid(&mut site, 2, b"130");
+        assert_eq!(site.keep(2000, 30_000).unwrap().retired, 0);
+        let kept = site.keep(40_000, 30_000).unwrap();
+        assert_eq!(kept, Kept { retired: 1, horizon, swept: 1 });
+    }
+}
+
+#[test]
+fn an_update_is_not_lost() {
+    for mut site in sites() {
+        let (amount, stamp) = seen(&mut site, 1000);
+        assert_eq!(seen(&mut site, 1000), (amount, stamp));
+        let mut first = site.write_at(stamp).unwrap();
+        assert_eq!(first.rows(Query::id(1, 1)).unwrap()[0].body, b"110");
+        first.put(1, 1, 7, b"120").unwrap();
+        first.commit().unwrap();
+        let mut second = site.write_at(stamp).unwrap();
+        assert_eq!(second.rows(Query::id(1, 1)).unwrap()[0].body, b"110");
+        second.put(1, 1, 7, b"115").unwrap();
+        assert_eq!(second.commit(), Err(Error::Conflict));
+        let mut again = site.write().unwrap();
+        assert_eq!(again.rows(Query::id(1, 1)).unwrap()[0].body, b"120");
+        again.put(1, 1, 7, b"125").unwrap();
+        again.commit().unwrap();
+    }
+}
+
+#[test]
+fn what_a_function_reads_is_read() {
+    for mut site in sites() {
+        let (_, stamp) = seen(&mut site, 1000);
+        let mut write = site.write_at(stamp).unwrap();
+        assert_eq!(write.cached(key(1), twice).unwrap(), b"110 110");
+        assert_eq!(write.cached(key(0), |_| Err(Error::Refused)), Err(Error::Refused));
+        assert_eq!(write.cached(key(0), |_| Ok(vec![0; 1025])), Err(Error::Refused));
+        write.put(2, 1, 0, b"seen").unwrap();
+        write.commit().unwrap();
+        bid(&mut site, 2, b"130");
+        let mut late = site.write_at(stamp).unwrap();
+        assert_eq!(late.cached(key(1), twice).unwrap(), b"110 110");
+        late.put(2, 1, 0, b"late").unwrap();
+        assert_eq!(late.commit(), Err(Error::Conflict));
+        let mut other = site.write_at(stamp).unwrap();
+        assert!(other.rows(Query::all(3)).unwrap().is_empty());
+        other.put(3, 1, 0, b"other").unwrap();
+        other.commit().unwrap();
+    }
+}
+
+#[test]
+fn what_cannot_begin() {
+    for events in [Some(0), Some(LAST_STAMP as usize + 1)] {
+        assert!(matches!(Site::new(events, 100, 64, 0), Err(Error::BadArgument)));
+    }
+    for mut site in sites() {
+        assert_eq!(site.write_at(u32::MAX).err(), Some(Error::BadArgument));
+        assert_eq!(site.read_since(0, 0, u32::MAX).err(), Some(Error::BadArgument));
+        assert_eq!(site.write_at(LAST_SITE_STAMP).err(), Some(Error::Refused));
+        drop(site.read_since(0, 0, LAST_SITE_STAMP).unwrap());
+        bid(&mut site, 1, b"120");
+        assert_eq!(site.keep(0, 0).unwrap().horizon, 2);
+        let below = site.write_at(1).and_then(|mut write| write.rows(Query::all(1)));
+        assert_eq!(below.err(), Some(Error::Refused));
+        assert_eq!(site.write_at(2).unwrap().rows(Query::all(1)).unwrap().len(), 1);
+    }
+}
+
+#[test]
+fn a_site_goes_to_another_thread() {
+    for mut site in sites() {
+        let moved = std::thread::spawn(move || {
+            bid(&mut site, 2, b"130");
+            site
+        });
+        assert_eq!(seen(&mut moved.join().unwrap(), 1000).0, b"130");
+    }
 }
