@@ -66,8 +66,7 @@ fn open(
     DONE
 }
 
-/// Makes a database with room for so many events, or, for 0, that stores none; a pincushion and a node. The newest pin is
-/// renewed after so many milliseconds.
+/// Makes a site. For 0 its events are not stored, and its newest pin is renewed after so many milliseconds.
 #[unsafe(no_mangle)]
 pub extern "C" fn txc_site_open(
     alloc: Global,
@@ -321,7 +320,7 @@ pub extern "C" fn txc_put(
     number
 }
 
-/// No row is to stand at the table and id once the transaction is committed.
+/// No row is to stand there.
 #[unsafe(no_mangle)]
 pub extern "C" fn txc_remove(alloc: Global, handle: &mut TxcSite, table: u8, id: u32) -> u32
     ensures { ComesTo (RemoveComesTo table id) (site_held handle.old) result (site_held handle.new) }
@@ -348,8 +347,7 @@ pub extern "C" fn txc_commit_write(alloc: Global, handle: &mut TxcSite, stamp: &
     number
 }
 
-/// Retires the pins that are more than `age` before `now`, both in milliseconds, has the node take the events, drops what no
-/// transaction can read any more, and writes what that came to.
+/// Tidies: pins go that are more than `age` milliseconds before `now`, and what nobody can read any more.
 #[unsafe(no_mangle)]
 pub extern "C" fn txc_keep(
     alloc: Global,
