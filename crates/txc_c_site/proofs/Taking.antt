@@ -1,7 +1,7 @@
 -- A node that takes events before a transaction begins.
 use Rattle.std.proofs.Common.{◌≡◌, ◌∙◌, Bool, true, false, [], inl, inr, refl, ap, sym, subst}
 use Rattle.std.specs.Prelude.{None}
-use Rattle.txc_cushion.specs.Cushion.{handed_out}
+use Rattle.txc_cushion.specs.Cushion.{after_fresh, handed_out}
 use Rattle.txc_ports.specs.declared.bounds.Bounds.{Bounds}
 use Rattle.txc_caller.specs.Ports.{GoesOnByEvents, HasNoEventFor, IsBehind, MayHaveTaken}
 use Rattle.txc_caller.specs.Reading.{caller_of, CallerReading, CallerValue}
@@ -21,6 +21,7 @@ pub record HasBegunThen (asked : Bounds) (mid : CallerValue) (r : CallerReading)
   pub recorded : r.txn.core.recorded ≡ []
   pub members : r.txn.core.pins.members ≡ handed_out mid.ports.cushion asked.now asked.staleness asked.at_least
   pub present : r.txn.core.pins.has_present ≡ true
+  pub users : r.ports.cushion ≡ after_fresh mid.ports.cushion asked.now asked.staleness asked.at_least
   pub none : r.doing ≡ None
   pub caller : caller_of r ≡ record mid { ports = record mid.ports { cushion = r.ports.cushion } }
 
@@ -45,6 +46,7 @@ began_after asked c mid r taken same begun = record {
   recorded = begun.recorded;
   members = begun.members ∙ ap (λ (v : CallerValue). handed_out v.ports.cushion asked.now asked.staleness asked.at_least) same;
   present = begun.present;
+  users = begun.users ∙ ap (λ (v : CallerValue). after_fresh v.ports.cushion asked.now asked.staleness asked.at_least) same;
   none = begun.none;
   taken = subst (λ n. MayHaveTaken c.ports.database c.ports.node n) (sym (ap (λ (v : CallerValue). v.ports.node) begun.caller)) taken;
   caller = left_after c mid (caller_of r) same begun.caller;

@@ -19,7 +19,7 @@ use Rattle.txc_ports.specs.declared.error.TxnError.TheVariants.{Memory}
 use Rattle.txc_txn.specs.Kept.{IsTxn}
 use Rattle.txc_caller.specs.Acting.{IsComputedOnMiss, IsStepOf}
 use Rattle.txc_caller.specs.Reading.{top_or, AsksNext, CallerReading, KeepsReading}
-use Rattle.txc_caller.specs.Writing.{after_call_of, after_query, without_calls, CallerWriting, HasGivenValue, IsWriteCallRefused, IsChangeRefused, IsWriteFinishRefused}
+use Rattle.txc_caller.specs.Writing.{after_call_of, after_query, without_calls, CallerWriting, HasGivenValue, IsWriteCallRefused, IsChangeRefused, IsWriteFinishRefused, MayCall}
 use Rattle.txc_caller.specs.declared.frames.OpenCall.{OpenCall}
 use Rattle.txc_caller.specs.declared.step.CallerError.{CallerError}
 use Rattle.txc_caller.specs.declared.step.Step.{Step}
@@ -76,7 +76,7 @@ HasOpenCallStepped None old new number was is = (number ≡ NOT_OPEN) × (new �
 
 -- in a transaction that writes its function is to be computed; or the call is refused
 abbrev pub HasCalledToWrite : ℕ → CallerWriting → ℕ → CallerWriting → Type 0
-HasCalledToWrite function old number new = ((number ≡ COMPUTE) × (new ≡ after_call_of function old))
+HasCalledToWrite function old number new = ((number ≡ COMPUTE) × MayCall old.inner function × (new ≡ after_call_of function old))
     ⊎ ((error : CallerError) × (number ≡ error_number error) × IsWriteCallRefused function old new error)
 
 abbrev pub CallSiteComesTo : Call → Buffer → Buffer → Site → ℕ → Site → Type 0

@@ -5,7 +5,7 @@ use Rattle.txc_registry.specs.Objects.{numbers_of}
 use Rattle.txc_stream.specs.declared.row.TheConstants.{MAX_CAPACITY}
 use Rattle.txc_shared.specs.declared.settings.NodeSettings.{NodeSettings}
 use Rattle.txc_shared.specs.Nodes.{start_of}
-use Rattle.txc_caller.specs.Ports.{HasEventRoom}
+use Rattle.txc_caller.specs.Ports.{HasEventRoom, IsNewDatabase}
 use Rattle.txc_caller.specs.Reading.{CallerValue}
 use Rattle.txc_c_site.specs.declared.site.Site.{Site}
 use Rattle.txc_c_site.specs.declared.site.Site.TheVariants.{Resting}
@@ -25,7 +25,7 @@ HaveAllFunctions numbers = (f : ℕ) → f ≤ LAST_FUNCTION → Contains number
 -- there is such room, nothing has happened, and there is an object for each function
 pub record IsNewCaller (events : ℕ) (settings : NodeSettings) (age : ℕ) (c : CallerValue) : Type 0 where
   pub room : HasEventRoom (room_of events) c.ports.database.events
-  pub history : c.ports.database.history ≡ []
+  pub database : IsNewDatabase c.ports.database
   pub cushion : c.ports.cushion.entries ≡ []
   pub node : c.ports.node.cache ≡ start_of settings 0
   pub renew_after : c.renew_after ≡ age

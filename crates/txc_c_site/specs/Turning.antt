@@ -1,7 +1,7 @@
 -- What comes of transactions that begin and end.
 use Rattle.std.specs.Prelude.{◌≡◌, ℕ, nat_le, Bool, true, [], length, IsSome, None}
 use Rattle.std.specs.Bool.{MatchBool}
-use Rattle.txc_cushion.specs.Cushion.{handed_out}
+use Rattle.txc_cushion.specs.Cushion.{after_fresh, handed_out}
 use Rattle.txc_stamp.specs.declared.stamp.TheConstants.{MOST_STAMP}
 use Rattle.txc_db.specs.Calls.{IsBase, IsCommittable}
 use Rattle.txc_db.specs.DatabaseValue.{after_commit, newest}
@@ -49,6 +49,7 @@ pub record IsReadBegun (asked : Bounds) (c : CallerValue) (r : CallerReading) : 
   pub recorded : r.txn.core.recorded ≡ []
   pub members : r.txn.core.pins.members ≡ handed_out c.ports.cushion asked.now asked.staleness asked.at_least
   pub present : r.txn.core.pins.has_present ≡ true
+  pub users : r.ports.cushion ≡ after_fresh c.ports.cushion asked.now asked.staleness asked.at_least
   pub none : r.doing ≡ None
   pub taken : MayHaveTaken c.ports.database c.ports.node r.ports.node
   pub caller : caller_of r ≡ record c { ports = record c.ports { cushion = r.ports.cushion; node = r.ports.node } }

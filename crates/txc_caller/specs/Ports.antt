@@ -57,6 +57,14 @@ abbrev pub HasEventRoom : Option ℕ → Name → Type 0
 HasEventRoom (Some events) name = HasCapacity name events
 HasEventRoom None name = ¬ (HasRow name)
 
+-- nothing has happened in the database
+pub record IsNewDatabase (d : DatabaseValue) : Type 0 where
+  pub history : d.history ≡ []
+  pub versions : d.versions ≡ []
+  pub horizon : d.horizon ≡ 0
+  pub holds : d.holds ≡ []
+  pub whole : d.broken ≡ false
+
 -- ---- pins
 
 -- a pin of the moment is one event more, and its front shows it

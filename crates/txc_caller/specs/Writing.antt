@@ -51,6 +51,11 @@ after_query query w = record w {
 
 -- ---- functions that are computed
 
+-- a function may be called: by none any, else one below it
+abbrev pub MayCall : Option ℕ → ℕ → Type 0
+MayCall None function = Unit {0}
+MayCall (Some inner) function = function < inner
+
 -- the function that is computed waits, if one is
 abbrev pub waiting : Option ℕ → List ℕ → List ℕ
 waiting None outer = outer

@@ -15,7 +15,7 @@ ghost use Rattle.txc_txn.specs.Core.{value_of, CoreHolds, IsCore, IsIdle};
 ghost use Rattle.txc_txn.specs.Kept.{IsTxn};
 ghost use Rattle.txc_node.specs.declared.node.TheConstants.{MAX_CAPACITY, MAX_RECENT};
 ghost use Rattle.txc_stream.specs.declared.row.TheConstants.{MAX_CAPACITY as MAX_ROW};
-ghost use Rattle.txc_caller.specs.Ports.{GoesOnByEvents, HasEventRoom, HasNoEventFor, IsBehind};
+ghost use Rattle.txc_caller.specs.Ports.{GoesOnByEvents, HasEventRoom, HasNoEventFor, IsBehind, IsNewDatabase};
 ghost use Rattle.txc_caller.specs.Reading.{caller_of};
 
 use crate::caller_txn::CallerTxn;
@@ -75,6 +75,8 @@ fn begun<A: App>(
     ensures members { IfOk result (λ core. (value_of core).pins.members
         ≡ handed_out ports.old.cushion bounds.now bounds.staleness bounds.at_least) }
     ensures present { IfOk result (λ core. (value_of core).pins.has_present ≡ true) }
+    ensures users { OnOk result (ports.new.cushion
+        ≡ after_fresh ports.old.cushion bounds.now bounds.staleness bounds.at_least) }
     ensures same { ports.new ≡ record ports.old { cushion = ports.new.cushion } }
 {
     let Bounds {
@@ -107,7 +109,7 @@ impl<A: App, C: Suppliable> Caller<A, C> {
         requires recent { (1 ≤ node.recent) × (node.recent ≤ MAX_RECENT) }
         requires idle { AllIdle registry }
         ensures room { IfOk result (λ caller. HasEventRoom room caller.ports.database.events) }
-        ensures history { IfOk result (λ caller. caller.ports.database.history ≡ []) }
+        ensures new { IfOk result (λ caller. IsNewDatabase caller.ports.database) }
         ensures cushion { IfOk result (λ caller. caller.ports.cushion.entries ≡ []) }
         ensures node { IfOk result (λ caller. caller.ports.node.cache ≡ start_of node 0) }
         ensures renew_after { IfOk result (λ caller. caller.renew_after ≡ renew_after) }
@@ -131,6 +133,8 @@ impl<A: App, C: Suppliable> Caller<A, C> {
         ensures members { IfOk result (λ txn. txn.txn.core.pins.members
             ≡ handed_out self.ports.cushion bounds.now bounds.staleness bounds.at_least) }
         ensures present { IfOk result (λ txn. txn.txn.core.pins.has_present ≡ true) }
+        ensures users { IfOk result (λ txn. txn.ports.cushion
+            ≡ after_fresh self.ports.cushion bounds.now bounds.staleness bounds.at_least) }
         ensures none { IfOk result (λ txn. txn.doing ≡ None) }
         ensures caller { IfOk result (λ txn. caller_of txn
             ≡ record self { ports = record self.ports { cushion = txn.ports.cushion } }) }

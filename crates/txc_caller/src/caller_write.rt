@@ -100,7 +100,7 @@ impl<A: App, C: Suppliable> Caller<A, C> {
 }
 
 impl<A: App, C: Suppliable> CallerWrite<A, C> {
-    ghost use Rattle.txc_caller.specs.Writing.{after_call_of, after_query, without_calls, HasGivenValue, IsWriteCallRefused, IsChangeRefused, IsWriteFinishRefused, IsWriteAfter, IsWriteLeft, IsWriteCommitRefused};
+    ghost use Rattle.txc_caller.specs.Writing.{after_call_of, after_query, without_calls, HasGivenValue, IsWriteCallRefused, IsChangeRefused, MayCall, IsWriteFinishRefused, IsWriteAfter, IsWriteLeft, IsWriteCommitRefused};
 
     /// Asks for the rows of the query, which are its [`CallerWrite::answer`] and count as read. It does not see the changes of
     /// its own.
@@ -117,6 +117,7 @@ impl<A: App, C: Suppliable> CallerWrite<A, C> {
 
     /// Begins to compute a function, which the one asks for that is computed, if one is.
     pub fn call(&mut self, function: u8) -> Result<(), CallerError>
+        ensures only_if { OnOk result (MayCall self.old.inner function) }
         ensures after { OnOk result (self.new ≡ after_call_of function self.old) }
         ensures refused { IfErr result (IsWriteCallRefused function self.old self.new) }
     {

@@ -1,7 +1,7 @@
 //! The plain ports of a caller, for one thread.
 ghost use Rattle.std.specs.Prelude.{◌≡◌, ◌≤◌, ◌↔◌, ◌∷◌, [], true, false, All, IfErr, IfOk, IfSome, IsOk, OnErr, OnOk, length};
 ghost use Rattle.txc_app.specs.Claims.{IsTrueIn};
-ghost use Rattle.txc_cushion.specs.Cushion.{after_retire, handed_out, retired};
+ghost use Rattle.txc_cushion.specs.Cushion.{after_fresh, after_retire, handed_out, retired};
 ghost use Rattle.txc_db.specs.Calls.{IsAnswerable, IsBase, IsCommitRefused, IsCommittable, IsLeft, IsQueryRefused, IsVacuumRefused};
 ghost use Rattle.txc_db.specs.DatabaseValue.{after_commit, after_vacuum, front_of, newest, next_horizon};
 ghost use Rattle.txc_db.specs.Steps.{IsBaseRefused};
@@ -13,7 +13,7 @@ ghost use Rattle.txc_db.specs.Seen.{FrontValue};
 ghost use Rattle.txc_node.specs.declared.node.TheConstants.{MAX_CAPACITY, MAX_RECENT};
 ghost use Rattle.txc_stream.specs.declared.row.TheConstants.{MAX_CAPACITY as MAX_ROW};
 ghost use Rattle.txc_shared.specs.Nodes.{start_of};
-ghost use Rattle.txc_caller.specs.Ports.{CallerAddTransition, CallerFindTransition, CallerInsertTransition, CallerPinTransition, CallerSweepTransition, CallerUnpinTransition, AreLetGo, AreGivenBack, HasNoEventFor, HasRetired, HasEventRoom, HasVacuumedPorts, GoesOnByEvents, IsBehind, IsKeepRefused, IsLetGo};
+ghost use Rattle.txc_caller.specs.Ports.{CallerAddTransition, CallerFindTransition, CallerInsertTransition, CallerPinTransition, CallerSweepTransition, CallerUnpinTransition, AreLetGo, AreGivenBack, HasNoEventFor, HasRetired, HasEventRoom, HasVacuumedPorts, GoesOnByEvents, IsBehind, IsKeepRefused, IsLetGo, IsNewDatabase};
 
 use crate::nodes;
 use std::alloc::{AllocError, Global};
@@ -54,7 +54,7 @@ impl<A: App> Model for Ports<A> {
 fn empty_database(alloc: Global, room: Option<usize>) -> Result<DbCore, DbError>
     requires { IfSome room (λ events. (1 ≤ events) × (events ≤ MAX_ROW)) }
     ensures room { IfOk result (λ d. HasEventRoom room d.events) }
-    ensures history { IfOk result (λ d. d.history ≡ []) }
+    ensures new { IfOk result IsNewDatabase }
     ensures refused { IfErr result IsWant }
 {
     match room {
@@ -314,7 +314,7 @@ impl<A: App> Ports<A> {
         requires node { (1 ≤ settings.capacity) × (settings.capacity ≤ MAX_CAPACITY) }
         requires recent { (1 ≤ settings.recent) × (settings.recent ≤ MAX_RECENT) }
         ensures room { IfOk result (λ ports. HasEventRoom room ports.database.events) }
-        ensures history { IfOk result (λ ports. ports.database.history ≡ []) }
+        ensures new { IfOk result (λ ports. IsNewDatabase ports.database) }
         ensures cushion { IfOk result (λ ports. ports.cushion.entries ≡ []) }
         ensures node { IfOk result (λ ports. ports.node.cache ≡ start_of settings 0) }
         ensures refused { IfErr result IsWant }
@@ -344,6 +344,8 @@ impl<A: App> Ports<A> {
         ensures pins { IfOk result (λ pins. pins.pins.items ≡ handed_out self.old.cushion now staleness at_least) }
         ensures allowed { IfOk result (λ pins. All (λ pin. IsAllowed pins.front.history pin.stamp now staleness at_least) pins.pins.items) }
         ensures row { IfOk result (λ pins. pins.front.events ≡ self.old.database.events) }
+        ensures after { OnOk result
+            (self.new.cushion ≡ after_fresh self.old.cushion now staleness at_least) }
         ensures same { self.new ≡ record self.old { cushion = self.new.cushion } }
     {
         self.cushion.fresh(alloc, now, staleness, at_least)

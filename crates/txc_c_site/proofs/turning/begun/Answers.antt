@@ -13,6 +13,7 @@ returns-in-Ok c =
             recorded = c.in-Ok.ensures.recorded;
             members = c.in-Ok.ensures.members;
             present = c.in-Ok.ensures.present;
+            users = c.in-Ok.ensures.users;
             none = c.in-Ok.ensures.none;
             caller = c.in-Ok.ensures.caller;
           }),

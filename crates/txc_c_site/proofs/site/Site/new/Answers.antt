@@ -7,7 +7,7 @@ use Rattle.txc_c_site.proofs.site.Site.new.Goals as goal
 pub returns-clause-made : goal.returns-clause-made
 returns-clause-made c = record {
   room = subst (λ (room : Option ℕ). HasEventRoom room c.in_ok-caller.caller.ports.database.events) c.room_of.ensures c.in_ok-caller.ensures.room;
-  history = c.in_ok-caller.ensures.history;
+  database = c.in_ok-caller.ensures.new;
   cushion = c.in_ok-caller.ensures.cushion;
   node = c.in_ok-caller.ensures.node;
   renew_after = c.in_ok-caller.ensures.renew_after;
