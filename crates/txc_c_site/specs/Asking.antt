@@ -55,8 +55,7 @@ pub record Buffer : Type 0 where
 abbrev pub buffer : List ℕ → ℕ → Buffer
 buffer bytes len = record { bytes = bytes; len = len }
 
--- The step of that call has come to this, and is told by this number and in the buffer: what the caller is to compute
--- the node has not. The transaction explains its answers as before.
+-- such a step of that call, by this number and in the buffer; what is to be computed the node has not
 pub record HasCallStepped (k : Call) (old new : CallerReading) (number : ℕ) (was is : Buffer) : Type 0 where
   pub step : Result Step CallerError
   pub is_step : IsStepOf old.txn.core.recorded k new.txn.core.recorded new.doing step
@@ -206,7 +205,7 @@ ChangeComesTo change (Writing old) number (Writing new) = ChangeKept change old 
 ChangeComesTo change (Writing old) number new = ⊥
 ChangeComesTo change old number new = Stays NOT_OPEN old number new
 
--- a put of that row: there is no such table; or its body is none, or memory is wanting; or it is kept as a change
+-- a put of that row, if it can be one
 abbrev pub PutRowComesTo : RowValue → Site → ℕ → Site → Type 0
 PutRowComesTo row old number new = (Stays BAD_ARGUMENT old number new × ¬ IsBody row.body)
     ⊎ (Stays NO_MEMORY old number new ⊎ (IsBody row.body × ChangeComesTo (Put row) old number new))

@@ -29,7 +29,7 @@ abbrev pub sweep_told : Result ℕ NodeError → TxcKept → TxcKept
 sweep_told (Ok count) was = record was { swept = count }
 sweep_told (Err error) was = was
 
--- it drops what ends at the horizon or before it, and tells how many entries; or it refuses
+-- it drops what ends there, and tells how many entries; or it refuses
 pub record HasSweptNode (horizon : ℕ) (old : CallerValue) (number : ℕ) (was is : TxcKept) (new : CallerValue) : Type 0 where
   pub swept : Result ℕ NodeError
   pub leads : CallerSweepTransition horizon old.ports.node new.ports.node swept
@@ -48,8 +48,7 @@ pub record HasRefusedVacuum (old : CallerValue) (number : ℕ) (was is : TxcKept
   pub same : new ≡ record old { ports = record old.ports { node = new.ports.node } }
   pub told : is ≡ was
 
--- the node has taken the events; the horizon is the least stamp held, or the newest, and is told; and the node is swept up
--- to it
+-- the node has taken the events, and is swept up to the new horizon, which is told
 pub record HasVacuumedOn (old : CallerValue) (number : ℕ) (was is : TxcKept) (new : CallerValue) : Type 0 where
   pub after : CallerValue
   pub vacuumed : HasVacuumedPorts old.ports after.ports
@@ -62,7 +61,7 @@ HasVacuumed old number was is new = HasVacuumedOn old number was is new ⊎ HasR
 
 -- ---- the pins
 
--- the pins that no transaction uses and that are older are gone, and so is a hold of each; then the rest is done
+-- old pins are gone, with their holds; then the rest is done
 pub record HasKeptOn (now age : ℕ) (old : CallerValue) (number : ℕ) (was is : TxcKept) (new : CallerValue) : Type 0 where
   pub after : CallerValue
   pub retired_so : HasRetired now age old.ports after.ports

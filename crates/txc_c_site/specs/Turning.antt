@@ -42,8 +42,7 @@ is_site_stamp number = nat_le number MOST_STAMP
 
 -- ---- beginnings
 
--- it has the newest of the pins that its bounds allow, and the present; no call is open, and none was answered; and the node
--- has taken the events
+-- it has the newest of the pins that its bounds allow, and the present; and the node has taken the events
 pub record IsReadBegun (asked : Bounds) (c : CallerValue) (r : CallerReading) : Type 0 where
   pub bounds : r.txn.core.bounds ≡ asked
   pub recorded : r.txn.core.recorded ≡ []
@@ -119,7 +118,7 @@ abbrev pub CommitComesTo : TxcReceipt → TxcReceipt → Site → ℕ → Site �
 CommitComesTo was is (Reading r) number new = CommittedComesTo r was is number new
 CommitComesTo was is old number new = Stays NOT_OPEN old number new × (is ≡ was)
 
--- nothing that it has read has changed since; the changes are made of the newest state, and the newest stamp is told
+-- nothing that it read has changed, and the newest stamp is told
 pub record HasCommittedWrite (w : CallerWriting) (stamp : ℕ) (c : CallerValue) : Type 0 where
   pub none : w.inner ≡ None
   pub could : IsCommittable w.caller.ports.database w.base w.read w.changes
@@ -130,7 +129,7 @@ pub record HasCommittedWrite (w : CallerWriting) (stamp : ℕ) (c : CallerValue)
     ports = record w.caller.ports { database = c.ports.database; node = c.ports.node };
   }
 
--- a call is open, or the database refused; and the transaction is open, with its changes
+-- the transaction is open, with its changes
 pub record HasRefusedWrite (w : CallerWriting) (number : ℕ) (left : CallerWriting) : Type 0 where
   pub error : WriteError
   pub number_is : number ≡ write_number error
@@ -147,7 +146,7 @@ abbrev pub CommitWriteComesTo : ℕ → ℕ → Site → ℕ → Site → Type 0
 CommitWriteComesTo was is (Writing w) number new = WrittenComesTo w was is number new
 CommitWriteComesTo was is old number new = Stays NOT_OPEN old number new × (is ≡ was)
 
--- the transaction is given up: what it has kept at the node stays, and so does the history
+-- it is given up; the node and the history stay
 pub record HasAborted (r : CallerReading) (c : CallerValue) : Type 0 where
   pub functions : numbers_of c.objects ≡ numbers_of r.txn.objects
   pub history : c.ports.database.history ≡ r.ports.database.history

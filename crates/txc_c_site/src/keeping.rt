@@ -80,8 +80,7 @@ fn keep(
 }
 
 impl Site {
-    /// Retires the pins that are more than `age` before `now`, both in milliseconds, has the node take the events, and drops what no
-    /// transaction can read any more.
+    /// Retires the pins that are more than `age` milliseconds before `now`, and drops what no transaction can read any more.
     pub fn keep(&mut self, alloc: Global, now: u64, age: u64, kept: &mut TxcKept) -> u32
         ensures { KeepComesTo now age kept.old kept.new self.old result self.new }
     {
