@@ -11,7 +11,7 @@ use txc_crossing::{ALREADY_OPEN, DONE, NO_MEMORY, REFUSED};
 use txc_shared::NodeError;
 use txc_stamp::Stamp;
 
-/// What a keep did: how many pins it retired, the horizon, and how many entries the node dropped.
+/// What a keep did: pins that it retired, the horizon, and entries that the node dropped.
 #[repr(C)]
 #[derive(Clone, Copy)]
 pub struct TxcKept {
