@@ -20,8 +20,8 @@ impl TxcSite {
         }
     }
 
-    // Takes the room of its site out, if there is one.
-    fn take_room(&mut self, alloc: Global) -> Option<Box<SiteRoom, Global>>
+    /// Takes the room of its site out, if there is one.
+    pub(crate) fn take_room(&mut self, alloc: Global) -> Option<Box<SiteRoom, Global>>
         ensures site { option_and_then (λ room. room.value.site) result ≡ site_held self.old }
         ensures after { site_held self.new ≡ None }
     {
@@ -43,15 +43,23 @@ impl TxcSite {
         Some((site, room))
     }
 
+    /// Puts a room in where there is none, with the site that stands there.
+    pub(crate) fn put_room(&mut self, room: Box<SiteRoom, Global>)
+        requires { site_held self.old ≡ None }
+        ensures { site_held self.new ≡ room.value.site }
+    {
+        *self = TxcSite {
+            slot: SiteSlot::of_parts(Parts::of(room)),
+            is_open: true,
+        };
+    }
+
     /// Puts a site in where there is none, into its room.
     pub(crate) fn put(&mut self, site: Site, mut room: Box<SiteRoom, Global>)
         requires { site_held self.old ≡ None }
         ensures { site_held self.new ≡ Some site }
     {
         drop(mem::replace(&mut room.site, Some(site)));
-        *self = TxcSite {
-            slot: SiteSlot::of_parts(Parts::of(room)),
-            is_open: true,
-        };
+        self.put_room(room);
     }
 }

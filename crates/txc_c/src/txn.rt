@@ -144,11 +144,14 @@ pub extern "C" fn txc_call(
     ensures leads { ComesTo (CallComesTo key.now (buffer value.old len.old) (buffer value.new len.new)) (site_held handle.old) result (site_held handle.new) }
     ensures closed { site_held handle.old ≡ None → (value.new ≡ value.old) × (len.new ≡ len.old) }
 {
-    let Some((mut site, room)) = handle.take(alloc) else {
+    let Some(mut room) = handle.take_room(alloc) else {
+        return CLOSED;
+    };
+    let Some(site) = &mut room.site else {
         return CLOSED;
     };
     let number = site.call(alloc, key, value, len);
-    handle.put(site, room);
+    handle.put_room(room);
     number
 }
 
@@ -164,11 +167,14 @@ pub extern "C" fn txc_query_rows(
     ensures leads { ComesTo (QueryComesTo query.now count.old count.new) (site_held handle.old) result (site_held handle.new) }
     ensures closed { site_held handle.old ≡ None → count.new ≡ count.old }
 {
-    let Some((mut site, room)) = handle.take(alloc) else {
+    let Some(mut room) = handle.take_room(alloc) else {
+        return CLOSED;
+    };
+    let Some(site) = &mut room.site else {
         return CLOSED;
     };
     let number = site.query(alloc, query, count);
-    handle.put(site, room);
+    handle.put_room(room);
     number
 }
 
@@ -186,11 +192,14 @@ pub extern "C" fn txc_row_at(
     ensures closed { site_held handle.old ≡ None
         → (row.new ≡ row.old) × (body.new ≡ body.old) × (len.new ≡ len.old) }
 {
-    let Some((site, room)) = handle.take(alloc) else {
+    let Some(room) = handle.take_room(alloc) else {
+        return CLOSED;
+    };
+    let Some(site) = &room.site else {
         return CLOSED;
     };
     let number = site.tell_row(at, row, body, len);
-    handle.put(site, room);
+    handle.put_room(room);
     number
 }
 
@@ -205,11 +214,14 @@ pub extern "C" fn txc_answer(
     ensures leads { ComesTo (LastComesTo (buffer value.old len.old) (buffer value.new len.new)) (site_held handle.old) result (site_held handle.new) }
     ensures closed { site_held handle.old ≡ None → (value.new ≡ value.old) × (len.new ≡ len.old) }
 {
-    let Some((site, room)) = handle.take(alloc) else {
+    let Some(room) = handle.take_room(alloc) else {
+        return CLOSED;
+    };
+    let Some(site) = &room.site else {
         return CLOSED;
     };
     let number = site.tell_last(value, len);
-    handle.put(site, room);
+    handle.put_room(room);
     number
 }
 
@@ -226,11 +238,14 @@ pub extern "C" fn txc_finish(
     ensures leads { ComesTo (FinishComesTo bytes.now (buffer value.old len.old) (buffer value.new len.new)) (site_held handle.old) result (site_held handle.new) }
     ensures closed { site_held handle.old ≡ None → (value.new ≡ value.old) × (len.new ≡ len.old) }
 {
-    let Some((mut site, room)) = handle.take(alloc) else {
+    let Some(mut room) = handle.take_room(alloc) else {
+        return CLOSED;
+    };
+    let Some(site) = &mut room.site else {
         return CLOSED;
     };
     let number = site.finish(alloc, bytes, value, len);
-    handle.put(site, room);
+    handle.put_room(room);
     number
 }
 
@@ -239,11 +254,14 @@ pub extern "C" fn txc_finish(
 pub extern "C" fn txc_give_up(alloc: Global, handle: &mut TxcSite) -> u32
     ensures { ComesTo GiveUpComesTo (site_held handle.old) result (site_held handle.new) }
 {
-    let Some((mut site, room)) = handle.take(alloc) else {
+    let Some(mut room) = handle.take_room(alloc) else {
+        return CLOSED;
+    };
+    let Some(site) = &mut room.site else {
         return CLOSED;
     };
     let number = site.give_up();
-    handle.put(site, room);
+    handle.put_room(room);
     number
 }
 
@@ -312,11 +330,14 @@ pub extern "C" fn txc_put(
 ) -> u32
     ensures { ComesTo (PutComesTo (record { table = table; id = id; group = group; body = body.now })) (site_held handle.old) result (site_held handle.new) }
 {
-    let Some((mut site, room)) = handle.take(alloc) else {
+    let Some(mut room) = handle.take_room(alloc) else {
+        return CLOSED;
+    };
+    let Some(site) = &mut room.site else {
         return CLOSED;
     };
     let number = site.put(alloc, table, id, group, body);
-    handle.put(site, room);
+    handle.put_room(room);
     number
 }
 
@@ -325,11 +346,14 @@ pub extern "C" fn txc_put(
 pub extern "C" fn txc_remove(alloc: Global, handle: &mut TxcSite, table: u8, id: u32) -> u32
     ensures { ComesTo (RemoveComesTo table id) (site_held handle.old) result (site_held handle.new) }
 {
-    let Some((mut site, room)) = handle.take(alloc) else {
+    let Some(mut room) = handle.take_room(alloc) else {
+        return CLOSED;
+    };
+    let Some(site) = &mut room.site else {
         return CLOSED;
     };
     let number = site.remove(table, id);
-    handle.put(site, room);
+    handle.put_room(room);
     number
 }
 
@@ -359,10 +383,13 @@ pub extern "C" fn txc_keep(
     ensures leads { ComesTo (KeepComesTo now age kept.old kept.new) (site_held handle.old) result (site_held handle.new) }
     ensures closed { site_held handle.old ≡ None → kept.new ≡ kept.old }
 {
-    let Some((mut site, room)) = handle.take(alloc) else {
+    let Some(mut room) = handle.take_room(alloc) else {
+        return CLOSED;
+    };
+    let Some(site) = &mut room.site else {
         return CLOSED;
     };
     let number = site.keep(alloc, now, age, kept);
-    handle.put(site, room);
+    handle.put_room(room);
     number
 }
