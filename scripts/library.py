@@ -3,7 +3,7 @@
 header. It says where they lie.
 
 usage: scripts/library.py [--try] [FOLDER]
-  --try    compiles it in a minute, with no proof; else it is proved first, where it has to be
+  --try    compiles it in some minutes, with no proof; else it is proved first, where it has to be
   FOLDER   where they are put, by default bindings/out, and with --try bindings/out/unproved
 """
 

@@ -103,10 +103,11 @@ def build(of="txcache", made="txcache", to=PROGRAM, finish=lambda room: None):
                 number += 1
                 print(f"proved {proved[1]}, {number} of {len(lines)}, {time.time() - begun:.0f} s", file=sys.stderr, flush=True)
         if not ran.wait():
+            print(f"run: {made} is made, for which {of} is proved once more", file=sys.stderr)
             finish(room)
         if ran.returncode or not os.path.exists(f"{room}/crates/{of}/out/{made}"):
             sys.stderr.writelines(said[-20:])
-            sys.exit(refused(f"run: {made} was not built"))
+            sys.exit(refused(f"run: {made} was not built: `rt ci` ended with status {ran.returncode}"))
         os.makedirs(os.path.dirname(to), exist_ok=True)
         shutil.copy(f"{room}/crates/{of}/out/{made}", f"{to}.new")
         os.replace(f"{to}.new", to)
