@@ -110,6 +110,7 @@ def object_of(text, to, flags=("-O2",)):
 
 def build_static(room):
     """Builds the library over those that `rt ci` left in the room, and proves it once more: `rt ci` builds no static library."""
+    print(f"library: lib{CRATE}.a is made, and {CRATE} proved once more for it, in some minutes", file=sys.stderr, flush=True)
     toolchain = f"{unproved.kit()}/toolchain"
     words = ["rattle", "build", *check_words(room, CRATE), "--toolchain", toolchain, "--backend", "llvm", "-o", f"out/lib{CRATE}.a"]
     os.makedirs(f"{room}/crates/{CRATE}/out", exist_ok=True)

@@ -103,7 +103,6 @@ def build(of="txcache", made="txcache", to=PROGRAM, finish=lambda room: None):
                 number += 1
                 print(f"proved {proved[1]}, {number} of {len(lines)}, {time.time() - begun:.0f} s", file=sys.stderr, flush=True)
         if not ran.wait():
-            print(f"run: {made} is made, for which {of} is proved once more", file=sys.stderr)
             finish(room)
         if ran.returncode or not os.path.exists(f"{room}/crates/{of}/out/{made}"):
             sys.stderr.writelines(said[-20:])
