@@ -1,5 +1,4 @@
 pub mod Stepping
-pub mod Changes
 pub mod LastAnswers
 pub mod Kept
 pub mod Functions

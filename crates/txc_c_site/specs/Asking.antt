@@ -19,7 +19,7 @@ use Rattle.txc_ports.specs.declared.error.TxnError.TheVariants.{Memory}
 use Rattle.txc_txn.specs.Kept.{IsTxn}
 use Rattle.txc_caller.specs.Acting.{IsComputedOnMiss, IsStepOf}
 use Rattle.txc_caller.specs.Reading.{top_or, AsksNext, CallerReading, KeepsReading}
-use Rattle.txc_caller.specs.Writing.{after_call_of, after_query, without_calls, CallerWriting, HasGivenValue, IsWriteCallRefused, IsChangeRefused, IsWriteFinishRefused, MayCall}
+use Rattle.txc_caller.specs.Writing.{after_call_of, after_query, without_calls, CallerWriting, HasGivenValue, IsWriteCallRefused, ChangeLeaves, IsWriteFinishRefused, MayCall}
 use Rattle.txc_caller.specs.declared.frames.OpenCall.{OpenCall}
 use Rattle.txc_caller.specs.declared.step.CallerError.{CallerError}
 use Rattle.txc_caller.specs.declared.step.Step.{Step}
@@ -191,11 +191,7 @@ change_number (Ok kept) = DONE
 change_number (Err Memory) = NO_MEMORY
 change_number (Err error) = REFUSED
 
--- the change is kept; or there are as many as may be, or memory is wanting
-abbrev pub ChangeLeaves : Change → CallerWriting → CallerWriting → Result (Unit {0}) TxnError → Type 0
-ChangeLeaves change old new (Ok kept) = new ≡ record old { changes = old.changes ++ change ∷ [] }
-ChangeLeaves change old new (Err error) = (new ≡ old) × IsChangeRefused (length old.changes) error
-
+-- the number says what came of the change
 abbrev pub ChangeKept : Change → CallerWriting → ℕ → CallerWriting → Type 0
 ChangeKept change old number new = (kept : Result (Unit {0}) TxnError) × (number ≡ change_number kept)
     × ChangeLeaves change old new kept

@@ -1,9 +1,9 @@
 -- What comes of a transaction's requests at the plain ports.
-use Rattle.std.proofs.Common.{◌≡◌, ◌∙◌, inl, inr, ℕ, Result, Ok, Err, Option, Some, None, refl, sym, ap}
+use Rattle.std.proofs.Common.{◌≡◌, ◌∙◌, ◌⊎◌, inl, inr, ℕ, Result, Ok, Err, Option, Some, None, refl, subst, sym, true, ap}
 use Rattle.std.specs.Prelude.{IfErr, IfOk, IfSome, OnOk}
 use Rattle.std.specs.Option.{option_map}
 use Rattle.std.specs.Result.{result_unwrap_or}
-use Rattle.txc_stream.specs.Names.{Name}
+use Rattle.txc_stream.specs.Names.{Name, HasRow}
 use Rattle.txc_tags.specs.Keys.{Call}
 use Rattle.txc_rows.specs.declared.query.Query.{Query}
 use Rattle.txc_validity.specs.declared.answer.Found.{Found}
@@ -15,14 +15,14 @@ use Rattle.txc_node.specs.declared.entry.Entry.{Entry}
 use Rattle.txc_node.specs.declared.hit.Shown.{Shown}
 use Rattle.txc_node.specs.declared.op.Op.{Op}
 use Rattle.txc_node.specs.Cache.{lookup_answer}
-use Rattle.txc_node.specs.declared.op.Op.TheVariants.{Lookup}
+use Rattle.txc_node.specs.declared.op.Op.TheVariants.{Insert, Lookup}
 use Rattle.txc_cushion.specs.declared.error.AddError.{AddError}
 use Rattle.txc_app.specs.Claims.{IsTrueIn, entry_shown}
 use Rattle.txc_app.specs.Eval.{Next}
 use Rattle.txc_shared.specs.declared.error.NodeError.{NodeError}
 use Rattle.txc_shared.specs.declared.error.NodeError.TheVariants as errors
-use Rattle.txc_shared.specs.Nodes.{NodeValue, after_call}
-use Rattle.txc_shared.specs.Refusals.{IsLookupRefused, IsNodeLeft}
+use Rattle.txc_shared.specs.Nodes.{NodeValue, after_call, seeing}
+use Rattle.txc_shared.specs.Refusals.{IsLookupRefused, IsNodeLeft, IsStepRefused}
 use Rattle.txc_ports.specs.declared.kept.Kept.{Kept}
 use Rattle.txc_ports.specs.declared.request.PortRequest.TheVariants as requests
 use Rattle.txc_ports.specs.declared.reply.PortReply.TheVariants as replies
@@ -31,32 +31,86 @@ use Rattle.txc_caller.specs.Ports.{CallerPorts, AreCallerPorts, CallerAddTransit
 
 -- ---- the node
 
-node_same : (old new : NodeValue) → new ≡ old → KeepsNode old new
-node_same old new is = record { row = ap (λ (n : NodeValue). n.seen.events) is; passes = ap (λ (n : NodeValue). n.passes) is }
+-- only its steps are others
+abbrev pub ChangesBySteps : NodeValue → NodeValue → Type 0
+ChangesBySteps old new = new ≡ record old { records = new.records; cache = new.cache; seen = new.seen; broken = new.broken }
+
+pub changes_so : (old mid new : NodeValue) → new ≡ mid → ChangesBySteps old mid → ChangesBySteps old new
+changes_so old mid new is changes = subst (ChangesBySteps old) (sym is) changes
+
+pub node_same : (old new : NodeValue) → new ≡ old → KeepsNode old new
+node_same old new is = record {
+  row = ap (λ (n : NodeValue). n.seen.events) is;
+  same = changes_so old old new is refl;
+  whole = λ none. ap (λ (n : NodeValue). n.broken) is;
+}
 
 pub node_after : (old new : NodeValue) (op : Op) → new ≡ after_call old 0 op → KeepsNode old new
-node_after old new op is = record { row = ap (λ (n : NodeValue). n.seen.events) is; passes = ap (λ (n : NodeValue). n.passes) is }
+node_after old new op is = record {
+  row = ap (λ (n : NodeValue). n.seen.events) is;
+  same = changes_so old (after_call old 0 op) new is refl;
+  whole = λ none. ap (λ (n : NodeValue). n.broken) is;
+}
 
-pub node_left : (old new : NodeValue) (e : NodeError) → IsNodeLeft old new e → KeepsNode old new
-node_left old new errors.Broken (inl same) = node_same old new same.0
-node_left old new errors.Broken (inr broke) = record { row = broke.events; passes = ap (λ (n : NodeValue). n.passes) broke.is }
-node_left old new errors.EmptyRange same = node_same old new same
-node_left old new errors.HistoryFull same = node_same old new same
-node_left old new errors.PassesFull same = node_same old new same
-node_left old new errors.Memory same = node_same old new same
+-- where it refuses as broken: it was so, or its records are stored
+abbrev pub MayBreak : NodeValue → NodeError → Type 0
+MayBreak n errors.Broken = (n.broken ≡ true) ⊎ HasRow n.name
+MayBreak n e = Unit {0}
+
+pub step_breaks : (n : NodeValue) (e : NodeError) → IsStepRefused n e → MayBreak n e
+step_breaks n errors.Broken (inl was) = inl was
+step_breaks n errors.Broken (inr may) = inr may.in_row
+step_breaks n errors.EmptyRange refused = tt
+step_breaks n errors.HistoryFull refused = tt
+step_breaks n errors.PassesFull refused = tt
+step_breaks n errors.Memory refused = tt
+
+lookup_breaks : (n : NodeValue) (lo hi : ℕ) (e : NodeError) → IsLookupRefused n lo hi e → MayBreak n e
+lookup_breaks n lo hi errors.Broken (inl was) = inl was
+lookup_breaks n lo hi errors.Broken (inr may) = inr may.0.in_row
+lookup_breaks n lo hi errors.EmptyRange refused = tt
+lookup_breaks n lo hi errors.HistoryFull refused = tt
+lookup_breaks n lo hi errors.PassesFull refused = tt
+lookup_breaks n lo hi errors.Memory refused = tt
+
+pub node_left : (old new : NodeValue) (e : NodeError) → MayBreak old e → IsNodeLeft old new e → KeepsNode old new
+node_left old new errors.Broken may (inl same) = node_same old new same.0
+node_left old new errors.Broken may (inr broke) = record {
+  row = broke.events;
+  same = changes_so old (record old { cache = new.cache; seen = new.seen; broken = true }) new broke.is refl;
+  whole = λ none. breaks may none;
+}
+  where
+    breaks : (old.broken ≡ true) ⊎ HasRow old.name → ¬ (HasRow old.name) → new.broken ≡ old.broken
+    breaks (inl was) none = ap (λ (n : NodeValue). n.broken) broke.is ∙ sym was
+    breaks (inr stored) none = absurd (none stored)
+node_left old new errors.EmptyRange may same = node_same old new same
+node_left old new errors.HistoryFull may same = node_same old new same
+node_left old new errors.PassesFull may same = node_same old new same
+node_left old new errors.Memory may same = node_same old new same
 
 pub node_looked_up : (old new : NodeValue) (key : Call) (lo hi : ℕ) (hit : Option (Answered Shown)) → CallerLookupTransition key lo hi old new hit → KeepsNode old new
 node_looked_up old new key lo hi (Some hit) leads = node_after old new (Lookup key lo hi) leads.0
 node_looked_up old new key lo hi None (inl leads) = node_after old new (Lookup key lo hi) leads.0
-node_looked_up old new key lo hi None (inr refused) = node_left old new refused.0 refused.2
+node_looked_up old new key lo hi None (inr refused) = node_left old new refused.0 (lookup_breaks old lo hi refused.0 refused.1) refused.2
 
 pub node_inserted : (old new : NodeValue) (seen : FrontValue) (entry : Entry) (kept : Option Kept) → CallerInsertTransition seen entry old new kept → KeepsNode old new
-node_inserted old new seen entry (Some kept) has = record { row = has.longer.events; passes = ap (λ (n : NodeValue). n.passes) has.after }
-node_inserted old new seen entry None refused = node_left old new refused.0 refused.2
+node_inserted old new seen entry (Some kept) has = record {
+  row = has.longer.events;
+  same = changes_so old (after_call (seeing old new.seen) 0 (Insert entry)) new has.after refl;
+  whole = λ none. ap (λ (n : NodeValue). n.broken) has.after;
+}
+node_inserted old new seen entry None refused = node_left old new refused.0 (step_breaks old refused.0 refused.1) refused.2
 
 -- the ports with the node after such a step
 pub ports_with_node : (p : CallerPorts) (node : NodeValue) → AreCallerPorts p → KeepsNode p.node node → AreCallerPorts (record p { node = node })
-ports_with_node p node are keeps = record { cushion = are.cushion; node = keeps.row ∙ are.node; pass = keeps.passes ∙ are.pass }
+ports_with_node p node are keeps = record {
+  cushion = are.cushion;
+  node = keeps.row ∙ are.node;
+  pass = ap (λ (n : NodeValue). n.passes) keeps.same ∙ are.pass;
+  unstored = λ has. are.unstored (subst HasRow (ap (λ (n : NodeValue). n.name) keeps.same) has);
+  whole = keeps.whole are.unstored ∙ are.whole;
+}
 
 -- a lookup, by what it returns
 pub looked_up : (key : Call) (lo hi : ℕ) (old new : NodeValue) (r : Result (Option (Answered Shown)) NodeError)

@@ -15,4 +15,10 @@ commit_events d new changes is = ap (λ (v : DatabaseValue). v.events) is
     ∙ some_events d (newest_net d changes) (after_event_of d (commit_event (newest_state d) changes) (newest_net d changes)) refl
 
 pub ports_with_database : (p : CallerPorts) (d : DatabaseValue) → d.events ≡ p.database.events → AreCallerPorts p → AreCallerPorts (record p { database = d })
-ports_with_database p d same are = record { cushion = are.cushion ∙ sym same; node = are.node ∙ sym same; pass = are.pass }
+ports_with_database p d same are = record {
+  cushion = are.cushion ∙ sym same;
+  node = are.node ∙ sym same;
+  pass = are.pass;
+  unstored = are.unstored;
+  whole = are.whole;
+}

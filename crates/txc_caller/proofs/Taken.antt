@@ -1,18 +1,19 @@
 -- A node that takes events.
-use Rattle.std.proofs.Common.{◌≡◌, ◌∙◌, Bool, true, false, List, [], ◌∷◌, ◌++◌, append-nil, inl, inr, refl, ap, sym}
+use Rattle.std.proofs.Common.{◌≡◌, ◌∙◌, Bool, true, false, List, [], ◌∷◌, ◌++◌, append-nil, inl, inr, refl, ap, subst, sym}
 use Rattle.std.specs.List.{AllByRecursion}
 use Rattle.std.proofs.lemmas.List.{append_assoc}
 use Rattle.txc_db.specs.DatabaseValue.{DatabaseValue}
 use Rattle.txc_db.specs.Seen.{FrontValue}
 use Rattle.txc_node.specs.declared.record.Record.{Record}
+use Rattle.txc_stream.specs.Names.{HasRow}
 use Rattle.txc_shared.specs.Nodes.{seeing, HasAdvanced, NodeValue}
-use Rattle.txc_shared.specs.Refusals.{IsNodeLeft}
+use Rattle.txc_shared.specs.Refusals.{IsNodeLeft, IsStepRefused}
 use Rattle.txc_shared.specs.declared.advanced.Advanced.{Advanced}
 use Rattle.txc_shared.specs.declared.advanced.Advanced.TheVariants as advances
 use Rattle.txc_shared.specs.declared.error.NodeError.{NodeError}
 use Rattle.txc_shared.specs.declared.error.NodeError.TheVariants as errors
 use Rattle.txc_caller.specs.Ports.{GoesOnByEvents, HasNoEventFor, IsBehind, IsOfEvent, MayHaveTaken}
-use Rattle.txc_caller.proofs.Asked.{node_left}
+use Rattle.txc_caller.proofs.Asked.{changes_so, node_left, node_same, step_breaks}
 
 both : (rs ss : List Record) → AllByRecursion (λ r. IsOfEvent r.op) rs → AllByRecursion (λ r. IsOfEvent r.op) ss → AllByRecursion (λ r. IsOfEvent r.op) (rs ++ ss)
 both [] ss hr hs = hs
@@ -21,7 +22,7 @@ both (r ∷ rs) ss hr hs = (hr.0, both rs ss hr.1 hs)
 -- none was taken
 pub none_taken : (old new : NodeValue) → new ≡ old → GoesOnByEvents old new
 none_taken old new is = record {
-  keeps = record { row = ap (λ (n : NodeValue). n.seen.events) is; passes = ap (λ (n : NodeValue). n.passes) is };
+  keeps = node_same old new is;
   more = [];
   records = ap (λ (n : NodeValue). n.records) is ∙ sym (append-nil old.records);
   events = tt;
@@ -30,7 +31,11 @@ none_taken old new is = record {
 -- some were taken, and then some more
 pub taken_then : (old mid new : NodeValue) → GoesOnByEvents old mid → GoesOnByEvents mid new → GoesOnByEvents old new
 taken_then old mid new a b = record {
-  keeps = record { row = b.keeps.row ∙ a.keeps.row; passes = b.keeps.passes ∙ a.keeps.passes };
+  keeps = record {
+    row = b.keeps.row ∙ a.keeps.row;
+    same = b.keeps.same ∙ ap (λ (n : NodeValue). record n { records = new.records; cache = new.cache; seen = new.seen; broken = new.broken }) a.keeps.same;
+    whole = λ none. b.keeps.whole (λ has. none (subst HasRow (ap (λ (n : NodeValue). n.name) a.keeps.same) has)) ∙ a.keeps.whole none;
+  };
   more = a.more ++ b.more;
   records = b.records ∙ (ap (λ (rs : List Record). rs ++ b.more) a.records ∙ append_assoc old.records a.more b.more);
   events = both a.more b.more a.events b.events;
@@ -39,22 +44,30 @@ taken_then old mid new a b = record {
 -- the next was taken, or there was none
 pub advanced_so : (old new : NodeValue) (seen : FrontValue) (advanced : Advanced) → seen.events ≡ old.seen.events → HasAdvanced (seeing old seen) 0 new advanced → GoesOnByEvents old new
 advanced_so old new seen (advances.Taken stamp closed) row h = record {
-  keeps = record { row = ap (λ (n : NodeValue). n.seen.events) h.0 ∙ row; passes = ap (λ (n : NodeValue). n.passes) h.0 };
+  keeps = record {
+    row = ap (λ (n : NodeValue). n.seen.events) h.0 ∙ row;
+    same = changes_so old _ new h.0 refl;
+    whole = λ none. ap (λ (n : NodeValue). n.broken) h.0;
+  };
   more = _;
   records = ap (λ (n : NodeValue). n.records) h.0;
   events = (tt, tt);
 }
 advanced_so old new seen advances.Idle row h = record {
-  keeps = record { row = ap (λ (n : NodeValue). n.seen.events) h.0 ∙ row; passes = ap (λ (n : NodeValue). n.passes) h.0 };
+  keeps = record {
+    row = ap (λ (n : NodeValue). n.seen.events) h.0 ∙ row;
+    same = changes_so old _ new h.0 refl;
+    whole = λ none. ap (λ (n : NodeValue). n.broken) h.0;
+  };
   more = [];
   records = ap (λ (n : NodeValue). n.records) h.0 ∙ sym (append-nil old.records);
   events = tt;
 }
 
 -- the node refused
-pub refused_so : (old new : NodeValue) (e : NodeError) → IsNodeLeft old new e → GoesOnByEvents old new
-refused_so old new e left = record {
-  keeps = node_left old new e left;
+pub refused_so : (old new : NodeValue) (e : NodeError) → IsStepRefused old e → IsNodeLeft old new e → GoesOnByEvents old new
+refused_so old new e refused left = record {
+  keeps = node_left old new e (step_breaks old e refused) left;
   more = [];
   records = records_left old new e left ∙ sym (append-nil old.records);
   events = tt;

@@ -46,11 +46,13 @@ pub record CallerPorts : Type 0 where
   pub cushion : CushionValue
   pub node : NodeValue
 
--- all three are of one row of events, and there is one pass through the node
+-- all three are of one row of events; there is one pass through the node, which is whole and stores no records
 pub record AreCallerPorts (p : CallerPorts) : Type 0 where
   pub cushion : p.cushion.events ≡ p.database.events
   pub node : p.node.seen.events ≡ p.database.events
   pub pass : p.node.passes ≡ 1
+  pub unstored : ¬ (HasRow p.node.name)
+  pub whole : p.node.broken ≡ false
 
 -- the database has room for so many events; or, where no number is given, it stores none
 abbrev pub HasEventRoom : Option ℕ → Name → Type 0
@@ -174,10 +176,11 @@ CallerSweepTransition horizon old new (Ok count) =
     (new ≡ after_call old 0 (Sweep horizon)) × (count ≡ swept_count old.cache horizon)
 CallerSweepTransition horizon old new (Err e) = IsStepRefused old e × IsNodeLeft old new e
 
--- a step keeps the row of the node, and its passes
+-- a step keeps the node's row, passes, name and settings; and a node that stores no records breaks by none
 pub record KeepsNode (old new : NodeValue) : Type 0 where
   pub row : new.seen.events ≡ old.seen.events
-  pub passes : new.passes ≡ old.passes
+  pub same : new ≡ record old { records = new.records; cache = new.cache; seen = new.seen; broken = new.broken }
+  pub whole : ¬ (HasRow old.name) → new.broken ≡ old.broken
 
 -- a step is one of taking an event
 abbrev pub IsOfEvent : Op → Type 0

@@ -1,5 +1,5 @@
 -- A caller's transaction that writes.
-use Rattle.std.specs.Prelude.{◌≡◌, ℕ, ◌≤◌, ◌<◌, List, [], ◌∷◌, ◌++◌, length, Option, Some, None, IsSome}
+use Rattle.std.specs.Prelude.{◌≡◌, ℕ, ◌≤◌, ◌<◌, List, [], ◌∷◌, ◌++◌, length, Option, Some, None, Result, Ok, Err, IsSome}
 use Rattle.txc_tags.specs.declared.tag.Tag.{Tag}
 use Rattle.txc_tags.specs.Tags.{with_tags}
 use Rattle.txc_node.specs.declared.value.TheConstants.{MAX_VALUE_LEN}
@@ -119,3 +119,9 @@ abbrev pub IsChangeRefused : ℕ → TxnError → Type 0
 IsChangeRefused count BufferFull = MAX_CHANGES ≤ count
 IsChangeRefused count Memory = count < MAX_CHANGES
 IsChangeRefused count error = ⊥
+
+-- the change is kept, where there are fewer; or all stays
+abbrev pub ChangeLeaves : Change → CallerWriting → CallerWriting → Result (Unit {0}) TxnError → Type 0
+ChangeLeaves change old new (Ok kept) =
+    (length old.changes < MAX_CHANGES) × (new ≡ record old { changes = old.changes ++ change ∷ [] })
+ChangeLeaves change old new (Err error) = (new ≡ old) × IsChangeRefused (length old.changes) error

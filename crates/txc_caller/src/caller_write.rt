@@ -100,7 +100,7 @@ impl<A: App, C: Suppliable> Caller<A, C> {
 }
 
 impl<A: App, C: Suppliable> CallerWrite<A, C> {
-    ghost use Rattle.txc_caller.specs.Writing.{after_call_of, after_query, without_calls, HasGivenValue, IsWriteCallRefused, IsChangeRefused, MayCall, IsWriteFinishRefused, IsWriteAfter, IsWriteLeft, IsWriteCommitRefused};
+    ghost use Rattle.txc_caller.specs.Writing.{after_call_of, after_query, without_calls, HasGivenValue, IsWriteCallRefused, ChangeLeaves, MayCall, IsWriteFinishRefused, IsWriteAfter, IsWriteLeft, IsWriteCommitRefused};
 
     /// Asks for the rows of the query, which are its [`CallerWrite::answer`] and count as read. It does not see the changes of
     /// its own.
@@ -183,9 +183,7 @@ impl<A: App, C: Suppliable> CallerWrite<A, C> {
 
     // One change more.
     fn write(&mut self, change: Change) -> Result<(), TxnError>
-        ensures after { OnOk result (self.new ≡ record self.old { changes = self.old.changes ++ change ∷ [] }) }
-        ensures refused { IfErr result (IsChangeRefused (length self.old.changes)) }
-        ensures unchanged { OnErr result (self.new ≡ self.old) }
+        ensures { ChangeLeaves change self.old self.new result }
     {
         if self.changes.len() >= MAX_CHANGES {
             return Err(TxnError::BufferFull);
@@ -198,20 +196,14 @@ impl<A: App, C: Suppliable> CallerWrite<A, C> {
 
     /// The row is to stand at its table and id once the transaction is committed.
     pub fn put(&mut self, row: Row) -> Result<(), TxnError>
-        ensures after { OnOk result (self.new
-            ≡ record self.old { changes = self.old.changes ++ Change.Put row ∷ [] }) }
-        ensures refused { IfErr result (IsChangeRefused (length self.old.changes)) }
-        ensures unchanged { OnErr result (self.new ≡ self.old) }
+        ensures { ChangeLeaves (Change.Put row) self.old self.new result }
     {
         self.write(Change::Put(row))
     }
 
     /// No row is to stand at the table and id once the transaction is committed.
     pub fn remove(&mut self, table: Table, id: u32) -> Result<(), TxnError>
-        ensures after { OnOk result (self.new
-            ≡ record self.old { changes = self.old.changes ++ Change.Remove table id ∷ [] }) }
-        ensures refused { IfErr result (IsChangeRefused (length self.old.changes)) }
-        ensures unchanged { OnErr result (self.new ≡ self.old) }
+        ensures { ChangeLeaves (Change.Remove table id) self.old self.new result }
     {
         self.write(Change::Remove(table, id))
     }
