@@ -11,9 +11,9 @@ usage: [JOBS=N] scripts/edits.py [CRATE..]
            tries all of what is committed, in a temporary folder, over libraries that it builds where it has to
   --kept   tries all of these crates, or those alone that are named, as --named does, over the same libraries
 
-A function's contract is all that the proofs of others know of it, so the wrong bodies of different
-functions are tried together, in one check: each is refused if the check says that its own function
-has a goal that is not proved. One of which that is not said is tried again, alone.
+A function's contract is all that the proofs of others know of it, so the wrong bodies of functions of
+which none calls another are tried together, in one check: each is refused if the check says that its own
+function has a goal that is not proved. One of which that is not said is tried again, alone.
 
 An edit has texts of several lines where a line after `old:` or `new:` begins with none of its words. It may change files of proofs/ beside its file of src/, so that a clause refuses it and not a name or an answer that is gone. One
 that changes no function, but a constant, has a line `function: NAME`: the function that is to refuse it, by its name or the end of it. Of
@@ -152,17 +152,44 @@ def joined(path, own):
     return [path.split("::")[-1].strip(), "".join(signs.get(it, it[0].upper() + it[1:]) for it in words)]
 
 
-def rounds(edits):
-    """Lists of edits of different functions."""
-    made = []
-    for edit in edits:
+def rounds(root, edits):
+    """Lists of edits of functions of which none calls another, as far as their texts say. Of one that does a check says only that it
+    waits."""
+    made, below = [], callees(root, edits[0].crate) if edits else {}
+    reach = [edit.functions.union(*(below.get(it, set()) for it in edit.functions)) for edit in edits]
+    for edit, under in zip(edits, reach):
         fits = [it for it in made if edit.functions and len(it) < MOST_TOGETHER
-                and all(other.functions and not other.functions & edit.functions for other in it)]
+                and all(other.functions and not other.functions & under and not edit.functions & more for other, more in it)]
         if fits:
-            fits[0].append(edit)
+            fits[0].append((edit, under))
         else:
-            made.append([edit])
-    return made
+            made.append([(edit, under)])
+    return [[edit for edit, _ in it] for it in made]
+
+
+def callees(root, crate):
+    """What each function of the crate calls, and what that calls, by their texts."""
+    texts = {}
+    for folder, _, files in os.walk(f"{root}/crates/{crate}/src"):
+        for name in sorted(files):
+            path = os.path.join(folder, name)
+            text = open(path, encoding="utf-8").read()
+            lines = text.split("\n")
+            for first, last, function in functions(crate, os.path.relpath(path, f"{root}/crates/{crate}"), text):
+                texts[function] = "\n".join(lines[first + 1:last])
+    parts = {it: it.replace("\\", "").split("::")[-2:] for it in texts}
+    found = {}
+    for function, text in texts.items():
+        found[function] = set()
+        for is_method, kind, name in re.findall(r"(?:(\.)|\b(\w+)(?:::<[^()]*>)?::)?\b(\w+)(?:::<[^()]*>)?\(", text):
+            for other, (owner_of, last) in parts.items():
+                if last == name and (is_method or not kind or kind == "Self" or owner_of.startswith(kind)):
+                    found[function].add(other)
+    for middle in found:
+        for function in found:
+            if middle in found[function]:
+                found[function] |= found[middle]
+    return found
 
 
 def try_together(base, edits):
@@ -246,7 +273,7 @@ def try_over_kept(root, words):
     """Tries the wrong bodies that are said as CRATE/NAME over the libraries of crates/*/out."""
     edits = edits_of(root, words)
     lists = [it for crate in dict.fromkeys(edit.crate for edit in edits)
-             for it in rounds([edit for edit in edits if edit.crate == crate and not edit.verdict])]
+             for it in rounds(root, [edit for edit in edits if edit.crate == crate and not edit.verdict])]
     def tried(together):
         try_named(root, together)
         for edit in together:
@@ -345,7 +372,7 @@ def try_all(room, crates):
         edits += [Edit(crate, f"{folder}/more-edits/{it}") for it in names if it.endswith(".edit")]
     for edit in edits:
         edit.find_functions(f"{base}/crates/{edit.crate}")
-    try_lists(base, [it for crate in crates for it in rounds([edit for edit in edits if edit.crate == crate])])
+    try_lists(base, [it for crate in crates for it in rounds(base, [edit for edit in edits if edit.crate == crate])])
     try_lists(base, [[it] for it in edits if not it.verdict])
     for edit in edits:
         if edit.verdict != "refused" or edit.said.startswith(("names: ", "elsewhere: ")):
