@@ -7,7 +7,7 @@ ghost use Rattle.txc_ports.specs.Asking.{AddsSuch};
 ghost use Rattle.txc_ports.specs.Turns.{IsAsk};
 ghost use Rattle.txc_world.specs.Acted.{ActsAt, ActsThere, IsActed};
 ghost use Rattle.txc_world.specs.Actors.{counted, holds_any, AddsPart, DropsNone, HasAsked, IsActor, IsActorThere, IsNoted, IsOpenTxn};
-ghost use Rattle.txc_world.specs.Acts.{ActTransition, LeavingTransition, ReadingTransition, RestingTransition};
+ghost use Rattle.txc_world.specs.Acts.{ActTransition, ReadingTransition, RestingTransition};
 ghost use Rattle.txc_world.specs.ActorValues.{actor_value, opened, reading_value, reads};
 ghost use Rattle.txc_world.specs.Holdings.{account_of_core, HasLost, IsFair};
 ghost use Rattle.txc_world.specs.Losing.{IfDidLose, IfTurnLost};
@@ -28,7 +28,7 @@ use txc_cushion::Pin;
 use txc_node::Value;
 use txc_ports::{Bounds, PortRequest, Turn, TxnError};
 use txc_registry::{Cacheable, Registry};
-use txc_stamp::{Reach, Stamp};
+use txc_stamp::Reach;
 use txc_tags::Key;
 use txc_txn::{RunningTxn, TxnCore};
 
@@ -188,26 +188,6 @@ fn request_call<A: App, C: Cacheable>(
     }
 }
 
-// Takes the hold away that is left, and has nothing open then.
-fn leave<A: App, C: Cacheable>(
-    ports: &mut Ports<A>,
-    registry: Registry<A, C>,
-    stamp: Stamp,
-) -> (Actor<A, C>, Reply)
-    requires { AllIdle registry }
-    ensures acted { IsActed A.next Act.Request ports.old ports.new (Actor.Leaving registry stamp) result.0 result.1 }
-    ensures leads { LeavingTransition Act.Request ports.old ports.new registry stamp (actor_value result.0) result.1 }
-{
-    ports.count_right();
-    match ports.unpin(stamp) {
-        Ok(()) => (Actor::Idle(registry), Reply::Asked(Did::Unpinned, None)),
-        Err(error) => (
-            Actor::Idle(registry),
-            Reply::Asked(Did::Refused(error), None),
-        ),
-    }
-}
-
 // Ends the transaction with its receipt, and gives its pins back.
 fn commit<A: App, C: Cacheable>(
     ports: &mut Ports<A>,
@@ -302,7 +282,17 @@ fn act_whole<A: App, C: Cacheable>(
         Actor::Reading(current) => act_open(alloc, ports, pass, current, act),
         Actor::Writing(current) => act_writing(alloc, ports, current, act),
         Actor::Leaving(registry, stamp) => match act {
-            Act::Request => leave(ports, registry, stamp),
+            // It takes the hold away that is left, and has nothing open then.
+            Act::Request => {
+                ports.count_right();
+                match ports.unpin(stamp) {
+                    Ok(()) => (Actor::Idle(registry), Reply::Asked(Did::Unpinned, None)),
+                    Err(error) => (
+                        Actor::Idle(registry),
+                        Reply::Asked(Did::Refused(error), None),
+                    ),
+                }
+            }
             Act::BeginRo(_) | Act::BeginRw => (
                 Actor::Leaving(registry, stamp),
                 Reply::Refused(Refusal::AlreadyOpen),
