@@ -1,7 +1,5 @@
 -- What a transaction's requests do to holds and users.
-use Rattle.std.proofs.Common.{◌≡◌, ◌∙◌, ℕ, suc, ◌+◌, ◌<◌, ◌≤◌, ◌==◌, Bool, true, false, List, [], ◌∷◌, ◌++◌, length, map, ◌&&◌, All, Contains, Result, Ok, Err, None, refl, ap, sym, subst, inl, inr, arith, eqb-true, length-append, get_or, drop, add-one}
-use Rattle.std.proofs.Math.Seq.{drop-cons}
-use Rattle.std.proofs.lemmas.List.{drop_all}
+use Rattle.std.proofs.Common.{◌≡◌, ◌∙◌, ℕ, ◌+◌, ◌<◌, ◌≤◌, ◌==◌, Bool, true, false, List, [], ◌∷◌, ◌++◌, ◌&&◌, All, Contains, Result, Ok, Err, None, refl, ap, sym, subst, inl, inr, arith, eqb-true, length-append}
 use Rattle.std.proofs.lemmas.List.Elements.{All-head}
 use Rattle.std.specs.Prelude.{if◌then◌else◌}
 use Rattle.std.specs.List.{AllByRecursion}
@@ -45,7 +43,7 @@ use Rattle.txc_world.specs.Actors.{counted, holds_any}
 use Rattle.txc_world.specs.Holdings.{account_of_core, gained, handed, nothing, spent, stamp_if_any, Account, ActCounts, AskCounts, CountRight, HasLost, IsFair, LosesOnlyUnheld}
 use Rattle.txc_world.specs.Losing.{IfDidLose, IfGone, IfPortLoses, IfReplyLost}
 use Rattle.txc_world.proofs.Losing.{gone_so, port_so}
-use Rattle.txc_world.proofs.Times.{times_append, times_cons, times_off, times_one, times_there, times_without}
+use Rattle.txc_world.proofs.Times.{times_append, times_off, times_one, times_there, times_without}
 
 -- ---- what is fair
 
@@ -80,13 +78,6 @@ fair_unpin old new taken stamp (Err e) right leads = rw leads.0 (record {
   holds = λ t. omega arith;
   users = λ t. omega arith;
 })
-
--- one step after another
-pub fair_then : (old between new : PortsValue) (a b c : Account) → IsFair old between a b → IsFair between new b c → IsFair old new a c
-fair_then old between new a b c first second = record {
-  holds = λ t. let x = first.holds t in let y = second.holds t in omega (arith, x, y);
-  users = λ t. let x = first.users t in let y = second.users t in omega (arith, x, y);
-}
 
 -- pins are handed out, each with one user more
 pub fair_fresh : (old new : PortsValue) (now staleness at_least : ℕ) (pins : Pins) → CountRight old → FreshTransition {A = Unit {0}} now staleness at_least old new (Ok pins)
@@ -280,18 +271,3 @@ counts_unowned p c c' reply taken left loss = record {
   fair = fair_same p p (account_of_core c) (account_of_core c') refl refl (λ t. rw left (omega arith)) (λ t. rw taken (omega arith));
   loss = loss;
 }
-
--- one pin after another is given back
-pub fair_rest : {A : Type 0} → (old between new : PortsValue) (pins : List Pin) (i : ℕ) (pin : Pin) (given : Result A UnknownPin) → GiveBackCountsUsers
-    → GiveBackTransition (pin.stamp ∷ []) between new given → i < length pins → pin ≡ get_or pins i pin → IsFair old between (handed pins) (handed (drop i pins))
-    → IsFair old new (handed pins) (handed (drop (i + 1) pins))
-fair_rest old between new pins i pin given law leads within is fair =
-    let rest = drop (i + 1) pins in
-    let first : drop i pins ≡ pin ∷ rest = drop-cons pins i pin within ∙ (ap (λ (p : Pin). p ∷ drop (suc i) pins) (sym is) ∙ ap (λ (n : ℕ). pin ∷ drop n pins) (sym (add-one i))) in
-    let one : (t : ℕ) → times t (map (λ p. p.stamp) rest) + times t (pin.stamp ∷ []) ≤ times t (map (λ p. p.stamp) (drop i pins)) =
-    λ t. rw first (let all = times_cons t pin.stamp (map (λ (p : Pin). p.stamp) rest) in let own = times_one t pin.stamp in omega (arith, all, own)) in
-    fair_then old between new (handed pins) (handed (drop i pins)) (handed rest) fair
-    (fair_give_back between new (pin.stamp ∷ []) given law leads (map (λ (p : Pin). p.stamp) (drop i pins)) (map (λ (p : Pin). p.stamp) rest) [] [] one (λ t. omega arith))
-
-pub fair_all : (old new : PortsValue) (pins : List Pin) (i : ℕ) → length pins ≤ i → IsFair old new (handed pins) (handed (drop i pins)) → IsFair old new (handed pins) nothing
-fair_all old new pins i past fair = rw (drop_all i pins past) at fair

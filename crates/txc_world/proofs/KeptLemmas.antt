@@ -1,5 +1,5 @@
 -- What is shown of the keeper's steps.
-use Rattle.std.proofs.Common.{◌≡◌, ◌∙◌, ℕ, ◌+◌, ◌<◌, ◌≤◌, nat_lt, arith, Bool, true, false, List, [], ◌∷◌, ◌++◌, length, Result, Ok, Err, Option, Some, None, refl, ap, sym, subst, length-append}
+use Rattle.std.proofs.Common.{◌≡◌, ◌∙◌, ℕ, ◌+◌, ◌<◌, ◌≤◌, nat_lt, arith, Bool, true, false, List, [], ◌∷◌, ◌++◌, length, Result, Ok, Err, Some, None, refl, ap, sym, subst, length-append}
 use Rattle.std.specs.Prelude.{if◌then◌else◌}
 use Rattle.std.proofs.lemmas.Bool.Decides.{nat_tests}
 use Rattle.std.proofs.lemmas.List.{map-append}
@@ -11,18 +11,20 @@ use Rattle.txc_db.specs.declared.pinned.Pinned.{Pinned}
 use Rattle.txc_db.specs.Facts.{EventValue}
 use Rattle.txc_db.specs.History.{History, commit_event, pin_event}
 use Rattle.txc_db.specs.DatabaseValue.{DatabaseValue, after_commit, after_event_of, is_held, newest, newest_net, newest_state, where_some}
-use Rattle.txc_cushion.specs.declared.error.AddError.{AddError}
 use Rattle.txc_world.specs.declared.step.Keep.{Keep}
 use Rattle.txc_world.specs.declared.step.Keep.TheVariants as keeps
 use Rattle.txc_world.specs.declared.reply.Reply.{Reply}
 use Rattle.txc_world.specs.declared.reply.Reply.TheVariants as replies
 use Rattle.txc_world.specs.declared.reply.Reply.TheVariants.{Refused}
 use Rattle.txc_world.specs.declared.reply.Refusal.TheVariants as refusals
-use Rattle.txc_world.specs.Ports.{PortsValue, HasRefused, HasLedNode, KeepsRow}
-use Rattle.txc_world.specs.Keeping.{stamps_of_pins, CommitTransition, HasPinnedSpare, WriteTransition, AddSpareTransition}
-use Rattle.txc_world.specs.Kept.{told_addition, IsKeeperStep, KeepTransition}
+use Rattle.txc_world.specs.Ports.{PortsValue, whole_of, HasRefused, HasLedNode}
+use Rattle.txc_world.specs.NodeSteps.{AdvanceTransition, SweepTransition}
+use Rattle.txc_world.specs.Keeping.{stamps_of_pins, CommitTransition, HasPinnedSpare, WriteTransition}
+use Rattle.txc_world.specs.Kept.{KeepTransition}
 use Rattle.txc_world.specs.Observation.{commit_in, keep_in, spare_after, IsDueOr, IsKeepDue, IsNoReceipt}
 use Rattle.txc_shared.specs.Nodes.{NodeValue}
+use Rattle.txc_shared.specs.declared.advanced.Advanced.{Advanced}
+use Rattle.txc_shared.specs.declared.error.NodeError.{NodeError}
 use Rattle.txc_world.proofs.PortsLemmas.{left_history}
 
 -- ---- commits
@@ -98,12 +100,25 @@ due_no_node node nodes Suits above =
 
 -- ---- what is shown of a step, by what it leads to
 
--- an addition
-pub kept_addition : (old new : PortsValue) (stamp : ℕ) (added : Option (Result (Unit {0}) AddError)) → AddSpareTransition stamp old new added
-    → KeepsRow old new → IsKeeperStep (keeps.Add stamp) old new (told_addition added)
-kept_addition old new stamp (Some (Ok added)) leads keeps = record { leads = leads; keeps = keeps }
-kept_addition old new stamp (Some (Err e)) leads keeps = record { leads = leads; keeps = keeps }
-kept_addition old new stamp None leads keeps = record { leads = leads; keeps = keeps }
+-- a node's advance
+abbrev pub told_advance : Result Advanced NodeError → Reply
+told_advance (Ok advanced) = replies.Advanced advanced
+told_advance (Err e) = Refused (refusals.Node e)
+
+pub kept_advance : (old new : PortsValue) (at : ℕ) (r : Result Advanced NodeError) (reply : Reply) → HasLedNode at (λ was is. AdvanceTransition old.actors (whole_of old) was is r) old new
+    → reply ≡ told_advance r → KeepTransition (keeps.Advance at) old new reply
+kept_advance old new at (Ok advanced) reply led is = subst (KeepTransition (keeps.Advance at) old new) (sym is) led
+kept_advance old new at (Err e) reply led is = subst (KeepTransition (keeps.Advance at) old new) (sym is) led
+
+-- a node's sweep
+abbrev pub told_sweep : Result ℕ NodeError → Reply
+told_sweep (Ok count) = replies.Swept count
+told_sweep (Err e) = Refused (refusals.Node e)
+
+pub kept_sweep : (old new : PortsValue) (at horizon : ℕ) (r : Result ℕ NodeError) (reply : Reply) → HasLedNode at (λ was is. SweepTransition old.actors horizon was is r) old new
+    → reply ≡ told_sweep r → KeepTransition (keeps.Sweep at horizon) old new reply
+kept_sweep old new at horizon (Ok count) reply led is = subst (KeepTransition (keeps.Sweep at horizon) old new) (sym is) led
+kept_sweep old new at horizon (Err e) reply led is = subst (KeepTransition (keeps.Sweep at horizon) old new) (sym is) led
 
 module _ (old new : PortsValue) where
   -- all else stays

@@ -8,7 +8,7 @@ use Rattle.txc_tags.specs.Keys.{Call}
 use Rattle.txc_db.specs.History.{History}
 use Rattle.txc_db.specs.Seen.{FrontValue}
 use Rattle.txc_db.specs.declared.answered.Answered.{Answered}
-use Rattle.txc_node.specs.Cache.{lookup_answer}
+use Rattle.txc_node.specs.Cache.{lookup_answer, swept_count}
 use Rattle.txc_node.specs.declared.entry.Entry.{Entry}
 use Rattle.txc_node.specs.declared.hit.Shown.{Shown}
 use Rattle.txc_node.specs.declared.op.Op.{Op}
@@ -19,7 +19,7 @@ use Rattle.txc_shared.specs.declared.error.NodeError.{NodeError}
 use Rattle.txc_shared.specs.declared.error.NodeError.TheVariants as errors
 use Rattle.txc_shared.specs.declared.insertion.Insertion.{Insertion}
 use Rattle.txc_shared.specs.Nodes.{NodeValue, after_call, seeing, HasAdvanced, IsLonger}
-use Rattle.txc_shared.specs.Refusals.{CanRecord, IsLookupRefused, IsNodeLeft, IsNodeBroken, IsTakingRefused}
+use Rattle.txc_shared.specs.Refusals.{CanRecord, IsLookupRefused, IsNodeLeft, IsNodeBroken, IsStepRefused, IsTakingRefused}
 use Rattle.txc_stream.proofs.Offered.{longer_is}
 use Rattle.txc_world.specs.Parts.{IsPartOf}
 use Rattle.txc_world.specs.NodeSteps.{LookupTransition, InsertTransition, AdvanceTransition, SweepTransition}
@@ -132,6 +132,14 @@ module _ (whole : FrontValue) where
       → SweepTransition pass horizon old new swept → StaysNode whole old new
   stays_swept old new pass horizon (Ok count) leads = stays_after old new pass (Sweep horizon) leads.1
   stays_swept old new pass horizon (Err e) leads = stays_left old new e leads.0
+
+-- ---- a sweep, by what it returns
+
+pub swept_so : (pass horizon : ℕ) (old new : NodeValue) (r : Result ℕ NodeError) → OnOk r (new ≡ after_call old pass (Sweep horizon))
+    → IfOk r (λ count. count ≡ swept_count old.cache horizon) → OnOk r (CanRecord old) → IfErr r (IsNodeLeft old new) → IfErr r (IsStepRefused old)
+    → SweepTransition pass horizon old new r
+swept_so pass horizon old new (Ok count) after answer can left refused = (can, after, answer)
+swept_so pass horizon old new (Err e) after answer can left refused = (left, refused)
 
 -- ---- a lookup, by what it returns
 

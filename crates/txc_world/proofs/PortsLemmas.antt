@@ -169,6 +169,19 @@ pub query_led : (p : PortsValue) (query : Query) (stamp : ℕ) (r : Result Found
 query_led p query stamp (Ok found) answer tag only_if refused = (record { answer = answer; tag = tag }, only_if refl)
 query_led p query stamp (Err e) answer tag only_if refused = refused
 
+-- as it is shown: a refusal for want of memory is one of a query that has an answer
+pub query_shown : (p : PortsValue) (query : Query) (stamp : ℕ) (found shown : Result Found DbError) → QueryTransition query stamp p found
+    → (shown ≡ found) ⊎ (IsOk found × (shown ≡ Err errors.Memory)) → QueryTransition query stamp p shown
+query_shown p query stamp found shown leads (inl same) = subst (QueryTransition query stamp p) (sym same) leads
+query_shown p query stamp (Ok found) shown leads (inr out) = subst (QueryTransition query stamp p) (sym out.1) leads.1
+query_shown p query stamp (Err e) shown leads (inr out) = absurd (cc out.0)
+
+pub query_refused : (p : PortsValue) (query : Query) (stamp : ℕ) (found : Result Found DbError) (e : DbError) → QueryTransition query stamp p found
+    → (found ≡ Err e) ⊎ (IsOk found × (e ≡ errors.Memory)) → IsQueryRefused p.database query stamp e
+query_refused p query stamp found e leads (inl is) = subst (QueryTransition query stamp p) is leads
+query_refused p query stamp (Ok found) e leads (inr out) = rw out.1 leads.1
+query_refused p query stamp (Err other) e leads (inr out) = absurd (cc out.0)
+
 -- ---- events more
 
 -- one event more is a longer history

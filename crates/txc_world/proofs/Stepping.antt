@@ -28,11 +28,6 @@ use Rattle.txc_world.proofs.Whole.{part_kept}
 -- ---- places of a list
 
 module _ {X : Type 0} where
-  pub set_twice : (xs : List X) (i : ℕ) (a b : X) → slice_set (slice_set xs i a) i b ≡ slice_set xs i b
-  set_twice [] i a b = refl
-  set_twice (x ∷ xs) zero a b = refl
-  set_twice (x ∷ xs) (suc i) a b = ap (λ (l : List X). x ∷ l) (set_twice xs i a b)
-
   pub set_length : (xs : List X) (i : ℕ) (a : X) → length (slice_set xs i a) ≡ length xs
   set_length [] i a = refl
   set_length (x ∷ xs) zero a = refl

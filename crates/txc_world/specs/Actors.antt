@@ -1,5 +1,5 @@
 -- What actors keep, and how they are shown.
-use Rattle.std.specs.Prelude.{◌≡◌, ℕ, ◌-◌, Bool, List, [], Option, Some, None, Result, Ok, Err, length, take, option_map, if◌then◌else◌}
+use Rattle.std.specs.Prelude.{◌≡◌, ℕ, ◌-◌, Bool, List, Option, Some, None, Result, Ok, Err, length, take, option_map, if◌then◌else◌}
 use Rattle.std.specs.Prelude.{Vec}
 use Rattle.std.specs.List.{list_any}
 use Rattle.std.specs.declared.alloc.Global.{Global}
@@ -78,14 +78,6 @@ pub record IsOpenTxn {A C : Type 0} (whole : FrontValue) (count : ℕ) (o : Open
   pub seen : IsPartOf whole o.txn.core.seen
   pub nodes : o.txn.core.nodes ≡ count
   pub call : HasCall whole o.txn.core o.call
-
--- a core that has begun within the bounds
-pub record HasBegunWithin (whole : FrontValue) (count : ℕ) (bounds : Bounds) (c : CoreValue) : Type 0 where
-  pub seen : IsPartOf whole c.seen
-  pub nodes : c.nodes ≡ count
-  pub is_idle : IsIdle c
-  pub asked : c.bounds ≡ bounds
-  pub recorded : c.recorded ≡ []
 
 -- ---- read-write transactions
 

@@ -1,7 +1,6 @@
 -- What a step of the keeper leaves of the ports, and how it is shown.
-use Rattle.std.specs.Prelude.{◌≡◌, ◌≤◌, Result, Ok, Err, Option, Some, None, [], ◌∷◌, length}
+use Rattle.std.specs.Prelude.{◌≡◌, ◌≤◌, Ok, Err, Some, None, [], ◌∷◌, length}
 use Rattle.txc_db.specs.Calls.{IsQueryRefused}
-use Rattle.txc_cushion.specs.declared.error.AddError.{AddError}
 use Rattle.txc_world.specs.declared.step.Keep.{Keep}
 use Rattle.txc_world.specs.declared.step.Keep.TheVariants as keeps
 use Rattle.txc_world.specs.declared.reply.Reply.{Reply}
@@ -52,12 +51,6 @@ KeepTransition (keeps.Sweep node horizon) old new (Refused (refusals.Node e)) =
 KeepTransition (keeps.Sweep node horizon) old new (Refused refusals.NoNode) =
     (new ≡ old) × (length old.nodes ≤ node)
 KeepTransition keep old new reply = ⊥
-
--- an addition, as it is shown
-abbrev pub told_addition : Option (Result (Unit {0}) AddError) → Reply
-told_addition (Some (Ok added)) = replies.Added
-told_addition (Some (Err e)) = Refused (refusals.Pincushion e)
-told_addition None = Refused refusals.NoRequest
 
 -- the step left the ports so, and kept their row
 pub record IsKeeperStep (keep : Keep) (old new : PortsValue) (reply : Reply) : Type 0 where

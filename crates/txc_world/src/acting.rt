@@ -1,70 +1,38 @@
 //! What an actor does, each kind of step by itself.
-ghost use Rattle.std.specs.Prelude.{◌≡◌, ℕ, ◌≤◌, ◌<◌, All, IfNone, IfOk, IfSome, None, OnErr, Some, length, map, vec_len};
-ghost use Rattle.txc_registry.specs.Objects.{AllIdle, Objects};
+ghost use Rattle.std.specs.Prelude.{◌≡◌, ℕ, ◌≤◌, ◌<◌, All, IfNone, IfSome, None, Some, length, vec_len};
+ghost use Rattle.txc_registry.specs.Objects.{AllIdle};
 ghost use Rattle.txc_app.specs.Eval.{Next};
-ghost use Rattle.txc_txn.specs.Core.{open_call, recorded_after, value_of, CoreAsks, CoreHolds, IsCore, IsTurn};
+ghost use Rattle.txc_txn.specs.Core.{open_call, recorded_after, CoreAsks, IsTurn};
 ghost use Rattle.txc_ports.specs.Asking.{AddsSuch};
 ghost use Rattle.txc_ports.specs.Turns.{IsAsk};
 ghost use Rattle.txc_world.specs.Acted.{ActsAt, ActsThere, IsActed};
-ghost use Rattle.txc_world.specs.Actors.{counted, holds_any, AddsPart, CoreHasBegun, DropsNone, HasAsked, HasBegunWithin, IsActor, IsActorThere, IsNoted, IsOpenTxn};
-ghost use Rattle.txc_world.specs.Acts.{ActTransition, LeavingTransition, ReadingTransition, RestingTransition};
+ghost use Rattle.txc_world.specs.Actors.{counted, holds_any, AddsPart, DropsNone, HasAsked, IsActor, IsActorThere, IsNoted, IsOpenTxn};
+ghost use Rattle.txc_world.specs.Acts.{ActTransition, ReadingTransition, RestingTransition};
 ghost use Rattle.txc_world.specs.ActorValues.{actor_value, opened, reading_value, reads};
-ghost use Rattle.txc_world.specs.Holdings.{account_of_core, nothing, HasLost, IsFair};
+ghost use Rattle.txc_world.specs.Holdings.{account_of_core, HasLost, IsFair};
 ghost use Rattle.txc_world.specs.Losing.{IfDidLose, IfTurnLost};
 ghost use Rattle.txc_world.specs.Parts.{IsPartOf};
 ghost use Rattle.txc_world.specs.Ports.{whole_of, KeepsRow};
 ghost use Rattle.txc_world.specs.Observation.{did_in};
 
-use crate::actor::{Actor, OpenCall, OpenTxn, put_back, take_out};
+use crate::actor::{Actor, OpenCall, OpenTxn};
 use crate::asking::told;
 use crate::did::Did;
 use crate::ports::Ports;
 use crate::reply::{Refusal, Reply};
 use crate::step::Act;
 use crate::writing::{act_writing, begin_rw};
-use std::alloc::{AllocError, Global};
+use std::alloc::Global;
 use txc_app::App;
 use txc_cushion::Pin;
 use txc_node::Value;
 use txc_ports::{Bounds, PortRequest, Turn, TxnError};
 use txc_registry::{Cacheable, Registry};
-use txc_stamp::{Reach, Stamp};
+use txc_stamp::Reach;
 use txc_tags::Key;
 use txc_txn::{RunningTxn, TxnCore};
 
-// A core with the pins that it is handed. Out of memory, they are given back.
-fn begun<A: App>(
-    alloc: Global,
-    ports: &mut Ports<A>,
-    renew_after: u64,
-    bounds: Bounds,
-) -> Result<TxnCore, AllocError>
-    requires { 1 ≤ length ports.old.nodes }
-    ensures fits { IfOk result (λ core. (next : Next) (objects : Objects) → AllIdle objects
-        → IsCore next objects (value_of core)) }
-    ensures holds { IfOk result (λ core. (next : Next) (objects : Objects)
-        → CoreHolds next (value_of core).seen.history objects (value_of core)) }
-    ensures core { IfOk result (λ core. HasBegunWithin (whole_of ports.new) (length ports.new.nodes) bounds
-        (value_of core)) }
-    ensures begins { IfOk result (λ core. CoreHasBegun renew_after bounds ports.old ports.new (value_of core)) }
-    ensures fair { IfOk result (λ core. IsFair ports.old ports.new nothing (account_of_core (value_of core))) }
-    ensures fair_again { OnErr result (IsFair ports.old ports.new nothing nothing) }
-    ensures unchanged { OnErr result (ports.new ≡ ports.old) }
-    ensures same { ports.new ≡ record ports.old { cushion = ports.new.cushion } }
-{
-    ports.count_right();
-    let nodes = ports.len();
-    let pins = ports.fresh(alloc, bounds.now, bounds.staleness, bounds.at_least)?;
-    match TxnCore::begin(alloc, nodes, renew_after, bounds, pins) {
-        Ok(core) => Ok(core),
-        Err(pins) => {
-            ports.give_back_pins(&pins);
-            Err(AllocError)
-        }
-    }
-}
-
-// Begins a transaction, or leaves nothing open.
+// Begins a transaction with the pins that it is handed, or leaves nothing open. Out of memory, they are given back.
 fn begin_ro<A: App, C: Cacheable>(
     alloc: Global,
     ports: &mut Ports<A>,
@@ -78,12 +46,20 @@ fn begin_ro<A: App, C: Cacheable>(
     ensures leads { RestingTransition renew_after (Act.BeginRo bounds) ports.old ports.new registry
         (actor_value result.0) result.1 }
 {
-    match begun(alloc, ports, renew_after, bounds) {
+    ports.count_right();
+    let nodes = ports.len();
+    let Ok(pins) = ports.fresh(alloc, bounds.now, bounds.staleness, bounds.at_least) else {
+        return (Actor::Idle(registry), Reply::Refused(Refusal::Memory));
+    };
+    match TxnCore::begin(alloc, nodes, renew_after, bounds, pins) {
         Ok(core) => {
             let txn = RunningTxn::new(core, registry);
             (Actor::Reading(OpenTxn { txn, call: None }), Reply::Begun)
         }
-        Err(_) => (Actor::Idle(registry), Reply::Refused(Refusal::Memory)),
+        Err(pins) => {
+            ports.give_back_pins(&pins);
+            (Actor::Idle(registry), Reply::Refused(Refusal::Memory))
+        }
     }
 }
 
@@ -212,26 +188,6 @@ fn request_call<A: App, C: Cacheable>(
     }
 }
 
-// Takes the hold away that is left, and has nothing open then.
-fn leave<A: App, C: Cacheable>(
-    ports: &mut Ports<A>,
-    registry: Registry<A, C>,
-    stamp: Stamp,
-) -> (Actor<A, C>, Reply)
-    requires { AllIdle registry }
-    ensures acted { IsActed A.next Act.Request ports.old ports.new (Actor.Leaving registry stamp) result.0 result.1 }
-    ensures leads { LeavingTransition Act.Request ports.old ports.new registry stamp (actor_value result.0) result.1 }
-{
-    ports.count_right();
-    match ports.unpin(stamp) {
-        Ok(()) => (Actor::Idle(registry), Reply::Asked(Did::Unpinned, None)),
-        Err(error) => (
-            Actor::Idle(registry),
-            Reply::Asked(Did::Refused(error), None),
-        ),
-    }
-}
-
 // Ends the transaction with its receipt, and gives its pins back.
 fn commit<A: App, C: Cacheable>(
     ports: &mut Ports<A>,
@@ -260,26 +216,6 @@ fn abort<A: App, C: Cacheable>(ports: &mut Ports<A>, current: OpenTxn<A, C>) -> 
     match left.unpin {
         Some(stamp) => (Actor::Leaving(registry, stamp), Reply::Aborted(Some(stamp))),
         None => (Actor::Idle(registry), Reply::Aborted(None)),
-    }
-}
-
-// What an actor does that has nothing open.
-fn act_idle<A: App, C: Cacheable>(
-    alloc: Global,
-    ports: &mut Ports<A>,
-    renew_after: u64,
-    registry: Registry<A, C>,
-    act: &Act,
-) -> (Actor<A, C>, Reply)
-    requires idle { AllIdle registry }
-    requires nodes { 1 ≤ length ports.old.nodes }
-    ensures acted { IsActed A.next act.now ports.old ports.new (Actor.Idle registry) result.0 result.1 }
-    ensures leads { RestingTransition renew_after act.now ports.old ports.new registry (actor_value result.0) result.1 }
-{
-    match act {
-        Act::BeginRo(bounds) => begin_ro(alloc, ports, renew_after, registry, *bounds),
-        Act::BeginRw => begin_rw(alloc, ports, registry),
-        _ => (Actor::Idle(registry), Reply::Refused(Refusal::NotOpen)),
     }
 }
 
@@ -321,30 +257,6 @@ fn act_open<A: App, C: Cacheable>(
     }
 }
 
-// What an actor does that has a hold left to take away.
-fn act_leaving<A: App, C: Cacheable>(
-    ports: &mut Ports<A>,
-    registry: Registry<A, C>,
-    stamp: Stamp,
-    act: &Act,
-) -> (Actor<A, C>, Reply)
-    requires { AllIdle registry }
-    ensures acted { IsActed A.next act.now ports.old ports.new (Actor.Leaving registry stamp) result.0 result.1 }
-    ensures leads { LeavingTransition act.now ports.old ports.new registry stamp (actor_value result.0) result.1 }
-{
-    match act {
-        Act::Request => leave(ports, registry, stamp),
-        Act::BeginRo(_) | Act::BeginRw => (
-            Actor::Leaving(registry, stamp),
-            Reply::Refused(Refusal::AlreadyOpen),
-        ),
-        _ => (
-            Actor::Leaving(registry, stamp),
-            Reply::Refused(Refusal::NotOpen),
-        ),
-    }
-}
-
 // One step of an actor.
 fn act_whole<A: App, C: Cacheable>(
     alloc: Global,
@@ -362,34 +274,35 @@ fn act_whole<A: App, C: Cacheable>(
         (actor_value result.0) result.1 }
 {
     match actor {
-        Actor::Idle(registry) => act_idle(alloc, ports, renew_after, registry, act),
+        Actor::Idle(registry) => match act {
+            Act::BeginRo(bounds) => begin_ro(alloc, ports, renew_after, registry, *bounds),
+            Act::BeginRw => begin_rw(alloc, ports, registry),
+            _ => (Actor::Idle(registry), Reply::Refused(Refusal::NotOpen)),
+        },
         Actor::Reading(current) => act_open(alloc, ports, pass, current, act),
         Actor::Writing(current) => act_writing(alloc, ports, current, act),
-        Actor::Leaving(registry, stamp) => act_leaving(ports, registry, stamp, act),
+        Actor::Leaving(registry, stamp) => match act {
+            // It takes the hold away that is left, and has nothing open then.
+            Act::Request => {
+                ports.count_right();
+                match ports.unpin(stamp) {
+                    Ok(()) => (Actor::Idle(registry), Reply::Asked(Did::Unpinned, None)),
+                    Err(error) => (
+                        Actor::Idle(registry),
+                        Reply::Asked(Did::Refused(error), None),
+                    ),
+                }
+            }
+            Act::BeginRo(_) | Act::BeginRw => (
+                Actor::Leaving(registry, stamp),
+                Reply::Refused(Refusal::AlreadyOpen),
+            ),
+            _ => (
+                Actor::Leaving(registry, stamp),
+                Reply::Refused(Refusal::NotOpen),
+            ),
+        },
     }
-}
-
-// One step of the actor of a number, which is taken out and put back.
-fn act_moved<A: App, C: Cacheable>(
-    alloc: Global,
-    ports: &mut Ports<A>,
-    renew_after: u64,
-    number: usize,
-    actors: &mut Vec<Option<Actor<A, C>>>,
-    act: &Act,
-) -> Reply
-    requires own { number < ports.old.actors }
-    requires nodes { 1 ≤ length ports.old.nodes }
-    requires number { number < vec_len actors.old }
-    requires fits { All (IsActorThere A.next (whole_of ports.old) (length ports.old.nodes)) actors.old.items }
-    ensures { ActsAt A.next renew_after number act.now ports.old ports.new actors.old.items actors.new.items result }
-{
-    let Some(actor) = take_out(actors, number) else {
-        unreachable!();
-    };
-    let (actor, reply) = act_whole(alloc, ports, renew_after, number, actor, act);
-    put_back(actors, number, actor);
-    reply
 }
 
 // A call starts or goes on where its transaction stands, since an actor is large to move. There is no reply to anything else.
@@ -415,7 +328,7 @@ fn call_there<A: App, C: Cacheable>(
     }
 }
 
-/// One step of the actor of a number.
+/// One step of the actor of a number, which is taken out of its place for what is not done there, and put back.
 pub(crate) fn act_at<A: App, C: Cacheable>(
     alloc: Global,
     ports: &mut Ports<A>,
@@ -430,8 +343,14 @@ pub(crate) fn act_at<A: App, C: Cacheable>(
     requires fits { All (IsActorThere A.next (whole_of ports.old) (length ports.old.nodes)) actors.old.items }
     ensures { ActsAt A.next renew_after number act.now ports.old ports.new actors.old.items actors.new.items result }
 {
-    if let Some(reply) = call_there(alloc, ports, number, &mut actors[number], act) {
+    let slot = &mut actors[number];
+    if let Some(reply) = call_there(alloc, ports, number, slot, act) {
         return reply;
     }
-    act_moved(alloc, ports, renew_after, number, actors, act)
+    let Some(actor) = slot.take() else {
+        unreachable!();
+    };
+    let (actor, reply) = act_whole(alloc, ports, renew_after, number, actor, act);
+    *slot = Some(actor);
+    reply
 }

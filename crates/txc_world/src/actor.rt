@@ -1,8 +1,7 @@
 //! What an actor has open.
-ghost use Rattle.std.specs.Prelude.{◌≡◌, ◌<◌, map, None, Some, slice_get, slice_set, vec_len, IfOk};
+ghost use Rattle.std.specs.Prelude.{◌≡◌, map, Some, IfOk};
 
 use std::alloc::{AllocError, Global};
-use std::mem;
 use txc_app::App;
 use txc_node::Value;
 use txc_ports::{PortRequest, Turn};
@@ -44,30 +43,6 @@ pub(crate) enum Actor<A: App, C: Cacheable> {
     Writing(OpenRw<A, C>),
     /// Its transaction has ended, and it has the hold of the stamp still to take away.
     Leaving(Registry<A, C>, Stamp),
-}
-
-/// Takes the actor of the number out. Where it stood is empty until it is put back.
-pub(crate) fn take_out<A: App, C: Cacheable>(
-    actors: &mut Vec<Option<Actor<A, C>>>,
-    number: usize,
-) -> Option<Actor<A, C>>
-    requires { number < vec_len actors.old }
-    ensures actor { slice_get actors.old.items number ≡ Some result }
-    ensures after { actors.new.items ≡ slice_set actors.old.items number None }
-{
-    mem::replace(&mut actors[number], None)
-}
-
-/// Puts the actor of the number back.
-pub(crate) fn put_back<A: App, C: Cacheable>(
-    actors: &mut Vec<Option<Actor<A, C>>>,
-    number: usize,
-    actor: Actor<A, C>,
-)
-    requires { number < vec_len actors.old }
-    ensures { actors.new.items ≡ slice_set actors.old.items number (Some actor) }
-{
-    actors[number] = Some(actor);
 }
 
 /// Actors with nothing open, one for each registry.

@@ -1,6 +1,6 @@
 //! What a transaction asks, put to the plain ports, and what is shown of it.
-ghost use Rattle.std.specs.Prelude.{◌≡◌, ◌<◌, length, map, IfOk, OnErr, Some};
-ghost use Rattle.txc_world.specs.Asks.{kept_after, AnswersRows, DoesTell, IsTold, IsToldOf};
+ghost use Rattle.std.specs.Prelude.{◌≡◌, ◌<◌, ◌⊎◌, length, map, Err, IfErr, IfOk, IsOk, Ok, OnErr, Some};
+ghost use Rattle.txc_world.specs.Asks.{kept_after, AnswersRows, DoesTell, DoesTellFound, IsTold, IsToldOf};
 
 use crate::did::{Did, RowsFound};
 use crate::nodes;
@@ -24,8 +24,8 @@ fn ids_of(alloc: Global, rows: &[Row]) -> Result<Vec<u32>, AllocError>
     Ok(ids)
 }
 
-/// What is shown of the rows found.
-pub(crate) fn rows_found(alloc: Global, found: &Found) -> Result<RowsFound, AllocError>
+// What is shown of the rows found.
+fn rows_found(alloc: Global, found: &Found) -> Result<RowsFound, AllocError>
     ensures { IfOk result (IsToldOf found.now) }
 {
     let ids = ids_of(alloc, &found.rows)?;
@@ -35,6 +35,41 @@ pub(crate) fn rows_found(alloc: Global, found: &Found) -> Result<RowsFound, Allo
         reach: found.reach,
         tags,
     })
+}
+
+/// What was found, with what is shown of its rows.
+pub(crate) fn with_rows(
+    alloc: Global,
+    found: Result<Found, DbError>,
+) -> Result<(Found, RowsFound), DbError>
+    ensures rows { IfOk result (λ both. (found ≡ Ok both.0) × IsToldOf both.0 both.1) }
+    ensures refused { IfErr result (λ e. (found ≡ Err e) ⊎ (IsOk found × (e ≡ DbError.Memory))) }
+{
+    let found = found?;
+    let rows = rows_found(alloc, &found)?;
+    Ok((found, rows))
+}
+
+// A refusal, as it is shown and as it is handed over.
+fn told_refusal(refusal: &DbError) -> (Did, Result<Found, DbError>)
+    ensures { result ≡ (Did.Refused refusal.now, Err refusal.now) }
+{
+    let did = Did::Refused(*refusal);
+    (did, Err(*refusal))
+}
+
+/// What was found, and what is shown of it. Out of memory for what is shown, it is refused.
+pub(crate) fn answer_told(
+    alloc: Global,
+    found: Result<Found, DbError>,
+) -> (Did, Result<Found, DbError>)
+    ensures tells { DoesTellFound result.1 result.0 }
+    ensures same { (result.1 ≡ found) ⊎ (IsOk found × (result.1 ≡ Err DbError.Memory)) }
+{
+    match with_rows(alloc, found) {
+        Ok((found, rows)) => (Did::Rows(rows), Ok(found)),
+        Err(refusal) => told_refusal(&refusal),
+    }
 }
 
 // What is shown of what was found, or of a refusal.

@@ -1,20 +1,19 @@
-//! The steps of the keeper at the plain ports.
-ghost use Rattle.std.specs.Prelude.{◌≡◌, ◌<◌, Err, false, true, length, slice_index, IfErr, IfNone, IfOk, IfSome};
+//! The steps of the keeper at the plain ports, each with its reply, and the commits of actors.
+ghost use Rattle.std.specs.Prelude.{◌≡◌, ◌<◌, false, true, length, slice_index, IfNone, IfSome};
 ghost use Rattle.std.specs.List.{remove};
 ghost use Rattle.txc_db.specs.DatabaseValue.{is_held, without};
+ghost use Rattle.txc_world.specs.declared.step.Keep.{Keep};
 ghost use Rattle.txc_world.specs.Keeping.{stamps_of_pins};
 
-use crate::asking::rows_found;
-use crate::did::{Did, RowsFound};
 use crate::nodes;
 use crate::ports::Ports;
-use std::alloc::{AllocError, Global};
+use crate::reply::{Refusal, Reply};
+use std::alloc::Global;
 use std::slice;
 use txc_app::App;
-use txc_cushion::{AddError, UnknownPin};
+use txc_cushion::UnknownPin;
 use txc_db::{DbError, Pinned};
 use txc_rows::{Change, Query};
-use txc_shared::{Advanced, NodeError};
 use txc_stamp::Stamp;
 use txc_tags::TagSet;
 use txc_validity::Found;
@@ -36,21 +35,11 @@ fn place_of(spare: &[Pinned], stamp: Stamp) -> Option<usize>
     None
 }
 
-// A refusal, as it is shown and as it is handed over.
-fn told_refusal(refusal: &DbError) -> (Did, Result<Found, DbError>)
-    ensures { result ≡ (Did.Refused refusal.now, Err refusal.now) }
-{
-    let did = Did::Refused(*refusal);
-    (did, Err(*refusal))
-}
-
 impl<A: App> Ports<A> {
-    ghost use Rattle.txc_db.specs.Calls.{IsAnswerable, IsQueryRefused};
-    ghost use Rattle.txc_world.specs.Asks.{DoesTellFound, IsAnswerOf, IsToldOf, QueryTransition};
-    ghost use Rattle.txc_world.specs.Keeping.{AddSpareTransition, CommitTransition, GiveBackTransition, IsToldAnswer, PinSpareTransition};
-    ghost use Rattle.txc_world.specs.Keeping.{RetireTransition, VacuumTransition, WriteTransition};
-    ghost use Rattle.txc_world.specs.NodeSteps.{AdvanceTransition, SweepTransition};
-    ghost use Rattle.txc_world.specs.Ports.{whole_of, HasLedNode, KeepsRow};
+    ghost use Rattle.txc_world.specs.Asks.{QueryTransition};
+    ghost use Rattle.txc_world.specs.Keeping.{CommitTransition, GiveBackTransition, PinSpareTransition};
+    ghost use Rattle.txc_world.specs.Kept.{IsKeeperStep};
+    ghost use Rattle.txc_world.specs.Ports.{KeepsRow};
 
     /// Commits the changes, where no event after the base matches what was read.
     pub(crate) fn commit(
@@ -69,14 +58,16 @@ impl<A: App> Ports<A> {
     }
 
     /// Commits the change at the newest stamp, with nothing read.
-    pub(crate) fn write(&mut self, alloc: Global, change: &Change) -> Result<Stamp, DbError>
-        ensures leads { WriteTransition change.now self.old self.new result }
-        ensures keeps { KeepsRow self.old self.new }
+    pub(crate) fn write(&mut self, alloc: Global, change: &Change) -> Reply
+        ensures { IsKeeperStep (Keep.Write change.now) self.old self.new result }
     {
         let read = TagSet::new(alloc);
         let base = self.newest;
         let changes = slice::from_ref(change);
-        self.commit(alloc, base, &read, changes)
+        match self.commit(alloc, base, &read, changes) {
+            Ok(stamp) => Reply::At(stamp),
+            Err(refusal) => Reply::Refused(Refusal::Database(refusal)),
+        }
     }
 
     /// Pins the present, and has its pin to add.
@@ -92,14 +83,18 @@ impl<A: App> Ports<A> {
         Ok(stamp)
     }
 
-    /// Adds the pin of the stamp that it has, and has it no more. None where it has none.
-    pub(crate) fn add_spare(&mut self, stamp: Stamp) -> Option<Result<(), AddError>>
-        ensures leads { AddSpareTransition stamp self.old self.new result }
-        ensures keeps { KeepsRow self.old self.new }
+    /// Adds the pin of the stamp that it has, and has it no more, if it has one.
+    pub(crate) fn add_spare(&mut self, stamp: Stamp) -> Reply
+        ensures { IsKeeperStep (Keep.Add stamp) self.old self.new result }
     {
-        let at = place_of(&self.spare, stamp)?;
+        let Some(at) = place_of(&self.spare, stamp) else {
+            return Reply::Refused(Refusal::NoRequest);
+        };
         let pinned = self.spare.remove(at);
-        Some(self.add(&pinned))
+        match self.add(&pinned) {
+            Ok(()) => Reply::Added,
+            Err(refusal) => Reply::Refused(Refusal::Pincushion(refusal)),
+        }
     }
 
     /// Gives one user of each stamp back to the pincushion.
@@ -112,26 +107,23 @@ impl<A: App> Ports<A> {
     }
 
     /// Takes the pins out that no transaction may use and whose moment is more than `age` before `now`.
-    pub(crate) fn retire(
-        &mut self,
-        alloc: Global,
-        now: u64,
-        age: u64,
-    ) -> Result<Vec<Stamp>, AllocError>
-        ensures leads { RetireTransition now age self.old self.new result }
-        ensures keeps { KeepsRow self.old self.new }
+    pub(crate) fn retire(&mut self, alloc: Global, now: u64, age: u64) -> Reply
+        ensures { IsKeeperStep (Keep.Retire now age) self.old self.new result }
     {
-        let stamps = self.cushion.retire(alloc, now, age)?;
-        Ok(stamps)
+        match self.cushion.retire(alloc, now, age) {
+            Ok(stamps) => Reply::Retired(stamps),
+            Err(_) => Reply::Refused(Refusal::Memory),
+        }
     }
 
-    /// Drops the versions that no held stamp shows, and returns the horizon.
-    pub(crate) fn vacuum(&mut self) -> Result<Stamp, DbError>
-        ensures leads { VacuumTransition self.old self.new result }
-        ensures keeps { KeepsRow self.old self.new }
+    /// Drops the versions that no held stamp shows.
+    pub(crate) fn vacuum(&mut self) -> Reply
+        ensures { IsKeeperStep Keep.Vacuum self.old self.new result }
     {
-        let horizon = self.database.vacuum()?;
-        Ok(horizon)
+        match self.database.vacuum() {
+            Ok(horizon) => Reply::Vacuumed(horizon),
+            Err(refusal) => Reply::Refused(Refusal::Database(refusal)),
+        }
     }
 
     /// The answer of the query at the stamp.
@@ -147,82 +139,33 @@ impl<A: App> Ports<A> {
         self.database.query(alloc, query, stamp)
     }
 
-    /// The answer of the query at the stamp, and what is shown of it.
-    pub(crate) fn answer_told(
-        &mut self,
-        alloc: Global,
-        query: &Query,
-        stamp: Stamp,
-    ) -> (Did, Result<Found, DbError>)
-        ensures same { self.new ≡ self.old }
-        ensures leads { QueryTransition query.now stamp self.old result.1 }
-        ensures tells { DoesTellFound result.1 result.0 }
+    /// Lets the node take the next event.
+    pub(crate) fn advance(&mut self, alloc: Global, at: usize) -> Reply
+        ensures { IsKeeperStep (Keep.Advance at) self.old self.new result }
     {
-        match self.found_told(alloc, query, stamp) {
-            Ok((found, rows)) => (Did::Rows(rows), Ok(found)),
-            Err(refusal) => told_refusal(&refusal),
+        if at >= self.len() {
+            return Reply::Refused(Refusal::NoNode);
+        }
+        let keeper = self.actors;
+        let node = &mut self.nodes[at];
+        match nodes::advance(alloc, node, keeper, &self.database) {
+            Ok(advanced) => Reply::Advanced(advanced),
+            Err(refusal) => Reply::Refused(Refusal::Node(refusal)),
         }
     }
 
-    // The answer of the query, with its ids, its reach and its tags.
-    fn found_told(
-        &mut self,
-        alloc: Global,
-        query: &Query,
-        stamp: Stamp,
-    ) -> Result<(Found, RowsFound), DbError>
-        ensures same { self.new ≡ self.old }
-        ensures found { IfOk result (λ both. IsAnswerOf query.now stamp self.old both.0) }
-        ensures rows { IfOk result (λ both. IsToldOf both.0 both.1) }
-        ensures only_if { IfOk result (λ both. IsAnswerable self.old.database stamp) }
-        ensures refused { IfErr result (IsQueryRefused self.old.database query.now stamp) }
-    {
-        let found = self.database.query(alloc, query, stamp)?;
-        let rows = rows_found(alloc, &found)?;
-        Ok((found, rows))
-    }
-
-    /// What is shown of the answer of the query at the stamp.
-    pub(crate) fn query(
-        &mut self,
-        alloc: Global,
-        query: &Query,
-        stamp: Stamp,
-    ) -> Result<RowsFound, DbError>
-        ensures same { self.new ≡ self.old }
-        ensures answer { IfOk result (IsToldAnswer query.now stamp self.old) }
-        ensures refused { IfErr result (IsQueryRefused self.old.database query.now stamp) }
-    {
-        let (_found, rows) = self.found_told(alloc, query, stamp)?;
-        Ok(rows)
-    }
-
-    /// Lets the node take the next event.
-    pub(crate) fn advance(&mut self, alloc: Global, at: usize) -> Result<Advanced, NodeError>
-        requires { at < length self.old.nodes }
-        ensures leads { HasLedNode at (λ was is.
-            AdvanceTransition self.old.actors (whole_of self.old) was is result) self.old self.new }
-        ensures keeps { KeepsRow self.old self.new }
-    {
-        let keeper = self.actors;
-        let node = &mut self.nodes[at];
-        nodes::advance(alloc, node, keeper, &self.database)
-    }
-
     /// Lets the node drop the entries that end at the horizon or before it, and counts them.
-    pub(crate) fn sweep(
-        &mut self,
-        alloc: Global,
-        at: usize,
-        horizon: Stamp,
-    ) -> Result<usize, NodeError>
-        requires { at < length self.old.nodes }
-        ensures leads { HasLedNode at (λ was is. SweepTransition self.old.actors horizon was is result)
-            self.old self.new }
-        ensures keeps { KeepsRow self.old self.new }
+    pub(crate) fn sweep(&mut self, alloc: Global, at: usize, horizon: Stamp) -> Reply
+        ensures { IsKeeperStep (Keep.Sweep at horizon) self.old self.new result }
     {
+        if at >= self.len() {
+            return Reply::Refused(Refusal::NoNode);
+        }
         let keeper = self.actors;
         let node = &mut self.nodes[at];
-        nodes::sweep(alloc, node, keeper, horizon)
+        match node.sweep(alloc, keeper, horizon) {
+            Ok(count) => Reply::Swept(count),
+            Err(refusal) => Reply::Refused(Refusal::Node(refusal)),
+        }
     }
 }

@@ -4,7 +4,7 @@ ghost use Rattle.txc_stream.specs.Names.{HasRow};
 ghost use Rattle.txc_node.specs.Counts.{AreCountsOf};
 ghost use Rattle.txc_db.specs.DatabaseValue.{front_of};
 ghost use Rattle.txc_app.specs.Claims.{IsTrueIn};
-ghost use Rattle.txc_world.specs.NodeSteps.{AdvanceTransition, InsertTransition, SweepTransition};
+ghost use Rattle.txc_world.specs.NodeSteps.{AdvanceTransition, InsertTransition};
 ghost use Rattle.txc_world.specs.Parts.{IsPartOf};
 
 use std::alloc::Global;
@@ -12,7 +12,6 @@ use txc_app::App;
 use txc_db::{DbCore, HistoryFront};
 use txc_node::{Counts, Entry};
 use txc_shared::{Advanced, Insertion, NodeError, NodeFront, StoredNode};
-use txc_stamp::Stamp;
 
 /// Gives the node an entry to keep, which is true in what the front shows. A node that refuses keeps nothing.
 pub(crate) fn insert<A: App>(
@@ -50,19 +49,6 @@ pub(crate) fn advance<A: App>(
     }
     let whole = database.front()?;
     node.advance(alloc, pass, &whole)
-}
-
-/// Lets the node drop the entries that end at the horizon or before it, and counts them.
-pub(crate) fn sweep<A: App>(
-    alloc: Global,
-    node: &mut StoredNode<A>,
-    pass: usize,
-    horizon: Stamp,
-) -> Result<usize, NodeError>
-    requires { pass < node.old.passes }
-    ensures { SweepTransition pass horizon node.old node.new result }
-{
-    node.sweep(alloc, pass, horizon)
 }
 
 /// The counts of the records that a front shows, which are stored.

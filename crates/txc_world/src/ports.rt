@@ -54,7 +54,7 @@ impl<A: App> Model for Ports<A> {
 impl<A: App> Ports<A> {
     ghost use Rattle.txc_ports.specs.Answers.{IsFresh};
     ghost use Rattle.txc_world.specs.Asks.{AddTransition, FindTransition, FreshTransition, HoldTransition, PinTransition, UnpinTransition};
-    ghost use Rattle.txc_world.specs.Holdings.{handed, nothing, GivesBack, IsFair, KeepsPins};
+    ghost use Rattle.txc_world.specs.Holdings.{GivesBack, KeepsPins};
     ghost use Rattle.txc_world.specs.Parts.{IsPartOf};
     ghost use Rattle.txc_world.specs.Ports.{whole_of, KeepsRow};
 
@@ -176,7 +176,6 @@ impl<A: App> Ports<A> {
     /// Gives one user of each of the pins back. It takes no memory.
     pub(crate) fn give_back_pins(&mut self, pins: &Pins)
         ensures same { self.new ≡ record self.old { cushion = self.new.cushion } }
-        ensures fair { IsFair self.old self.new (handed pins.now.pins.items) nothing }
         ensures users { GivesBack self.old self.new pins.now.pins.items }
         ensures pins { KeepsPins self.old self.new }
     {

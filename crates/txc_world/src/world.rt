@@ -219,19 +219,6 @@ impl<A: App, C: Cacheable> World<A, C> {
         reply
     }
 
-    // The actor begins a transaction in its session.
-    fn begin_in(&mut self, alloc: Global, number: usize, now: u64, staleness: u64) -> Reply
-        ensures { IsWholeStep A.next self.old (Step.BeginIn number now staleness) result self.new }
-    {
-        let at_least = floor_at(&self.sessions, number);
-        let bounds = Bounds {
-            now,
-            staleness,
-            at_least,
-        };
-        self.act(alloc, number, &Act::BeginRo(bounds))
-    }
-
     /// Takes one step, as `run` does, and returns what it was replied.
     pub fn step(&mut self, alloc: Global, step: &Step) -> Reply
         ensures { IsWholeStep A.next self.old step.now result self.new }
@@ -242,8 +229,17 @@ impl<A: App, C: Cacheable> World<A, C> {
                 actor,
                 now,
                 staleness,
-            } => self.begin_in(alloc, *actor, *now, *staleness),
+            } => {
+                let at_least = floor_at(&self.sessions, *actor);
+                let bounds = Bounds {
+                    now: *now,
+                    staleness: *staleness,
+                    at_least,
+                };
+                self.act(alloc, *actor, &Act::BeginRo(bounds))
+            }
             Step::Keeper(doing) => {
+                self.ports.count_right();
                 let reply = keep(alloc, &mut self.ports, doing);
                 self.ports.are_true();
                 reply

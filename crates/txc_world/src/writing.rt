@@ -16,6 +16,7 @@ ghost use Rattle.txc_world.specs.Writing.{with_rows, FindTransitionRw, HasAskedR
 
 use crate::acting::note;
 use crate::actor::{Actor, OpenCall, OpenRw};
+use crate::asking::answer_told;
 use crate::did::Did;
 use crate::ports::Ports;
 use crate::reply::{Refusal, Reply};
@@ -104,7 +105,7 @@ fn go_on<A: App, C: Cacheable>(
 {
     ports.count_right();
     let base = core.base();
-    let (did, found) = ports.answer_told(alloc, query, base);
+    let (did, found) = answer_told(alloc, ports.answer(alloc, query, base));
     let turn = core.reply(alloc, registry, found);
     (did, turn)
 }

@@ -1,18 +1,22 @@
-use Rattle.txc_world.proofs.Balance.{kept_balance}
-use Rattle.txc_world.proofs.KeptLemmas.{kept_due, kept_no_receipt, kept_told}
+use Rattle.std.proofs.Common.{subst}
+use Rattle.txc_world.specs.Asks.{QueryTransition}
+use Rattle.txc_world.proofs.PortsLemmas.{keeps_same, query_refused}
 use Rattle.txc_world.proofs.keeping.keep.Goals as goal
 
-pub returns-clause-history : goal.returns-clause-history
-returns-clause-history g c = (kept_told c.args.ports.now c.make.new.ports c.args.keep.now c.make.result c.make.ensures.leads).0
+pub returns-in-Ok-with_rows : goal.returns-in-Ok-with_rows
+returns-in-Ok-with_rows g c =
+    let told = c.in-Ok-with_rows.ensures.rows in
+    let found = (subst (QueryTransition c.in-Query.query c.in-Query.stamp c.args.ports.now) told.0 c.answer.ensures.leads).0 in
+    rw c.in-Query.is (record {
+      leads = (c.answer.ensures.same, (_, found.answer, found.tag, told.1));
+      keeps = keeps_same c.args.ports.now c.answer.new.self c.answer.ensures.same;
+    })
 
-pub returns-clause-spare : goal.returns-clause-spare
-returns-clause-spare g c = (kept_told c.args.ports.now c.make.new.ports c.args.keep.now c.make.result c.make.ensures.leads).1
-
-pub returns-clause-due : goal.returns-clause-due
-returns-clause-due g c = kept_due c.args.ports.now c.make.new.ports c.args.keep.now c.make.result c.make.ensures.leads
-
-pub returns-clause-no_receipt : goal.returns-clause-no_receipt
-returns-clause-no_receipt g c = kept_no_receipt c.args.ports.now c.make.new.ports c.args.keep.now c.make.result c.make.ensures.leads
-
-pub returns-clause-balance : goal.returns-clause-balance
-returns-clause-balance g c = kept_balance c.args.ports.now c.make.new.ports c.count_right.ensures c.args.keep.now c.make.result c.make.ensures.leads
+pub returns-in-Err-with_rows : goal.returns-in-Err-with_rows
+returns-in-Err-with_rows g c = rw c.in-Query.is (record {
+  leads = (
+    c.answer.ensures.same,
+    query_refused c.args.ports.now c.in-Query.query c.in-Query.stamp c.answer.result c.in-Err-with_rows.refusal c.answer.ensures.leads c.in-Err-with_rows.ensures.refused,
+  );
+  keeps = keeps_same c.args.ports.now c.answer.new.self c.answer.ensures.same;
+})

@@ -1,6 +1,9 @@
+use Rattle.std.proofs.Common.{◌∙◌, ◌≤◌, ◌<◌, length, set, ap, refl, sym, subst}
 use Rattle.txc_world.specs.Ports.{PortsValue, whole_of}
 use Rattle.txc_world.proofs.NodeLemmas.{stays_advanced}
-use Rattle.txc_world.proofs.PortsLemmas.{ports_node_from, keeps_node_from, led_advanced}
+use Rattle.txc_world.proofs.KeptLemmas.{kept_advance, told_advance}
+use Rattle.txc_world.proofs.PortsLemmas.{keeps_itself, keeps_node_from, led_advanced, ports_node_from}
+use Rattle.txc_world.proofs.ports.Ports.advance.Goals.{in-Ok, in-Err}
 use Rattle.txc_world.proofs.ports.Ports.advance.Goals as goal
 
 pub invariant_of-self : goal.invariant_of-self
@@ -8,16 +11,27 @@ invariant_of-self g c =
     let p : PortsValue = record { database = c.self.inside.database; cushion = c.self.inside.cushion; nodes = c.self.inside.nodes.items; spare = c.self.inside.spare.items; actors = c.self.inside.actors } in (
       c.self.invariant.0,
       ports_node_from p c.args.self.now c.self.view_is c.args.at c.index_mut-node.result.now c.advance.new.node c.self.invariant.1
-          c.requires c.index_mut-node.ensures.value (stays_advanced (whole_of p) c.index_mut-node.result.now c.advance.new.node c.self.inside.actors c.advance.result c.advance.ensures),
+          (subst (λ n. c.args.at < n) c.len.ensures c.if-at-len.false) c.index_mut-node.ensures.value (stays_advanced (whole_of p) c.index_mut-node.result.now c.advance.new.node c.self.inside.actors c.advance.result c.advance.ensures),
     )
 
-pub returns-clause-leads : goal.returns-clause-leads
-returns-clause-leads g c =
-    let p : PortsValue = record { database = c.self.inside.database; cushion = c.self.inside.cushion; nodes = c.self.inside.nodes.items; spare = c.self.inside.spare.items; actors = c.self.inside.actors } in
-    led_advanced p c.args.self.now c.self.view_is c.args.at c.index_mut-node.result.now c.advance.new.node c.advance.result c.requires c.index_mut-node.ensures.value c.advance.ensures
+pub returns-then-at-len : goal.returns-then-at-len
+returns-then-at-len g c = record {
+  leads = (refl, subst (λ n. n ≤ c.args.at) c.len.ensures c.if-at-len.true);
+  keeps = keeps_itself c.args.self.now;
+}
 
-pub returns-clause-keeps : goal.returns-clause-keeps
-returns-clause-keeps g c =
+pub returns : goal.returns
+returns g c =
     let p : PortsValue = record { database = c.self.inside.database; cushion = c.self.inside.cushion; nodes = c.self.inside.nodes.items; spare = c.self.inside.spare.items; actors = c.self.inside.actors } in
-    keeps_node_from p c.args.self.now c.self.view_is c.args.at c.index_mut-node.result.now c.advance.new.node c.index_mut-node.ensures.value
-    (stays_advanced (whole_of p) c.index_mut-node.result.now c.advance.new.node c.self.inside.actors c.advance.result c.advance.ensures)
+    let node = c.index_mut-node.result.now in
+    let within : c.args.at < length c.args.self.now.nodes = subst (λ n. c.args.at < n) c.len.ensures c.if-at-len.false in
+    record {
+      leads = kept_advance c.args.self.now (record p { nodes = set p.nodes c.args.at c.advance.new.node }) c.args.at c.advance.result c.match-advance.result
+          (led_advanced p c.args.self.now c.self.view_is c.args.at node c.advance.new.node c.advance.result within c.index_mut-node.ensures.value c.advance.ensures)
+          (elim c.match-advance.branch [
+            | in-Ok w ↦ w.result-is ∙ sym (ap told_advance w.in-Ok.is)
+            | in-Err w ↦ w.result-is ∙ sym (ap told_advance w.in-Err.is)
+          ]);
+      keeps = keeps_node_from p c.args.self.now c.self.view_is c.args.at node c.advance.new.node c.index_mut-node.ensures.value
+          (stays_advanced (whole_of p) node c.advance.new.node c.self.inside.actors c.advance.result c.advance.ensures);
+    }
