@@ -35,7 +35,7 @@ def script(kind, capacity, lines):
 
 
 def read_costs(path):
-    """What each function took by itself, and with those that it called: instructions and misses by its name."""
+    """What each function took by itself, and with those that it called: instructions, and misses where they were counted, by its name."""
     names, alone, whole = {}, collections.defaultdict(lambda: [0, 0]), collections.defaultdict(lambda: [0, 0])
     places, function, is_call = [], None, False
     with open(path, encoding="utf-8") as file:
@@ -43,12 +43,12 @@ def read_costs(path):
             head = re.match(r"(c?fn)=(\(\d+\))(?: (.*))?", line)
             if line.startswith("events:"):
                 words = line.split()[1:]
-                places = [[words.index("Ir")], [words.index(it) for it in ("ILmr", "DLmr", "DLmw")]]
+                places = [[words.index("Ir")], [words.index(it) for it in ("ILmr", "DLmr", "DLmw") if it in words]]
             elif head:
                 if head[3]:
                     names[head[2]] = head[3]
                 if head[1] == "fn":
-                    function = head[2]
+                    function = names[head[2]]
             elif line.startswith("calls="):
                 is_call = True
             elif function and re.match(r"[-+*\d]", line):
@@ -59,7 +59,7 @@ def read_costs(path):
                     if not is_call:
                         alone[function][i] += taken
                 is_call = False
-    return ({names[it]: cost for it, cost in some.items()} for some in (alone, whole))
+    return alone, whole
 
 
 def counts(program, capacity, text, room):
