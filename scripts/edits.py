@@ -45,6 +45,8 @@ NAMES = re.compile(r"has no field|\(nearest: |is not in scope|has no `|was not a
 # What is said of a function of which only a callee is not proved.
 WAITS = re.compile(r"not proved; it waits|(?:no proof:|not proved;) it calls `.*`, which (?:is|are) not proved$"
                    r"|no proof: the borrow checker's part in its proof is not made yet: a call of .*, which has no proof")
+# What is said of a function whose goals are all proved, also of one that may wait, or whose callers owe it something.
+PROVED = re.compile(r"proved(?:$|,| where )")
 # What the prover says of a name that it is asked to check, where it has none or several such, before it checks anything.
 UNKNOWN = re.compile(r"(?:has no function|several functions are named) `([^`]*)`.*")
 
@@ -235,8 +237,8 @@ def try_named(root, edits):
     for edit in applied:
         judge(edit, lines, ran.returncode, False)
         if not edit.verdict and len(applied) == 1:
-            own = [it for it in lines if any(re.match(rf"fn {path}(?:<.*>)?: ", it) for path in edit.functions)]
-            edit.verdict = "proved" if own and all(it.endswith(": proved") for it in own) else "bad"
+            own = said_of(edit, lines)
+            edit.verdict = "proved" if own and all(map(PROVED.match, own)) else "bad"
             edit.said = " | ".join(own or [it for it in lines if it][-3:])
 
 
@@ -308,12 +310,18 @@ def apply(edits, folder):
     return applied
 
 
-def judge(edit, lines, status, is_alone):
-    own = []
+def said_of(edit, lines):
+    """What the check says of each of the edit's functions."""
+    found = []
     for path in edit.functions:
         name = re.compile(rf"fn {path}(?:<.*>)?: (.*)")
-        own += [it[1] for it in map(name.match, lines) if it]
-    failing = [it for it in own if it != "proved" and not WAITS.match(it)]
+        found += [it[1] for it in map(name.match, lines) if it]
+    return found
+
+
+def judge(edit, lines, status, is_alone):
+    own = said_of(edit, lines)
+    failing = [it for it in own if not PROVED.match(it) and not WAITS.match(it)]
     unjudged = [it for it in failing if "the borrow checker does not cover" in it]
     if unjudged:
         edit.verdict, edit.said = "bad", unjudged[0]
