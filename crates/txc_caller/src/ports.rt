@@ -1,6 +1,6 @@
 //! The plain ports of a caller, for one thread.
 ghost use Rattle.std.specs.Prelude.{◌≡◌, ◌≤◌, ◌↔◌, ◌∷◌, [], true, false, All, IfErr, IfOk, IfSome, IsOk, OnErr, OnOk, length};
-ghost use Rattle.txc_app.specs.Claims.{IsTrueIn};
+ghost use Rattle.txc_app.specs.Claims.{IsTrueIn, entry_shown};
 ghost use Rattle.txc_cushion.specs.Cushion.{after_fresh, after_retire, handed_out, retired};
 ghost use Rattle.txc_db.specs.Calls.{IsAnswerable, IsBase, IsCommitRefused, IsCommittable, IsLeft, IsQueryRefused, IsVacuumRefused};
 ghost use Rattle.txc_db.specs.DatabaseValue.{after_commit, after_vacuum, front_of, newest, next_horizon};
@@ -9,11 +9,10 @@ ghost use Rattle.txc_rows.specs.RowTags.{query_tag};
 ghost use Rattle.txc_db.specs.History.{state_at, IsAllowed};
 ghost use Rattle.txc_rows.specs.States.{answer};
 ghost use Rattle.txc_db.specs.Refusals.{IsWant};
-ghost use Rattle.txc_db.specs.Seen.{FrontValue};
 ghost use Rattle.txc_node.specs.declared.node.TheConstants.{MAX_CAPACITY, MAX_RECENT};
 ghost use Rattle.txc_stream.specs.declared.row.TheConstants.{MAX_CAPACITY as MAX_ROW};
 ghost use Rattle.txc_shared.specs.Nodes.{start_of};
-ghost use Rattle.txc_caller.specs.Ports.{CallerAddTransition, CallerFindTransition, CallerInsertTransition, CallerPinTransition, CallerSweepTransition, CallerUnpinTransition, AreLetGo, AreGivenBack, HasNoEventFor, HasRetired, HasEventRoom, HasVacuumedPorts, GoesOnByEvents, IsBehind, IsKeepRefused, IsLetGo, IsNewDatabase};
+ghost use Rattle.txc_caller.specs.Ports.{CallerAddTransition, CallerFindTransition, CallerInsertTransition, CallerLookupTransition, CallerPinTransition, CallerSweepTransition, CallerUnpinTransition, AreLetGo, AreGivenBack, HasNoEventFor, HasRetired, HasEventRoom, HasVacuumedPorts, GoesOnByEvents, IsBehind, IsKeepRefused, IsLetGo, IsNewDatabase};
 
 use crate::nodes;
 use std::alloc::{AllocError, Global};
@@ -22,7 +21,7 @@ use txc_app::App;
 use txc_app::laws::found_rows_give_true_entries;
 use txc_cushion::{AddError, CushionCore, Pins};
 use txc_db::{Answered, DbCore, DbError, HistoryFront, Pinned};
-use txc_node::Entry;
+use txc_node::{Entry, Shown};
 use txc_ports::{Kept, PortReply, PortRequest};
 use txc_rows::{Change, Query};
 use txc_shared::{NodeError, NodeSettings, StoredNode};
@@ -371,66 +370,14 @@ impl<A: App> Ports<A> {
         }
     }
 
-    fn ask_pin(&mut self, alloc: Global, now: u64, at_least: Stamp) -> PortReply
-        ensures { (seen : FrontValue) → HasAskedPorts A.next seen (PortRequest.Pin now at_least) self.old self.new result }
+    // What the node has of the call at these stamps. A node that refuses has nothing.
+    fn lookup(&mut self, alloc: Global, key: &Key, lo: Stamp, hi: Stamp) -> Option<Answered<Shown>>
+        ensures leads { CallerLookupTransition key.now lo hi self.old.node self.new.node result }
+        ensures right { IfSome result (λ hit. IsTrueIn A.next hit.front.history (entry_shown key.now hit.answer)) }
+        ensures row { IfSome result (λ hit. hit.front.events ≡ self.old.database.events) }
+        ensures same { self.new ≡ record self.old { node = self.new.node } }
     {
-        let pinned = self.pin(alloc, now, at_least);
-        PortReply::Pin(pinned)
-    }
-
-    fn ask_add(&mut self, pinned: Pinned) -> PortReply
-        requires { pinned.front.events ≡ self.old.database.events }
-        ensures { (seen : FrontValue) → HasAskedPorts A.next seen (PortRequest.AddPin pinned) self.old self.new result }
-    {
-        let added = self.add(&pinned);
-        PortReply::AddPin(pinned, added)
-    }
-
-    fn ask_unpin(&mut self, stamp: Stamp) -> PortReply
-        ensures { (seen : FrontValue) → HasAskedPorts A.next seen (PortRequest.Unpin stamp) self.old self.new result }
-    {
-        let unpinned = self.unpin(stamp);
-        PortReply::Unpin(unpinned)
-    }
-
-    // A node that refuses has nothing.
-    fn ask_lookup(
-        &mut self,
-        alloc: Global,
-        node: usize,
-        key: &Key,
-        lo: Stamp,
-        hi: Stamp,
-    ) -> PortReply
-        ensures { (seen : FrontValue) → HasAskedPorts A.next seen (PortRequest.Lookup node key.now lo hi)
-            self.old self.new result }
-    {
-        let _node = node;
-        PortReply::Lookup(self.node.lookup(alloc, 0, key, lo, hi).unwrap_or(None))
-    }
-
-    fn ask_query(&mut self, alloc: Global, query: &Query, stamp: Stamp) -> PortReply
-        ensures { (seen : FrontValue) → HasAskedPorts A.next seen (PortRequest.Query query.now stamp)
-            self.old self.new result }
-    {
-        let found = self.find(alloc, query, stamp);
-        PortReply::Query(found)
-    }
-
-    fn ask_insert(
-        &mut self,
-        alloc: Global,
-        node: usize,
-        entry: Entry,
-        seen: &HistoryFront,
-    ) -> PortReply
-        requires row { seen.now.events ≡ self.old.database.events }
-        requires is_true { IsTrueIn A.next seen.now.history entry }
-        ensures { HasAskedPorts A.next seen.now (PortRequest.Insert node entry) self.old self.new result }
-    {
-        let _node = node;
-        let kept = self.insert(alloc, entry, seen);
-        PortReply::Insert(kept)
+        self.node.lookup(alloc, 0, key, lo, hi).unwrap_or(None)
     }
 
     /// Asks what a transaction asks. It has seen that much of the history.
@@ -445,12 +392,19 @@ impl<A: App> Ports<A> {
         ensures { HasAskedPorts A.next seen.now request self.old self.new result }
     {
         match request {
-            PortRequest::Pin { now, at_least } => self.ask_pin(alloc, now, at_least),
-            PortRequest::AddPin(pinned) => self.ask_add(pinned),
-            PortRequest::Unpin(stamp) => self.ask_unpin(stamp),
-            PortRequest::Lookup { node, key, lo, hi } => self.ask_lookup(alloc, node, &key, lo, hi),
-            PortRequest::Query { query, stamp } => self.ask_query(alloc, &query, stamp),
-            PortRequest::Insert { node, entry } => self.ask_insert(alloc, node, entry, seen),
+            PortRequest::Pin { now, at_least } => PortReply::Pin(self.pin(alloc, now, at_least)),
+            PortRequest::AddPin(pinned) => {
+                let added = self.add(&pinned);
+                PortReply::AddPin(pinned, added)
+            }
+            PortRequest::Unpin(stamp) => PortReply::Unpin(self.unpin(stamp)),
+            PortRequest::Lookup { key, lo, hi, .. } => {
+                PortReply::Lookup(self.lookup(alloc, &key, lo, hi))
+            }
+            PortRequest::Query { query, stamp } => {
+                PortReply::Query(self.find(alloc, &query, stamp))
+            }
+            PortRequest::Insert { entry, .. } => PortReply::Insert(self.insert(alloc, entry, seen)),
         }
     }
 }
