@@ -1,13 +1,12 @@
 //! What a caller does in an open call, and how the call stands after it.
-ghost use Rattle.std.specs.Prelude.{◌≡◌, ◌++◌, ◌∷◌, [], List, Ok, Some};
+ghost use Rattle.std.specs.Prelude.{◌≡◌, ◌++◌, ◌∷◌, [], IfOk, List, Ok, Some};
 ghost use Rattle.txc_app.specs.Eval.{Next};
 ghost use Rattle.txc_tags.specs.Keys.{Call};
 ghost use Rattle.txc_ports.specs.declared.recorded.Recorded.{Recorded};
 ghost use Rattle.txc_txn.specs.Core.{left_pin, open_call, IsIdle};
 ghost use Rattle.txc_txn.specs.Kept.{TxnValue};
-ghost use Rattle.txc_shared.specs.Nodes.{NodeValue};
 ghost use Rattle.txc_caller.specs.Acting.{ask_of, HasCallerActed, HasRoomFor, HasRoomOnceTold, IsActOf, IsAwaitingCaller, IsComputedOnMiss, IsNotComputed};
-ghost use Rattle.txc_caller.specs.Looking.{is_miss, IsLookedUp};
+ghost use Rattle.txc_caller.specs.Looking.{is_miss};
 ghost use Rattle.txc_caller.specs.Ports.{IsLetGo};
 ghost use Rattle.txc_caller.specs.declared.step.Step.TheVariants.{Compute};
 ghost use Rattle.txc_caller.specs.Standing.{asks_next, IsKeptBack, IsStanding, KeepsOn};
@@ -20,8 +19,8 @@ use crate::frames::{Around, Frames, OpenCall};
 use crate::ports::Ports;
 use crate::stand::Stand;
 use crate::step::{CallerError, Step};
-use std::alloc::Global;
-use txc_app::{Answer, App, Ask, Bytes};
+use std::alloc::{AllocError, Global};
+use txc_app::{Answer, App, Ask};
 use txc_node::Value;
 use txc_ports::{PortReply, TxnError};
 use txc_registry::Suppliable;
@@ -63,33 +62,15 @@ fn stays(frames: Frames, answer: Answer, kept: PortReply) -> Acted
 }
 
 // The call is open, and the caller learns why it does not go on.
-fn refused(frames: Frames, given: Option<Answer>, kept: PortReply, error: CallerError) -> Acted
-    ensures acted { (next : Next) (t : TxnValue) → IsKeptBack next t kept → open_call t.core ≡ Some frames.top
-        → IsActOf next t.core.recorded frames.top t result }
-    ensures not_computed { IsNotComputed result.step }
-{
-    Acted {
-        doing: Some(OpenCall {
-            frames,
-            given,
-            kept,
-        }),
-        step: Err(error),
-    }
-}
-
-// The same of an open call, for want of memory: all is as it was.
-fn out_of_memory(call: OpenCall) -> Acted
+fn refused(call: OpenCall, error: CallerError) -> Acted
     ensures acted { (next : Next) (t : TxnValue) → IsKeptBack next t call.kept → open_call t.core ≡ Some call.frames.top
         → IsActOf next t.core.recorded call.frames.top t result }
     ensures not_computed { IsNotComputed result.step }
 {
-    let OpenCall {
-        frames,
-        given,
-        kept,
-    } = call;
-    refused(frames, given, kept, CallerError::Memory)
+    Acted {
+        doing: Some(call),
+        step: Err(error),
+    }
 }
 
 // The call has its value.
@@ -159,23 +140,6 @@ pub(crate) fn end_call<A: App, C: Suppliable>(ports: &mut Ports<A>, txn: &mut Ru
 
 // ---- replies
 
-// Goes on with the reply that was kept back. Where the call waits again, its innermost function has this answer.
-fn feed_on<A: App, C: Suppliable>(
-    alloc: Global,
-    ports: &mut Ports<A>,
-    txn: &mut RunningTxn<A, C>,
-    frames: Frames,
-    answer: Answer,
-    kept: PortReply,
-) -> Acted
-    requires { IsAwaitingCaller A.next ports.old txn.old frames.top kept }
-    ensures acted { HasCallerActed A.next ports.old ports.new txn.old txn.new frames.top result }
-    ensures not_computed { IsNotComputed result.step }
-{
-    let stand = feed(alloc, ports, txn, kept);
-    standing(stand, frames, answer)
-}
-
 // Goes on with the reply that was kept back, with which the call ends. One that would wait again is given up.
 fn feed_to_end<A: App, C: Suppliable>(
     alloc: Global,
@@ -222,71 +186,8 @@ fn answered<A: App, C: Suppliable>(
     }
 }
 
-// The outermost call was looked up: a hit is its value.
-fn first_reply<A: App, C: Suppliable>(
-    alloc: Global,
-    ports: &mut Ports<A>,
-    txn: &mut RunningTxn<A, C>,
-    frames: Frames,
-    kept: PortReply,
-) -> Acted
-    requires { IsAwaitingCaller A.next ports.old txn.old frames.top kept }
-    ensures acted { HasCallerActed A.next ports.old ports.new txn.old txn.new frames.top result }
-    ensures on_miss { (before : NodeValue) → IsLookedUp txn.old.core before ports.old.node kept
-        → IsComputedOnMiss txn.new.core before ports.new.node result.step }
-{
-    let reply = counted(kept, txn.core().members());
-    if is_miss(&reply) {
-        return computing(frames, reply);
-    }
-    feed_to_end(alloc, ports, txn, &frames, reply)
-}
-
-// A call of the innermost function was looked up: a hit is its answer.
-fn inner_reply<A: App, C: Suppliable>(
-    alloc: Global,
-    ports: &mut Ports<A>,
-    txn: &mut RunningTxn<A, C>,
-    frames: Frames,
-    kept: PortReply,
-    key: Key,
-) -> Acted
-    requires waits { IsAwaitingCaller A.next ports.old txn.old frames.top kept }
-    requires room { HasRoomFor (Awaited.Hit key) frames }
-    ensures acted { HasCallerActed A.next ports.old ports.new txn.old txn.new frames.top result }
-    ensures on_miss { (before : NodeValue) → IsLookedUp txn.old.core before ports.old.node kept
-        → IsComputedOnMiss txn.new.core before ports.new.node result.step }
-{
-    let reply = counted(kept, txn.core().members());
-    if is_miss(&reply) {
-        return computing(frames.enter(key), reply);
-    }
-    answered(alloc, ports, txn, frames, reply)
-}
-
-// The reply has come that the call waited for.
-fn replied<A: App, C: Suppliable>(
-    alloc: Global,
-    ports: &mut Ports<A>,
-    txn: &mut RunningTxn<A, C>,
-    frames: Frames,
-    kept: PortReply,
-    awaited: Awaited,
-) -> Acted
-    requires waits { IsAwaitingCaller A.next ports.old txn.old frames.top kept }
-    requires room { HasRoomFor awaited frames }
-    ensures acted { HasCallerActed A.next ports.old ports.new txn.old txn.new frames.top result }
-    ensures on_miss { (before : NodeValue) → IsLookedUp txn.old.core before ports.old.node kept
-        → IsComputedOnMiss txn.new.core before ports.new.node result.step }
-{
-    match awaited {
-        Awaited::Hit(key) => inner_reply(alloc, ports, txn, frames, kept, key),
-        Awaited::Rows => answered(alloc, ports, txn, frames, kept),
-        Awaited::Kept => feed_to_end(alloc, ports, txn, &frames, kept),
-    }
-}
-
-// Goes on with the reply that was kept back, up to the one that the call waits for.
+// Goes on with the reply that was kept back, up to the one that the call waits for. Of a call of the innermost function
+// that was looked up, a hit is its answer.
 fn wait_for<A: App, C: Suppliable>(
     alloc: Global,
     ports: &mut Ports<A>,
@@ -301,13 +202,23 @@ fn wait_for<A: App, C: Suppliable>(
     ensures on_miss { IsComputedOnMiss txn.new.core ports.old.node ports.new.node result.step }
 {
     match feed(alloc, ports, txn, kept) {
-        Stand::Kept(reply) => replied(alloc, ports, txn, frames, reply, awaited),
+        Stand::Kept(reply) => match awaited {
+            Awaited::Hit(key) => {
+                let reply = counted(reply, txn.core().members());
+                if is_miss(&reply) {
+                    return computing(frames.enter(key), reply);
+                }
+                answered(alloc, ports, txn, frames, reply)
+            }
+            Awaited::Rows => answered(alloc, ports, txn, frames, reply),
+            Awaited::Kept => feed_to_end(alloc, ports, txn, &frames, reply),
+        },
         Stand::Value(value) => valued(value),
         Stand::Refused(error) => ended(error),
     }
 }
 
-/// The outermost call begins.
+/// The outermost call begins. Where it was looked up, a hit is its value.
 pub(crate) fn call_first<A: App, C: Suppliable>(
     alloc: Global,
     ports: &mut Ports<A>,
@@ -322,7 +233,13 @@ pub(crate) fn call_first<A: App, C: Suppliable>(
 {
     let frames = Frames::of(alloc, &key);
     match start(alloc, ports, txn, key) {
-        Stand::Kept(kept) => first_reply(alloc, ports, txn, frames, kept),
+        Stand::Kept(kept) => {
+            let reply = counted(kept, txn.core().members());
+            if is_miss(&reply) {
+                return computing(frames, reply);
+            }
+            feed_to_end(alloc, ports, txn, &frames, reply)
+        }
         Stand::Value(value) => valued(value),
         Stand::Refused(error) => ended(error),
     }
@@ -330,31 +247,9 @@ pub(crate) fn call_first<A: App, C: Suppliable>(
 
 // ---- what the innermost function does
 
-// An inner function is done with this value, which is the next answer of the one around it. One that depends on a row is
-// kept at the node first. Of another nothing is fed: its object is done at once, and then the one around it goes on
-// in the same step.
-fn close<A: App, C: Suppliable>(
-    alloc: Global,
-    ports: &mut Ports<A>,
-    txn: &mut RunningTxn<A, C>,
-    around: Around,
-    kept: PortReply,
-    value: Value,
-) -> Acted
-    requires { IsAwaitingCaller A.next ports.old txn.old around.frames.top kept }
-    ensures acted { HasCallerActed A.next ports.old ports.new txn.old txn.new around.frames.top result }
-    ensures not_computed { IsNotComputed result.step }
-{
-    let Around { frames, is_reached } = around;
-    let answer = Answer::Value(value);
-    if !is_reached {
-        return stays(frames, answer, kept);
-    }
-    feed_on(alloc, ports, txn, frames, answer, kept)
-}
-
-// The innermost function gives these bytes. A call whose value is too long is refused. The value of the outermost is kept
-// at the node first where it depends on a row.
+// The innermost function gives these bytes. A call whose value is too long is refused. The value is the next answer of the
+// function around it, or of the outermost call. One that depends on a row is kept at the node first. Of an inner one that
+// depends on none nothing is fed: its object is done at once, and then the one around it goes on in the same step.
 fn give<A: App, C: Suppliable>(
     alloc: Global,
     ports: &mut Ports<A>,
@@ -371,28 +266,16 @@ fn give<A: App, C: Suppliable>(
         return feed_to_end(alloc, ports, txn, &frames, kept);
     };
     match frames.leave() {
-        Ok(around) => close(alloc, ports, txn, around, kept, value),
+        Ok(around) => {
+            let Around { frames, is_reached } = around;
+            let answer = Answer::Value(value);
+            if !is_reached {
+                return stays(frames, answer, kept);
+            }
+            let stand = feed(alloc, ports, txn, kept);
+            standing(stand, frames, answer)
+        }
         Err(outermost) => wait_for(alloc, ports, txn, outermost, kept, Awaited::Kept),
-    }
-}
-
-// The object of the innermost function was given what that does.
-fn go_on<A: App, C: Suppliable>(
-    alloc: Global,
-    ports: &mut Ports<A>,
-    txn: &mut RunningTxn<A, C>,
-    frames: Frames,
-    kept: PortReply,
-    told: Told,
-) -> Acted
-    requires waits { IsAwaitingCaller A.next ports.old txn.old frames.top kept }
-    requires room { HasRoomOnceTold told frames }
-    ensures acted { HasCallerActed A.next ports.old ports.new txn.old txn.new frames.top result }
-    ensures on_miss { IsComputedOnMiss txn.new.core ports.old.node ports.new.node result.step }
-{
-    match told {
-        Told::Waits(awaited) => wait_for(alloc, ports, txn, frames, kept, awaited),
-        Told::Gives(bytes) => give(alloc, ports, txn, frames, kept, bytes),
     }
 }
 
@@ -417,62 +300,40 @@ fn hand_over<A: App, C: Suppliable>(
         kept,
     } = call;
     match supply(alloc, txn, &frames.inner.key, given, ask) {
-        Ok(()) => go_on(alloc, ports, txn, frames, kept, told),
-        Err(error) => refused(frames, None, kept, error),
+        Ok(()) => match told {
+            Told::Waits(awaited) => wait_for(alloc, ports, txn, frames, kept, awaited),
+            Told::Gives(bytes) => give(alloc, ports, txn, frames, kept, bytes),
+        },
+        Err(error) => {
+            let call = OpenCall {
+                frames,
+                given: None,
+                kept,
+            };
+            refused(call, error)
+        }
     }
 }
 
-// The innermost function asks for the value of another call.
-fn call_inside<A: App, C: Suppliable>(
-    alloc: Global,
-    ports: &mut Ports<A>,
-    txn: &mut RunningTxn<A, C>,
-    call: OpenCall,
-    key: Key,
-) -> Acted
-    requires asks { asks_next A.next txn.old.objects call.frames.inner.key call.given ≡ Some (Ask.Call key) }
-    requires waits { IsAwaitingCaller A.next ports.old txn.old call.frames.top call.kept }
-    ensures acted { HasCallerActed A.next ports.old ports.new txn.old txn.new call.frames.top result }
-    ensures on_miss { IsComputedOnMiss txn.new.core ports.old.node ports.new.node result.step }
+// What the innermost function asks that does so, and what comes of it. There is room then for a call that it asks for.
+fn asked_by(alloc: Global, frames: &mut Frames, act: Act) -> Result<(Ask, Told), AllocError>
+    ensures ask { IfOk result (λ it. it.0 ≡ ask_of act) }
+    ensures room { IfOk result (λ it. HasRoomOnceTold it.1 frames.new) }
+    ensures top { frames.new.top ≡ frames.old.top }
+    ensures inner { frames.new.inner ≡ frames.old.inner }
 {
-    let OpenCall {
-        mut frames,
-        given,
-        kept,
-    } = call;
-    let Ok(()) = frames.make_room() else {
-        return out_of_memory(OpenCall {
-            frames,
-            given,
-            kept,
-        });
-    };
-    let call = OpenCall {
-        frames,
-        given,
-        kept,
-    };
-    let told = Told::Waits(Awaited::Hit(key.copy()));
-    hand_over(alloc, ports, txn, call, Ask::Call(key), told)
-}
-
-// The innermost function is done, with these bytes.
-fn finish_inside<A: App, C: Suppliable>(
-    alloc: Global,
-    ports: &mut Ports<A>,
-    txn: &mut RunningTxn<A, C>,
-    call: OpenCall,
-    bytes: Bytes,
-) -> Acted
-    requires asks { asks_next A.next txn.old.objects call.frames.inner.key call.given ≡ Some (Ask.Done bytes) }
-    requires waits { IsAwaitingCaller A.next ports.old txn.old call.frames.top call.kept }
-    ensures acted { HasCallerActed A.next ports.old ports.new txn.old txn.new call.frames.top result }
-    ensures on_miss { IsComputedOnMiss txn.new.core ports.old.node ports.new.node result.step }
-{
-    let Ok(copy) = Vec::from_slice(alloc, bytes.as_slice()) else {
-        return out_of_memory(call);
-    };
-    hand_over(alloc, ports, txn, call, Ask::Done(bytes), Told::Gives(copy))
+    match act {
+        Act::Call(key) => {
+            frames.make_room()?;
+            let awaited = Awaited::Hit(key.copy());
+            Ok((Ask::Call(key), Told::Waits(awaited)))
+        }
+        Act::Query(query) => Ok((Ask::Query(query), Told::Waits(Awaited::Rows))),
+        Act::Finish(bytes) => {
+            let copy = Vec::from_slice(alloc, bytes.as_slice())?;
+            Ok((Ask::Done(bytes), Told::Gives(copy)))
+        }
+    }
 }
 
 /// What the innermost function does.
@@ -488,12 +349,12 @@ pub(crate) fn act_inside<A: App, C: Suppliable>(
     ensures acted { HasCallerActed A.next ports.old ports.new txn.old txn.new call.frames.top result }
     ensures on_miss { IsComputedOnMiss txn.new.core ports.old.node ports.new.node result.step }
 {
-    match act {
-        Act::Call(key) => call_inside(alloc, ports, txn, call, key),
-        Act::Query(query) => {
-            let told = Told::Waits(Awaited::Rows);
-            hand_over(alloc, ports, txn, call, Ask::Query(query), told)
+    let mut call = call;
+    match asked_by(alloc, &mut call.frames, act) {
+        Ok(asked) => {
+            let (ask, told) = asked;
+            hand_over(alloc, ports, txn, call, ask, told)
         }
-        Act::Finish(bytes) => finish_inside(alloc, ports, txn, call, bytes),
+        Err(_) => refused(call, CallerError::Memory),
     }
 }

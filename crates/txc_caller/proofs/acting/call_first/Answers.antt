@@ -1,23 +1,52 @@
-use Rattle.std.proofs.Common.{subst}
+use Rattle.std.proofs.Common.{◌≡◌, ◌∙◌, List, None, ap, subst, sym}
 use Rattle.txc_tags.specs.Keys.{Call}
-use Rattle.txc_caller.specs.Acting.{HasCallerActed}
-use Rattle.txc_caller.specs.Standing.{IsStanding}
+use Rattle.txc_cushion.specs.declared.pin.Pin.{Pin}
+use Rattle.txc_ports.specs.declared.reply.PortReply.TheVariants.{Lookup}
+use Rattle.txc_txn.specs.Core.{CoreValue}
+use Rattle.txc_caller.specs.Acting.{HasCallerActed, IsActOf, IsAwaitingCaller}
+use Rattle.txc_caller.specs.Given.{counted_reply}
+use Rattle.txc_caller.specs.Standing.{IsKeptBack, IsStanding}
 use Rattle.txc_caller.specs.declared.stand.Stand.{Stand}
-use Rattle.txc_caller.proofs.Acts.{acted_then, waits_as, waits_then}
-use Rattle.txc_caller.proofs.Looking.{looked_up_kept, not_computed}
+use Rattle.txc_caller.proofs.Acts.{acted_self, acted_then, waits_as, waits_for, waits_then}
+use Rattle.txc_caller.proofs.Looking.{looked_up_kept, miss_is, missed, not_computed, on_miss}
+use Rattle.txc_caller.proofs.Turning.{kept_counted}
 use Rattle.txc_caller.proofs.acting.call_first.Goals as goal
 
-pub first_reply-requires : goal.first_reply-requires
-first_reply-requires g c =
+pub returns-then-is_miss-clause-acted : goal.returns-then-is_miss-clause-acted
+returns-then-is_miss-clause-acted g c =
+    let waits : IsAwaitingCaller g.A.App.next c.start.new.ports c.start.new.txn c.of-frames.result.top c.in-Kept.kept =
     waits_as g.A.App.next c.start.new.ports c.start.new.txn c.args.key c.of-frames.result.top c.in-Kept.kept c.of-frames.ensures
     (waits_then g.A.App.next c.args.ports.now c.start.new.ports c.args.txn.now c.start.new.txn c.args.key c.start.ensures.keeps c.start.ensures.events
-    c.start.result c.start.ensures.stands c.in-Kept.kept c.in-Kept.is c.requires.row c.requires.nodes)
-
-pub returns-in-Kept-clause-acted : goal.returns-in-Kept-clause-acted
-returns-in-Kept-clause-acted g c =
+    c.start.result c.start.ensures.stands c.in-Kept.kept c.in-Kept.is c.requires.row c.requires.nodes) in
     acted_then g.A.App.next c.args.ports.now c.start.new.ports c.args.txn.now c.start.new.txn c.args.key c.start.ensures.keeps c.start.ensures.events
-    c.start.result c.start.ensures.stands c.in-Kept.kept c.in-Kept.is c.first_reply.new.ports c.first_reply.new.txn c.first_reply.result
-    (subst (λ (k : Call). HasCallerActed g.A.App.next c.start.new.ports c.first_reply.new.ports c.start.new.txn c.first_reply.new.txn k c.first_reply.result) c.of-frames.ensures c.first_reply.ensures.acted)
+    c.start.result c.start.ensures.stands c.in-Kept.kept c.in-Kept.is c.start.new.ports c.start.new.txn c.computing.result
+    (acted_self g.A.App.next c.start.new.ports c.start.new.txn c.args.key c.computing.result
+    (subst (λ (k : Call). IsActOf g.A.App.next c.start.new.txn.core.recorded k c.start.new.txn c.computing.result) c.of-frames.ensures
+    (c.computing.ensures.acted g.A.App.next c.start.new.txn (subst (IsKeptBack g.A.App.next c.start.new.txn) (sym c.counted-reply.ensures) (kept_counted g.A.App.next c.start.new.txn c.members.result.now c.in-Kept.kept waits.kept)) waits.top)))
+
+pub returns-then-is_miss-clause-on_miss : goal.returns-then-is_miss-clause-on_miss
+returns-then-is_miss-clause-on_miss g c =
+    let core = c.start.new.txn.core in
+    let looked = looked_up_kept core c.args.ports.now.node c.start.new.ports.node c.start.result c.in-Kept.kept c.in-Kept.is c.start.ensures.looked_up in
+    let members : c.members.result.now ≡ core.pins.members = c.members.ensures ∙ ap (λ (w : CoreValue). w.pins.members) c.core.ensures in
+    let none : counted_reply core.pins.members c.in-Kept.kept ≡ Lookup None =
+    subst (λ (ms : List Pin). counted_reply ms c.in-Kept.kept ≡ Lookup None) members (sym c.counted-reply.ensures ∙ miss_is c.counted-reply.result (sym c.is_miss.ensures ∙ c.if-is_miss.true)) in
+    on_miss core c.args.ports.now.node c.start.new.ports.node c.computing.result.step c.computing.ensures.step (missed core c.args.ports.now.node c.start.new.ports.node c.in-Kept.kept looked none)
+
+pub feed_to_end-requires : goal.feed_to_end-requires
+feed_to_end-requires g c =
+    let waits : IsAwaitingCaller g.A.App.next c.start.new.ports c.start.new.txn c.of-frames.result.top c.in-Kept.kept =
+    waits_as g.A.App.next c.start.new.ports c.start.new.txn c.args.key c.of-frames.result.top c.in-Kept.kept c.of-frames.ensures
+    (waits_then g.A.App.next c.args.ports.now c.start.new.ports c.args.txn.now c.start.new.txn c.args.key c.start.ensures.keeps c.start.ensures.events
+    c.start.result c.start.ensures.stands c.in-Kept.kept c.in-Kept.is c.requires.row c.requires.nodes) in
+    waits_for g.A.App.next c.start.new.ports c.start.new.txn c.of-frames.result.top c.in-Kept.kept c.counted-reply.result waits
+    (subst (IsKeptBack g.A.App.next c.start.new.txn) (sym c.counted-reply.ensures) (kept_counted g.A.App.next c.start.new.txn c.members.result.now c.in-Kept.kept waits.kept))
+
+pub returns-else-is_miss-clause-acted : goal.returns-else-is_miss-clause-acted
+returns-else-is_miss-clause-acted g c =
+    acted_then g.A.App.next c.args.ports.now c.start.new.ports c.args.txn.now c.start.new.txn c.args.key c.start.ensures.keeps c.start.ensures.events
+    c.start.result c.start.ensures.stands c.in-Kept.kept c.in-Kept.is c.feed_to_end.new.ports c.feed_to_end.new.txn c.feed_to_end.result
+    (subst (λ (k : Call). HasCallerActed g.A.App.next c.start.new.ports c.feed_to_end.new.ports c.start.new.txn c.feed_to_end.new.txn k c.feed_to_end.result) c.of-frames.ensures c.feed_to_end.ensures.acted)
 
 pub returns-in-Value-clause-acted : goal.returns-in-Value-clause-acted
 returns-in-Value-clause-acted g c =
@@ -37,10 +66,9 @@ returns-in-Refused-clause-acted g c =
       events = c.start.ensures.events;
     }
 
-pub returns-in-Kept-clause-on_miss : goal.returns-in-Kept-clause-on_miss
-returns-in-Kept-clause-on_miss g c =
-    c.first_reply.ensures.on_miss c.args.ports.now.node
-    (looked_up_kept c.start.new.txn.core c.args.ports.now.node c.start.new.ports.node c.start.result c.in-Kept.kept c.in-Kept.is c.start.ensures.looked_up)
+pub returns-else-is_miss-clause-on_miss : goal.returns-else-is_miss-clause-on_miss
+returns-else-is_miss-clause-on_miss g c =
+    not_computed c.feed_to_end.new.txn.core c.args.ports.now.node c.feed_to_end.new.ports.node c.feed_to_end.result.step c.feed_to_end.ensures.not_computed
 
 pub returns-in-Value-clause-on_miss : goal.returns-in-Value-clause-on_miss
 returns-in-Value-clause-on_miss g c = not_computed c.start.new.txn.core c.args.ports.now.node c.start.new.ports.node c.valued.result.step c.valued.ensures.not_computed
