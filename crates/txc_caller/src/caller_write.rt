@@ -76,7 +76,7 @@ impl<A: App, C: Suppliable> Caller<A, C> {
     pub fn begin_write(self, alloc: Global) -> CallerWrite<A, C>
         ensures { IsBegunWrite self (newest self.ports.database) result }
     {
-        let base = self.newest();
+        let base = self.ports.database.newest();
         self.begin_over(alloc, base)
     }
 
@@ -92,7 +92,7 @@ impl<A: App, C: Suppliable> Caller<A, C> {
         ensures refused { IfErr result (λ back. IsBaseRefused self.ports.database base back.0) }
         ensures handed_back { IfErr result (λ back. back.1 ≡ self) }
     {
-        match self.check_base(base) {
+        match self.ports.database.check_base(base) {
             Ok(_) => Ok(self.begin_over(alloc, base)),
             Err(error) => Err((error, self)),
         }
@@ -109,7 +109,7 @@ impl<A: App, C: Suppliable> CallerWrite<A, C> {
         ensures refused { IfErr result (IsQueryRefused self.old.caller.ports.database query.now self.old.base) }
         ensures unchanged { OnErr result (self.new ≡ self.old) }
     {
-        let found = self.caller.rows_at(alloc, query, self.base)?;
+        let found = self.caller.ports.rows_at(alloc, query, self.base)?;
         self.read.join(&found.tags)?;
         self.given = Some(Answer::Rows(Rows::new(found.rows)));
         Ok(())
@@ -224,7 +224,8 @@ impl<A: App, C: Suppliable> CallerWrite<A, C> {
         let base = self.base;
         let stamp = self
             .caller
-            .commit_at(alloc, base, &self.read, &self.changes)?;
+            .ports
+            .commit(alloc, base, &self.read, &self.changes)?;
         let _has_all = self.caller.take_events(alloc);
         Ok(stamp)
     }

@@ -1,10 +1,9 @@
 //! The plain ports of a caller, for one thread.
-ghost use Rattle.std.specs.Prelude.{◌≡◌, ◌≤◌, ◌↔◌, ◌∷◌, [], true, false, All, IfErr, IfOk, IfSome, IsOk, OnErr, OnOk, length};
+ghost use Rattle.std.specs.Prelude.{◌≡◌, ◌≤◌, ◌∷◌, [], true, false, All, IfErr, IfOk, IfSome, IsOk, OnErr, OnOk, length};
 ghost use Rattle.txc_app.specs.Claims.{IsTrueIn, entry_shown};
 ghost use Rattle.txc_cushion.specs.Cushion.{after_fresh, after_retire, handed_out, retired};
-ghost use Rattle.txc_db.specs.Calls.{IsAnswerable, IsBase, IsCommitRefused, IsCommittable, IsLeft, IsQueryRefused, IsVacuumRefused};
+ghost use Rattle.txc_db.specs.Calls.{IsAnswerable, IsCommitRefused, IsCommittable, IsLeft, IsQueryRefused, IsVacuumRefused};
 ghost use Rattle.txc_db.specs.DatabaseValue.{after_commit, after_vacuum, front_of, newest, next_horizon};
-ghost use Rattle.txc_db.specs.Steps.{IsBaseRefused};
 ghost use Rattle.txc_rows.specs.RowTags.{query_tag};
 ghost use Rattle.txc_db.specs.History.{state_at, IsAllowed};
 ghost use Rattle.txc_rows.specs.States.{answer};
@@ -89,21 +88,6 @@ impl<A: App> Ports<A> {
         let answer = self.database.query(alloc, query, stamp)?;
         let front = self.database.front()?;
         Ok(Answered { answer, front })
-    }
-
-    /// The newest stamp.
-    pub(crate) fn newest(&self) -> Stamp
-        ensures { result ≡ newest self.now.database }
-    {
-        self.database.newest()
-    }
-
-    /// Refuses a stamp at which no commit may have its base.
-    pub(crate) fn check_base(&self, base: Stamp) -> Result<Stamp, DbError>
-        ensures only_if { IsOk result ↔ IsBase self.now.database base }
-        ensures refused { IfErr result (IsBaseRefused self.now.database base) }
-    {
-        self.database.check_base(base)
     }
 
     /// The rows that the query gives at the stamp, with its tag.
