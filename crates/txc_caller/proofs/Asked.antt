@@ -14,8 +14,8 @@ use Rattle.txc_db.specs.Seen.{FrontValue}
 use Rattle.txc_node.specs.declared.entry.Entry.{Entry}
 use Rattle.txc_node.specs.declared.hit.Shown.{Shown}
 use Rattle.txc_node.specs.declared.op.Op.{Op}
-use Rattle.txc_node.specs.Cache.{lookup_answer}
-use Rattle.txc_node.specs.declared.op.Op.TheVariants.{Insert, Lookup}
+use Rattle.txc_node.specs.Cache.{lookup_answer, swept_count}
+use Rattle.txc_node.specs.declared.op.Op.TheVariants.{Insert, Lookup, Sweep}
 use Rattle.txc_cushion.specs.declared.error.AddError.{AddError}
 use Rattle.txc_app.specs.Claims.{IsTrueIn, entry_shown}
 use Rattle.txc_app.specs.Eval.{Next}
@@ -27,7 +27,7 @@ use Rattle.txc_ports.specs.declared.kept.Kept.{Kept}
 use Rattle.txc_ports.specs.declared.request.PortRequest.TheVariants as requests
 use Rattle.txc_ports.specs.declared.reply.PortReply.TheVariants as replies
 use Rattle.txc_caller.proofs.Acts.{for_none, for_this}
-use Rattle.txc_caller.specs.Ports.{CallerPorts, AreCallerPorts, CallerAddTransition, CallerFindTransition, HasAskedPorts, CallerInsertTransition, KeepsNode, CallerLookupTransition, CallerPinTransition, CallerUnpinTransition}
+use Rattle.txc_caller.specs.Ports.{CallerPorts, AreCallerPorts, CallerAddTransition, CallerFindTransition, HasAskedPorts, CallerInsertTransition, KeepsNode, CallerLookupTransition, CallerPinTransition, CallerSweepTransition, CallerUnpinTransition}
 
 -- ---- the node
 
@@ -88,6 +88,16 @@ node_left old new errors.EmptyRange may same = node_same old new same
 node_left old new errors.HistoryFull may same = node_same old new same
 node_left old new errors.PassesFull may same = node_same old new same
 node_left old new errors.Memory may same = node_same old new same
+
+-- a sweep, by what it returns
+pub swept : (old new : NodeValue) (horizon : ℕ) (r : Result ℕ NodeError) → OnOk r (new ≡ after_call old 0 (Sweep horizon)) → IfOk r (λ count. count ≡ swept_count old.cache horizon)
+    → IfErr r (IsStepRefused old) → IfErr r (IsNodeLeft old new) → CallerSweepTransition horizon old new r
+swept old new horizon (Ok count) after answer refused left = (after, answer)
+swept old new horizon (Err e) after answer refused left = (refused, left)
+
+pub node_swept : (old new : NodeValue) (horizon : ℕ) (r : Result ℕ NodeError) → CallerSweepTransition horizon old new r → KeepsNode old new
+node_swept old new horizon (Ok count) leads = node_after old new (Sweep horizon) leads.0
+node_swept old new horizon (Err e) leads = node_left old new e (step_breaks old e leads.0) leads.1
 
 pub node_looked_up : (old new : NodeValue) (key : Call) (lo hi : ℕ) (hit : Option (Answered Shown)) → CallerLookupTransition key lo hi old new hit → KeepsNode old new
 node_looked_up old new key lo hi (Some hit) leads = node_after old new (Lookup key lo hi) leads.0

@@ -1,7 +1,7 @@
 //! The plain ports of a caller, for one thread.
 ghost use Rattle.std.specs.Prelude.{◌≡◌, ◌≤◌, ◌∷◌, [], true, false, All, IfErr, IfOk, IfSome, IsOk, OnErr, OnOk, length};
 ghost use Rattle.txc_app.specs.Claims.{IsTrueIn, entry_shown};
-ghost use Rattle.txc_cushion.specs.Cushion.{after_fresh, after_retire, handed_out, retired};
+ghost use Rattle.txc_cushion.specs.Cushion.{after_fresh, handed_out, retired};
 ghost use Rattle.txc_db.specs.Calls.{IsAnswerable, IsCommitRefused, IsCommittable, IsLeft, IsQueryRefused, IsVacuumRefused};
 ghost use Rattle.txc_db.specs.DatabaseValue.{after_commit, after_vacuum, front_of, newest, next_horizon};
 ghost use Rattle.txc_rows.specs.RowTags.{query_tag};
@@ -217,17 +217,6 @@ impl<A: App> Ports<A> {
         }
     }
 
-    // Takes the pins out that no transaction uses and that are more than `age` before `now`.
-    fn retire_pins(&mut self, alloc: Global, now: u64, age: u64) -> Result<Vec<Stamp>, AllocError>
-        ensures after { OnOk result (self.new
-            ≡ record self.old { cushion = after_retire self.old.cushion now age }) }
-        ensures answer { IfOk result (λ stamps. stamps.items ≡ retired self.old.cushion now age) }
-        ensures unchanged { OnErr result (self.new ≡ self.old) }
-    {
-        let stamps = self.cushion.retire(alloc, now, age)?;
-        Ok(stamps)
-    }
-
     // Takes a hold of each of the stamps away.
     fn let_each_go(&mut self, stamps: &[Stamp])
         ensures unpinned { AreLetGo stamps.now self.old.database self.new.database }
@@ -245,7 +234,7 @@ impl<A: App> Ports<A> {
         ensures answer { IfOk result (λ count. count ≡ length (retired self.old.cushion now age)) }
         ensures unchanged { OnErr result (self.new ≡ self.old) }
     {
-        let stamps = self.retire_pins(alloc, now, age)?;
+        let stamps = self.cushion.retire(alloc, now, age)?;
         self.let_each_go(&stamps);
         Ok(stamps.len())
     }
@@ -283,7 +272,7 @@ impl<A: App> Ports<A> {
         ensures leads { CallerSweepTransition horizon self.old.node self.new.node result }
         ensures same { self.new ≡ record self.old { node = self.new.node } }
     {
-        nodes::sweep(alloc, &mut self.node, horizon)
+        self.node.sweep(alloc, 0, horizon)
     }
 
     /// An empty database with room for so many events, or that stores none where no number is given; an empty pincushion and
