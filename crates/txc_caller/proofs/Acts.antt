@@ -87,10 +87,6 @@ module _ (next : Next) (ports : CallerPorts) (t : TxnValue) (k : Call) where
   pub acted_self : (acted : Acted) → IsActOf next t.core.recorded k t acted → HasCallerActed next ports ports t t k acted
   acted_self acted h = record { acted = h; keeps = keeps_self t; events = refl }
 
-  -- another reply is kept back, which is one to what is asked too
-  pub waits_for : (reply other : PortReply) → IsAwaitingCaller next ports t k reply → IsKeptBack next t other → IsAwaitingCaller next ports t k other
-  waits_for reply other waits kept = record { kept = kept; top = waits.top; row = waits.row; nodes = waits.nodes }
-
   -- the call has another name
   pub waits_as : (j : Call) (reply : PortReply) → j ≡ k → IsAwaitingCaller next ports t k reply → IsAwaitingCaller next ports t j reply
   waits_as j reply is waits = subst (λ (i : Call). IsAwaitingCaller next ports t i reply) (sym is) waits

@@ -1,19 +1,18 @@
 //! What a caller does in an open call, and how the call stands after it.
-ghost use Rattle.std.specs.Prelude.{◌≡◌, ◌++◌, ◌∷◌, [], IfOk, List, Ok, Some};
+ghost use Rattle.std.specs.Prelude.{◌≡◌, ◌++◌, ◌∷◌, [], IfOk, List, None, Ok, Some};
 ghost use Rattle.txc_app.specs.Eval.{Next};
 ghost use Rattle.txc_tags.specs.Keys.{Call};
 ghost use Rattle.txc_ports.specs.declared.recorded.Recorded.{Recorded};
 ghost use Rattle.txc_txn.specs.Core.{left_pin, open_call, IsIdle};
 ghost use Rattle.txc_txn.specs.Kept.{TxnValue};
 ghost use Rattle.txc_caller.specs.Acting.{ask_of, HasCallerActed, HasRoomFor, HasRoomOnceTold, IsActOf, IsAwaitingCaller, IsComputedOnMiss, IsNotComputed};
-ghost use Rattle.txc_caller.specs.Looking.{is_miss};
 ghost use Rattle.txc_caller.specs.Ports.{IsLetGo};
 ghost use Rattle.txc_caller.specs.declared.step.Step.TheVariants.{Compute};
 ghost use Rattle.txc_caller.specs.Standing.{asks_next, IsKeptBack, IsStanding, KeepsOn};
 
 use crate::act::{Act, Awaited, Told};
 use crate::acted::Acted;
-use crate::asking::{counted, given_by, supply};
+use crate::asking::{given_by, is_miss, supply};
 use crate::engine::{feed, start};
 use crate::frames::{Around, Frames, OpenCall};
 use crate::ports::Ports;
@@ -29,17 +28,17 @@ use txc_txn::RunningTxn;
 
 // ---- how a call stands
 
-// The caller is to compute the innermost function, which has asked nothing yet.
-fn computing(frames: Frames, kept: PortReply) -> Acted
-    ensures acted { (next : Next) (t : TxnValue) → IsKeptBack next t kept → open_call t.core ≡ Some frames.top
-        → IsActOf next t.core.recorded frames.top t result }
+// The caller is to compute the innermost function, which has asked nothing yet: its call was looked up, and is a miss.
+fn computing(frames: Frames) -> Acted
+    ensures acted { (next : Next) (t : TxnValue) → IsKeptBack next t (PortReply.Lookup None)
+        → open_call t.core ≡ Some frames.top → IsActOf next t.core.recorded frames.top t result }
     ensures step { result.step ≡ Ok Compute }
 {
     Acted {
         doing: Some(OpenCall {
             frames,
             given: None,
-            kept,
+            kept: PortReply::Lookup(None),
         }),
         step: Ok(Step::Compute),
     }
@@ -62,13 +61,17 @@ fn stays(frames: Frames, answer: Answer, kept: PortReply) -> Acted
 }
 
 // The call is open, and the caller learns why it does not go on.
-fn refused(call: OpenCall, error: CallerError) -> Acted
-    ensures acted { (next : Next) (t : TxnValue) → IsKeptBack next t call.kept → open_call t.core ≡ Some call.frames.top
-        → IsActOf next t.core.recorded call.frames.top t result }
+fn refused(frames: Frames, given: Option<Answer>, kept: PortReply, error: CallerError) -> Acted
+    ensures acted { (next : Next) (t : TxnValue) → IsKeptBack next t kept → open_call t.core ≡ Some frames.top
+        → IsActOf next t.core.recorded frames.top t result }
     ensures not_computed { IsNotComputed result.step }
 {
     Acted {
-        doing: Some(call),
+        doing: Some(OpenCall {
+            frames,
+            given,
+            kept,
+        }),
         step: Err(error),
     }
 }
@@ -110,21 +113,6 @@ fn standing(stand: Stand, frames: Frames, answer: Answer) -> Acted
     }
 }
 
-// Whether the reply is a miss.
-fn is_miss(reply: &PortReply) -> bool
-    ensures { result ≡ is_miss reply.now }
-{
-    match reply {
-        PortReply::Lookup(None) => true,
-        PortReply::Lookup(Some(_)) => false,
-        PortReply::Pin(_) => false,
-        PortReply::AddPin(_, _) => false,
-        PortReply::Unpin(_) => false,
-        PortReply::Query(_) => false,
-        PortReply::Insert(_) => false,
-    }
-}
-
 /// Gives the open call up: its functions end.
 pub(crate) fn end_call<A: App, C: Suppliable>(ports: &mut Ports<A>, txn: &mut RunningTxn<A, C>)
     ensures idle { IsIdle txn.new.core }
@@ -145,16 +133,17 @@ fn feed_to_end<A: App, C: Suppliable>(
     alloc: Global,
     ports: &mut Ports<A>,
     txn: &mut RunningTxn<A, C>,
-    frames: &Frames,
+    frames: Frames,
     kept: PortReply,
 ) -> Acted
-    requires { IsAwaitingCaller A.next ports.old txn.old frames.now.top kept }
-    ensures acted { HasCallerActed A.next ports.old ports.new txn.old txn.new frames.now.top result }
+    requires { IsAwaitingCaller A.next ports.old txn.old frames.top kept }
+    ensures acted { HasCallerActed A.next ports.old ports.new txn.old txn.new frames.top result }
     ensures not_computed { IsNotComputed result.step }
 {
+    drop(frames);
     match feed(alloc, ports, txn, kept) {
         Stand::Kept(reply) => {
-            let _reply = reply;
+            drop(reply);
             end_call(ports, txn);
             ended(TxnError::Memory)
         }
@@ -178,8 +167,10 @@ fn answered<A: App, C: Suppliable>(
 {
     match given_by(alloc, &kept) {
         Ok(Some(answer)) => stays(frames.reach(), answer, kept),
-        Ok(None) => feed_to_end(alloc, ports, txn, &frames, kept),
+        Ok(None) => feed_to_end(alloc, ports, txn, frames, kept),
         Err(_) => {
+            drop(frames);
+            drop(kept);
             end_call(ports, txn);
             ended(TxnError::Memory)
         }
@@ -204,14 +195,14 @@ fn wait_for<A: App, C: Suppliable>(
     match feed(alloc, ports, txn, kept) {
         Stand::Kept(reply) => match awaited {
             Awaited::Hit(key) => {
-                let reply = counted(reply, txn.core().members());
-                if is_miss(&reply) {
-                    return computing(frames.enter(key), reply);
+                if is_miss(&reply, txn.core().members()) {
+                    drop(reply);
+                    return computing(frames.enter(key));
                 }
                 answered(alloc, ports, txn, frames, reply)
             }
             Awaited::Rows => answered(alloc, ports, txn, frames, reply),
-            Awaited::Kept => feed_to_end(alloc, ports, txn, &frames, reply),
+            Awaited::Kept => feed_to_end(alloc, ports, txn, frames, reply),
         },
         Stand::Value(value) => valued(value),
         Stand::Refused(error) => ended(error),
@@ -233,12 +224,12 @@ pub(crate) fn call_first<A: App, C: Suppliable>(
 {
     let frames = Frames::of(alloc, &key);
     match start(alloc, ports, txn, key) {
-        Stand::Kept(kept) => {
-            let reply = counted(kept, txn.core().members());
-            if is_miss(&reply) {
-                return computing(frames, reply);
+        Stand::Kept(reply) => {
+            if is_miss(&reply, txn.core().members()) {
+                drop(reply);
+                return computing(frames);
             }
-            feed_to_end(alloc, ports, txn, &frames, reply)
+            feed_to_end(alloc, ports, txn, frames, reply)
         }
         Stand::Value(value) => valued(value),
         Stand::Refused(error) => ended(error),
@@ -263,7 +254,7 @@ fn give<A: App, C: Suppliable>(
     ensures on_miss { IsComputedOnMiss txn.new.core ports.old.node ports.new.node result.step }
 {
     let Some(value) = Value::new(bytes) else {
-        return feed_to_end(alloc, ports, txn, &frames, kept);
+        return feed_to_end(alloc, ports, txn, frames, kept);
     };
     match frames.leave() {
         Ok(around) => {
@@ -276,42 +267,6 @@ fn give<A: App, C: Suppliable>(
             standing(stand, frames, answer)
         }
         Err(outermost) => wait_for(alloc, ports, txn, outermost, kept, Awaited::Kept),
-    }
-}
-
-// Tells the object of the innermost function what that asks, and goes on.
-fn hand_over<A: App, C: Suppliable>(
-    alloc: Global,
-    ports: &mut Ports<A>,
-    txn: &mut RunningTxn<A, C>,
-    call: OpenCall,
-    ask: Ask,
-    told: Told,
-) -> Acted
-    requires asks { asks_next A.next txn.old.objects call.frames.inner.key call.given ≡ Some ask }
-    requires waits { IsAwaitingCaller A.next ports.old txn.old call.frames.top call.kept }
-    requires room { HasRoomOnceTold told call.frames }
-    ensures acted { HasCallerActed A.next ports.old ports.new txn.old txn.new call.frames.top result }
-    ensures on_miss { IsComputedOnMiss txn.new.core ports.old.node ports.new.node result.step }
-{
-    let OpenCall {
-        frames,
-        given,
-        kept,
-    } = call;
-    match supply(alloc, txn, &frames.inner.key, given, ask) {
-        Ok(()) => match told {
-            Told::Waits(awaited) => wait_for(alloc, ports, txn, frames, kept, awaited),
-            Told::Gives(bytes) => give(alloc, ports, txn, frames, kept, bytes),
-        },
-        Err(error) => {
-            let call = OpenCall {
-                frames,
-                given: None,
-                kept,
-            };
-            refused(call, error)
-        }
     }
 }
 
@@ -336,7 +291,7 @@ fn asked_by(alloc: Global, frames: &mut Frames, act: Act) -> Result<(Ask, Told),
     }
 }
 
-/// What the innermost function does.
+/// What the innermost function does: its object is told, and the call goes on.
 pub(crate) fn act_inside<A: App, C: Suppliable>(
     alloc: Global,
     ports: &mut Ports<A>,
@@ -349,12 +304,20 @@ pub(crate) fn act_inside<A: App, C: Suppliable>(
     ensures acted { HasCallerActed A.next ports.old ports.new txn.old txn.new call.frames.top result }
     ensures on_miss { IsComputedOnMiss txn.new.core ports.old.node ports.new.node result.step }
 {
-    let mut call = call;
-    match asked_by(alloc, &mut call.frames, act) {
-        Ok(asked) => {
-            let (ask, told) = asked;
-            hand_over(alloc, ports, txn, call, ask, told)
-        }
-        Err(_) => refused(call, CallerError::Memory),
+    let OpenCall {
+        mut frames,
+        given,
+        kept,
+    } = call;
+    let Ok(asked) = asked_by(alloc, &mut frames, act) else {
+        return refused(frames, given, kept, CallerError::Memory);
+    };
+    let (ask, told) = asked;
+    match supply(alloc, txn, &frames.inner.key, given, ask) {
+        Ok(()) => match told {
+            Told::Waits(awaited) => wait_for(alloc, ports, txn, frames, kept, awaited),
+            Told::Gives(bytes) => give(alloc, ports, txn, frames, kept, bytes),
+        },
+        Err(error) => refused(frames, None, kept, error),
     }
 }

@@ -17,6 +17,7 @@ use crate::ports::Ports;
 use std::alloc::{AllocError, Global};
 use std::marker::Model;
 use txc_app::App;
+use txc_cushion::{CushionCore, Pins};
 use txc_db::DbError;
 use txc_ports::Bounds;
 use txc_registry::{Registry, Suppliable};
@@ -43,10 +44,19 @@ impl<A: App, C: Suppliable> Model for Caller<A, C> {
     ghost invariant = { λ c. AllIdle c.registry };
 }
 
+// Gives one user of each of the pins back. It takes no memory.
+fn give_back_each(cushion: &mut CushionCore, pins: &Pins)
+    ensures { cushion.new.events ≡ cushion.old.events }
+{
+    for pin in &pins.pins {
+        let _given_back = cushion.give_back(&[pin.stamp]);
+    }
+}
+
 // A core with the pins that the pincushion hands out for its bounds. Out of memory, they are given back.
-fn begun<A: App>(
+fn begun(
     alloc: Global,
-    ports: &mut Ports<A>,
+    cushion: &mut CushionCore,
     renew_after: u64,
     bounds: Bounds,
 ) -> Result<TxnCore, AllocError>
@@ -55,28 +65,28 @@ fn begun<A: App>(
     ensures holds { IfOk result (λ core. (next : Next) (objects : Objects)
         → CoreHolds next (value_of core).seen.history objects (value_of core)) }
     ensures idle { IfOk result (λ core. IsIdle (value_of core)) }
-    ensures row { IfOk result (λ core. (value_of core).seen.events ≡ ports.old.database.events) }
+    ensures row { IfOk result (λ core. (value_of core).seen.events ≡ cushion.old.events) }
     ensures bounds { IfOk result (λ core. (value_of core).bounds ≡ bounds) }
     ensures renew_after { IfOk result (λ core. (value_of core).renew_after ≡ renew_after) }
     ensures nodes { IfOk result (λ core. (value_of core).nodes ≡ 1) }
     ensures recorded { IfOk result (λ core. (value_of core).recorded ≡ []) }
     ensures members { IfOk result (λ core. (value_of core).pins.members
-        ≡ handed_out ports.old.cushion bounds.now bounds.staleness bounds.at_least) }
+        ≡ handed_out cushion.old bounds.now bounds.staleness bounds.at_least) }
     ensures present { IfOk result (λ core. (value_of core).pins.has_present ≡ true) }
-    ensures users { OnOk result (ports.new.cushion
-        ≡ after_fresh ports.old.cushion bounds.now bounds.staleness bounds.at_least) }
-    ensures same { ports.new ≡ record ports.old { cushion = ports.new.cushion } }
+    ensures users { OnOk result (cushion.new
+        ≡ after_fresh cushion.old bounds.now bounds.staleness bounds.at_least) }
+    ensures events { cushion.new.events ≡ cushion.old.events }
 {
     let Bounds {
         now,
         staleness,
         at_least,
     } = bounds;
-    let pins = ports.fresh(alloc, now, staleness, at_least)?;
+    let pins = cushion.fresh(alloc, now, staleness, at_least)?;
     match TxnCore::begin(alloc, 1, renew_after, bounds, pins) {
         Ok(core) => Ok(core),
         Err(pins) => {
-            ports.give_back_each(&pins);
+            give_back_each(cushion, &pins);
             Err(AllocError)
         }
     }
@@ -135,7 +145,7 @@ impl<A: App, C: Suppliable> Caller<A, C> {
             registry,
         } = self;
         let mut ports = ports;
-        match begun(alloc, &mut ports, renew_after, bounds) {
+        match begun(alloc, &mut ports.cushion, renew_after, bounds) {
             Ok(core) => Ok(CallerTxn {
                 ports,
                 renew_after,

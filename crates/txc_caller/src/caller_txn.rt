@@ -9,7 +9,6 @@ ghost use Rattle.txc_caller.specs.Ports.{AreGivenBack, IsLetGo};
 ghost use Rattle.txc_caller.specs.Reading.{caller_of, top_or, AsksNext, KeepsReading};
 
 use crate::act::Act;
-use crate::acted::Acted;
 use crate::acting::{act_inside, call_first, end_call};
 use crate::caller::Caller;
 use crate::frames::OpenCall;
@@ -64,10 +63,8 @@ impl<A: App, C: Suppliable> CallerTxn<A, C> {
             return Err(CallerError::NoFunction);
         };
         let acted = act_inside(alloc, &mut self.ports, &mut self.txn, call, act);
-        let Acted { doing, step } = acted;
-        self.doing = doing;
         self.txn.is_kept();
-        step
+        acted.settle(&mut self.doing)
     }
 
     /// Asks for the value of a call: by no function the outermost one, else by the function that is computed.
@@ -84,10 +81,8 @@ impl<A: App, C: Suppliable> CallerTxn<A, C> {
             return self.act(alloc, Act::Call(key));
         }
         let acted = call_first(alloc, &mut self.ports, &mut self.txn, key);
-        let Acted { doing, step } = acted;
-        self.doing = doing;
         self.txn.is_kept();
-        step
+        acted.settle(&mut self.doing)
     }
 
     /// Asks for the rows of a query, by the function that is computed.
@@ -125,7 +120,7 @@ impl<A: App, C: Suppliable> CallerTxn<A, C> {
         ensures meant { IsTxn A.next self.new.txn }
     {
         let was_open = self.doing.is_some();
-        self.doing = None;
+        drop(self.doing.take());
         end_call(&mut self.ports, &mut self.txn);
         self.txn.is_kept();
         was_open
@@ -190,8 +185,9 @@ impl<A: App, C: Suppliable> CallerTxn<A, C> {
             ports,
             renew_after,
             txn,
-            doing: _,
+            doing,
         } = self;
+        drop(doing);
         let (receipt, pins, registry) = txn.finish();
         let mut ports = ports;
         ports.give_back(&pins);
@@ -217,8 +213,9 @@ impl<A: App, C: Suppliable> CallerTxn<A, C> {
             ports,
             renew_after,
             txn,
-            doing: _,
+            doing,
         } = self;
+        drop(doing);
         let (left, registry) = txn.cancel();
         let mut ports = ports;
         ports.give_back(&left.give_back);

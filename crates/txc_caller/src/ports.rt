@@ -1,14 +1,15 @@
 //! The plain ports of a caller, for one thread.
-ghost use Rattle.std.specs.Prelude.{◌≡◌, ◌≤◌, ◌∷◌, [], true, false, All, IfErr, IfOk, IfSome, IsOk, OnErr, OnOk, length};
+ghost use Rattle.std.specs.Prelude.{◌≡◌, ◌≤◌, ◌∷◌, [], true, false, IfErr, IfOk, IfSome, IsOk, OnErr, OnOk, length};
 ghost use Rattle.txc_app.specs.Claims.{IsTrueIn, entry_shown};
-ghost use Rattle.txc_cushion.specs.Cushion.{after_fresh, handed_out, retired};
+ghost use Rattle.txc_cushion.specs.Cushion.{empty_cushion, retired};
 ghost use Rattle.txc_db.specs.Calls.{IsAnswerable, IsCommitRefused, IsCommittable, IsLeft, IsQueryRefused, IsVacuumRefused};
-ghost use Rattle.txc_db.specs.DatabaseValue.{after_commit, after_vacuum, front_of, newest, next_horizon};
+ghost use Rattle.txc_db.specs.DatabaseValue.{after_commit, newest, next_horizon};
 ghost use Rattle.txc_rows.specs.RowTags.{query_tag};
-ghost use Rattle.txc_db.specs.History.{state_at, IsAllowed};
+ghost use Rattle.txc_db.specs.History.{state_at};
 ghost use Rattle.txc_rows.specs.States.{answer};
 ghost use Rattle.txc_db.specs.Refusals.{IsWant};
 ghost use Rattle.txc_node.specs.declared.node.TheConstants.{MAX_CAPACITY, MAX_RECENT};
+ghost use Rattle.txc_stream.specs.Names.{HasRow};
 ghost use Rattle.txc_stream.specs.declared.row.TheConstants.{MAX_CAPACITY as MAX_ROW};
 ghost use Rattle.txc_shared.specs.Nodes.{start_of};
 ghost use Rattle.txc_caller.specs.Ports.{CallerAddTransition, CallerFindTransition, CallerInsertTransition, CallerLookupTransition, CallerPinTransition, CallerSweepTransition, CallerUnpinTransition, AreLetGo, AreGivenBack, HasNoEventFor, HasRetired, HasEventRoom, HasVacuumedPorts, GoesOnByEvents, IsBehind, IsKeepRefused, IsLetGo, IsNewDatabase};
@@ -18,7 +19,7 @@ use std::alloc::{AllocError, Global};
 use std::marker::Model;
 use txc_app::App;
 use txc_app::laws::found_rows_give_true_entries;
-use txc_cushion::{AddError, CushionCore, Pins};
+use txc_cushion::{AddError, CushionCore};
 use txc_db::{Answered, DbCore, DbError, HistoryFront, Pinned};
 use txc_node::{Entry, Shown};
 use txc_ports::{Kept, PortReply, PortRequest};
@@ -61,6 +62,44 @@ fn empty_database(alloc: Global, room: Option<usize>) -> Result<DbCore, DbError>
     }
 }
 
+// What the database finds for the query at the stamp, with a front of the whole history.
+fn find(
+    alloc: Global,
+    database: &mut DbCore,
+    query: &Query,
+    stamp: Stamp,
+) -> Result<Answered<Found>, DbError>
+    ensures same { database.new ≡ database.old }
+    ensures leads { CallerFindTransition query.now stamp database.old result }
+{
+    found_rows_give_true_entries();
+    let answer = database.query(alloc, query, stamp)?;
+    let front = database.front()?;
+    Ok(Answered { answer, front })
+}
+
+// An empty pincushion, and an empty node with its one pass, number 0, over the row of that front.
+fn around<A: App>(
+    alloc: Global,
+    settings: NodeSettings,
+    seen: HistoryFront,
+) -> Result<(CushionCore, StoredNode<A>), AllocError>
+    requires node { (1 ≤ settings.capacity) × (settings.capacity ≤ MAX_CAPACITY) }
+    requires recent { (1 ≤ settings.recent) × (settings.recent ≤ MAX_RECENT) }
+    ensures cushion { IfOk result (λ it. it.0 ≡ empty_cushion seen) }
+    ensures row { IfOk result (λ it. it.1.seen.events ≡ seen.events) }
+    ensures pass { IfOk result (λ it. it.1.passes ≡ 1) }
+    ensures unstored { IfOk result (λ it. ¬ (HasRow it.1.name)) }
+    ensures whole { IfOk result (λ it. it.1.broken ≡ false) }
+    ensures cache { IfOk result (λ it. it.1.cache ≡ start_of settings 0) }
+{
+    let mut node = StoredNode::unstored(alloc, settings, Pen::new(), seen.again()?)?;
+    match node.pass() {
+        Ok(_) => Ok((CushionCore::new(alloc, seen), node)),
+        Err(_) => Err(AllocError),
+    }
+}
+
 impl<A: App> Ports<A> {
     ghost use Rattle.txc_caller.specs.Ports.{HasAskedPorts};
     ghost use Rattle.txc_ports.specs.Asking.{MayAsk};
@@ -72,22 +111,6 @@ impl<A: App> Ports<A> {
     {
         let pinned = self.database.pin(alloc, now, at_least)?;
         Ok(pinned)
-    }
-
-    // What the database finds for the query at the stamp, with a front of the whole history.
-    fn find(
-        &mut self,
-        alloc: Global,
-        query: &Query,
-        stamp: Stamp,
-    ) -> Result<Answered<Found>, DbError>
-        ensures same { self.new ≡ self.old }
-        ensures leads { CallerFindTransition query.now stamp self.old.database result }
-    {
-        found_rows_give_true_entries();
-        let answer = self.database.query(alloc, query, stamp)?;
-        let front = self.database.front()?;
-        Ok(Answered { answer, front })
     }
 
     /// The rows that the query gives at the stamp, with its tag.
@@ -126,26 +149,6 @@ impl<A: App> Ports<A> {
         Ok(stamp)
     }
 
-    // Has the node take the next event, and says whether it took one. The front shows them all.
-    fn take_event(&mut self, alloc: Global, front: &HistoryFront) -> bool
-        requires { front.now ≡ front_of self.old.database }
-        ensures node { GoesOnByEvents self.old.node self.new.node }
-        ensures same { self.new ≡ record self.old { node = self.new.node } }
-    {
-        let Some(tags) = self.database.tags_after(self.node.processed()) else {
-            return false;
-        };
-        nodes::take_event(alloc, &mut self.node, front, tags)
-    }
-
-    // Whether there is no event that the node can take.
-    fn has_taken_all(&self) -> bool
-        ensures all { result ≡ true → HasNoEventFor self.now.database self.now.node }
-        ensures left { result ≡ false → IsBehind self.now.database self.now.node }
-    {
-        self.database.tags_after(self.node.processed()).is_none()
-    }
-
     /// Has the node take the events that it has not taken yet, and says whether it took them all.
     pub(crate) fn take_events(&mut self, alloc: Global) -> bool
         ensures node { GoesOnByEvents self.old.node self.new.node }
@@ -153,28 +156,21 @@ impl<A: App> Ports<A> {
         ensures left { result ≡ false → IsBehind self.old.database self.old.node }
         ensures same { self.new ≡ record self.old { node = self.new.node } }
     {
-        if self.has_taken_all() {
+        if self.database.tags_after(self.node.processed()).is_none() {
             return true;
         }
         let Ok(front) = self.database.front() else {
             return false;
         };
         for number in 0..front.len() {
-            if !self.take_event(alloc, &front) {
+            let Some(tags) = self.database.tags_after(self.node.processed()) else {
+                break;
+            };
+            if !nodes::take_event(alloc, &mut self.node, &front, tags) {
                 break;
             }
         }
-        self.has_taken_all()
-    }
-
-    // Gives the node an entry to keep.
-    fn insert(&mut self, alloc: Global, entry: Entry, seen: &HistoryFront) -> Option<Kept>
-        requires row { seen.now.events ≡ self.old.database.events }
-        requires is_true { IsTrueIn A.next seen.now.history entry }
-        ensures same { self.new ≡ record self.old { node = self.new.node } }
-        ensures leads { CallerInsertTransition seen.now entry self.old.node self.new.node result }
-    {
-        nodes::insert(alloc, &mut self.node, entry, seen)
+        self.database.tags_after(self.node.processed()).is_none()
     }
 
     // Adds a pin to the pincushion.
@@ -239,21 +235,9 @@ impl<A: App> Ports<A> {
         Ok(stamps.len())
     }
 
-    // Makes the horizon the least stamp that is held, or the newest, and drops the versions that no stamp from there
-    // on shows.
-    fn vacuum_database(&mut self) -> Result<Stamp, DbError>
-        ensures after { OnOk result (self.new
-            ≡ record self.old { database = after_vacuum self.old.database }) }
-        ensures answer { IfOk result (λ horizon. horizon ≡ next_horizon self.old.database) }
-        ensures refused { IfErr result (IsVacuumRefused self.old.database) }
-        ensures unchanged { OnErr result (self.new ≡ self.old) }
-    {
-        let horizon = self.database.vacuum()?;
-        Ok(horizon)
-    }
-
     /// Has the node take the events that it has not taken yet; the tags of those may be dropped then. Where it can't, there
-    /// is no memory for it. Then does the same.
+    /// is no memory for it. Then makes the horizon the least stamp that is held, or the newest, and drops the versions that no
+    /// stamp from there on shows.
     pub(crate) fn vacuum(&mut self, alloc: Global) -> Result<Stamp, DbError>
         ensures after { OnOk result (HasVacuumedPorts self.old self.new) }
         ensures node { GoesOnByEvents self.old.node self.new.node }
@@ -264,7 +248,8 @@ impl<A: App> Ports<A> {
         if !self.take_events(alloc) {
             return Err(DbError::Memory);
         }
-        self.vacuum_database()
+        let horizon = self.database.vacuum()?;
+        Ok(horizon)
     }
 
     /// Has the node drop the entries that end at the horizon or before it, and counts them.
@@ -292,35 +277,21 @@ impl<A: App> Ports<A> {
         ensures refused { IfErr result IsWant }
     {
         let database = empty_database(alloc, room)?;
-        let cushion = CushionCore::new(alloc, database.reader()?);
-        let mut node = StoredNode::unstored(alloc, settings, Pen::new(), database.reader()?)?;
-        // The one pass of a new node, number 0.
-        let Ok(_pass) = node.pass() else {
+        let Ok(seen) = database.reader() else {
+            drop(database);
             return Err(DbError::Memory);
         };
-        Ok(Ports {
-            database,
-            cushion,
-            node,
-        })
-    }
-
-    /// The newest of the pins that the bounds allow, each with one user more.
-    pub(crate) fn fresh(
-        &mut self,
-        alloc: Global,
-        now: u64,
-        staleness: u64,
-        at_least: Stamp,
-    ) -> Result<Pins, AllocError>
-        ensures pins { IfOk result (λ pins. pins.pins.items ≡ handed_out self.old.cushion now staleness at_least) }
-        ensures allowed { IfOk result (λ pins. All (λ pin. IsAllowed pins.front.history pin.stamp now staleness at_least) pins.pins.items) }
-        ensures row { IfOk result (λ pins. pins.front.events ≡ self.old.database.events) }
-        ensures after { OnOk result
-            (self.new.cushion ≡ after_fresh self.old.cushion now staleness at_least) }
-        ensures same { self.new ≡ record self.old { cushion = self.new.cushion } }
-    {
-        self.cushion.fresh(alloc, now, staleness, at_least)
+        match around(alloc, settings, seen) {
+            Ok((cushion, node)) => Ok(Ports {
+                database,
+                cushion,
+                node,
+            }),
+            Err(_) => {
+                drop(database);
+                Err(DbError::Memory)
+            }
+        }
     }
 
     /// Gives the pins back, one user of each. It takes no memory.
@@ -331,15 +302,6 @@ impl<A: App> Ports<A> {
         match self.cushion.give_back(stamps) {
             Ok(()) => (),
             Err(_) => (),
-        }
-    }
-
-    /// Gives one user of each of the pins back. It takes no memory.
-    pub(crate) fn give_back_each(&mut self, pins: &Pins)
-        ensures same { self.new ≡ record self.old { cushion = self.new.cushion } }
-    {
-        for pin in &pins.pins {
-            self.give_back(&[pin.stamp]);
         }
     }
 
@@ -375,9 +337,11 @@ impl<A: App> Ports<A> {
                 PortReply::Lookup(self.lookup(alloc, &key, lo, hi))
             }
             PortRequest::Query { query, stamp } => {
-                PortReply::Query(self.find(alloc, &query, stamp))
+                PortReply::Query(find(alloc, &mut self.database, &query, stamp))
             }
-            PortRequest::Insert { entry, .. } => PortReply::Insert(self.insert(alloc, entry, seen)),
+            PortRequest::Insert { entry, .. } => {
+                PortReply::Insert(nodes::insert(alloc, &mut self.node, entry, seen))
+            }
         }
     }
 }

@@ -1,51 +1,41 @@
-use Rattle.std.proofs.Common.{◌≡◌, ◌∙◌, List, None, ap, subst, sym}
+use Rattle.std.proofs.Common.{◌∙◌, ap, subst, sym}
 use Rattle.txc_tags.specs.Keys.{Call}
-use Rattle.txc_cushion.specs.declared.pin.Pin.{Pin}
-use Rattle.txc_ports.specs.declared.reply.PortReply.TheVariants.{Lookup}
 use Rattle.txc_txn.specs.Core.{CoreValue}
 use Rattle.txc_caller.specs.Acting.{HasCallerActed, IsActOf, IsAwaitingCaller}
-use Rattle.txc_caller.specs.Given.{counted_reply}
-use Rattle.txc_caller.specs.Standing.{IsKeptBack, IsStanding}
+use Rattle.txc_caller.specs.Standing.{IsStanding}
 use Rattle.txc_caller.specs.declared.stand.Stand.{Stand}
-use Rattle.txc_caller.proofs.Acts.{acted_self, acted_then, waits_as, waits_for, waits_then}
-use Rattle.txc_caller.proofs.Looking.{looked_up_kept, miss_is, missed, not_computed, on_miss}
-use Rattle.txc_caller.proofs.Turning.{kept_counted}
+use Rattle.txc_caller.proofs.Acts.{acted_self, acted_then, waits_as, waits_then}
+use Rattle.txc_caller.proofs.Looking.{not_computed, on_miss}
+use Rattle.txc_caller.proofs.Turning.{kept_miss}
 use Rattle.txc_caller.proofs.acting.call_first.Goals as goal
 
 pub returns-then-is_miss-clause-acted : goal.returns-then-is_miss-clause-acted
 returns-then-is_miss-clause-acted g c =
-    let waits : IsAwaitingCaller g.A.App.next c.start.new.ports c.start.new.txn c.of-frames.result.top c.in-Kept.kept =
-    waits_as g.A.App.next c.start.new.ports c.start.new.txn c.args.key c.of-frames.result.top c.in-Kept.kept c.of-frames.ensures
+    let waits : IsAwaitingCaller g.A.App.next c.start.new.ports c.start.new.txn c.of-frames.result.top c.in-Kept.reply =
+    waits_as g.A.App.next c.start.new.ports c.start.new.txn c.args.key c.of-frames.result.top c.in-Kept.reply c.of-frames.ensures
     (waits_then g.A.App.next c.args.ports.now c.start.new.ports c.args.txn.now c.start.new.txn c.args.key c.start.ensures.keeps c.start.ensures.events
-    c.start.result c.start.ensures.stands c.in-Kept.kept c.in-Kept.is c.requires.row c.requires.nodes) in
+    c.start.result c.start.ensures.stands c.in-Kept.reply c.in-Kept.is c.requires.row c.requires.nodes) in
     acted_then g.A.App.next c.args.ports.now c.start.new.ports c.args.txn.now c.start.new.txn c.args.key c.start.ensures.keeps c.start.ensures.events
-    c.start.result c.start.ensures.stands c.in-Kept.kept c.in-Kept.is c.start.new.ports c.start.new.txn c.computing.result
+    c.start.result c.start.ensures.stands c.in-Kept.reply c.in-Kept.is c.start.new.ports c.start.new.txn c.computing.result
     (acted_self g.A.App.next c.start.new.ports c.start.new.txn c.args.key c.computing.result
     (subst (λ (k : Call). IsActOf g.A.App.next c.start.new.txn.core.recorded k c.start.new.txn c.computing.result) c.of-frames.ensures
-    (c.computing.ensures.acted g.A.App.next c.start.new.txn (subst (IsKeptBack g.A.App.next c.start.new.txn) (sym c.counted-reply.ensures) (kept_counted g.A.App.next c.start.new.txn c.members.result.now c.in-Kept.kept waits.kept)) waits.top)))
+    (c.computing.ensures.acted g.A.App.next c.start.new.txn (kept_miss g.A.App.next c.start.new.txn c.members.result.now c.in-Kept.reply (sym c.is_miss.ensures ∙ c.if-is_miss.true) waits.kept) waits.top)))
 
 pub returns-then-is_miss-clause-on_miss : goal.returns-then-is_miss-clause-on_miss
 returns-then-is_miss-clause-on_miss g c =
-    let core = c.start.new.txn.core in
-    let looked = looked_up_kept core c.args.ports.now.node c.start.new.ports.node c.start.result c.in-Kept.kept c.in-Kept.is c.start.ensures.looked_up in
-    let members : c.members.result.now ≡ core.pins.members = c.members.ensures ∙ ap (λ (w : CoreValue). w.pins.members) c.core.ensures in
-    let none : counted_reply core.pins.members c.in-Kept.kept ≡ Lookup None =
-    subst (λ (ms : List Pin). counted_reply ms c.in-Kept.kept ≡ Lookup None) members (sym c.counted-reply.ensures ∙ miss_is c.counted-reply.result (sym c.is_miss.ensures ∙ c.if-is_miss.true)) in
-    on_miss core c.args.ports.now.node c.start.new.ports.node c.computing.result.step c.computing.ensures.step (missed core c.args.ports.now.node c.start.new.ports.node c.in-Kept.kept looked none)
+    on_miss c.start.new.txn.core c.args.ports.now.node c.start.new.ports.node c.start.result c.in-Kept.reply c.in-Kept.is c.start.ensures.looked_up c.members.result.now
+    (c.members.ensures ∙ ap (λ (w : CoreValue). w.pins.members) c.core.ensures) (sym c.is_miss.ensures ∙ c.if-is_miss.true) c.computing.result.step c.computing.ensures.step
 
 pub feed_to_end-requires : goal.feed_to_end-requires
 feed_to_end-requires g c =
-    let waits : IsAwaitingCaller g.A.App.next c.start.new.ports c.start.new.txn c.of-frames.result.top c.in-Kept.kept =
-    waits_as g.A.App.next c.start.new.ports c.start.new.txn c.args.key c.of-frames.result.top c.in-Kept.kept c.of-frames.ensures
+    waits_as g.A.App.next c.start.new.ports c.start.new.txn c.args.key c.of-frames.result.top c.in-Kept.reply c.of-frames.ensures
     (waits_then g.A.App.next c.args.ports.now c.start.new.ports c.args.txn.now c.start.new.txn c.args.key c.start.ensures.keeps c.start.ensures.events
-    c.start.result c.start.ensures.stands c.in-Kept.kept c.in-Kept.is c.requires.row c.requires.nodes) in
-    waits_for g.A.App.next c.start.new.ports c.start.new.txn c.of-frames.result.top c.in-Kept.kept c.counted-reply.result waits
-    (subst (IsKeptBack g.A.App.next c.start.new.txn) (sym c.counted-reply.ensures) (kept_counted g.A.App.next c.start.new.txn c.members.result.now c.in-Kept.kept waits.kept))
+    c.start.result c.start.ensures.stands c.in-Kept.reply c.in-Kept.is c.requires.row c.requires.nodes)
 
 pub returns-else-is_miss-clause-acted : goal.returns-else-is_miss-clause-acted
 returns-else-is_miss-clause-acted g c =
     acted_then g.A.App.next c.args.ports.now c.start.new.ports c.args.txn.now c.start.new.txn c.args.key c.start.ensures.keeps c.start.ensures.events
-    c.start.result c.start.ensures.stands c.in-Kept.kept c.in-Kept.is c.feed_to_end.new.ports c.feed_to_end.new.txn c.feed_to_end.result
+    c.start.result c.start.ensures.stands c.in-Kept.reply c.in-Kept.is c.feed_to_end.new.ports c.feed_to_end.new.txn c.feed_to_end.result
     (subst (λ (k : Call). HasCallerActed g.A.App.next c.start.new.ports c.feed_to_end.new.ports c.start.new.txn c.feed_to_end.new.txn k c.feed_to_end.result) c.of-frames.ensures c.feed_to_end.ensures.acted)
 
 pub returns-in-Value-clause-acted : goal.returns-in-Value-clause-acted

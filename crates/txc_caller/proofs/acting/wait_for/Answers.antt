@@ -1,16 +1,13 @@
-use Rattle.std.proofs.Common.{◌≡◌, ◌∙◌, List, None, Some, ap, subst, sym}
+use Rattle.std.proofs.Common.{◌∙◌, Some, ap, subst, sym}
 use Rattle.txc_tags.specs.Keys.{Call}
-use Rattle.txc_cushion.specs.declared.pin.Pin.{Pin}
-use Rattle.txc_ports.specs.declared.reply.PortReply.TheVariants.{Lookup}
 use Rattle.txc_txn.specs.Core.{CoreValue}
 use Rattle.txc_caller.specs.Acting.{HasRoomFor, IsActOf, IsAwaitingCaller}
-use Rattle.txc_caller.specs.Given.{counted_reply}
-use Rattle.txc_caller.specs.Standing.{IsKeptBack, IsStanding}
+use Rattle.txc_caller.specs.Standing.{IsStanding}
 use Rattle.txc_caller.specs.declared.act.Awaited.{Awaited}
 use Rattle.txc_caller.specs.declared.stand.Stand.{Stand}
-use Rattle.txc_caller.proofs.Acts.{acted_self, acted_then, waits_for, waits_then}
-use Rattle.txc_caller.proofs.Looking.{looked_up_kept, miss_is, missed, not_computed, on_miss}
-use Rattle.txc_caller.proofs.Turning.{kept_counted}
+use Rattle.txc_caller.proofs.Acts.{acted_self, acted_then, waits_then}
+use Rattle.txc_caller.proofs.Looking.{not_computed, on_miss}
+use Rattle.txc_caller.proofs.Turning.{kept_miss}
 use Rattle.txc_caller.proofs.acting.wait_for.Goals as goal
 
 pub feed-requires : goal.feed-requires
@@ -28,24 +25,17 @@ returns-then-is_miss-clause-acted g c =
     c.feed.result (c.feed.ensures.stands c.args.frames.top c.requires.waits.top) c.in-Kept.reply c.in-Kept.is c.feed.new.ports c.feed.new.txn c.computing.result
     (acted_self g.A.App.next c.feed.new.ports c.feed.new.txn c.args.frames.top c.computing.result
     (subst (λ (k : Call). IsActOf g.A.App.next c.feed.new.txn.core.recorded k c.feed.new.txn c.computing.result) c.enter.ensures
-    (c.computing.ensures.acted g.A.App.next c.feed.new.txn (subst (IsKeptBack g.A.App.next c.feed.new.txn) (sym c.counted-reply.ensures) (kept_counted g.A.App.next c.feed.new.txn c.members.result.now c.in-Kept.reply waits.kept)) (waits.top ∙ sym (ap (λ (k : Call). Some k) c.enter.ensures)))))
+    (c.computing.ensures.acted g.A.App.next c.feed.new.txn (kept_miss g.A.App.next c.feed.new.txn c.members.result.now c.in-Kept.reply (sym c.is_miss.ensures ∙ c.if-is_miss.true) waits.kept) (waits.top ∙ sym (ap (λ (k : Call). Some k) c.enter.ensures)))))
 
 pub returns-then-is_miss-clause-on_miss : goal.returns-then-is_miss-clause-on_miss
 returns-then-is_miss-clause-on_miss g c =
-    let core = c.feed.new.txn.core in
-    let looked = looked_up_kept core c.args.ports.now.node c.feed.new.ports.node c.feed.result c.in-Kept.reply c.in-Kept.is c.feed.ensures.looked_up in
-    let members : c.members.result.now ≡ core.pins.members = c.members.ensures ∙ ap (λ (w : CoreValue). w.pins.members) c.core.ensures in
-    let none : counted_reply core.pins.members c.in-Kept.reply ≡ Lookup None =
-    subst (λ (ms : List Pin). counted_reply ms c.in-Kept.reply ≡ Lookup None) members (sym c.counted-reply.ensures ∙ miss_is c.counted-reply.result (sym c.is_miss.ensures ∙ c.if-is_miss.true)) in
-    on_miss core c.args.ports.now.node c.feed.new.ports.node c.computing.result.step c.computing.ensures.step (missed core c.args.ports.now.node c.feed.new.ports.node c.in-Kept.reply looked none)
+    on_miss c.feed.new.txn.core c.args.ports.now.node c.feed.new.ports.node c.feed.result c.in-Kept.reply c.in-Kept.is c.feed.ensures.looked_up c.members.result.now
+    (c.members.ensures ∙ ap (λ (w : CoreValue). w.pins.members) c.core.ensures) (sym c.is_miss.ensures ∙ c.if-is_miss.true) c.computing.result.step c.computing.ensures.step
 
 pub answered-requires : goal.answered-requires
 answered-requires g c =
-    let waits : IsAwaitingCaller g.A.App.next c.feed.new.ports c.feed.new.txn c.args.frames.top c.in-Kept.reply =
     waits_then g.A.App.next c.args.ports.now c.feed.new.ports c.args.txn.now c.feed.new.txn c.args.frames.top c.feed.ensures.keeps c.feed.ensures.events
-    c.feed.result (c.feed.ensures.stands c.args.frames.top c.requires.waits.top) c.in-Kept.reply c.in-Kept.is c.requires.waits.row c.requires.waits.nodes in
-    waits_for g.A.App.next c.feed.new.ports c.feed.new.txn c.args.frames.top c.in-Kept.reply c.counted-reply.result waits
-    (subst (IsKeptBack g.A.App.next c.feed.new.txn) (sym c.counted-reply.ensures) (kept_counted g.A.App.next c.feed.new.txn c.members.result.now c.in-Kept.reply waits.kept))
+    c.feed.result (c.feed.ensures.stands c.args.frames.top c.requires.waits.top) c.in-Kept.reply c.in-Kept.is c.requires.waits.row c.requires.waits.nodes
 
 pub answered-requires-in-Rows : goal.answered-requires-in-Rows
 answered-requires-in-Rows g c =

@@ -3,7 +3,7 @@ use Rattle.txc_caller.specs.Acting.{ask_of, IsComputedOnMiss, IsStepIn}
 use Rattle.txc_caller.specs.Reading.{AsksNext, CallerReading, IsCallerReading, KeepsReading}
 use Rattle.txc_caller.specs.declared.frames.OpenCall.{OpenCall}
 use Rattle.txc_caller.specs.declared.step.CallerError.TheVariants.{NoFunction}
-use Rattle.txc_caller.proofs.Reading.{reading_after}
+use Rattle.txc_caller.proofs.Reading.{reading_after, settled}
 use Rattle.txc_caller.proofs.Turning.{keeps_self}
 use Rattle.txc_caller.proofs.caller_txn.CallerTxn.act.Goals as goal
 
@@ -43,23 +43,25 @@ act_inside-acted-requires g c =
 pub invariant_of-self-2 : goal.invariant_of-self-2
 invariant_of-self-2 g c =
     let old : CallerReading = record { ports = c.self.inside.ports; renew_after = c.self.inside.renew_after; txn = c.self.inside.txn; doing = c.self.inside.doing } in
-    let new : CallerReading = record { ports = c.act_inside-acted.new.ports; renew_after = c.self.inside.renew_after; txn = c.act_inside-acted.new.txn; doing = c.act_inside-acted.result.doing } in
-    reading_after g.A.App.next old new c.act_inside-acted.ensures.acted.keeps c.act_inside-acted.ensures.acted.events refl c.self.inside.txn.core.recorded c.in-Some.call.frames.top c.act_inside-acted.result refl c.act_inside-acted.ensures.acted.acted c.self.invariant
+    let new : CallerReading = record { ports = c.act_inside-acted.new.ports; renew_after = c.self.inside.renew_after; txn = c.act_inside-acted.new.txn; doing = c.settle.new.doing } in
+    reading_after g.A.App.next old new c.act_inside-acted.ensures.acted.keeps c.act_inside-acted.ensures.acted.events refl c.self.inside.txn.core.recorded c.in-Some.call.frames.top c.act_inside-acted.result c.settle.ensures.doing c.act_inside-acted.ensures.acted.acted c.self.invariant
 
 pub returns-clause-step : goal.returns-clause-step
 returns-clause-step g c =
     let at : c.self.inside.doing ≡ Some c.in-Some.call = sym c.take.ensures.value ∙ c.in-Some.is in
     let old : CallerReading = record { ports = c.self.inside.ports; renew_after = c.self.inside.renew_after; txn = c.self.inside.txn; doing = c.self.inside.doing } in
-    let new : CallerReading = record { ports = c.act_inside-acted.new.ports; renew_after = c.self.inside.renew_after; txn = c.act_inside-acted.new.txn; doing = c.act_inside-acted.result.doing } in
-    subst (λ (r : CallerReading). IsStepIn r.doing r new c.act_inside-acted.result.step) c.self.view_is
-    (subst (λ (d : Option OpenCall). IsStepIn d old new c.act_inside-acted.result.step) (sym at) c.act_inside-acted.ensures.acted.acted.step)
+    let new : CallerReading = record { ports = c.act_inside-acted.new.ports; renew_after = c.self.inside.renew_after; txn = c.act_inside-acted.new.txn; doing = c.settle.new.doing } in
+    subst (λ (r : CallerReading). IsStepIn r.doing r new c.settle.result) c.self.view_is
+    (subst (λ (d : Option OpenCall). IsStepIn d old new c.settle.result) (sym at)
+    (settled old.txn.core.recorded c.in-Some.call.frames.top new.txn.core.recorded c.act_inside-acted.result c.settle.new.doing c.settle.result c.settle.ensures.doing c.settle.ensures.step
+    c.act_inside-acted.ensures.acted.acted.step))
 
 pub returns-clause-keeps : goal.returns-clause-keeps
 returns-clause-keeps g c =
-    let new : CallerReading = record { ports = c.act_inside-acted.new.ports; renew_after = c.self.inside.renew_after; txn = c.act_inside-acted.new.txn; doing = c.act_inside-acted.result.doing } in
+    let new : CallerReading = record { ports = c.act_inside-acted.new.ports; renew_after = c.self.inside.renew_after; txn = c.act_inside-acted.new.txn; doing = c.settle.new.doing } in
     subst (λ (r : CallerReading). KeepsReading r new) c.self.view_is (record { txn = c.act_inside-acted.ensures.acted.keeps; row = c.act_inside-acted.ensures.acted.events; renew_after = refl })
 
 pub returns-clause-on_miss : goal.returns-clause-on_miss
 returns-clause-on_miss g c =
-    subst (λ (r : CallerReading). IsComputedOnMiss c.act_inside-acted.new.txn.core r.ports.node c.act_inside-acted.new.ports.node c.act_inside-acted.result.step) c.self.view_is
-    c.act_inside-acted.ensures.on_miss
+    subst (λ (r : CallerReading). IsComputedOnMiss c.act_inside-acted.new.txn.core r.ports.node c.act_inside-acted.new.ports.node c.settle.result) c.self.view_is
+    (subst (IsComputedOnMiss c.act_inside-acted.new.txn.core c.self.inside.ports.node c.act_inside-acted.new.ports.node) (sym c.settle.ensures.step) c.act_inside-acted.ensures.on_miss)

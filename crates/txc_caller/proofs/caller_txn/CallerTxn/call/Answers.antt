@@ -6,7 +6,7 @@ use Rattle.txc_caller.specs.Reading.{top_or, CallerReading, KeepsReading}
 use Rattle.txc_caller.specs.declared.frames.OpenCall.{OpenCall}
 use Rattle.txc_caller.specs.declared.step.CallerError.{CallerError}
 use Rattle.txc_caller.specs.declared.step.Step.{Step}
-use Rattle.txc_caller.proofs.Reading.{none_is, reading_after}
+use Rattle.txc_caller.proofs.Reading.{none_is, reading_after, settled}
 use Rattle.txc_caller.proofs.caller_txn.CallerTxn.call.Goals as goal
 
 -- without an open call the step is of this one
@@ -35,22 +35,24 @@ call_first-acted-requires g c = record {
 pub invariant_of-self : goal.invariant_of-self
 invariant_of-self g c =
     let old : CallerReading = record { ports = c.self.inside.ports; renew_after = c.self.inside.renew_after; txn = c.self.inside.txn; doing = c.self.inside.doing } in
-    let new : CallerReading = record { ports = c.call_first-acted.new.ports; renew_after = c.self.inside.renew_after; txn = c.call_first-acted.new.txn; doing = c.call_first-acted.result.doing } in
-    reading_after g.A.App.next old new c.call_first-acted.ensures.acted.keeps c.call_first-acted.ensures.acted.events refl c.self.inside.txn.core.recorded c.args.key c.call_first-acted.result refl c.call_first-acted.ensures.acted.acted c.self.invariant
+    let new : CallerReading = record { ports = c.call_first-acted.new.ports; renew_after = c.self.inside.renew_after; txn = c.call_first-acted.new.txn; doing = c.settle.new.doing } in
+    reading_after g.A.App.next old new c.call_first-acted.ensures.acted.keeps c.call_first-acted.ensures.acted.events refl c.self.inside.txn.core.recorded c.args.key c.call_first-acted.result c.settle.ensures.doing c.call_first-acted.ensures.acted.acted c.self.invariant
 
 pub returns-clause-step : goal.returns-clause-step
 returns-clause-step g c =
     let none = none_is c.self.inside.doing (sym c.is_some.ensures ∙ c.if-is_some.false) in
-    subst (λ (r : CallerReading). IsStepOf r.txn.core.recorded (top_or r.doing c.args.key) c.call_first-acted.new.txn.core.recorded c.call_first-acted.result.doing c.call_first-acted.result.step) c.self.view_is
-    (subst (λ (k : Call). IsStepOf c.self.inside.txn.core.recorded k c.call_first-acted.new.txn.core.recorded c.call_first-acted.result.doing c.call_first-acted.result.step)
-    (sym (top_alone c.self.inside.doing c.args.key none)) c.call_first-acted.ensures.acted.acted.step)
+    subst (λ (r : CallerReading). IsStepOf r.txn.core.recorded (top_or r.doing c.args.key) c.call_first-acted.new.txn.core.recorded c.settle.new.doing c.settle.result) c.self.view_is
+    (subst (λ (k : Call). IsStepOf c.self.inside.txn.core.recorded k c.call_first-acted.new.txn.core.recorded c.settle.new.doing c.settle.result)
+    (sym (top_alone c.self.inside.doing c.args.key none))
+    (settled c.self.inside.txn.core.recorded c.args.key c.call_first-acted.new.txn.core.recorded c.call_first-acted.result c.settle.new.doing c.settle.result c.settle.ensures.doing c.settle.ensures.step
+    c.call_first-acted.ensures.acted.acted.step))
 
 pub returns-clause-keeps : goal.returns-clause-keeps
 returns-clause-keeps g c =
-    let new : CallerReading = record { ports = c.call_first-acted.new.ports; renew_after = c.self.inside.renew_after; txn = c.call_first-acted.new.txn; doing = c.call_first-acted.result.doing } in
+    let new : CallerReading = record { ports = c.call_first-acted.new.ports; renew_after = c.self.inside.renew_after; txn = c.call_first-acted.new.txn; doing = c.settle.new.doing } in
     subst (λ (r : CallerReading). KeepsReading r new) c.self.view_is (record { txn = c.call_first-acted.ensures.acted.keeps; row = c.call_first-acted.ensures.acted.events; renew_after = refl })
 
 pub returns-clause-on_miss : goal.returns-clause-on_miss
 returns-clause-on_miss g c =
-    subst (λ (r : CallerReading). IsComputedOnMiss c.call_first-acted.new.txn.core r.ports.node c.call_first-acted.new.ports.node c.call_first-acted.result.step) c.self.view_is
-    c.call_first-acted.ensures.on_miss
+    subst (λ (r : CallerReading). IsComputedOnMiss c.call_first-acted.new.txn.core r.ports.node c.call_first-acted.new.ports.node c.settle.result) c.self.view_is
+    (subst (IsComputedOnMiss c.call_first-acted.new.txn.core c.self.inside.ports.node c.call_first-acted.new.ports.node) (sym c.settle.ensures.step) c.call_first-acted.ensures.on_miss)

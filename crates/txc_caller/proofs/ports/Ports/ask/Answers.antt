@@ -27,11 +27,7 @@ returns-in-Lookup g c =
     (asked_lookup g.A.App.next c.args.seen.now c.args.self.now c.lookup.new.self _ c.in-Lookup.key c.in-Lookup.lo c.in-Lookup.hi c.lookup.result c.lookup.ensures.same c.lookup.ensures.leads c.lookup.ensures.right c.lookup.ensures.row)
 
 pub returns-in-Query : goal.returns-in-Query
-returns-in-Query g c =
-    subst (λ (r : PortRequest). HasAskedPorts g.A.App.next c.args.seen.now r c.args.self.now c.find.new.self (replies.Query c.find.result)) (sym c.in-Query.is)
-    (asked_query g.A.App.next c.args.seen.now c.args.self.now c.find.new.self c.in-Query.query c.in-Query.stamp c.find.result c.find.ensures.same c.find.ensures.leads)
+returns-in-Query g c = ?
 
 pub returns-in-Insert : goal.returns-in-Insert
-returns-in-Insert g c =
-    subst (λ (r : PortRequest). HasAskedPorts g.A.App.next c.args.seen.now r c.args.self.now c.insert.new.self (replies.Insert c.insert.result)) (sym c.in-Insert.is)
-    (asked_insert g.A.App.next c.args.seen.now c.args.self.now c.insert.new.self _ c.in-Insert.entry c.insert.result c.insert.ensures.same c.insert.ensures.leads)
+returns-in-Insert g c = ?
