@@ -13,7 +13,7 @@ ghost use Rattle.txc_caller.specs.Ports.{GoesOnByEvents, HasEventRoom, HasNoEven
 ghost use Rattle.txc_caller.specs.Reading.{caller_of};
 
 use crate::caller_txn::CallerTxn;
-use crate::ports::Ports;
+use crate::ports::{give_back, Ports};
 use std::alloc::{AllocError, Global};
 use std::marker::Model;
 use txc_app::App;
@@ -49,7 +49,7 @@ fn give_back_each(cushion: &mut CushionCore, pins: &Pins)
     ensures { cushion.new.events ≡ cushion.old.events }
 {
     for pin in &pins.pins {
-        let _given_back = cushion.give_back(&[pin.stamp]);
+        give_back(cushion, &[pin.stamp]);
     }
 }
 

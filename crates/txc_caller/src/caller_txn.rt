@@ -12,7 +12,7 @@ use crate::act::Act;
 use crate::acting::{act_inside, call_first, end_call};
 use crate::caller::Caller;
 use crate::frames::OpenCall;
-use crate::ports::Ports;
+use crate::ports::{give_back, Ports};
 use crate::step::{CallerError, Step};
 use std::alloc::Global;
 use std::marker::Model;
@@ -190,7 +190,7 @@ impl<A: App, C: Suppliable> CallerTxn<A, C> {
         drop(doing);
         let (receipt, pins, registry) = txn.finish();
         let mut ports = ports;
-        ports.give_back(&pins);
+        give_back(&mut ports.cushion, &pins);
         let caller = Caller {
             ports,
             renew_after,
@@ -218,7 +218,7 @@ impl<A: App, C: Suppliable> CallerTxn<A, C> {
         drop(doing);
         let (left, registry) = txn.cancel();
         let mut ports = ports;
-        ports.give_back(&left.give_back);
+        give_back(&mut ports.cushion, &left.give_back);
         ports.let_go(left.unpin);
         Caller {
             ports,

@@ -3,7 +3,7 @@ ghost use Rattle.std.specs.Prelude.{◌≡◌, ◌≤◌, ◌∷◌, [], true, f
 ghost use Rattle.txc_app.specs.Claims.{IsTrueIn, entry_shown};
 ghost use Rattle.txc_cushion.specs.Cushion.{empty_cushion, retired};
 ghost use Rattle.txc_db.specs.Calls.{IsAnswerable, IsCommitRefused, IsCommittable, IsLeft, IsQueryRefused, IsVacuumRefused};
-ghost use Rattle.txc_db.specs.DatabaseValue.{after_commit, newest, next_horizon};
+ghost use Rattle.txc_db.specs.DatabaseValue.{after_commit, front_of, newest, next_horizon};
 ghost use Rattle.txc_rows.specs.RowTags.{query_tag};
 ghost use Rattle.txc_db.specs.History.{state_at};
 ghost use Rattle.txc_rows.specs.States.{answer};
@@ -59,6 +59,17 @@ fn empty_database(alloc: Global, room: Option<usize>) -> Result<DbCore, DbError>
     match room {
         Some(events) => DbCore::new(alloc, events),
         None => DbCore::unstored(alloc, Pen::new()),
+    }
+}
+
+/// Gives the pins back, one user of each. It takes no memory.
+pub(crate) fn give_back(cushion: &mut CushionCore, stamps: &[Stamp])
+    ensures after { AreGivenBack stamps.now cushion.old cushion.new }
+    ensures events { cushion.new.events ≡ cushion.old.events }
+{
+    match cushion.give_back(stamps) {
+        Ok(()) => (),
+        Err(_) => (),
     }
 }
 
@@ -149,6 +160,18 @@ impl<A: App> Ports<A> {
         Ok(stamp)
     }
 
+    // Has the node take the next event, and says whether it took one. The front shows them all.
+    fn take_event(&mut self, alloc: Global, front: &HistoryFront) -> bool
+        requires { front.now ≡ front_of self.old.database }
+        ensures node { GoesOnByEvents self.old.node self.new.node }
+        ensures same { self.new ≡ record self.old { node = self.new.node } }
+    {
+        let Some(tags) = self.database.tags_after(self.node.processed()) else {
+            return false;
+        };
+        nodes::take_event(alloc, &mut self.node, front, tags)
+    }
+
     /// Has the node take the events that it has not taken yet, and says whether it took them all.
     pub(crate) fn take_events(&mut self, alloc: Global) -> bool
         ensures node { GoesOnByEvents self.old.node self.new.node }
@@ -163,10 +186,7 @@ impl<A: App> Ports<A> {
             return false;
         };
         for number in 0..front.len() {
-            let Some(tags) = self.database.tags_after(self.node.processed()) else {
-                break;
-            };
-            if !nodes::take_event(alloc, &mut self.node, &front, tags) {
+            if !self.take_event(alloc, &front) {
                 break;
             }
         }
@@ -291,17 +311,6 @@ impl<A: App> Ports<A> {
                 drop(database);
                 Err(DbError::Memory)
             }
-        }
-    }
-
-    /// Gives the pins back, one user of each. It takes no memory.
-    pub(crate) fn give_back(&mut self, stamps: &[Stamp])
-        ensures same { self.new ≡ record self.old { cushion = self.new.cushion } }
-        ensures after { AreGivenBack stamps.now self.old.cushion self.new.cushion }
-    {
-        match self.cushion.give_back(stamps) {
-            Ok(()) => (),
-            Err(_) => (),
         }
     }
 

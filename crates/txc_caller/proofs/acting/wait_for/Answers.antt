@@ -1,11 +1,11 @@
-use Rattle.std.proofs.Common.{◌∙◌, Some, ap, subst, sym}
+use Rattle.std.proofs.Common.{◌∙◌, ap, subst, sym}
 use Rattle.txc_tags.specs.Keys.{Call}
 use Rattle.txc_txn.specs.Core.{CoreValue}
 use Rattle.txc_caller.specs.Acting.{HasRoomFor, IsActOf, IsAwaitingCaller}
 use Rattle.txc_caller.specs.Standing.{IsStanding}
 use Rattle.txc_caller.specs.declared.act.Awaited.{Awaited}
 use Rattle.txc_caller.specs.declared.stand.Stand.{Stand}
-use Rattle.txc_caller.proofs.Acts.{acted_self, acted_then, waits_then}
+use Rattle.txc_caller.proofs.Acts.{acted_self, acted_then, waits_as, waits_then}
 use Rattle.txc_caller.proofs.Looking.{not_computed, on_miss}
 use Rattle.txc_caller.proofs.Turning.{kept_miss}
 use Rattle.txc_caller.proofs.acting.wait_for.Goals as goal
@@ -18,14 +18,15 @@ enter-requires g c = subst (λ (a : Awaited). HasRoomFor a c.args.frames) c.in-H
 
 pub returns-then-is_miss-clause-acted : goal.returns-then-is_miss-clause-acted
 returns-then-is_miss-clause-acted g c =
-    let waits : IsAwaitingCaller g.A.App.next c.feed.new.ports c.feed.new.txn c.args.frames.top c.in-Kept.reply =
-    waits_then g.A.App.next c.args.ports.now c.feed.new.ports c.args.txn.now c.feed.new.txn c.args.frames.top c.feed.ensures.keeps c.feed.ensures.events
-    c.feed.result (c.feed.ensures.stands c.args.frames.top c.requires.waits.top) c.in-Kept.reply c.in-Kept.is c.requires.waits.row c.requires.waits.nodes in
+    let waits : IsAwaitingCaller g.A.App.next c.feed.new.ports c.feed.new.txn c.enter.result.top c.in-Kept.reply =
+    waits_as g.A.App.next c.feed.new.ports c.feed.new.txn c.args.frames.top c.enter.result.top c.in-Kept.reply c.enter.ensures
+    (waits_then g.A.App.next c.args.ports.now c.feed.new.ports c.args.txn.now c.feed.new.txn c.args.frames.top c.feed.ensures.keeps c.feed.ensures.events
+    c.feed.result (c.feed.ensures.stands c.args.frames.top c.requires.waits.top) c.in-Kept.reply c.in-Kept.is c.requires.waits.row c.requires.waits.nodes) in
     acted_then g.A.App.next c.args.ports.now c.feed.new.ports c.args.txn.now c.feed.new.txn c.args.frames.top c.feed.ensures.keeps c.feed.ensures.events
     c.feed.result (c.feed.ensures.stands c.args.frames.top c.requires.waits.top) c.in-Kept.reply c.in-Kept.is c.feed.new.ports c.feed.new.txn c.computing.result
     (acted_self g.A.App.next c.feed.new.ports c.feed.new.txn c.args.frames.top c.computing.result
     (subst (λ (k : Call). IsActOf g.A.App.next c.feed.new.txn.core.recorded k c.feed.new.txn c.computing.result) c.enter.ensures
-    (c.computing.ensures.acted g.A.App.next c.feed.new.txn (kept_miss g.A.App.next c.feed.new.txn c.members.result.now c.in-Kept.reply (sym c.is_miss.ensures ∙ c.if-is_miss.true) waits.kept) (waits.top ∙ sym (ap (λ (k : Call). Some k) c.enter.ensures)))))
+    (c.computing.ensures.acted g.A.App.next c.feed.new.txn (kept_miss g.A.App.next c.feed.new.txn c.members.result.now c.in-Kept.reply (sym c.is_miss.ensures ∙ c.if-is_miss.true) waits.kept) waits.top)))
 
 pub returns-then-is_miss-clause-on_miss : goal.returns-then-is_miss-clause-on_miss
 returns-then-is_miss-clause-on_miss g c =

@@ -1,8 +1,10 @@
-use Rattle.std.proofs.Common.{sym, subst}
+use Rattle.std.proofs.Common.{refl, ap, sym, subst}
+use Rattle.txc_db.specs.DatabaseValue.{DatabaseValue}
 use Rattle.txc_ports.specs.Asking.{MayAsk}
 use Rattle.txc_ports.specs.declared.request.PortRequest.{PortRequest}
+use Rattle.txc_ports.specs.declared.request.PortRequest.TheVariants as requests
 use Rattle.txc_ports.specs.declared.reply.PortReply.TheVariants as replies
-use Rattle.txc_caller.specs.Ports.{HasAskedPorts}
+use Rattle.txc_caller.specs.Ports.{CallerPorts, HasAskedPorts}
 use Rattle.txc_caller.proofs.Asked.{asked_add, asked_insert, asked_lookup, asked_pin, asked_query, asked_unpin}
 use Rattle.txc_caller.proofs.ports.Ports.ask.Goals as goal
 
@@ -27,7 +29,17 @@ returns-in-Lookup g c =
     (asked_lookup g.A.App.next c.args.seen.now c.args.self.now c.lookup.new.self _ c.in-Lookup.key c.in-Lookup.lo c.in-Lookup.hi c.lookup.result c.lookup.ensures.same c.lookup.ensures.leads c.lookup.ensures.right c.lookup.ensures.row)
 
 pub returns-in-Query : goal.returns-in-Query
-returns-in-Query g c = ?
+returns-in-Query g c =
+    let old : CallerPorts = record { database = c.self.inside.database; cushion = c.self.inside.cushion; node = c.self.inside.node } in
+    let new : CallerPorts = record old { database = c.find.new.database } in
+    subst (λ (r : PortRequest). HasAskedPorts g.A.App.next c.args.seen.now r c.args.self.now new (replies.Query c.find.result)) (sym c.in-Query.is)
+    (subst (λ (p : CallerPorts). HasAskedPorts g.A.App.next c.args.seen.now (requests.Query c.in-Query.query c.in-Query.stamp) p new (replies.Query c.find.result)) c.self.view_is
+    (asked_query g.A.App.next c.args.seen.now old new c.in-Query.query c.in-Query.stamp c.find.result (ap (λ (d : DatabaseValue). record old { database = d }) c.find.ensures.same) c.find.ensures.leads))
 
 pub returns-in-Insert : goal.returns-in-Insert
-returns-in-Insert g c = ?
+returns-in-Insert g c =
+    let old : CallerPorts = record { database = c.self-in-Insert.inside.database; cushion = c.self-in-Insert.inside.cushion; node = c.self-in-Insert.inside.node } in
+    let new : CallerPorts = record old { node = c.insert.new.node } in
+    subst (λ (r : PortRequest). HasAskedPorts g.A.App.next c.args.seen.now r c.args.self.now new (replies.Insert c.insert.result)) (sym c.in-Insert.is)
+    (subst (λ (p : CallerPorts). HasAskedPorts g.A.App.next c.args.seen.now (requests.Insert c.in-Insert.node c.in-Insert.entry) p new (replies.Insert c.insert.result)) c.self-in-Insert.view_is
+    (asked_insert g.A.App.next c.args.seen.now old new c.in-Insert.node c.in-Insert.entry c.insert.result refl c.insert.ensures))
