@@ -1,6 +1,6 @@
 -- What comes of a transaction's requests at the plain ports.
 use Rattle.std.proofs.Common.{◌≡◌, ◌∙◌, ◌⊎◌, inl, inr, ℕ, Result, Ok, Err, Option, Some, None, refl, subst, sym, true, ap}
-use Rattle.std.specs.Prelude.{IfErr, IfOk, IfSome, OnOk}
+use Rattle.std.specs.Prelude.{IfErr, IfOk, IfSome, IsOk, OnErr, OnOk}
 use Rattle.std.specs.Option.{option_map}
 use Rattle.std.specs.Result.{result_unwrap_or}
 use Rattle.txc_stream.specs.Names.{Name, HasRow}
@@ -10,6 +10,8 @@ use Rattle.txc_validity.specs.declared.answer.Found.{Found}
 use Rattle.txc_db.specs.declared.answered.Answered.{Answered}
 use Rattle.txc_db.specs.declared.error.DbError.{DbError}
 use Rattle.txc_db.specs.declared.pinned.Pinned.{Pinned}
+use Rattle.txc_db.specs.Calls.{IsUnpinRefused}
+use Rattle.txc_db.specs.DatabaseValue.{DatabaseValue, after_unpin, is_held}
 use Rattle.txc_db.specs.Seen.{FrontValue}
 use Rattle.txc_node.specs.declared.entry.Entry.{Entry}
 use Rattle.txc_node.specs.declared.hit.Shown.{Shown}
@@ -17,6 +19,8 @@ use Rattle.txc_node.specs.declared.op.Op.{Op}
 use Rattle.txc_node.specs.Cache.{lookup_answer, swept_count}
 use Rattle.txc_node.specs.declared.op.Op.TheVariants.{Insert, Lookup, Sweep}
 use Rattle.txc_cushion.specs.declared.error.AddError.{AddError}
+use Rattle.txc_cushion.specs.Cushion.{CushionValue, after_add}
+use Rattle.txc_cushion.specs.Refusals.{IsAddRefused}
 use Rattle.txc_app.specs.Claims.{IsTrueIn, entry_shown}
 use Rattle.txc_app.specs.Eval.{Next}
 use Rattle.txc_shared.specs.declared.error.NodeError.{NodeError}
@@ -24,7 +28,9 @@ use Rattle.txc_shared.specs.declared.error.NodeError.TheVariants as errors
 use Rattle.txc_shared.specs.Nodes.{NodeValue, after_call, seeing}
 use Rattle.txc_shared.specs.Refusals.{IsLookupRefused, IsNodeLeft, IsStepRefused}
 use Rattle.txc_ports.specs.declared.kept.Kept.{Kept}
+use Rattle.txc_ports.specs.declared.request.PortRequest.{PortRequest}
 use Rattle.txc_ports.specs.declared.request.PortRequest.TheVariants as requests
+use Rattle.txc_ports.specs.declared.reply.PortReply.{PortReply}
 use Rattle.txc_ports.specs.declared.reply.PortReply.TheVariants as replies
 use Rattle.txc_caller.proofs.Acts.{for_none, for_this}
 use Rattle.txc_caller.specs.Ports.{CallerPorts, AreCallerPorts, CallerAddTransition, CallerFindTransition, HasAskedPorts, CallerInsertTransition, KeepsNode, CallerLookupTransition, CallerPinTransition, CallerSweepTransition, CallerUnpinTransition}
@@ -142,7 +148,24 @@ pub hit_row : (old new : NodeValue) (key : Call) (lo hi : ℕ) (hit : Option (An
 hit_row old new key lo hi (Some hit) row is leads = ap (λ (f : FrontValue). f.events) leads.2 ∙ is
 hit_row old new key lo hi None row is leads = tt
 
+-- an addition and a hold that is taken away, by what they return
+pub added_so : (pinned : Pinned) (p : CallerPorts) (cushion : CushionValue) (r : Result (Unit {0}) AddError) → OnOk r (cushion ≡ after_add p.cushion pinned)
+    → OnErr r (cushion ≡ p.cushion) → IfErr r (IsAddRefused p.cushion pinned.stamp) → CallerAddTransition pinned p (record p { cushion = cushion }) r
+added_so pinned p cushion (Ok added) after unchanged refused = ap (λ (c : CushionValue). record p { cushion = c }) after
+added_so pinned p cushion (Err e) after unchanged refused = (ap (λ (c : CushionValue). record p { cushion = c }) unchanged, refused)
+
+pub unpinned_so : (stamp : ℕ) (p : CallerPorts) (d : DatabaseValue) (r : Result (Unit {0}) DbError) → OnOk r (d ≡ after_unpin p.database stamp)
+    → (IsOk r → is_held stamp p.database.holds ≡ true) → OnErr r (d ≡ p.database) → IfErr r (IsUnpinRefused p.database stamp) → CallerUnpinTransition stamp p (record p { database = d }) r
+unpinned_so stamp p d (Ok unpinned) after only_if unchanged refused = (ap (λ (v : DatabaseValue). record p { database = v }) after, only_if refl)
+unpinned_so stamp p d (Err e) after only_if unchanged refused = (ap (λ (v : DatabaseValue). record p { database = v }) unchanged, refused)
+
 -- ---- requests
+
+-- the same of what the request and the ports were
+pub asked_so : (next : Next) (seen : FrontValue) (request asked : PortRequest) (old was new : CallerPorts) (reply : PortReply) → request ≡ asked → was ≡ old
+    → HasAskedPorts next seen asked was new reply → HasAskedPorts next seen request old new reply
+asked_so next seen request asked old was new reply is same h =
+    subst (λ (r : PortRequest). HasAskedPorts next seen r old new reply) (sym is) (subst (λ (p : CallerPorts). HasAskedPorts next seen asked p new reply) same h)
 
 module _ (next : Next) (seen : FrontValue) (old new : CallerPorts) where
   pub asked_pin : (now at_least : ℕ) (pinned : Result Pinned DbError) → new.database.events ≡ old.database.events → CallerPinTransition now at_least old new pinned

@@ -15,7 +15,7 @@ use crate::acted::Acted;
 use crate::asking::{given_by, is_miss, supply};
 use crate::engine::{feed, start};
 use crate::frames::{Around, Frames, OpenCall};
-use crate::ports::Ports;
+use crate::ports::{let_go, Ports};
 use crate::stand::Stand;
 use crate::step::{CallerError, Step};
 use std::alloc::{AllocError, Global};
@@ -123,7 +123,7 @@ pub(crate) fn end_call<A: App, C: Suppliable>(ports: &mut Ports<A>, txn: &mut Ru
     ensures events { ports.new.database.events ≡ ports.old.database.events }
 {
     let unpin = txn.give_up();
-    ports.let_go(unpin);
+    let_go(&mut ports.database, unpin);
 }
 
 // ---- replies

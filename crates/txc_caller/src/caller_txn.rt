@@ -12,7 +12,7 @@ use crate::act::Act;
 use crate::acting::{act_inside, call_first, end_call};
 use crate::caller::Caller;
 use crate::frames::OpenCall;
-use crate::ports::{give_back, Ports};
+use crate::ports::{give_back, let_go, Ports};
 use crate::step::{CallerError, Step};
 use std::alloc::Global;
 use std::marker::Model;
@@ -219,7 +219,7 @@ impl<A: App, C: Suppliable> CallerTxn<A, C> {
         let (left, registry) = txn.cancel();
         let mut ports = ports;
         give_back(&mut ports.cushion, &left.give_back);
-        ports.let_go(left.unpin);
+        let_go(&mut ports.database, left.unpin);
         Caller {
             ports,
             renew_after,

@@ -1,33 +1,28 @@
 //! The plain ports of a caller, for one thread.
-ghost use Rattle.std.specs.Prelude.{◌≡◌, ◌≤◌, ◌∷◌, [], true, false, IfErr, IfOk, IfSome, IsOk, OnErr, OnOk, length};
-ghost use Rattle.txc_app.specs.Claims.{IsTrueIn, entry_shown};
-ghost use Rattle.txc_cushion.specs.Cushion.{empty_cushion, retired};
-ghost use Rattle.txc_db.specs.Calls.{IsAnswerable, IsCommitRefused, IsCommittable, IsLeft, IsQueryRefused, IsVacuumRefused};
-ghost use Rattle.txc_db.specs.DatabaseValue.{after_commit, front_of, newest, next_horizon};
-ghost use Rattle.txc_rows.specs.RowTags.{query_tag};
-ghost use Rattle.txc_db.specs.History.{state_at};
-ghost use Rattle.txc_rows.specs.States.{answer};
+ghost use Rattle.std.specs.Prelude.{◌≡◌, ◌≤◌, [], true, false, IfErr, IfOk, IfSome, IsOk, OnOk};
+ghost use Rattle.txc_cushion.specs.Cushion.{empty_cushion};
+ghost use Rattle.txc_db.specs.Calls.{IsCommitRefused, IsCommittable, IsLeft};
+ghost use Rattle.txc_db.specs.DatabaseValue.{after_commit, front_of, newest};
 ghost use Rattle.txc_db.specs.Refusals.{IsWant};
 ghost use Rattle.txc_node.specs.declared.node.TheConstants.{MAX_CAPACITY, MAX_RECENT};
 ghost use Rattle.txc_stream.specs.Names.{HasRow};
 ghost use Rattle.txc_stream.specs.declared.row.TheConstants.{MAX_CAPACITY as MAX_ROW};
 ghost use Rattle.txc_shared.specs.Nodes.{start_of};
-ghost use Rattle.txc_caller.specs.Ports.{CallerAddTransition, CallerFindTransition, CallerInsertTransition, CallerLookupTransition, CallerPinTransition, CallerSweepTransition, CallerUnpinTransition, AreLetGo, AreGivenBack, HasNoEventFor, HasRetired, HasEventRoom, HasVacuumedPorts, GoesOnByEvents, IsBehind, IsKeepRefused, IsLetGo, IsNewDatabase};
+ghost use Rattle.txc_caller.specs.Ports.{CallerFindTransition, CallerPinTransition, AreLetGo, AreGivenBack, HasNoEventFor, HasEventRoom, GoesOnByEvents, IsBehind, IsLetGo, IsNewDatabase};
 
 use crate::nodes;
 use std::alloc::{AllocError, Global};
 use std::marker::Model;
 use txc_app::App;
 use txc_app::laws::found_rows_give_true_entries;
-use txc_cushion::{AddError, CushionCore};
+use txc_cushion::CushionCore;
 use txc_db::{Answered, DbCore, DbError, HistoryFront, Pinned};
-use txc_node::{Entry, Shown};
-use txc_ports::{Kept, PortReply, PortRequest};
+use txc_ports::{PortReply, PortRequest};
 use txc_rows::{Change, Query};
-use txc_shared::{NodeError, NodeSettings, StoredNode};
+use txc_shared::{NodeSettings, StoredNode};
 use txc_stamp::Stamp;
 use txc_stream::Pen;
-use txc_tags::{Key, TagSet};
+use txc_tags::TagSet;
 use txc_validity::Found;
 
 /// A database, its pincushion, and one node that takes its events. None has a lock.
@@ -70,6 +65,30 @@ pub(crate) fn give_back(cushion: &mut CushionCore, stamps: &[Stamp])
     match cushion.give_back(stamps) {
         Ok(()) => (),
         Err(_) => (),
+    }
+}
+
+/// Takes the hold of a pin away that was not added, if there is one. It takes no memory.
+pub(crate) fn let_go(database: &mut DbCore, unpin: Option<Stamp>)
+    ensures unpinned { IsLetGo unpin database.old database.new }
+    ensures history { database.new.history ≡ database.old.history }
+    ensures events { database.new.events ≡ database.old.events }
+{
+    match unpin {
+        Some(stamp) => {
+            let _unpinned = database.unpin(stamp);
+        }
+        None => (),
+    }
+}
+
+/// Takes a hold of each of the stamps away.
+pub(crate) fn let_each_go(database: &mut DbCore, stamps: &[Stamp])
+    ensures unpinned { AreLetGo stamps.now database.old database.new }
+    ensures events { database.new.events ≡ database.old.events }
+{
+    for stamp in stamps {
+        let_go(database, Some(*stamp));
     }
 }
 
@@ -124,23 +143,6 @@ impl<A: App> Ports<A> {
         Ok(pinned)
     }
 
-    /// The rows that the query gives at the stamp, with its tag.
-    pub(crate) fn rows_at(
-        &mut self,
-        alloc: Global,
-        query: &Query,
-        stamp: Stamp,
-    ) -> Result<Found, DbError>
-        ensures answer { IfOk result (λ found.
-            found.rows.items ≡ answer query.now (state_at self.old.database.history stamp)) }
-        ensures tag { IfOk result (λ found. found.tags ≡ query_tag query.now ∷ []) }
-        ensures only_if { IsOk result → IsAnswerable self.old.database stamp }
-        ensures refused { IfErr result (IsQueryRefused self.old.database query.now stamp) }
-        ensures same { self.new ≡ self.old }
-    {
-        self.database.query(alloc, query, stamp)
-    }
-
     /// Commits the changes, where no event after the base matches what was read.
     pub(crate) fn commit(
         &mut self,
@@ -193,93 +195,6 @@ impl<A: App> Ports<A> {
         self.database.tags_after(self.node.processed()).is_none()
     }
 
-    // Adds a pin to the pincushion.
-    fn add(&mut self, pinned: &Pinned) -> Result<(), AddError>
-        requires { pinned.now.front.events ≡ self.old.database.events }
-        ensures leads { CallerAddTransition pinned.now self.old self.new result }
-        ensures same { self.new ≡ record self.old { cushion = self.new.cushion } }
-    {
-        match self.cushion.add(pinned) {
-            Ok(()) => Ok(()),
-            Err(refusal) => Err(refusal),
-        }
-    }
-
-    /// Takes one hold of the stamp away.
-    pub(crate) fn unpin(&mut self, stamp: Stamp) -> Result<(), DbError>
-        ensures leads { CallerUnpinTransition stamp self.old self.new result }
-        ensures history { self.new.database.history ≡ self.old.database.history }
-        ensures events { self.new.database.events ≡ self.old.database.events }
-        ensures same { self.new ≡ record self.old { database = self.new.database } }
-    {
-        match self.database.unpin(stamp) {
-            Ok(()) => Ok(()),
-            Err(refusal) => Err(refusal),
-        }
-    }
-
-    /// Takes the hold of a pin away that was not added, if there is one. It takes no memory.
-    pub(crate) fn let_go(&mut self, unpin: Option<Stamp>)
-        ensures unpinned { IsLetGo unpin self.old.database self.new.database }
-        ensures history { self.new.database.history ≡ self.old.database.history }
-        ensures events { self.new.database.events ≡ self.old.database.events }
-        ensures same { self.new ≡ record self.old { database = self.new.database } }
-    {
-        match unpin {
-            Some(stamp) => {
-                let _unpinned = self.unpin(stamp);
-            }
-            None => (),
-        }
-    }
-
-    // Takes a hold of each of the stamps away.
-    fn let_each_go(&mut self, stamps: &[Stamp])
-        ensures unpinned { AreLetGo stamps.now self.old.database self.new.database }
-        ensures same { self.new ≡ record self.old { database = self.new.database } }
-    {
-        for stamp in stamps {
-            self.let_go(Some(*stamp));
-        }
-    }
-
-    /// Retires the pins that no transaction uses and that are more than `age` before `now`, both in milliseconds: takes
-    /// them out, and their holds away. It answers how many they were.
-    pub(crate) fn retire(&mut self, alloc: Global, now: u64, age: u64) -> Result<usize, AllocError>
-        ensures retired { OnOk result (HasRetired now age self.old self.new) }
-        ensures answer { IfOk result (λ count. count ≡ length (retired self.old.cushion now age)) }
-        ensures unchanged { OnErr result (self.new ≡ self.old) }
-    {
-        let stamps = self.cushion.retire(alloc, now, age)?;
-        self.let_each_go(&stamps);
-        Ok(stamps.len())
-    }
-
-    /// Has the node take the events that it has not taken yet; the tags of those may be dropped then. Where it can't, there
-    /// is no memory for it. Then makes the horizon the least stamp that is held, or the newest, and drops the versions that no
-    /// stamp from there on shows.
-    pub(crate) fn vacuum(&mut self, alloc: Global) -> Result<Stamp, DbError>
-        ensures after { OnOk result (HasVacuumedPorts self.old self.new) }
-        ensures node { GoesOnByEvents self.old.node self.new.node }
-        ensures answer { IfOk result (λ horizon. horizon ≡ next_horizon self.old.database) }
-        ensures refused { IfErr result (IsKeepRefused self.old.database self.old.node) }
-        ensures unchanged { OnErr result (self.new ≡ record self.old { node = self.new.node }) }
-    {
-        if !self.take_events(alloc) {
-            return Err(DbError::Memory);
-        }
-        let horizon = self.database.vacuum()?;
-        Ok(horizon)
-    }
-
-    /// Has the node drop the entries that end at the horizon or before it, and counts them.
-    pub(crate) fn sweep(&mut self, alloc: Global, horizon: Stamp) -> Result<usize, NodeError>
-        ensures leads { CallerSweepTransition horizon self.old.node self.new.node result }
-        ensures same { self.new ≡ record self.old { node = self.new.node } }
-    {
-        self.node.sweep(alloc, 0, horizon)
-    }
-
     /// An empty database with room for so many events, or that stores none where no number is given; an empty pincushion and
     /// an empty node.
     pub(crate) fn new(
@@ -314,16 +229,6 @@ impl<A: App> Ports<A> {
         }
     }
 
-    // What the node has of the call at these stamps. A node that refuses has nothing.
-    fn lookup(&mut self, alloc: Global, key: &Key, lo: Stamp, hi: Stamp) -> Option<Answered<Shown>>
-        ensures leads { CallerLookupTransition key.now lo hi self.old.node self.new.node result }
-        ensures right { IfSome result (λ hit. IsTrueIn A.next hit.front.history (entry_shown key.now hit.answer)) }
-        ensures row { IfSome result (λ hit. hit.front.events ≡ self.old.database.events) }
-        ensures same { self.new ≡ record self.old { node = self.new.node } }
-    {
-        self.node.lookup(alloc, 0, key, lo, hi).unwrap_or(None)
-    }
-
     /// Asks what a transaction asks. It has seen that much of the history.
     pub(crate) fn ask(
         &mut self,
@@ -338,12 +243,13 @@ impl<A: App> Ports<A> {
         match request {
             PortRequest::Pin { now, at_least } => PortReply::Pin(self.pin(alloc, now, at_least)),
             PortRequest::AddPin(pinned) => {
-                let added = self.add(&pinned);
+                let added = self.cushion.add(&pinned);
                 PortReply::AddPin(pinned, added)
             }
-            PortRequest::Unpin(stamp) => PortReply::Unpin(self.unpin(stamp)),
+            PortRequest::Unpin(stamp) => PortReply::Unpin(self.database.unpin(stamp)),
+            // A node that refuses has nothing.
             PortRequest::Lookup { key, lo, hi, .. } => {
-                PortReply::Lookup(self.lookup(alloc, &key, lo, hi))
+                PortReply::Lookup(self.node.lookup(alloc, 0, &key, lo, hi).unwrap_or(None))
             }
             PortRequest::Query { query, stamp } => {
                 PortReply::Query(find(alloc, &mut self.database, &query, stamp))
