@@ -4,6 +4,7 @@ ghost use Rattle.txc_db.specs.Calls.{IsBase, IsCommittable, IsLeft, IsQueryRefus
 ghost use Rattle.txc_db.specs.DatabaseValue.{after_commit, newest};
 ghost use Rattle.txc_db.specs.Steps.{IsBaseRefused};
 ghost use Rattle.txc_caller.specs.Ports.{MayHaveTaken};
+ghost use Rattle.txc_caller.specs.declared.step.WriteError.TheVariants.{Database};
 
 use crate::caller::Caller;
 use crate::step::{CallerError, WriteError};
@@ -207,6 +208,28 @@ impl<A: App, C: Suppliable> CallerWrite<A, C> {
         self.write(Change::Remove(table, id))
     }
 
+    // Commits the changes. The node then takes the events.
+    fn commit_changes(&mut self, alloc: Global) -> Result<Stamp, DbError>
+        ensures after { OnOk result (self.new.caller.ports.database
+            ≡ after_commit self.old.caller.ports.database self.old.changes) }
+        ensures answer { IfOk result (λ stamp. stamp ≡ newest self.new.caller.ports.database) }
+        ensures only_if { IsOk result
+            → IsCommittable self.old.caller.ports.database self.old.base self.old.read self.old.changes }
+        ensures node { OnOk result (MayHaveTaken self.new.caller.ports.database
+            self.old.caller.ports.node self.new.caller.ports.node) }
+        ensures same { OnOk result (IsWriteAfter self.old self.new) }
+        ensures refused { IfErr result (λ error. IsWriteCommitRefused self.old (Database error)) }
+        ensures left { IfErr result (λ error. IsWriteLeft self.old (Database error) self.new) }
+    {
+        let base = self.base;
+        let stamp = self
+            .caller
+            .ports
+            .commit(alloc, base, &self.read, &self.changes)?;
+        let _has_all = self.caller.take_events(alloc);
+        Ok(stamp)
+    }
+
     /// Commits the changes, where no event after its stamp matches what it has read, and answers the newest stamp that they
     /// leave. The node then takes the events. A refusal returns the transaction, open.
     pub fn commit(
@@ -231,16 +254,8 @@ impl<A: App, C: Suppliable> CallerWrite<A, C> {
             return Err((WriteError::MidCall, self));
         }
         let mut write = self;
-        let base = write.base;
-        let committed = write
-            .caller
-            .ports
-            .commit(alloc, base, &write.read, &write.changes);
-        match committed {
-            Ok(stamp) => {
-                let _has_all = write.caller.take_events(alloc);
-                Ok((stamp, write.abort()))
-            }
+        match write.commit_changes(alloc) {
+            Ok(stamp) => Ok((stamp, write.abort())),
             Err(error) => Err((WriteError::Database(error), write)),
         }
     }

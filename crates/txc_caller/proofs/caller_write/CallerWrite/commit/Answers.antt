@@ -14,10 +14,5 @@ returns-in-Ok-clause-none g c = λ ok.
     none_of c.args.self.inner (ap (λ (w : CallerWriting). is_some w.inner) (sym c.self.view_is) ∙ (sym c.is_some.ensures ∙ c.if-is_some.false))
 
 pub returns-in-Ok-clause-node : goal.returns-in-Ok-clause-node
-returns-in-Ok-clause-node g c = ?
-
-pub returns-in-Ok-clause-after : goal.returns-in-Ok-clause-after
-returns-in-Ok-clause-after g c = ?
-
-pub returns-in-Err-clause-refused : goal.returns-in-Err-clause-refused
-returns-in-Err-clause-refused g c = ?
+returns-in-Ok-clause-node g c =
+    subst (λ (v : CallerValue). MayHaveTaken v.ports.database c.args.self.caller.ports.node v.ports.node) (sym c.abort.ensures) c.in-Ok.ensures.node
