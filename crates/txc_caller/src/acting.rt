@@ -15,7 +15,7 @@ use crate::acted::Acted;
 use crate::asking::{given_by, is_miss, supply};
 use crate::engine::{feed, start};
 use crate::frames::{Around, Frames, OpenCall};
-use crate::ports::{let_go, Ports};
+use crate::ports::{Ports, let_go};
 use crate::stand::Stand;
 use crate::step::{CallerError, Step};
 use std::alloc::{AllocError, Global};

@@ -13,7 +13,7 @@ ghost use Rattle.txc_caller.specs.Ports.{GoesOnByEvents, HasEventRoom, HasNoEven
 ghost use Rattle.txc_caller.specs.Reading.{caller_of};
 
 use crate::caller_txn::CallerTxn;
-use crate::ports::{give_back, Ports};
+use crate::ports::{Ports, give_back};
 use std::alloc::{AllocError, Global};
 use std::marker::Model;
 use txc_app::App;

@@ -12,7 +12,7 @@ use crate::act::Act;
 use crate::acting::{act_inside, call_first, end_call};
 use crate::caller::Caller;
 use crate::frames::OpenCall;
-use crate::ports::{give_back, let_go, Ports};
+use crate::ports::{Ports, give_back, let_go};
 use crate::step::{CallerError, Step};
 use std::alloc::Global;
 use std::marker::Model;

@@ -24,17 +24,17 @@ asked-requires g c =
 pub returns-in-Ask-clause-stands : goal.returns-in-Ask-clause-stands
 returns-in-Ask-clause-stands g c = λ before k of.
     let last = subst (λ (t : PortTurn). IsTurnOf before k c.pass_pin-third.new.txn.core t) c.in-Ask.is
-        (c.pass_pin-third.ensures.passed.of_call before k
-        (c.pass_pin-second.ensures.passed.of_call before k
-        (c.pass_pin-first.ensures.passed.of_call before k of))) in
+    (c.pass_pin-third.ensures.passed.of_call before k
+    (c.pass_pin-second.ensures.passed.of_call before k
+    (c.pass_pin-first.ensures.passed.of_call before k of))) in
     (c.asked.ensures.kept, last.begins tt, last.recorded)
 
 pub returns-in-Ended-clause-stands : goal.returns-in-Ended-clause-stands
 returns-in-Ended-clause-stands g c = λ before k of.
     let last = subst (λ (t : PortTurn). IsTurnOf before k c.pass_pin-third.new.txn.core t) c.in-Ended.is
-        (c.pass_pin-third.ensures.passed.of_call before k
-        (c.pass_pin-second.ensures.passed.of_call before k
-        (c.pass_pin-first.ensures.passed.of_call before k of))) in
+    (c.pass_pin-third.ensures.passed.of_call before k
+    (c.pass_pin-second.ensures.passed.of_call before k
+    (c.pass_pin-first.ensures.passed.of_call before k of))) in
     c.at_its_end.ensures.stands g.A.App.next before k c.pass_pin-third.new.txn
     (subst (IsTurn c.pass_pin-third.new.txn.core) c.in-Ended.is c.pass_pin-third.ensures.passed.going.fits) last.recorded
 
