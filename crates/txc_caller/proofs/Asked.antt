@@ -1,7 +1,8 @@
 -- What comes of a transaction's requests at the plain ports.
-use Rattle.std.proofs.Common.{◌≡◌, ◌∙◌, ◌⊎◌, inl, inr, ℕ, Result, Ok, Err, Option, Some, None, refl, subst, sym, true, ap}
+use Rattle.std.proofs.Common.{◌≡◌, ◌∙◌, ◌⊎◌, ◌+◌, ◌≤◌, inl, inr, ℕ, Result, Ok, Err, Option, Some, None, refl, subst, sym, true, ap}
 use Rattle.std.specs.Prelude.{IfErr, IfOk, IfSome, IsOk, OnErr, OnOk}
 use Rattle.std.specs.Option.{option_map}
+use Rattle.std.proofs.lemmas.List.{length_push}
 use Rattle.std.specs.Result.{result_unwrap_or}
 use Rattle.txc_stream.specs.Names.{Name, HasRow}
 use Rattle.txc_tags.specs.Keys.{Call}
@@ -9,9 +10,11 @@ use Rattle.txc_rows.specs.declared.query.Query.{Query}
 use Rattle.txc_validity.specs.declared.answer.Found.{Found}
 use Rattle.txc_db.specs.declared.answered.Answered.{Answered}
 use Rattle.txc_db.specs.declared.error.DbError.{DbError}
+use Rattle.txc_db.specs.declared.error.DbError.TheVariants as dberrors
 use Rattle.txc_db.specs.declared.pinned.Pinned.{Pinned}
-use Rattle.txc_db.specs.Calls.{IsUnpinRefused}
-use Rattle.txc_db.specs.DatabaseValue.{DatabaseValue, after_unpin, is_held}
+use Rattle.txc_db.specs.Calls.{IsLeft, IsPinnable, IsPinRefused, IsUnpinRefused}
+use Rattle.txc_db.specs.DatabaseValue.{DatabaseValue, after_pin, after_unpin, front_of, is_held, newest}
+use Rattle.txc_db.specs.History.{pin_event}
 use Rattle.txc_db.specs.Seen.{FrontValue}
 use Rattle.txc_node.specs.declared.entry.Entry.{Entry}
 use Rattle.txc_node.specs.declared.hit.Shown.{Shown}
@@ -148,7 +151,30 @@ pub hit_row : (old new : NodeValue) (key : Call) (lo hi : ℕ) (hit : Option (An
 hit_row old new key lo hi (Some hit) row is leads = ap (λ (f : FrontValue). f.events) leads.2 ∙ is
 hit_row old new key lo hi None row is leads = tt
 
--- an addition and a hold that is taken away, by what they return
+-- a pin, an addition and a hold that is taken away, by what they return
+pub pinned_so : (now at_least : ℕ) (p : CallerPorts) (d : DatabaseValue) (r : Result Pinned DbError) → OnOk r (d ≡ after_pin p.database now) → IfOk r (λ pinned. pinned.stamp ≡ newest d)
+    → IfOk r (λ pinned. pinned.moment ≡ now) → IfOk r (λ pinned. pinned.front ≡ front_of d) → (IsOk r → IsPinnable p.database at_least) → IfErr r (IsLeft p.database d)
+    → IfErr r (IsPinRefused p.database at_least) → CallerPinTransition now at_least p (record p { database = d }) r
+pinned_so now at_least p d (Ok pinned) after stamp moment front only_if left refused =
+    let next : pinned.stamp ≡ newest p.database + 1 = stamp ∙ (ap newest after ∙ length_push p.database.history (pin_event now)) in
+    record {
+      after = ap (λ (v : DatabaseValue). record p { database = v }) after;
+      moment = moment;
+      late = subst (λ (n : ℕ). at_least ≤ n) (sym next) (only_if refl).late;
+      front = front;
+      shown = pinned.shows;
+    }
+pinned_so now at_least p d (Err e) after stamp moment front only_if left refused = record { is = refl; left = left; refused = refused }
+
+left_events : (old new : DatabaseValue) (e : DbError) → IsLeft old new e → new.events ≡ old.events
+left_events old new dberrors.Broken (inl same) = ap (λ (d : DatabaseValue). d.events) same.0
+left_events old new dberrors.Broken (inr broke) = broke.events
+left_events old new e left = ap (λ (d : DatabaseValue). d.events) left
+
+pub pinned_events : (now : ℕ) (old new : DatabaseValue) (r : Result Pinned DbError) → OnOk r (new ≡ after_pin old now) → IfErr r (IsLeft old new) → new.events ≡ old.events
+pinned_events now old new (Ok pinned) after left = ap (λ (d : DatabaseValue). d.events) after
+pinned_events now old new (Err e) after left = left_events old new e left
+
 pub added_so : (pinned : Pinned) (p : CallerPorts) (cushion : CushionValue) (r : Result (Unit {0}) AddError) → OnOk r (cushion ≡ after_add p.cushion pinned)
     → OnErr r (cushion ≡ p.cushion) → IfErr r (IsAddRefused p.cushion pinned.stamp) → CallerAddTransition pinned p (record p { cushion = cushion }) r
 added_so pinned p cushion (Ok added) after unchanged refused = ap (λ (c : CushionValue). record p { cushion = c }) after

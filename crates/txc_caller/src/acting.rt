@@ -13,7 +13,7 @@ ghost use Rattle.txc_caller.specs.Standing.{asks_next, IsKeptBack, IsStanding, K
 use crate::act::{Act, Awaited, Told};
 use crate::acted::Acted;
 use crate::asking::{given_by, is_miss, supply};
-use crate::engine::{feed, start};
+use crate::engine::{feed, lead};
 use crate::frames::{Around, Frames, OpenCall};
 use crate::ports::{Ports, let_go};
 use crate::stand::Stand;
@@ -223,7 +223,8 @@ pub(crate) fn call_first<A: App, C: Suppliable>(
     ensures on_miss { IsComputedOnMiss txn.new.core ports.old.node ports.new.node result.step }
 {
     let frames = Frames::of(alloc, &key);
-    match start(alloc, ports, txn, key) {
+    let turn = txn.start(alloc, key);
+    match lead(alloc, ports, txn, turn) {
         Stand::Kept(reply) => {
             if is_miss(&reply, txn.core().members()) {
                 drop(reply);

@@ -140,11 +140,10 @@ impl<A: App, C: Suppliable> Caller<A, C> {
             ≡ record self { ports = record self.ports { cushion = caller.ports.cushion } }) }
     {
         let Caller {
-            ports,
+            mut ports,
             renew_after,
             registry,
         } = self;
-        let mut ports = ports;
         match begun(alloc, &mut ports.cushion, renew_after, bounds) {
             Ok(core) => Ok(CallerTxn {
                 ports,

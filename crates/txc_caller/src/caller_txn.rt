@@ -182,14 +182,13 @@ impl<A: App, C: Suppliable> CallerTxn<A, C> {
             return Err(self);
         }
         let CallerTxn {
-            ports,
+            mut ports,
             renew_after,
             txn,
             doing,
         } = self;
         drop(doing);
         let (receipt, pins, registry) = txn.finish();
-        let mut ports = ports;
         give_back(&mut ports.cushion, &pins);
         let caller = Caller {
             ports,
@@ -210,14 +209,13 @@ impl<A: App, C: Suppliable> CallerTxn<A, C> {
         ensures renew_after { result.renew_after ≡ self.renew_after }
     {
         let CallerTxn {
-            ports,
+            mut ports,
             renew_after,
             txn,
             doing,
         } = self;
         drop(doing);
         let (left, registry) = txn.cancel();
-        let mut ports = ports;
         give_back(&mut ports.cushion, &left.give_back);
         let_go(&mut ports.database, left.unpin);
         Caller {

@@ -87,9 +87,9 @@ fn at_its_end(outcome: Result<Value, TxnError>) -> Stand
     }
 }
 
-// Leads the call on: the present is pinned where that is asked, and the reply to what is asked then is kept; or the call
-// has ended.
-fn lead<A: App, C: Cacheable>(
+/// Leads the call on: the present is pinned where that is asked, and the reply to what is asked then is kept; or the call
+/// has ended.
+pub(crate) fn lead<A: App, C: Cacheable>(
     alloc: Global,
     ports: &mut Ports<A>,
     txn: &mut RunningTxn<A, C>,
@@ -110,25 +110,6 @@ fn lead<A: App, C: Cacheable>(
         Turn::Ask(request) => Stand::Kept(asked(alloc, ports, txn, request)),
         Turn::Ended(outcome) => at_its_end(outcome),
     }
-}
-
-/// Begins a call.
-pub(crate) fn start<A: App, C: Cacheable>(
-    alloc: Global,
-    ports: &mut Ports<A>,
-    txn: &mut RunningTxn<A, C>,
-    key: Key,
-) -> Stand
-    requires idle { IsIdle txn.old.core }
-    requires row { txn.old.core.seen.events ≡ ports.old.database.events }
-    requires nodes { txn.old.core.nodes ≡ 1 }
-    ensures stands { IsStanding A.next txn.old.core.recorded key txn.new result }
-    ensures looked_up { StandsLookedUp txn.new.core ports.old.node ports.new.node result }
-    ensures keeps { KeepsOn txn.old txn.new }
-    ensures events { ports.new.database.events ≡ ports.old.database.events }
-{
-    let turn = txn.start(alloc, key);
-    lead(alloc, ports, txn, turn)
 }
 
 /// Goes on with the reply that was kept back.

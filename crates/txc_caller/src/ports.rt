@@ -1,14 +1,13 @@
 //! The plain ports of a caller, for one thread.
-ghost use Rattle.std.specs.Prelude.{◌≡◌, ◌≤◌, [], true, false, IfErr, IfOk, IfSome, IsOk, OnOk};
+ghost use Rattle.std.specs.Prelude.{◌≡◌, ◌≤◌, [], true, false, IfErr, IfOk, IfSome};
 ghost use Rattle.txc_cushion.specs.Cushion.{empty_cushion};
-ghost use Rattle.txc_db.specs.Calls.{IsCommitRefused, IsCommittable, IsLeft};
-ghost use Rattle.txc_db.specs.DatabaseValue.{after_commit, front_of, newest};
+ghost use Rattle.txc_db.specs.DatabaseValue.{front_of};
 ghost use Rattle.txc_db.specs.Refusals.{IsWant};
 ghost use Rattle.txc_node.specs.declared.node.TheConstants.{MAX_CAPACITY, MAX_RECENT};
 ghost use Rattle.txc_stream.specs.Names.{HasRow};
 ghost use Rattle.txc_stream.specs.declared.row.TheConstants.{MAX_CAPACITY as MAX_ROW};
 ghost use Rattle.txc_shared.specs.Nodes.{start_of};
-ghost use Rattle.txc_caller.specs.Ports.{CallerFindTransition, CallerPinTransition, AreLetGo, AreGivenBack, HasNoEventFor, HasEventRoom, GoesOnByEvents, IsBehind, IsLetGo, IsNewDatabase};
+ghost use Rattle.txc_caller.specs.Ports.{CallerFindTransition, AreLetGo, AreGivenBack, HasEventRoom, HasNoEventFor, GoesOnByEvents, IsBehind, IsLetGo, IsNewDatabase};
 
 use crate::nodes;
 use std::alloc::{AllocError, Global};
@@ -16,13 +15,12 @@ use std::marker::Model;
 use txc_app::App;
 use txc_app::laws::found_rows_give_true_entries;
 use txc_cushion::CushionCore;
-use txc_db::{Answered, DbCore, DbError, HistoryFront, Pinned};
+use txc_db::{Answered, DbCore, DbError, HistoryFront};
 use txc_ports::{PortReply, PortRequest};
-use txc_rows::{Change, Query};
+use txc_rows::Query;
 use txc_shared::{NodeSettings, StoredNode};
 use txc_stamp::Stamp;
 use txc_stream::Pen;
-use txc_tags::TagSet;
 use txc_validity::Found;
 
 /// A database, its pincushion, and one node that takes its events. None has a lock.
@@ -134,34 +132,6 @@ impl<A: App> Ports<A> {
     ghost use Rattle.txc_caller.specs.Ports.{HasAskedPorts};
     ghost use Rattle.txc_ports.specs.Asking.{MayAsk};
 
-    // A pin of the moment `now`.
-    fn pin(&mut self, alloc: Global, now: u64, at_least: Stamp) -> Result<Pinned, DbError>
-        ensures leads { CallerPinTransition now at_least self.old self.new result }
-        ensures events { self.new.database.events ≡ self.old.database.events }
-    {
-        let pinned = self.database.pin(alloc, now, at_least)?;
-        Ok(pinned)
-    }
-
-    /// Commits the changes, where no event after the base matches what was read.
-    pub(crate) fn commit(
-        &mut self,
-        alloc: Global,
-        base: Stamp,
-        read: &TagSet,
-        changes: &[Change],
-    ) -> Result<Stamp, DbError>
-        ensures after { OnOk result (self.new.database ≡ after_commit self.old.database changes.now) }
-        ensures answer { IfOk result (λ stamp. stamp ≡ newest self.new.database) }
-        ensures only_if { IsOk result → IsCommittable self.old.database base read.now changes.now }
-        ensures refused { IfErr result (IsCommitRefused self.old.database base read.now changes.now) }
-        ensures left { IfErr result (IsLeft self.old.database self.new.database) }
-        ensures same { self.new ≡ record self.old { database = self.new.database } }
-    {
-        let stamp = self.database.commit(alloc, base, read, changes)?;
-        Ok(stamp)
-    }
-
     // Has the node take the next event, and says whether it took one. The front shows them all.
     fn take_event(&mut self, alloc: Global, front: &HistoryFront) -> bool
         requires { front.now ≡ front_of self.old.database }
@@ -241,7 +211,9 @@ impl<A: App> Ports<A> {
         ensures { HasAskedPorts A.next seen.now request self.old self.new result }
     {
         match request {
-            PortRequest::Pin { now, at_least } => PortReply::Pin(self.pin(alloc, now, at_least)),
+            PortRequest::Pin { now, at_least } => PortReply::Pin(
+                self.database.pin(alloc, now, at_least),
+            ),
             PortRequest::AddPin(pinned) => {
                 let added = self.cushion.add(&pinned);
                 PortReply::AddPin(pinned, added)
