@@ -1,4 +1,4 @@
-use Rattle.std.proofs.Common.{◌≡◌, ◌∙◌, true, false, Option, Some, None, refl, ap, subst, sym}
+use Rattle.std.proofs.Common.{◌≡◌, ◌∙◌, true, Option, Some, None, refl, ap, subst, sym}
 use Rattle.std.specs.Prelude.{Result, is_some}
 use Rattle.txc_tags.specs.Keys.{Call}
 use Rattle.txc_caller.specs.Acting.{IsComputedOnMiss, IsStepIn, IsStepOf}
