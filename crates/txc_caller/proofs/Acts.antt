@@ -1,5 +1,5 @@
 -- How a call stands after an act, by how its step ended.
-use Rattle.std.proofs.Common.{◌≡◌, ◌∙◌, ℕ, List, [], ◌∷◌, ◌++◌, Option, Some, None, Ok, Err, refl, ap, sym, subst}
+use Rattle.std.proofs.Common.{◌≡◌, ◌∙◌, ℕ, List, [], ◌∷◌, ◌++◌, Some, None, Ok, Err, refl, sym, subst}
 use Rattle.std.specs.Option.{ForSome}
 use Rattle.txc_tags.specs.Keys.{Call}
 use Rattle.txc_app.specs.Eval.{Next}
@@ -86,10 +86,6 @@ module _ (next : Next) (ports : CallerPorts) (t : TxnValue) (k : Call) where
   -- nothing was done
   pub acted_self : (acted : Acted) → IsActOf next t.core.recorded k t acted → HasCallerActed next ports ports t t k acted
   acted_self acted h = record { acted = h; keeps = keeps_self t; events = refl }
-
-  -- another reply is kept back, which is one to what is asked too
-  pub waits_for : (reply other : PortReply) → IsAwaitingCaller next ports t k reply → IsKeptBack next t other → IsAwaitingCaller next ports t k other
-  waits_for reply other waits kept = record { kept = kept; top = waits.top; row = waits.row; nodes = waits.nodes }
 
   -- the call has another name
   pub waits_as : (j : Call) (reply : PortReply) → j ≡ k → IsAwaitingCaller next ports t k reply → IsAwaitingCaller next ports t j reply

@@ -1,7 +1,8 @@
 -- What comes of a transaction's requests at the plain ports.
-use Rattle.std.proofs.Common.{◌≡◌, ◌∙◌, ◌⊎◌, inl, inr, ℕ, Result, Ok, Err, Option, Some, None, refl, subst, sym, true, ap}
-use Rattle.std.specs.Prelude.{IfErr, IfOk, IfSome, OnOk}
+use Rattle.std.proofs.Common.{◌≡◌, ◌∙◌, ◌⊎◌, ◌+◌, ◌≤◌, inl, inr, ℕ, Result, Ok, Err, Option, Some, None, refl, subst, sym, true, ap}
+use Rattle.std.specs.Prelude.{IfErr, IfOk, IfSome, IsOk, OnErr, OnOk}
 use Rattle.std.specs.Option.{option_map}
+use Rattle.std.proofs.lemmas.List.{length_push}
 use Rattle.std.specs.Result.{result_unwrap_or}
 use Rattle.txc_stream.specs.Names.{Name, HasRow}
 use Rattle.txc_tags.specs.Keys.{Call}
@@ -9,14 +10,20 @@ use Rattle.txc_rows.specs.declared.query.Query.{Query}
 use Rattle.txc_validity.specs.declared.answer.Found.{Found}
 use Rattle.txc_db.specs.declared.answered.Answered.{Answered}
 use Rattle.txc_db.specs.declared.error.DbError.{DbError}
+use Rattle.txc_db.specs.declared.error.DbError.TheVariants as dberrors
 use Rattle.txc_db.specs.declared.pinned.Pinned.{Pinned}
+use Rattle.txc_db.specs.Calls.{IsLeft, IsPinnable, IsPinRefused, IsUnpinRefused}
+use Rattle.txc_db.specs.DatabaseValue.{DatabaseValue, after_pin, after_unpin, front_of, is_held, newest}
+use Rattle.txc_db.specs.History.{pin_event}
 use Rattle.txc_db.specs.Seen.{FrontValue}
 use Rattle.txc_node.specs.declared.entry.Entry.{Entry}
 use Rattle.txc_node.specs.declared.hit.Shown.{Shown}
 use Rattle.txc_node.specs.declared.op.Op.{Op}
-use Rattle.txc_node.specs.Cache.{lookup_answer}
-use Rattle.txc_node.specs.declared.op.Op.TheVariants.{Insert, Lookup}
+use Rattle.txc_node.specs.Cache.{lookup_answer, swept_count}
+use Rattle.txc_node.specs.declared.op.Op.TheVariants.{Insert, Lookup, Sweep}
 use Rattle.txc_cushion.specs.declared.error.AddError.{AddError}
+use Rattle.txc_cushion.specs.Cushion.{CushionValue, after_add}
+use Rattle.txc_cushion.specs.Refusals.{IsAddRefused}
 use Rattle.txc_app.specs.Claims.{IsTrueIn, entry_shown}
 use Rattle.txc_app.specs.Eval.{Next}
 use Rattle.txc_shared.specs.declared.error.NodeError.{NodeError}
@@ -24,10 +31,12 @@ use Rattle.txc_shared.specs.declared.error.NodeError.TheVariants as errors
 use Rattle.txc_shared.specs.Nodes.{NodeValue, after_call, seeing}
 use Rattle.txc_shared.specs.Refusals.{IsLookupRefused, IsNodeLeft, IsStepRefused}
 use Rattle.txc_ports.specs.declared.kept.Kept.{Kept}
+use Rattle.txc_ports.specs.declared.request.PortRequest.{PortRequest}
 use Rattle.txc_ports.specs.declared.request.PortRequest.TheVariants as requests
+use Rattle.txc_ports.specs.declared.reply.PortReply.{PortReply}
 use Rattle.txc_ports.specs.declared.reply.PortReply.TheVariants as replies
 use Rattle.txc_caller.proofs.Acts.{for_none, for_this}
-use Rattle.txc_caller.specs.Ports.{CallerPorts, AreCallerPorts, CallerAddTransition, CallerFindTransition, HasAskedPorts, CallerInsertTransition, KeepsNode, CallerLookupTransition, CallerPinTransition, CallerUnpinTransition}
+use Rattle.txc_caller.specs.Ports.{CallerPorts, AreCallerPorts, CallerAddTransition, CallerFindTransition, HasAskedPorts, CallerInsertTransition, KeepsNode, CallerLookupTransition, CallerPinTransition, CallerSweepTransition, CallerUnpinTransition}
 
 -- ---- the node
 
@@ -89,6 +98,16 @@ node_left old new errors.HistoryFull may same = node_same old new same
 node_left old new errors.PassesFull may same = node_same old new same
 node_left old new errors.Memory may same = node_same old new same
 
+-- a sweep, by what it returns
+pub swept : (old new : NodeValue) (horizon : ℕ) (r : Result ℕ NodeError) → OnOk r (new ≡ after_call old 0 (Sweep horizon)) → IfOk r (λ count. count ≡ swept_count old.cache horizon)
+    → IfErr r (IsStepRefused old) → IfErr r (IsNodeLeft old new) → CallerSweepTransition horizon old new r
+swept old new horizon (Ok count) after answer refused left = (after, answer)
+swept old new horizon (Err e) after answer refused left = (refused, left)
+
+pub node_swept : (old new : NodeValue) (horizon : ℕ) (r : Result ℕ NodeError) → CallerSweepTransition horizon old new r → KeepsNode old new
+node_swept old new horizon (Ok count) leads = node_after old new (Sweep horizon) leads.0
+node_swept old new horizon (Err e) leads = node_left old new e (step_breaks old e leads.0) leads.1
+
 pub node_looked_up : (old new : NodeValue) (key : Call) (lo hi : ℕ) (hit : Option (Answered Shown)) → CallerLookupTransition key lo hi old new hit → KeepsNode old new
 node_looked_up old new key lo hi (Some hit) leads = node_after old new (Lookup key lo hi) leads.0
 node_looked_up old new key lo hi None (inl leads) = node_after old new (Lookup key lo hi) leads.0
@@ -132,7 +151,47 @@ pub hit_row : (old new : NodeValue) (key : Call) (lo hi : ℕ) (hit : Option (An
 hit_row old new key lo hi (Some hit) row is leads = ap (λ (f : FrontValue). f.events) leads.2 ∙ is
 hit_row old new key lo hi None row is leads = tt
 
+-- a pin, an addition and a hold that is taken away, by what they return
+pub pinned_so : (now at_least : ℕ) (p : CallerPorts) (d : DatabaseValue) (r : Result Pinned DbError) → OnOk r (d ≡ after_pin p.database now) → IfOk r (λ pinned. pinned.stamp ≡ newest d)
+    → IfOk r (λ pinned. pinned.moment ≡ now) → IfOk r (λ pinned. pinned.front ≡ front_of d) → (IsOk r → IsPinnable p.database at_least) → IfErr r (IsLeft p.database d)
+    → IfErr r (IsPinRefused p.database at_least) → CallerPinTransition now at_least p (record p { database = d }) r
+pinned_so now at_least p d (Ok pinned) after stamp moment front only_if left refused =
+    let next : pinned.stamp ≡ newest p.database + 1 = stamp ∙ (ap newest after ∙ length_push p.database.history (pin_event now)) in
+    record {
+      after = ap (λ (v : DatabaseValue). record p { database = v }) after;
+      moment = moment;
+      late = subst (λ (n : ℕ). at_least ≤ n) (sym next) (only_if refl).late;
+      front = front;
+      shown = pinned.shows;
+    }
+pinned_so now at_least p d (Err e) after stamp moment front only_if left refused = record { is = refl; left = left; refused = refused }
+
+left_events : (old new : DatabaseValue) (e : DbError) → IsLeft old new e → new.events ≡ old.events
+left_events old new dberrors.Broken (inl same) = ap (λ (d : DatabaseValue). d.events) same.0
+left_events old new dberrors.Broken (inr broke) = broke.events
+left_events old new e left = ap (λ (d : DatabaseValue). d.events) left
+
+pub pinned_events : (now : ℕ) (old new : DatabaseValue) (r : Result Pinned DbError) → OnOk r (new ≡ after_pin old now) → IfErr r (IsLeft old new) → new.events ≡ old.events
+pinned_events now old new (Ok pinned) after left = ap (λ (d : DatabaseValue). d.events) after
+pinned_events now old new (Err e) after left = left_events old new e left
+
+pub added_so : (pinned : Pinned) (p : CallerPorts) (cushion : CushionValue) (r : Result (Unit {0}) AddError) → OnOk r (cushion ≡ after_add p.cushion pinned)
+    → OnErr r (cushion ≡ p.cushion) → IfErr r (IsAddRefused p.cushion pinned.stamp) → CallerAddTransition pinned p (record p { cushion = cushion }) r
+added_so pinned p cushion (Ok added) after unchanged refused = ap (λ (c : CushionValue). record p { cushion = c }) after
+added_so pinned p cushion (Err e) after unchanged refused = (ap (λ (c : CushionValue). record p { cushion = c }) unchanged, refused)
+
+pub unpinned_so : (stamp : ℕ) (p : CallerPorts) (d : DatabaseValue) (r : Result (Unit {0}) DbError) → OnOk r (d ≡ after_unpin p.database stamp)
+    → (IsOk r → is_held stamp p.database.holds ≡ true) → OnErr r (d ≡ p.database) → IfErr r (IsUnpinRefused p.database stamp) → CallerUnpinTransition stamp p (record p { database = d }) r
+unpinned_so stamp p d (Ok unpinned) after only_if unchanged refused = (ap (λ (v : DatabaseValue). record p { database = v }) after, only_if refl)
+unpinned_so stamp p d (Err e) after only_if unchanged refused = (ap (λ (v : DatabaseValue). record p { database = v }) unchanged, refused)
+
 -- ---- requests
+
+-- the same of what the request and the ports were
+pub asked_so : (next : Next) (seen : FrontValue) (request asked : PortRequest) (old was new : CallerPorts) (reply : PortReply) → request ≡ asked → was ≡ old
+    → HasAskedPorts next seen asked was new reply → HasAskedPorts next seen request old new reply
+asked_so next seen request asked old was new reply is same h =
+    subst (λ (r : PortRequest). HasAskedPorts next seen r old new reply) (sym is) (subst (λ (p : CallerPorts). HasAskedPorts next seen asked p new reply) same h)
 
 module _ (next : Next) (seen : FrontValue) (old new : CallerPorts) where
   pub asked_pin : (now at_least : ℕ) (pinned : Result Pinned DbError) → new.database.events ≡ old.database.events → CallerPinTransition now at_least old new pinned

@@ -1,8 +1,10 @@
 -- Pins that are given back, and holds that are taken away one after another.
-use Rattle.std.proofs.Common.{◌≡◌, ◌∙◌, ℕ, ◌+◌, ◌<◌, List, ◌∷◌, length, drop, get_or, Some, inl, inr, ap, sym, subst}
+use Rattle.std.proofs.Common.{◌≡◌, ◌∙◌, ℕ, ◌+◌, ◌<◌, List, ◌∷◌, length, drop, get_or, Option, None, Some, inl, inr, ap, sym, subst}
 use Rattle.std.specs.Prelude.{Result, Ok, Err, IfErr, OnErr, OnOk}
 use Rattle.std.proofs.lemmas.List.{at_drop_more}
-use Rattle.txc_db.specs.DatabaseValue.{DatabaseValue}
+use Rattle.txc_db.specs.Calls.{IsUnpinRefused}
+use Rattle.txc_db.specs.DatabaseValue.{DatabaseValue, after_unpin}
+use Rattle.txc_db.specs.declared.error.DbError.{DbError}
 use Rattle.txc_cushion.specs.Cushion.{CushionValue, after_give_back}
 use Rattle.txc_cushion.specs.Refusals.{IsFirstUnused}
 use Rattle.txc_cushion.specs.declared.error.UnknownPin.{UnknownPin}
@@ -19,3 +21,20 @@ pub given_back : {A : Type 0} (stamps : List ℕ) (old new : CushionValue) (resu
     → IfErr result (λ (unknown : UnknownPin). IsFirstUnused old.entries stamps unknown.stamp) → AreGivenBack stamps old new
 given_back stamps old new (Ok it) after unchanged refused = inl after
 given_back stamps old new (Err unknown) after unchanged refused = inr (unchanged, (unknown.stamp, refused))
+
+-- a hold is taken away, or the database refused
+pub let_go_so : {A : Type 0} (stamp : ℕ) (old new : DatabaseValue) (result : Result A DbError) → OnOk result (new ≡ after_unpin old stamp) → OnErr result (new ≡ old)
+    → IfErr result (IsUnpinRefused old stamp) → IsLetGo (Some stamp) old new
+let_go_so stamp old new (Ok it) after unchanged refused = inl after
+let_go_so stamp old new (Err error) after unchanged refused = inr (unchanged, (error, refused))
+
+-- either leaves the history and its row
+pub let_go_history : (unpin : Option ℕ) (old new : DatabaseValue) → IsLetGo unpin old new → new.history ≡ old.history
+let_go_history None old new same = ap (λ (d : DatabaseValue). d.history) same
+let_go_history (Some stamp) old new (inl after) = ap (λ (d : DatabaseValue). d.history) after
+let_go_history (Some stamp) old new (inr left) = ap (λ (d : DatabaseValue). d.history) left.0
+
+pub let_go_events : (unpin : Option ℕ) (old new : DatabaseValue) → IsLetGo unpin old new → new.events ≡ old.events
+let_go_events None old new same = ap (λ (d : DatabaseValue). d.events) same
+let_go_events (Some stamp) old new (inl after) = ap (λ (d : DatabaseValue). d.events) after
+let_go_events (Some stamp) old new (inr left) = ap (λ (d : DatabaseValue). d.events) left.0

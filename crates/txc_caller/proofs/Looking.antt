@@ -1,5 +1,11 @@
 -- What the node had of a call, and when the caller is to compute it.
-use Rattle.std.proofs.Common.{◌≡◌, ℕ, true, Option, Some, None, Result, Ok, Err, refl, ap, sym, subst}
+use Rattle.std.proofs.Common.{◌≡◌, Bool, true, false, List, Some, None, Result, Ok, Err, refl, ap, sym, subst}
+use Rattle.std.specs.Prelude.{if◌then◌else◌, not}
+use Rattle.std.specs.List.{list_any}
+use Rattle.txc_node.specs.declared.hit.Shown.{Shown}
+use Rattle.txc_db.specs.declared.answered.Answered.{Answered}
+use Rattle.txc_cushion.specs.declared.pin.Pin.{Pin}
+use Rattle.txc_pinset.specs.Members.{is_held_by}
 use Rattle.txc_db.specs.Seen.{FrontValue}
 use Rattle.txc_shared.specs.Nodes.{NodeValue}
 use Rattle.txc_ports.specs.declared.request.PortRequest.{PortRequest}
@@ -53,22 +59,26 @@ module _ (seen : FrontValue) (old new : CallerPorts) where
     lookup_made request reply asks leads =
         by_exchange (CallerExchangeTransition seen old new) (λ (q : PortRequest) (r : PortReply). CoreAsks c q → IsLookedUp c old.node new.node r) looked_up_in request reply leads asks
 
-pub miss_is : (reply : PortReply) → is_miss reply ≡ true → reply ≡ replies.Lookup None
-miss_is (replies.Lookup None) is = refl
-miss_is (replies.Lookup (Some hit)) is = absurd (cc is)
-miss_is (replies.Pin pinned) is = absurd (cc is)
-miss_is (replies.AddPin pinned added) is = absurd (cc is)
-miss_is (replies.Unpin unpinned) is = absurd (cc is)
-miss_is (replies.Query found) is = absurd (cc is)
-miss_is (replies.Insert kept) is = absurd (cc is)
+held_by_none : (hit : Answered Shown) (held : Bool) → not held ≡ true → (if held then replies.Lookup (Some hit) else replies.Lookup None) ≡ replies.Lookup None
+held_by_none hit true none = absurd (cc none)
+held_by_none hit false none = refl
+
+miss_is : (members : List Pin) (reply : PortReply) → is_miss members reply ≡ true → counted_reply members reply ≡ replies.Lookup None
+miss_is members (replies.Lookup None) is = refl
+miss_is members (replies.Lookup (Some hit)) is = held_by_none hit (list_any (is_held_by hit.answer.reach) members) is
+miss_is members (replies.Pin pinned) is = absurd (cc is)
+miss_is members (replies.AddPin pinned added) is = absurd (cc is)
+miss_is members (replies.Unpin unpinned) is = absurd (cc is)
+miss_is members (replies.Query found) is = absurd (cc is)
+miss_is members (replies.Insert kept) is = absurd (cc is)
 
 module _ (c : CoreValue) (old new : NodeValue) where
   -- of what stands so a reply is kept back
-  pub looked_up_kept : (stand : Stand) (reply : PortReply) → stand ≡ Kept reply → StandsLookedUp c old new stand → IsLookedUp c old new reply
+  looked_up_kept : (stand : Stand) (reply : PortReply) → stand ≡ Kept reply → StandsLookedUp c old new stand → IsLookedUp c old new reply
   looked_up_kept stand reply is h = subst (StandsLookedUp c old new) is h
 
   -- what counts of it is nothing
-  pub missed : (reply : PortReply) → IsLookedUp c old new reply → counted_reply c.pins.members reply ≡ replies.Lookup None → HasMissed c old new
+  missed : (reply : PortReply) → IsLookedUp c old new reply → counted_reply c.pins.members reply ≡ replies.Lookup None → HasMissed c old new
   missed (replies.Lookup hit) looked none = record { hit = hit; looked_up = looked; none = none }
   missed (replies.Pin pinned) looked none = absurd (cc none)
   missed (replies.AddPin pinned added) looked none = absurd (cc none)
@@ -76,8 +86,11 @@ module _ (c : CoreValue) (old new : NodeValue) where
   missed (replies.Query found) looked none = absurd (cc none)
   missed (replies.Insert kept) looked none = absurd (cc none)
 
-  pub on_miss : (step : Result Step CallerError) → step ≡ Ok steps.Compute → HasMissed c old new → IsComputedOnMiss c old new step
-  on_miss step is h = subst (IsComputedOnMiss c old new) (sym is) h
+  pub on_miss : (stand : Stand) (reply : PortReply) → stand ≡ Kept reply → StandsLookedUp c old new stand → (members : List Pin) → members ≡ c.pins.members
+      → is_miss members reply ≡ true → (step : Result Step CallerError) → step ≡ Ok steps.Compute → IsComputedOnMiss c old new step
+  on_miss stand reply is stands members of none step computed =
+      subst (IsComputedOnMiss c old new) (sym computed)
+      (missed reply (looked_up_kept stand reply is stands) (subst (λ (ms : List Pin). counted_reply ms reply ≡ replies.Lookup None) of (miss_is members reply none)))
 
   pub not_computed : (step : Result Step CallerError) → IsNotComputed step → IsComputedOnMiss c old new step
   not_computed (Ok steps.Compute) none = absurd none

@@ -1,6 +1,6 @@
 -- A transaction that only reads, after an act.
 use Rattle.std.proofs.Common.{◌≡◌, ◌∙◌, false, List, Option, Some, None, refl, sym, subst}
-use Rattle.std.specs.Prelude.{is_some}
+use Rattle.std.specs.Prelude.{Result, is_some}
 use Rattle.std.specs.Option.{ForSome}
 use Rattle.txc_tags.specs.Keys.{Call}
 use Rattle.txc_app.specs.Eval.{Next}
@@ -10,11 +10,13 @@ use Rattle.txc_ports.specs.declared.bounds.Bounds.{Bounds}
 use Rattle.txc_ports.specs.declared.recorded.Recorded.{Recorded}
 use Rattle.txc_txn.specs.Core.{open_call, Explains, IsIdle}
 use Rattle.txc_txn.specs.Sessions.{IsAtLeast}
-use Rattle.txc_caller.specs.Acting.{IsActOf}
+use Rattle.txc_caller.specs.Acting.{IsActOf, IsStepOf}
 use Rattle.txc_caller.specs.Reading.{IsCallerReading, KeepsReading, CallerReading}
 use Rattle.txc_caller.specs.Standing.{IsKeptBack, KeepsOn}
 use Rattle.txc_caller.specs.declared.acted.Acted.{Acted}
 use Rattle.txc_caller.specs.declared.frames.OpenCall.{OpenCall}
+use Rattle.txc_caller.specs.declared.step.CallerError.{CallerError}
+use Rattle.txc_caller.specs.declared.step.Step.{Step}
 use Rattle.txc_caller.proofs.Turning.{keeps_self}
 
 module _ (next : Next) (old new : CallerReading) (keeps : KeepsOn old.txn new.txn) (events : new.ports.database.events ≡ old.ports.database.events)
@@ -41,6 +43,12 @@ module _ (next : Next) (old new : CallerReading) (keeps : KeepsOn old.txn new.tx
     kept = subst (λ (d : Option OpenCall). ForSome d (λ (o : OpenCall). IsKeptBack next new.txn o.kept)) (sym none) (λ y is. absurd (cc is));
     top = subst (λ (d : Option OpenCall). ForSome d (λ (o : OpenCall). open_call new.txn.core ≡ Some o.frames.top)) (sym none) (λ y is. absurd (cc is));
   }
+
+-- the step, with the call as it was settled
+pub settled : (before : List Recorded) (k : Call) (recorded : List Recorded) (acted : Acted) (doing : Option OpenCall) (step : Result Step CallerError) → doing ≡ acted.doing → step ≡ acted.step
+    → IsStepOf before k recorded acted.doing acted.step → IsStepOf before k recorded doing step
+settled before k recorded acted doing step stands is h =
+    subst (λ (d : Option OpenCall). IsStepOf before k recorded d step) (sym stands) (subst (IsStepOf before k recorded acted.doing) (sym is) h)
 
 pub keeps_reading_self : (r : CallerReading) → KeepsReading r r
 keeps_reading_self r = record { txn = keeps_self r.txn; row = refl; renew_after = refl }

@@ -1,8 +1,6 @@
 -- What the turns of a call leave, and what a kept reply is.
-use Rattle.std.proofs.Common.{◌≡◌, ◌∙◌, List, Bool, true, false, Option, Some, None, Ok, Err, refl, ap, sym, subst}
+use Rattle.std.proofs.Common.{◌≡◌, ◌∙◌, List, true, Option, Some, None, Ok, Err, refl, ap, sym, subst}
 use Rattle.std.specs.Option.{ForSome}
-use Rattle.std.specs.List.{list_any}
-use Rattle.std.specs.Prelude.{if◌then◌else◌}
 use mathlib.Core.List.{IsPrefix}
 use Rattle.txc_stream.specs.Names.{Name}
 use Rattle.txc_stream.proofs.Offered.{prefix_self, prefix_trans}
@@ -12,7 +10,6 @@ use Rattle.txc_db.specs.Seen.{FrontValue}
 use Rattle.txc_db.specs.declared.answered.Answered.{Answered}
 use Rattle.txc_node.specs.declared.hit.Shown.{Shown}
 use Rattle.txc_cushion.specs.declared.pin.Pin.{Pin}
-use Rattle.txc_pinset.specs.Members.{is_held_by}
 use Rattle.txc_app.specs.Eval.{Next}
 use Rattle.txc_registry.specs.Objects.{numbers_of}
 use Rattle.txc_ports.specs.declared.recorded.Recorded.{Recorded}
@@ -25,7 +22,7 @@ use Rattle.txc_ports.specs.Turns.{PortTurn}
 use Rattle.txc_txn.specs.Core.{CoreValue, open_call, recorded_after, IsNoValue}
 use Rattle.txc_txn.specs.Kept.{TxnValue, HasBegunCall, HasGoneOn}
 use Rattle.txc_txn.proofs.Offered.{adds_next, adds_none}
-use Rattle.txc_caller.specs.Given.{counted_reply}
+use Rattle.txc_caller.specs.Looking.{is_miss}
 use Rattle.txc_caller.specs.Standing.{HasPassed, IsGoing, IsKeptBack, IsTurnOf, KeepsOn}
 
 -- ---- what is kept
@@ -151,16 +148,12 @@ module _ (next : Next) (t : TxnValue) where
     right = λ front is. absurd (cc is);
   }
 
-  -- what counts is a reply still
-  pub kept_counted : (members : List Pin) (reply : PortReply) → IsKeptBack next t reply → IsKeptBack next t (counted_reply members reply)
-  kept_counted members (replies.Lookup (Some hit)) kept =
-      elim (list_any (is_held_by hit.answer.reach) members) as (λ (b : Bool). IsKeptBack next t (if b then replies.Lookup (Some hit) else replies.Lookup None)) [
-        | true ↦ kept
-        | false ↦ missed hit kept
-      ]
-  kept_counted members (replies.Lookup None) kept = kept
-  kept_counted members (replies.Pin pinned) kept = kept
-  kept_counted members (replies.AddPin pinned added) kept = kept
-  kept_counted members (replies.Unpin unpinned) kept = kept
-  kept_counted members (replies.Query found) kept = kept
-  kept_counted members (replies.Insert stored) kept = kept
+  -- of what does not count a miss is kept
+  pub kept_miss : (members : List Pin) (reply : PortReply) → is_miss members reply ≡ true → IsKeptBack next t reply → IsKeptBack next t (replies.Lookup None)
+  kept_miss members (replies.Lookup (Some hit)) is kept = missed hit kept
+  kept_miss members (replies.Lookup None) is kept = kept
+  kept_miss members (replies.Pin pinned) is kept = absurd (cc is)
+  kept_miss members (replies.AddPin pinned added) is kept = absurd (cc is)
+  kept_miss members (replies.Unpin unpinned) is kept = absurd (cc is)
+  kept_miss members (replies.Query found) is kept = absurd (cc is)
+  kept_miss members (replies.Insert stored) is kept = absurd (cc is)

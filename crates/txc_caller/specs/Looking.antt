@@ -1,5 +1,8 @@
 -- What the node had of a call, when it was asked.
-use Rattle.std.specs.Prelude.{◌≡◌, ℕ, Bool, true, false, Option, None}
+use Rattle.std.specs.Prelude.{◌≡◌, ℕ, Bool, true, false, not, List, Option, Some, None}
+use Rattle.std.specs.List.{list_any}
+use Rattle.txc_pinset.specs.Members.{is_held_by}
+use Rattle.txc_cushion.specs.declared.pin.Pin.{Pin}
 use Rattle.txc_tags.specs.Keys.{Call}
 use Rattle.txc_node.specs.declared.hit.Shown.{Shown}
 use Rattle.txc_db.specs.declared.answered.Answered.{Answered}
@@ -33,10 +36,11 @@ abbrev pub StandsLookedUp : CoreValue → NodeValue → NodeValue → Stand → 
 StandsLookedUp c old new (Kept reply) = IsLookedUp c old new reply
 StandsLookedUp c old new stand = Unit {0}
 
--- a lookup found nothing
-abbrev pub is_miss : PortReply → Bool
-is_miss (Lookup None) = true
-is_miss reply = false
+-- a lookup found nothing whose reach holds a member
+abbrev pub is_miss : List Pin → PortReply → Bool
+is_miss members (Lookup None) = true
+is_miss members (Lookup (Some hit)) = not (list_any (is_held_by hit.answer.reach) members)
+is_miss members reply = false
 
 -- it has nothing whose reach holds a member
 pub record HasMissed (c : CoreValue) (old new : NodeValue) : Type 0 where

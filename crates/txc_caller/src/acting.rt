@@ -1,27 +1,25 @@
 //! What a caller does in an open call, and how the call stands after it.
-ghost use Rattle.std.specs.Prelude.{◌≡◌, ◌++◌, ◌∷◌, [], List, Ok, Some};
+ghost use Rattle.std.specs.Prelude.{◌≡◌, ◌++◌, ◌∷◌, [], IfOk, List, None, Ok, Some};
 ghost use Rattle.txc_app.specs.Eval.{Next};
 ghost use Rattle.txc_tags.specs.Keys.{Call};
 ghost use Rattle.txc_ports.specs.declared.recorded.Recorded.{Recorded};
 ghost use Rattle.txc_txn.specs.Core.{left_pin, open_call, IsIdle};
 ghost use Rattle.txc_txn.specs.Kept.{TxnValue};
-ghost use Rattle.txc_shared.specs.Nodes.{NodeValue};
 ghost use Rattle.txc_caller.specs.Acting.{ask_of, HasCallerActed, HasRoomFor, HasRoomOnceTold, IsActOf, IsAwaitingCaller, IsComputedOnMiss, IsNotComputed};
-ghost use Rattle.txc_caller.specs.Looking.{is_miss, IsLookedUp};
 ghost use Rattle.txc_caller.specs.Ports.{IsLetGo};
 ghost use Rattle.txc_caller.specs.declared.step.Step.TheVariants.{Compute};
 ghost use Rattle.txc_caller.specs.Standing.{asks_next, IsKeptBack, IsStanding, KeepsOn};
 
 use crate::act::{Act, Awaited, Told};
 use crate::acted::Acted;
-use crate::asking::{counted, given_by, supply};
-use crate::engine::{feed, start};
+use crate::asking::{given_by, is_miss, supply};
+use crate::engine::{feed, lead};
 use crate::frames::{Around, Frames, OpenCall};
-use crate::ports::Ports;
+use crate::ports::{Ports, let_go};
 use crate::stand::Stand;
 use crate::step::{CallerError, Step};
-use std::alloc::Global;
-use txc_app::{Answer, App, Ask, Bytes};
+use std::alloc::{AllocError, Global};
+use txc_app::{Answer, App, Ask};
 use txc_node::Value;
 use txc_ports::{PortReply, TxnError};
 use txc_registry::Suppliable;
@@ -30,17 +28,17 @@ use txc_txn::RunningTxn;
 
 // ---- how a call stands
 
-// The caller is to compute the innermost function, which has asked nothing yet.
-fn computing(frames: Frames, kept: PortReply) -> Acted
-    ensures acted { (next : Next) (t : TxnValue) → IsKeptBack next t kept → open_call t.core ≡ Some frames.top
-        → IsActOf next t.core.recorded frames.top t result }
+// The caller is to compute the innermost function, which has asked nothing yet: its call was looked up, and is a miss.
+fn computing(frames: Frames) -> Acted
+    ensures acted { (next : Next) (t : TxnValue) → IsKeptBack next t (PortReply.Lookup None)
+        → open_call t.core ≡ Some frames.top → IsActOf next t.core.recorded frames.top t result }
     ensures step { result.step ≡ Ok Compute }
 {
     Acted {
         doing: Some(OpenCall {
             frames,
             given: None,
-            kept,
+            kept: PortReply::Lookup(None),
         }),
         step: Ok(Step::Compute),
     }
@@ -76,20 +74,6 @@ fn refused(frames: Frames, given: Option<Answer>, kept: PortReply, error: Caller
         }),
         step: Err(error),
     }
-}
-
-// The same of an open call, for want of memory: all is as it was.
-fn out_of_memory(call: OpenCall) -> Acted
-    ensures acted { (next : Next) (t : TxnValue) → IsKeptBack next t call.kept → open_call t.core ≡ Some call.frames.top
-        → IsActOf next t.core.recorded call.frames.top t result }
-    ensures not_computed { IsNotComputed result.step }
-{
-    let OpenCall {
-        frames,
-        given,
-        kept,
-    } = call;
-    refused(frames, given, kept, CallerError::Memory)
 }
 
 // The call has its value.
@@ -129,21 +113,6 @@ fn standing(stand: Stand, frames: Frames, answer: Answer) -> Acted
     }
 }
 
-// Whether the reply is a miss.
-fn is_miss(reply: &PortReply) -> bool
-    ensures { result ≡ is_miss reply.now }
-{
-    match reply {
-        PortReply::Lookup(None) => true,
-        PortReply::Lookup(Some(_)) => false,
-        PortReply::Pin(_) => false,
-        PortReply::AddPin(_, _) => false,
-        PortReply::Unpin(_) => false,
-        PortReply::Query(_) => false,
-        PortReply::Insert(_) => false,
-    }
-}
-
 /// Gives the open call up: its functions end.
 pub(crate) fn end_call<A: App, C: Suppliable>(ports: &mut Ports<A>, txn: &mut RunningTxn<A, C>)
     ensures idle { IsIdle txn.new.core }
@@ -154,43 +123,27 @@ pub(crate) fn end_call<A: App, C: Suppliable>(ports: &mut Ports<A>, txn: &mut Ru
     ensures events { ports.new.database.events ≡ ports.old.database.events }
 {
     let unpin = txn.give_up();
-    ports.let_go(unpin);
+    let_go(&mut ports.database, unpin);
 }
 
 // ---- replies
-
-// Goes on with the reply that was kept back. Where the call waits again, its innermost function has this answer.
-fn feed_on<A: App, C: Suppliable>(
-    alloc: Global,
-    ports: &mut Ports<A>,
-    txn: &mut RunningTxn<A, C>,
-    frames: Frames,
-    answer: Answer,
-    kept: PortReply,
-) -> Acted
-    requires { IsAwaitingCaller A.next ports.old txn.old frames.top kept }
-    ensures acted { HasCallerActed A.next ports.old ports.new txn.old txn.new frames.top result }
-    ensures not_computed { IsNotComputed result.step }
-{
-    let stand = feed(alloc, ports, txn, kept);
-    standing(stand, frames, answer)
-}
 
 // Goes on with the reply that was kept back, with which the call ends. One that would wait again is given up.
 fn feed_to_end<A: App, C: Suppliable>(
     alloc: Global,
     ports: &mut Ports<A>,
     txn: &mut RunningTxn<A, C>,
-    frames: &Frames,
+    frames: Frames,
     kept: PortReply,
 ) -> Acted
-    requires { IsAwaitingCaller A.next ports.old txn.old frames.now.top kept }
-    ensures acted { HasCallerActed A.next ports.old ports.new txn.old txn.new frames.now.top result }
+    requires { IsAwaitingCaller A.next ports.old txn.old frames.top kept }
+    ensures acted { HasCallerActed A.next ports.old ports.new txn.old txn.new frames.top result }
     ensures not_computed { IsNotComputed result.step }
 {
+    drop(frames);
     match feed(alloc, ports, txn, kept) {
         Stand::Kept(reply) => {
-            let _reply = reply;
+            drop(reply);
             end_call(ports, txn);
             ended(TxnError::Memory)
         }
@@ -214,79 +167,18 @@ fn answered<A: App, C: Suppliable>(
 {
     match given_by(alloc, &kept) {
         Ok(Some(answer)) => stays(frames.reach(), answer, kept),
-        Ok(None) => feed_to_end(alloc, ports, txn, &frames, kept),
+        Ok(None) => feed_to_end(alloc, ports, txn, frames, kept),
         Err(_) => {
+            drop(frames);
+            drop(kept);
             end_call(ports, txn);
             ended(TxnError::Memory)
         }
     }
 }
 
-// The outermost call was looked up: a hit is its value.
-fn first_reply<A: App, C: Suppliable>(
-    alloc: Global,
-    ports: &mut Ports<A>,
-    txn: &mut RunningTxn<A, C>,
-    frames: Frames,
-    kept: PortReply,
-) -> Acted
-    requires { IsAwaitingCaller A.next ports.old txn.old frames.top kept }
-    ensures acted { HasCallerActed A.next ports.old ports.new txn.old txn.new frames.top result }
-    ensures on_miss { (before : NodeValue) → IsLookedUp txn.old.core before ports.old.node kept
-        → IsComputedOnMiss txn.new.core before ports.new.node result.step }
-{
-    let reply = counted(kept, txn.core().members());
-    if is_miss(&reply) {
-        return computing(frames, reply);
-    }
-    feed_to_end(alloc, ports, txn, &frames, reply)
-}
-
-// A call of the innermost function was looked up: a hit is its answer.
-fn inner_reply<A: App, C: Suppliable>(
-    alloc: Global,
-    ports: &mut Ports<A>,
-    txn: &mut RunningTxn<A, C>,
-    frames: Frames,
-    kept: PortReply,
-    key: Key,
-) -> Acted
-    requires waits { IsAwaitingCaller A.next ports.old txn.old frames.top kept }
-    requires room { HasRoomFor (Awaited.Hit key) frames }
-    ensures acted { HasCallerActed A.next ports.old ports.new txn.old txn.new frames.top result }
-    ensures on_miss { (before : NodeValue) → IsLookedUp txn.old.core before ports.old.node kept
-        → IsComputedOnMiss txn.new.core before ports.new.node result.step }
-{
-    let reply = counted(kept, txn.core().members());
-    if is_miss(&reply) {
-        return computing(frames.enter(key), reply);
-    }
-    answered(alloc, ports, txn, frames, reply)
-}
-
-// The reply has come that the call waited for.
-fn replied<A: App, C: Suppliable>(
-    alloc: Global,
-    ports: &mut Ports<A>,
-    txn: &mut RunningTxn<A, C>,
-    frames: Frames,
-    kept: PortReply,
-    awaited: Awaited,
-) -> Acted
-    requires waits { IsAwaitingCaller A.next ports.old txn.old frames.top kept }
-    requires room { HasRoomFor awaited frames }
-    ensures acted { HasCallerActed A.next ports.old ports.new txn.old txn.new frames.top result }
-    ensures on_miss { (before : NodeValue) → IsLookedUp txn.old.core before ports.old.node kept
-        → IsComputedOnMiss txn.new.core before ports.new.node result.step }
-{
-    match awaited {
-        Awaited::Hit(key) => inner_reply(alloc, ports, txn, frames, kept, key),
-        Awaited::Rows => answered(alloc, ports, txn, frames, kept),
-        Awaited::Kept => feed_to_end(alloc, ports, txn, &frames, kept),
-    }
-}
-
-// Goes on with the reply that was kept back, up to the one that the call waits for.
+// Goes on with the reply that was kept back, up to the one that the call waits for. Of a call of the innermost function
+// that was looked up, a hit is its answer.
 fn wait_for<A: App, C: Suppliable>(
     alloc: Global,
     ports: &mut Ports<A>,
@@ -301,13 +193,23 @@ fn wait_for<A: App, C: Suppliable>(
     ensures on_miss { IsComputedOnMiss txn.new.core ports.old.node ports.new.node result.step }
 {
     match feed(alloc, ports, txn, kept) {
-        Stand::Kept(reply) => replied(alloc, ports, txn, frames, reply, awaited),
+        Stand::Kept(reply) => match awaited {
+            Awaited::Hit(key) => {
+                if is_miss(&reply, txn.core().members()) {
+                    drop(reply);
+                    return computing(frames.enter(key));
+                }
+                answered(alloc, ports, txn, frames, reply)
+            }
+            Awaited::Rows => answered(alloc, ports, txn, frames, reply),
+            Awaited::Kept => feed_to_end(alloc, ports, txn, frames, reply),
+        },
         Stand::Value(value) => valued(value),
         Stand::Refused(error) => ended(error),
     }
 }
 
-/// The outermost call begins.
+/// The outermost call begins. Where it was looked up, a hit is its value.
 pub(crate) fn call_first<A: App, C: Suppliable>(
     alloc: Global,
     ports: &mut Ports<A>,
@@ -321,8 +223,15 @@ pub(crate) fn call_first<A: App, C: Suppliable>(
     ensures on_miss { IsComputedOnMiss txn.new.core ports.old.node ports.new.node result.step }
 {
     let frames = Frames::of(alloc, &key);
-    match start(alloc, ports, txn, key) {
-        Stand::Kept(kept) => first_reply(alloc, ports, txn, frames, kept),
+    let turn = txn.start(alloc, key);
+    match lead(alloc, ports, txn, turn) {
+        Stand::Kept(reply) => {
+            if is_miss(&reply, txn.core().members()) {
+                drop(reply);
+                return computing(frames);
+            }
+            feed_to_end(alloc, ports, txn, frames, reply)
+        }
         Stand::Value(value) => valued(value),
         Stand::Refused(error) => ended(error),
     }
@@ -330,31 +239,9 @@ pub(crate) fn call_first<A: App, C: Suppliable>(
 
 // ---- what the innermost function does
 
-// An inner function is done with this value, which is the next answer of the one around it. One that depends on a row is
-// kept at the node first. Of another nothing is fed: its object is done at once, and then the one around it goes on
-// in the same step.
-fn close<A: App, C: Suppliable>(
-    alloc: Global,
-    ports: &mut Ports<A>,
-    txn: &mut RunningTxn<A, C>,
-    around: Around,
-    kept: PortReply,
-    value: Value,
-) -> Acted
-    requires { IsAwaitingCaller A.next ports.old txn.old around.frames.top kept }
-    ensures acted { HasCallerActed A.next ports.old ports.new txn.old txn.new around.frames.top result }
-    ensures not_computed { IsNotComputed result.step }
-{
-    let Around { frames, is_reached } = around;
-    let answer = Answer::Value(value);
-    if !is_reached {
-        return stays(frames, answer, kept);
-    }
-    feed_on(alloc, ports, txn, frames, answer, kept)
-}
-
-// The innermost function gives these bytes. A call whose value is too long is refused. The value of the outermost is kept
-// at the node first where it depends on a row.
+// The innermost function gives these bytes. A call whose value is too long is refused. The value is the next answer of the
+// function around it, or of the outermost call. One that depends on a row is kept at the node first. Of an inner one that
+// depends on none nothing is fed: its object is done at once, and then the one around it goes on in the same step.
 fn give<A: App, C: Suppliable>(
     alloc: Global,
     ports: &mut Ports<A>,
@@ -368,114 +255,44 @@ fn give<A: App, C: Suppliable>(
     ensures on_miss { IsComputedOnMiss txn.new.core ports.old.node ports.new.node result.step }
 {
     let Some(value) = Value::new(bytes) else {
-        return feed_to_end(alloc, ports, txn, &frames, kept);
+        return feed_to_end(alloc, ports, txn, frames, kept);
     };
     match frames.leave() {
-        Ok(around) => close(alloc, ports, txn, around, kept, value),
+        Ok(around) => {
+            let Around { frames, is_reached } = around;
+            let answer = Answer::Value(value);
+            if !is_reached {
+                return stays(frames, answer, kept);
+            }
+            let stand = feed(alloc, ports, txn, kept);
+            standing(stand, frames, answer)
+        }
         Err(outermost) => wait_for(alloc, ports, txn, outermost, kept, Awaited::Kept),
     }
 }
 
-// The object of the innermost function was given what that does.
-fn go_on<A: App, C: Suppliable>(
-    alloc: Global,
-    ports: &mut Ports<A>,
-    txn: &mut RunningTxn<A, C>,
-    frames: Frames,
-    kept: PortReply,
-    told: Told,
-) -> Acted
-    requires waits { IsAwaitingCaller A.next ports.old txn.old frames.top kept }
-    requires room { HasRoomOnceTold told frames }
-    ensures acted { HasCallerActed A.next ports.old ports.new txn.old txn.new frames.top result }
-    ensures on_miss { IsComputedOnMiss txn.new.core ports.old.node ports.new.node result.step }
+// What the innermost function asks that does so, and what comes of it. There is room then for a call that it asks for.
+fn asked_by(alloc: Global, frames: &mut Frames, act: Act) -> Result<(Ask, Told), AllocError>
+    ensures ask { IfOk result (λ it. it.0 ≡ ask_of act) }
+    ensures room { IfOk result (λ it. HasRoomOnceTold it.1 frames.new) }
+    ensures top { frames.new.top ≡ frames.old.top }
+    ensures inner { frames.new.inner ≡ frames.old.inner }
 {
-    match told {
-        Told::Waits(awaited) => wait_for(alloc, ports, txn, frames, kept, awaited),
-        Told::Gives(bytes) => give(alloc, ports, txn, frames, kept, bytes),
+    match act {
+        Act::Call(key) => {
+            frames.make_room()?;
+            let awaited = Awaited::Hit(key.copy());
+            Ok((Ask::Call(key), Told::Waits(awaited)))
+        }
+        Act::Query(query) => Ok((Ask::Query(query), Told::Waits(Awaited::Rows))),
+        Act::Finish(bytes) => {
+            let copy = Vec::from_slice(alloc, bytes.as_slice())?;
+            Ok((Ask::Done(bytes), Told::Gives(copy)))
+        }
     }
 }
 
-// Tells the object of the innermost function what that asks, and goes on.
-fn hand_over<A: App, C: Suppliable>(
-    alloc: Global,
-    ports: &mut Ports<A>,
-    txn: &mut RunningTxn<A, C>,
-    call: OpenCall,
-    ask: Ask,
-    told: Told,
-) -> Acted
-    requires asks { asks_next A.next txn.old.objects call.frames.inner.key call.given ≡ Some ask }
-    requires waits { IsAwaitingCaller A.next ports.old txn.old call.frames.top call.kept }
-    requires room { HasRoomOnceTold told call.frames }
-    ensures acted { HasCallerActed A.next ports.old ports.new txn.old txn.new call.frames.top result }
-    ensures on_miss { IsComputedOnMiss txn.new.core ports.old.node ports.new.node result.step }
-{
-    let OpenCall {
-        frames,
-        given,
-        kept,
-    } = call;
-    match supply(alloc, txn, &frames.inner.key, given, ask) {
-        Ok(()) => go_on(alloc, ports, txn, frames, kept, told),
-        Err(error) => refused(frames, None, kept, error),
-    }
-}
-
-// The innermost function asks for the value of another call.
-fn call_inside<A: App, C: Suppliable>(
-    alloc: Global,
-    ports: &mut Ports<A>,
-    txn: &mut RunningTxn<A, C>,
-    call: OpenCall,
-    key: Key,
-) -> Acted
-    requires asks { asks_next A.next txn.old.objects call.frames.inner.key call.given ≡ Some (Ask.Call key) }
-    requires waits { IsAwaitingCaller A.next ports.old txn.old call.frames.top call.kept }
-    ensures acted { HasCallerActed A.next ports.old ports.new txn.old txn.new call.frames.top result }
-    ensures on_miss { IsComputedOnMiss txn.new.core ports.old.node ports.new.node result.step }
-{
-    let OpenCall {
-        mut frames,
-        given,
-        kept,
-    } = call;
-    let Ok(()) = frames.make_room() else {
-        return out_of_memory(OpenCall {
-            frames,
-            given,
-            kept,
-        });
-    };
-    let call = OpenCall {
-        frames,
-        given,
-        kept,
-    };
-    let told = Told::Waits(Awaited::Hit(key.copy()));
-    hand_over(alloc, ports, txn, call, Ask::Call(key), told)
-}
-
-// The innermost function is done, with these bytes.
-fn finish_inside<A: App, C: Suppliable>(
-    alloc: Global,
-    ports: &mut Ports<A>,
-    txn: &mut RunningTxn<A, C>,
-    call: OpenCall,
-    bytes: Bytes,
-) -> Acted
-    requires asks { asks_next A.next txn.old.objects call.frames.inner.key call.given ≡ Some (Ask.Done bytes) }
-    requires waits { IsAwaitingCaller A.next ports.old txn.old call.frames.top call.kept }
-    ensures acted { HasCallerActed A.next ports.old ports.new txn.old txn.new call.frames.top result }
-    ensures on_miss { IsComputedOnMiss txn.new.core ports.old.node ports.new.node result.step }
-{
-    let Ok(copy) = Vec::from_slice(alloc, bytes.as_slice()) else {
-        return out_of_memory(call);
-    };
-    hand_over(alloc, ports, txn, call, Ask::Done(bytes), Told::Gives(copy))
-}
-
-/// What the innermost function does.
+/// What the innermost function does: its object is told, and the call goes on.
 pub(crate) fn act_inside<A: App, C: Suppliable>(
     alloc: Global,
     ports: &mut Ports<A>,
@@ -488,12 +305,20 @@ pub(crate) fn act_inside<A: App, C: Suppliable>(
     ensures acted { HasCallerActed A.next ports.old ports.new txn.old txn.new call.frames.top result }
     ensures on_miss { IsComputedOnMiss txn.new.core ports.old.node ports.new.node result.step }
 {
-    match act {
-        Act::Call(key) => call_inside(alloc, ports, txn, call, key),
-        Act::Query(query) => {
-            let told = Told::Waits(Awaited::Rows);
-            hand_over(alloc, ports, txn, call, Ask::Query(query), told)
-        }
-        Act::Finish(bytes) => finish_inside(alloc, ports, txn, call, bytes),
+    let OpenCall {
+        mut frames,
+        given,
+        kept,
+    } = call;
+    let Ok(asked) = asked_by(alloc, &mut frames, act) else {
+        return refused(frames, given, kept, CallerError::Memory);
+    };
+    let (ask, told) = asked;
+    match supply(alloc, txn, &frames.inner.key, given, ask) {
+        Ok(()) => match told {
+            Told::Waits(awaited) => wait_for(alloc, ports, txn, frames, kept, awaited),
+            Told::Gives(bytes) => give(alloc, ports, txn, frames, kept, bytes),
+        },
+        Err(error) => refused(frames, None, kept, error),
     }
 }

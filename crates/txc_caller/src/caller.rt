@@ -1,13 +1,7 @@
 //! Who computes his functions himself, at rest.
-ghost use Rattle.std.specs.Prelude.{◌≡◌, ◌≤◌, ◌↔◌, ◌∷◌, [], All, IfErr, IfOk, IfSome, IsOk, None, OnErr, OnOk, map, true, false};
+ghost use Rattle.std.specs.Prelude.{◌≡◌, ◌≤◌, [], IfErr, IfOk, IfSome, None, OnOk, true, false};
 ghost use Rattle.txc_app.specs.Eval.{Next};
-ghost use Rattle.txc_cushion.specs.Cushion.{after_fresh, empty_cushion, handed_out};
-ghost use Rattle.txc_db.specs.Calls.{IsAnswerable, IsBase, IsCommitRefused, IsCommittable, IsLeft, IsQueryRefused};
-ghost use Rattle.txc_db.specs.Steps.{IsBaseRefused};
-ghost use Rattle.txc_rows.specs.RowTags.{query_tag};
-ghost use Rattle.txc_db.specs.DatabaseValue.{after_commit, front_of, newest};
-ghost use Rattle.txc_db.specs.History.{state_at};
-ghost use Rattle.txc_rows.specs.States.{answer};
+ghost use Rattle.txc_cushion.specs.Cushion.{after_fresh, handed_out};
 ghost use Rattle.txc_db.specs.Refusals.{IsWant};
 ghost use Rattle.txc_registry.specs.Objects.{AllIdle, Objects};
 ghost use Rattle.txc_shared.specs.Nodes.{start_of};
@@ -19,21 +13,16 @@ ghost use Rattle.txc_caller.specs.Ports.{GoesOnByEvents, HasEventRoom, HasNoEven
 ghost use Rattle.txc_caller.specs.Reading.{caller_of};
 
 use crate::caller_txn::CallerTxn;
-use crate::ports::Ports;
+use crate::ports::{Ports, give_back};
 use std::alloc::{AllocError, Global};
 use std::marker::Model;
 use txc_app::App;
-use txc_cushion::CushionCore;
-use txc_db::{DbCore, DbError};
+use txc_cushion::{CushionCore, Pins};
+use txc_db::DbError;
 use txc_ports::Bounds;
 use txc_registry::{Registry, Suppliable};
-use txc_rows::{Change, Query};
-use txc_shared::{NodeSettings, StoredNode};
-use txc_stamp::Stamp;
-use txc_stream::Pen;
-use txc_tags::TagSet;
+use txc_shared::NodeSettings;
 use txc_txn::{RunningTxn, TxnCore};
-use txc_validity::Found;
 
 /// A database, its pincushion and one node of a caller in one thread, and the objects of the functions that he
 /// computes himself. No transaction is open.
@@ -55,10 +44,19 @@ impl<A: App, C: Suppliable> Model for Caller<A, C> {
     ghost invariant = { λ c. AllIdle c.registry };
 }
 
+// Gives one user of each of the pins back. It takes no memory.
+fn give_back_each(cushion: &mut CushionCore, pins: &Pins)
+    ensures { cushion.new.events ≡ cushion.old.events }
+{
+    for pin in &pins.pins {
+        give_back(cushion, &[pin.stamp]);
+    }
+}
+
 // A core with the pins that the pincushion hands out for its bounds. Out of memory, they are given back.
-fn begun<A: App>(
+fn begun(
     alloc: Global,
-    ports: &mut Ports<A>,
+    cushion: &mut CushionCore,
     renew_after: u64,
     bounds: Bounds,
 ) -> Result<TxnCore, AllocError>
@@ -67,28 +65,28 @@ fn begun<A: App>(
     ensures holds { IfOk result (λ core. (next : Next) (objects : Objects)
         → CoreHolds next (value_of core).seen.history objects (value_of core)) }
     ensures idle { IfOk result (λ core. IsIdle (value_of core)) }
-    ensures row { IfOk result (λ core. (value_of core).seen.events ≡ ports.old.database.events) }
+    ensures row { IfOk result (λ core. (value_of core).seen.events ≡ cushion.old.events) }
     ensures bounds { IfOk result (λ core. (value_of core).bounds ≡ bounds) }
     ensures renew_after { IfOk result (λ core. (value_of core).renew_after ≡ renew_after) }
     ensures nodes { IfOk result (λ core. (value_of core).nodes ≡ 1) }
     ensures recorded { IfOk result (λ core. (value_of core).recorded ≡ []) }
     ensures members { IfOk result (λ core. (value_of core).pins.members
-        ≡ handed_out ports.old.cushion bounds.now bounds.staleness bounds.at_least) }
+        ≡ handed_out cushion.old bounds.now bounds.staleness bounds.at_least) }
     ensures present { IfOk result (λ core. (value_of core).pins.has_present ≡ true) }
-    ensures users { OnOk result (ports.new.cushion
-        ≡ after_fresh ports.old.cushion bounds.now bounds.staleness bounds.at_least) }
-    ensures same { ports.new ≡ record ports.old { cushion = ports.new.cushion } }
+    ensures users { OnOk result (cushion.new
+        ≡ after_fresh cushion.old bounds.now bounds.staleness bounds.at_least) }
+    ensures events { cushion.new.events ≡ cushion.old.events }
 {
     let Bounds {
         now,
         staleness,
         at_least,
     } = bounds;
-    let pins = ports.fresh(alloc, now, staleness, at_least)?;
+    let pins = cushion.fresh(alloc, now, staleness, at_least)?;
     match TxnCore::begin(alloc, 1, renew_after, bounds, pins) {
         Ok(core) => Ok(core),
         Err(pins) => {
-            ports.give_back_each(&pins);
+            give_back_each(cushion, &pins);
             Err(AllocError)
         }
     }
@@ -142,12 +140,11 @@ impl<A: App, C: Suppliable> Caller<A, C> {
             ≡ record self { ports = record self.ports { cushion = caller.ports.cushion } }) }
     {
         let Caller {
-            ports,
+            mut ports,
             renew_after,
             registry,
         } = self;
-        let mut ports = ports;
-        match begun(alloc, &mut ports, renew_after, bounds) {
+        match begun(alloc, &mut ports.cushion, renew_after, bounds) {
             Ok(core) => Ok(CallerTxn {
                 ports,
                 renew_after,
@@ -160,59 +157,6 @@ impl<A: App, C: Suppliable> Caller<A, C> {
                 registry,
             }),
         }
-    }
-
-    // The newest stamp.
-    pub(crate) fn newest(&self) -> Stamp
-        ensures { result ≡ newest self.now.ports.database }
-    {
-        self.ports.newest()
-    }
-
-    // Refuses a stamp at which no commit may have its base.
-    pub(crate) fn check_base(&self, base: Stamp) -> Result<Stamp, DbError>
-        ensures only_if { IsOk result ↔ IsBase self.now.ports.database base }
-        ensures refused { IfErr result (IsBaseRefused self.now.ports.database base) }
-    {
-        self.ports.check_base(base)
-    }
-
-    // The rows that the query gives at the stamp, with its tag.
-    pub(crate) fn rows_at(
-        &mut self,
-        alloc: Global,
-        query: &Query,
-        stamp: Stamp,
-    ) -> Result<Found, DbError>
-        ensures answer { IfOk result (λ found.
-            found.rows.items ≡ answer query.now (state_at self.old.ports.database.history stamp)) }
-        ensures tag { IfOk result (λ found. found.tags ≡ query_tag query.now ∷ []) }
-        ensures only_if { IsOk result → IsAnswerable self.old.ports.database stamp }
-        ensures refused { IfErr result (IsQueryRefused self.old.ports.database query.now stamp) }
-        ensures same { self.new ≡ self.old }
-    {
-        self.ports.rows_at(alloc, query, stamp)
-    }
-
-    // Commits the changes, where no event after the base matches what was read.
-    pub(crate) fn commit_at(
-        &mut self,
-        alloc: Global,
-        base: Stamp,
-        read: &TagSet,
-        changes: &[Change],
-    ) -> Result<Stamp, DbError>
-        ensures after { OnOk result
-            (self.new.ports.database ≡ after_commit self.old.ports.database changes.now) }
-        ensures answer { IfOk result (λ stamp. stamp ≡ newest self.new.ports.database) }
-        ensures only_if { IsOk result → IsCommittable self.old.ports.database base read.now changes.now }
-        ensures refused { IfErr result (IsCommitRefused self.old.ports.database base read.now changes.now) }
-        ensures left { IfErr result (IsLeft self.old.ports.database self.new.ports.database) }
-        ensures same { self.new ≡ record self.old {
-          ports = record self.old.ports { database = self.new.ports.database };
-        } }
-    {
-        self.ports.commit(alloc, base, read, changes)
     }
 
     /// Has the node take the events that it has not taken yet, and says whether it took all: memory may be wanting. It has

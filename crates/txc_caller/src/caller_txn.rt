@@ -9,11 +9,10 @@ ghost use Rattle.txc_caller.specs.Ports.{AreGivenBack, IsLetGo};
 ghost use Rattle.txc_caller.specs.Reading.{caller_of, top_or, AsksNext, KeepsReading};
 
 use crate::act::Act;
-use crate::acted::Acted;
 use crate::acting::{act_inside, call_first, end_call};
 use crate::caller::Caller;
 use crate::frames::OpenCall;
-use crate::ports::Ports;
+use crate::ports::{Ports, give_back, let_go};
 use crate::step::{CallerError, Step};
 use std::alloc::Global;
 use std::marker::Model;
@@ -51,53 +50,21 @@ impl<A: App, C: Suppliable> Model for CallerTxn<A, C> {
 impl<A: App, C: Suppliable> CallerTxn<A, C> {
     ghost use Rattle.txc_app.specs.declared.ask.Ask.TheVariants as asks;
 
-    // Asks for the value of the outermost call.
-    fn call_outermost(&mut self, alloc: Global, key: Key) -> Result<Step, CallerError>
-        requires { self.old.doing ≡ None }
-        ensures step { IsStepOf self.old.txn.core.recorded key self.new.txn.core.recorded self.new.doing result }
-        ensures on_miss { IsComputedOnMiss self.new.txn.core self.old.ports.node self.new.ports.node result }
-        ensures keeps { KeepsReading self.old self.new }
-        ensures meant { IsTxn A.next self.new.txn }
-    {
-        let acted = call_first(alloc, &mut self.ports, &mut self.txn, key);
-        let Acted { doing, step } = acted;
-        self.doing = doing;
-        self.txn.is_kept();
-        step
-    }
-
-    // What the function that is computed does.
+    // What the function that is computed does, if one is.
     fn act(&mut self, alloc: Global, act: Act) -> Result<Step, CallerError>
-        requires some { IsSome self.old.doing }
-        requires asks { AsksNext A.next self.old (ask_of act) }
-        ensures step { IsStepIn self.old.doing self.old self.new result }
-        ensures on_miss { IsComputedOnMiss self.new.txn.core self.old.ports.node self.new.ports.node result }
-        ensures keeps { KeepsReading self.old self.new }
-        ensures meant { IsTxn A.next self.new.txn }
-    {
-        let Some(call) = self.doing.take() else {
-            unreachable!()
-        };
-        let acted = act_inside(alloc, &mut self.ports, &mut self.txn, call, act);
-        let Acted { doing, step } = acted;
-        self.doing = doing;
-        self.txn.is_kept();
-        step
-    }
-
-    // What a function does, if one is computed.
-    fn act_if_computing(&mut self, alloc: Global, act: Act) -> Result<Step, CallerError>
         requires { AsksNext A.next self.old (ask_of act) }
         ensures step { IsStepIn self.old.doing self.old self.new result }
         ensures on_miss { IsComputedOnMiss self.new.txn.core self.old.ports.node self.new.ports.node result }
         ensures keeps { KeepsReading self.old self.new }
         ensures meant { IsTxn A.next self.new.txn }
     {
-        if self.doing.is_none() {
+        let Some(call) = self.doing.take() else {
             self.txn.is_kept();
             return Err(CallerError::NoFunction);
-        }
-        self.act(alloc, act)
+        };
+        let acted = act_inside(alloc, &mut self.ports, &mut self.txn, call, act);
+        self.txn.is_kept();
+        acted.settle(&mut self.doing)
     }
 
     /// Asks for the value of a call: by no function the outermost one, else by the function that is computed.
@@ -110,10 +77,12 @@ impl<A: App, C: Suppliable> CallerTxn<A, C> {
         ensures keeps { KeepsReading self.old self.new }
         ensures meant { IsTxn A.next self.new.txn }
     {
-        if self.doing.is_none() {
-            return self.call_outermost(alloc, key);
+        if self.doing.is_some() {
+            return self.act(alloc, Act::Call(key));
         }
-        self.act(alloc, Act::Call(key))
+        let acted = call_first(alloc, &mut self.ports, &mut self.txn, key);
+        self.txn.is_kept();
+        acted.settle(&mut self.doing)
     }
 
     /// Asks for the rows of a query, by the function that is computed.
@@ -124,7 +93,7 @@ impl<A: App, C: Suppliable> CallerTxn<A, C> {
         ensures keeps { KeepsReading self.old self.new }
         ensures meant { IsTxn A.next self.new.txn }
     {
-        self.act_if_computing(alloc, Act::Query(query))
+        self.act(alloc, Act::Query(query))
     }
 
     /// Says that the function that is computed gives these bytes. They are kept at the node, under its call, with
@@ -136,7 +105,7 @@ impl<A: App, C: Suppliable> CallerTxn<A, C> {
         ensures keeps { KeepsReading self.old self.new }
         ensures meant { IsTxn A.next self.new.txn }
     {
-        self.act_if_computing(alloc, Act::Finish(Bytes::new(bytes)))
+        self.act(alloc, Act::Finish(Bytes::new(bytes)))
     }
 
     /// Gives the open call up, if one is, and returns whether one was. The transaction stays open, and its answers
@@ -151,7 +120,7 @@ impl<A: App, C: Suppliable> CallerTxn<A, C> {
         ensures meant { IsTxn A.next self.new.txn }
     {
         let was_open = self.doing.is_some();
-        self.doing = None;
+        drop(self.doing.take());
         end_call(&mut self.ports, &mut self.txn);
         self.txn.is_kept();
         was_open
@@ -213,14 +182,14 @@ impl<A: App, C: Suppliable> CallerTxn<A, C> {
             return Err(self);
         }
         let CallerTxn {
-            ports,
+            mut ports,
             renew_after,
             txn,
-            doing: _,
+            doing,
         } = self;
+        drop(doing);
         let (receipt, pins, registry) = txn.finish();
-        let mut ports = ports;
-        ports.give_back(&pins);
+        give_back(&mut ports.cushion, &pins);
         let caller = Caller {
             ports,
             renew_after,
@@ -240,15 +209,15 @@ impl<A: App, C: Suppliable> CallerTxn<A, C> {
         ensures renew_after { result.renew_after ≡ self.renew_after }
     {
         let CallerTxn {
-            ports,
+            mut ports,
             renew_after,
             txn,
-            doing: _,
+            doing,
         } = self;
+        drop(doing);
         let (left, registry) = txn.cancel();
-        let mut ports = ports;
-        ports.give_back(&left.give_back);
-        ports.let_go(left.unpin);
+        give_back(&mut ports.cushion, &left.give_back);
+        let_go(&mut ports.database, left.unpin);
         Caller {
             ports,
             renew_after,

@@ -4,6 +4,7 @@ ghost use Rattle.txc_db.specs.Calls.{IsBase, IsCommittable, IsLeft, IsQueryRefus
 ghost use Rattle.txc_db.specs.DatabaseValue.{after_commit, newest};
 ghost use Rattle.txc_db.specs.Steps.{IsBaseRefused};
 ghost use Rattle.txc_caller.specs.Ports.{MayHaveTaken};
+ghost use Rattle.txc_caller.specs.Writing.{IsChangeRefused};
 ghost use Rattle.txc_caller.specs.declared.step.WriteError.TheVariants.{Database};
 
 use crate::caller::Caller;
@@ -54,6 +55,22 @@ impl<A: App, C: Suppliable> Model for CallerWrite<A, C> {
     } };
 }
 
+// One change more.
+fn keep(changes: &mut Vec<Change>, change: Change) -> Result<(), TxnError>
+    ensures kept { OnOk result (changes.new.items ≡ changes.old.items ++ change ∷ []) }
+    ensures only_if { IsOk result → length changes.old.items < MAX_CHANGES }
+    ensures refused { IfErr result (IsChangeRefused (length changes.old.items)) }
+    ensures unchanged { OnErr result (changes.new.items ≡ changes.old.items) }
+{
+    if changes.len() >= MAX_CHANGES {
+        return Err(TxnError::BufferFull);
+    }
+    let Ok(()) = changes.push(change) else {
+        return Err(TxnError::Memory);
+    };
+    Ok(())
+}
+
 impl<A: App, C: Suppliable> Caller<A, C> {
     ghost use Rattle.txc_caller.specs.Writing.{IsBegunWrite};
 
@@ -76,7 +93,7 @@ impl<A: App, C: Suppliable> Caller<A, C> {
     pub fn begin_write(self, alloc: Global) -> CallerWrite<A, C>
         ensures { IsBegunWrite self (newest self.ports.database) result }
     {
-        let base = self.newest();
+        let base = self.ports.database.newest();
         self.begin_over(alloc, base)
     }
 
@@ -92,7 +109,7 @@ impl<A: App, C: Suppliable> Caller<A, C> {
         ensures refused { IfErr result (λ back. IsBaseRefused self.ports.database base back.0) }
         ensures handed_back { IfErr result (λ back. back.1 ≡ self) }
     {
-        match self.check_base(base) {
+        match self.ports.database.check_base(base) {
             Ok(_) => Ok(self.begin_over(alloc, base)),
             Err(error) => Err((error, self)),
         }
@@ -109,7 +126,7 @@ impl<A: App, C: Suppliable> CallerWrite<A, C> {
         ensures refused { IfErr result (IsQueryRefused self.old.caller.ports.database query.now self.old.base) }
         ensures unchanged { OnErr result (self.new ≡ self.old) }
     {
-        let found = self.caller.rows_at(alloc, query, self.base)?;
+        let found = self.caller.ports.database.query(alloc, query, self.base)?;
         self.read.join(&found.tags)?;
         self.given = Some(Answer::Rows(Rows::new(found.rows)));
         Ok(())
@@ -181,31 +198,18 @@ impl<A: App, C: Suppliable> CallerWrite<A, C> {
         self.given.as_ref()
     }
 
-    // One change more.
-    fn write(&mut self, change: Change) -> Result<(), TxnError>
-        ensures { ChangeLeaves change self.old self.new result }
-    {
-        if self.changes.len() >= MAX_CHANGES {
-            return Err(TxnError::BufferFull);
-        }
-        let Ok(()) = self.changes.push(change) else {
-            return Err(TxnError::Memory);
-        };
-        Ok(())
-    }
-
     /// The row is to stand at its table and id once the transaction is committed.
     pub fn put(&mut self, row: Row) -> Result<(), TxnError>
         ensures { ChangeLeaves (Change.Put row) self.old self.new result }
     {
-        self.write(Change::Put(row))
+        keep(&mut self.changes, Change::Put(row))
     }
 
     /// No row is to stand at the table and id once the transaction is committed.
     pub fn remove(&mut self, table: Table, id: u32) -> Result<(), TxnError>
         ensures { ChangeLeaves (Change.Remove table id) self.old self.new result }
     {
-        self.write(Change::Remove(table, id))
+        keep(&mut self.changes, Change::Remove(table, id))
     }
 
     // Commits the changes. The node then takes the events.
@@ -224,7 +228,9 @@ impl<A: App, C: Suppliable> CallerWrite<A, C> {
         let base = self.base;
         let stamp = self
             .caller
-            .commit_at(alloc, base, &self.read, &self.changes)?;
+            .ports
+            .database
+            .commit(alloc, base, &self.read, &self.changes)?;
         let _has_all = self.caller.take_events(alloc);
         Ok(stamp)
     }

@@ -51,41 +51,6 @@ fn asked<A: App, C: Cacheable>(
     ports.ask(alloc, txn.core().seen(), request)
 }
 
-// Makes such a request, and goes on with the reply.
-fn pass<A: App, C: Cacheable>(
-    alloc: Global,
-    ports: &mut Ports<A>,
-    txn: &mut RunningTxn<A, C>,
-    request: PortRequest,
-) -> Turn<PortRequest, Value>
-    requires going { IsGoing ports.old.database.events txn.old.core (Turn.Ask request) }
-    requires pin { is_of_pin request ≡ true }
-    ensures passed { HasPassed ports.old.database.events txn.old (Turn.Ask request) txn.new result }
-    ensures node { ports.new.node ≡ ports.old.node }
-    ensures events { ports.new.database.events ≡ ports.old.database.events }
-{
-    let reply = asked(alloc, ports, txn, request);
-    txn.next(alloc, reply)
-}
-
-// Makes a request about the pin of the present, and goes on. Any other stays.
-fn pass_request<A: App, C: Cacheable>(
-    alloc: Global,
-    ports: &mut Ports<A>,
-    txn: &mut RunningTxn<A, C>,
-    request: PortRequest,
-) -> Turn<PortRequest, Value>
-    requires { IsGoing ports.old.database.events txn.old.core (Turn.Ask request) }
-    ensures passed { HasPassed ports.old.database.events txn.old (Turn.Ask request) txn.new result }
-    ensures node { ports.new.node ≡ ports.old.node }
-    ensures events { ports.new.database.events ≡ ports.old.database.events }
-{
-    if is_of_pin(&request) {
-        return pass(alloc, ports, txn, request);
-    }
-    Turn::Ask(request)
-}
-
 // Makes a request about the pin of the present, if the turn is one, and goes on. Any other turn stays.
 fn pass_pin<A: App, C: Cacheable>(
     alloc: Global,
@@ -99,8 +64,14 @@ fn pass_pin<A: App, C: Cacheable>(
     ensures events { ports.new.database.events ≡ ports.old.database.events }
 {
     match turn {
-        Turn::Ask(request) => pass_request(alloc, ports, txn, request),
-        Turn::Ended(result) => Turn::Ended(result),
+        Turn::Ask(request) => {
+            if !is_of_pin(&request) {
+                return Turn::Ask(request);
+            }
+            let reply = asked(alloc, ports, txn, request);
+            txn.next(alloc, reply)
+        }
+        Turn::Ended(outcome) => Turn::Ended(outcome),
     }
 }
 
@@ -116,27 +87,9 @@ fn at_its_end(outcome: Result<Value, TxnError>) -> Stand
     }
 }
 
-// Makes the request that is asked, and keeps the reply; or the call has ended.
-fn stop<A: App, C: Cacheable>(
-    alloc: Global,
-    ports: &mut Ports<A>,
-    txn: &RunningTxn<A, C>,
-    turn: Turn<PortRequest, Value>,
-) -> Stand
-    requires { IsGoing ports.old.database.events txn.now.core turn }
-    ensures stands { (before : List Recorded) (k : Call) → IsTurnOf before k txn.now.core turn
-        → IsStanding A.next before k txn.now result }
-    ensures looked_up { StandsLookedUp txn.now.core ports.old.node ports.new.node result }
-    ensures events { ports.new.database.events ≡ ports.old.database.events }
-{
-    match turn {
-        Turn::Ask(request) => Stand::Kept(asked(alloc, ports, txn, request)),
-        Turn::Ended(outcome) => at_its_end(outcome),
-    }
-}
-
-// Leads the call on: the present is pinned where that is asked, and the reply to what is asked then is kept.
-fn lead<A: App, C: Cacheable>(
+/// Leads the call on: the present is pinned where that is asked, and the reply to what is asked then is kept; or the call
+/// has ended.
+pub(crate) fn lead<A: App, C: Cacheable>(
     alloc: Global,
     ports: &mut Ports<A>,
     txn: &mut RunningTxn<A, C>,
@@ -153,26 +106,10 @@ fn lead<A: App, C: Cacheable>(
     let first = pass_pin(alloc, ports, txn, turn);
     let second = pass_pin(alloc, ports, txn, first);
     let third = pass_pin(alloc, ports, txn, second);
-    stop(alloc, ports, txn, third)
-}
-
-/// Begins a call.
-pub(crate) fn start<A: App, C: Cacheable>(
-    alloc: Global,
-    ports: &mut Ports<A>,
-    txn: &mut RunningTxn<A, C>,
-    key: Key,
-) -> Stand
-    requires idle { IsIdle txn.old.core }
-    requires row { txn.old.core.seen.events ≡ ports.old.database.events }
-    requires nodes { txn.old.core.nodes ≡ 1 }
-    ensures stands { IsStanding A.next txn.old.core.recorded key txn.new result }
-    ensures looked_up { StandsLookedUp txn.new.core ports.old.node ports.new.node result }
-    ensures keeps { KeepsOn txn.old txn.new }
-    ensures events { ports.new.database.events ≡ ports.old.database.events }
-{
-    let turn = txn.start(alloc, key);
-    lead(alloc, ports, txn, turn)
+    match third {
+        Turn::Ask(request) => Stand::Kept(asked(alloc, ports, txn, request)),
+        Turn::Ended(outcome) => at_its_end(outcome),
+    }
 }
 
 /// Goes on with the reply that was kept back.

@@ -73,8 +73,11 @@ impl Frames {
         requires { vec_len self.outer < vec_capacity self.outer }
         ensures { result.top ≡ self.top }
     {
-        let Frames { top, inner, outer } = self;
-        let mut outer = outer;
+        let Frames {
+            top,
+            inner,
+            mut outer,
+        } = self;
         outer.push_reserved(inner);
         let inner = Called {
             key,
@@ -98,8 +101,11 @@ impl Frames {
         ensures around { IfOk result (λ around. around.frames.top ≡ self.top) }
         ensures outermost { IfErr result (λ frames. frames.top ≡ self.top) }
     {
-        let Frames { top, inner, outer } = self;
-        let mut outer = outer;
+        let Frames {
+            top,
+            inner,
+            mut outer,
+        } = self;
         let Some(around) = outer.pop() else {
             return Err(Frames { top, inner, outer });
         };

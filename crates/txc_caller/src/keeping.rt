@@ -5,6 +5,7 @@ ghost use Rattle.txc_db.specs.DatabaseValue.{next_horizon};
 ghost use Rattle.txc_caller.specs.Ports.{CallerSweepTransition, GoesOnByEvents, HasRetired, HasVacuumedPorts, IsKeepRefused};
 
 use crate::caller::Caller;
+use crate::ports::let_each_go;
 use std::alloc::{AllocError, Global};
 use txc_app::App;
 use txc_db::DbError;
@@ -21,11 +22,13 @@ impl<A: App, C: Suppliable> Caller<A, C> {
         ensures same { self.new ≡ record self.old { ports = self.new.ports } }
         ensures unchanged { OnErr result (self.new ≡ self.old) }
     {
-        self.ports.retire(alloc, now, age)
+        let stamps = self.ports.cushion.retire(alloc, now, age)?;
+        let_each_go(&mut self.ports.database, &stamps);
+        Ok(stamps.len())
     }
 
-    /// Has the node take the events. Then makes the horizon the least stamp that is held, or the newest where none is, and drops
-    /// what only stamps before it need.
+    /// Has the node take the events, whose tags may be dropped then. Then makes the horizon the least stamp that is held, or
+    /// the newest where none is, and drops what only stamps before it need.
     pub fn vacuum(&mut self, alloc: Global) -> Result<Stamp, DbError>
         ensures after { OnOk result (HasVacuumedPorts self.old.ports self.new.ports) }
         ensures node { GoesOnByEvents self.old.ports.node self.new.ports.node }
@@ -34,7 +37,11 @@ impl<A: App, C: Suppliable> Caller<A, C> {
         ensures unchanged { OnErr result (self.new.ports ≡ record self.old.ports { node = self.new.ports.node }) }
         ensures same { self.new ≡ record self.old { ports = self.new.ports } }
     {
-        self.ports.vacuum(alloc)
+        if !self.ports.take_events(alloc) {
+            return Err(DbError::Memory);
+        }
+        let horizon = self.ports.database.vacuum()?;
+        Ok(horizon)
     }
 
     /// Has the node drop the entries that end at the horizon or before it, and counts them.
@@ -42,6 +49,6 @@ impl<A: App, C: Suppliable> Caller<A, C> {
         ensures leads { CallerSweepTransition horizon self.old.ports.node self.new.ports.node result }
         ensures same { self.new ≡ record self.old { ports = record self.old.ports { node = self.new.ports.node } } }
     {
-        self.ports.sweep(alloc, horizon)
+        self.ports.node.sweep(alloc, 0, horizon)
     }
 }

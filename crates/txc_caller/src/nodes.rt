@@ -2,15 +2,14 @@
 ghost use Rattle.std.specs.Prelude.{◌≡◌};
 ghost use Rattle.txc_app.specs.Claims.{IsTrueIn};
 ghost use Rattle.txc_shared.specs.Nodes.{next_stamp, HasTags};
-ghost use Rattle.txc_caller.specs.Ports.{kept_as, CallerInsertTransition, CallerSweepTransition, GoesOnByEvents, KeepsNode};
+ghost use Rattle.txc_caller.specs.Ports.{kept_as, CallerInsertTransition, GoesOnByEvents};
 
 use std::alloc::Global;
 use txc_app::App;
 use txc_db::HistoryFront;
 use txc_node::Entry;
 use txc_ports::Kept;
-use txc_shared::{Advanced, Insertion, NodeError, StoredNode};
-use txc_stamp::Stamp;
+use txc_shared::{Advanced, Insertion, StoredNode};
 use txc_tags::TagSet;
 
 // What a node keeps that made the insertion.
@@ -60,21 +59,5 @@ pub(crate) fn take_event<A: App>(
             let _refusal = refusal;
             false
         }
-    }
-}
-
-/// Has the node drop the entries that end at the horizon or before it, and counts them.
-pub(crate) fn sweep<A: App>(
-    alloc: Global,
-    node: &mut StoredNode<A>,
-    horizon: Stamp,
-) -> Result<usize, NodeError>
-    requires { node.old.passes ≡ 1 }
-    ensures leads { CallerSweepTransition horizon node.old node.new result }
-    ensures keeps { KeepsNode node.old node.new }
-{
-    match node.sweep(alloc, 0, horizon) {
-        Ok(count) => Ok(count),
-        Err(refusal) => Err(refusal),
     }
 }

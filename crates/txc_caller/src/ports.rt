@@ -1,34 +1,26 @@
 //! The plain ports of a caller, for one thread.
-ghost use Rattle.std.specs.Prelude.{◌≡◌, ◌≤◌, ◌↔◌, ◌∷◌, [], true, false, All, IfErr, IfOk, IfSome, IsOk, OnErr, OnOk, length};
-ghost use Rattle.txc_app.specs.Claims.{IsTrueIn};
-ghost use Rattle.txc_cushion.specs.Cushion.{after_fresh, after_retire, handed_out, retired};
-ghost use Rattle.txc_db.specs.Calls.{IsAnswerable, IsBase, IsCommitRefused, IsCommittable, IsLeft, IsQueryRefused, IsVacuumRefused};
-ghost use Rattle.txc_db.specs.DatabaseValue.{after_commit, after_vacuum, front_of, newest, next_horizon};
-ghost use Rattle.txc_db.specs.Steps.{IsBaseRefused};
-ghost use Rattle.txc_rows.specs.RowTags.{query_tag};
-ghost use Rattle.txc_db.specs.History.{state_at, IsAllowed};
-ghost use Rattle.txc_rows.specs.States.{answer};
+ghost use Rattle.std.specs.Prelude.{◌≡◌, ◌≤◌, [], true, false, IfErr, IfOk, IfSome};
+ghost use Rattle.txc_cushion.specs.Cushion.{empty_cushion};
+ghost use Rattle.txc_db.specs.DatabaseValue.{front_of};
 ghost use Rattle.txc_db.specs.Refusals.{IsWant};
-ghost use Rattle.txc_db.specs.Seen.{FrontValue};
 ghost use Rattle.txc_node.specs.declared.node.TheConstants.{MAX_CAPACITY, MAX_RECENT};
+ghost use Rattle.txc_stream.specs.Names.{HasRow};
 ghost use Rattle.txc_stream.specs.declared.row.TheConstants.{MAX_CAPACITY as MAX_ROW};
 ghost use Rattle.txc_shared.specs.Nodes.{start_of};
-ghost use Rattle.txc_caller.specs.Ports.{CallerAddTransition, CallerFindTransition, CallerInsertTransition, CallerPinTransition, CallerSweepTransition, CallerUnpinTransition, AreLetGo, AreGivenBack, HasNoEventFor, HasRetired, HasEventRoom, HasVacuumedPorts, GoesOnByEvents, IsBehind, IsKeepRefused, IsLetGo, IsNewDatabase};
+ghost use Rattle.txc_caller.specs.Ports.{CallerFindTransition, AreLetGo, AreGivenBack, HasEventRoom, HasNoEventFor, GoesOnByEvents, IsBehind, IsLetGo, IsNewDatabase};
 
 use crate::nodes;
 use std::alloc::{AllocError, Global};
 use std::marker::Model;
 use txc_app::App;
 use txc_app::laws::found_rows_give_true_entries;
-use txc_cushion::{AddError, CushionCore, Pins};
-use txc_db::{Answered, DbCore, DbError, HistoryFront, Pinned};
-use txc_node::Entry;
-use txc_ports::{Kept, PortReply, PortRequest};
-use txc_rows::{Change, Query};
-use txc_shared::{NodeError, NodeSettings, StoredNode};
+use txc_cushion::CushionCore;
+use txc_db::{Answered, DbCore, DbError, HistoryFront};
+use txc_ports::{PortReply, PortRequest};
+use txc_rows::Query;
+use txc_shared::{NodeSettings, StoredNode};
 use txc_stamp::Stamp;
 use txc_stream::Pen;
-use txc_tags::{Key, TagSet};
 use txc_validity::Found;
 
 /// A database, its pincushion, and one node that takes its events. None has a lock.
@@ -63,85 +55,82 @@ fn empty_database(alloc: Global, room: Option<usize>) -> Result<DbCore, DbError>
     }
 }
 
+/// Gives the pins back, one user of each. It takes no memory.
+pub(crate) fn give_back(cushion: &mut CushionCore, stamps: &[Stamp])
+    ensures after { AreGivenBack stamps.now cushion.old cushion.new }
+    ensures events { cushion.new.events ≡ cushion.old.events }
+{
+    match cushion.give_back(stamps) {
+        Ok(()) => (),
+        Err(_) => (),
+    }
+}
+
+/// Takes the hold of a pin away that was not added, if there is one. It takes no memory.
+pub(crate) fn let_go(database: &mut DbCore, unpin: Option<Stamp>)
+    ensures unpinned { IsLetGo unpin database.old database.new }
+    ensures history { database.new.history ≡ database.old.history }
+    ensures events { database.new.events ≡ database.old.events }
+{
+    match unpin {
+        Some(stamp) => {
+            let _unpinned = database.unpin(stamp);
+        }
+        None => (),
+    }
+}
+
+/// Takes a hold of each of the stamps away.
+pub(crate) fn let_each_go(database: &mut DbCore, stamps: &[Stamp])
+    ensures unpinned { AreLetGo stamps.now database.old database.new }
+    ensures events { database.new.events ≡ database.old.events }
+{
+    for stamp in stamps {
+        let_go(database, Some(*stamp));
+    }
+}
+
+// What the database finds for the query at the stamp, with a front of the whole history.
+fn find(
+    alloc: Global,
+    database: &mut DbCore,
+    query: &Query,
+    stamp: Stamp,
+) -> Result<Answered<Found>, DbError>
+    ensures same { database.new ≡ database.old }
+    ensures leads { CallerFindTransition query.now stamp database.old result }
+{
+    found_rows_give_true_entries();
+    let answer = database.query(alloc, query, stamp)?;
+    let front = database.front()?;
+    Ok(Answered { answer, front })
+}
+
+// An empty pincushion, and an empty node with its one pass, number 0, over the row of that front.
+fn around<A: App>(
+    alloc: Global,
+    settings: NodeSettings,
+    seen: HistoryFront,
+) -> Result<(CushionCore, StoredNode<A>), AllocError>
+    requires node { (1 ≤ settings.capacity) × (settings.capacity ≤ MAX_CAPACITY) }
+    requires recent { (1 ≤ settings.recent) × (settings.recent ≤ MAX_RECENT) }
+    ensures cushion { IfOk result (λ it. it.0 ≡ empty_cushion seen) }
+    ensures row { IfOk result (λ it. it.1.seen.events ≡ seen.events) }
+    ensures pass { IfOk result (λ it. it.1.passes ≡ 1) }
+    ensures unstored { IfOk result (λ it. ¬ (HasRow it.1.name)) }
+    ensures whole { IfOk result (λ it. it.1.broken ≡ false) }
+    ensures cache { IfOk result (λ it. it.1.cache ≡ start_of settings 0) }
+{
+    let mut node = StoredNode::unstored(alloc, settings, Pen::new(), seen.again()?)?;
+    match node.pass() {
+        Ok(_) => Ok((CushionCore::new(alloc, seen), node)),
+        Err(_) => Err(AllocError),
+    }
+}
+
 impl<A: App> Ports<A> {
     ghost use Rattle.txc_caller.specs.Ports.{HasAskedPorts};
     ghost use Rattle.txc_ports.specs.Asking.{MayAsk};
-
-    // A pin of the moment `now`.
-    fn pin(&mut self, alloc: Global, now: u64, at_least: Stamp) -> Result<Pinned, DbError>
-        ensures leads { CallerPinTransition now at_least self.old self.new result }
-        ensures events { self.new.database.events ≡ self.old.database.events }
-    {
-        let pinned = self.database.pin(alloc, now, at_least)?;
-        Ok(pinned)
-    }
-
-    // What the database finds for the query at the stamp, with a front of the whole history.
-    fn find(
-        &mut self,
-        alloc: Global,
-        query: &Query,
-        stamp: Stamp,
-    ) -> Result<Answered<Found>, DbError>
-        ensures same { self.new ≡ self.old }
-        ensures leads { CallerFindTransition query.now stamp self.old.database result }
-    {
-        found_rows_give_true_entries();
-        let answer = self.database.query(alloc, query, stamp)?;
-        let front = self.database.front()?;
-        Ok(Answered { answer, front })
-    }
-
-    /// The newest stamp.
-    pub(crate) fn newest(&self) -> Stamp
-        ensures { result ≡ newest self.now.database }
-    {
-        self.database.newest()
-    }
-
-    /// Refuses a stamp at which no commit may have its base.
-    pub(crate) fn check_base(&self, base: Stamp) -> Result<Stamp, DbError>
-        ensures only_if { IsOk result ↔ IsBase self.now.database base }
-        ensures refused { IfErr result (IsBaseRefused self.now.database base) }
-    {
-        self.database.check_base(base)
-    }
-
-    /// The rows that the query gives at the stamp, with its tag.
-    pub(crate) fn rows_at(
-        &mut self,
-        alloc: Global,
-        query: &Query,
-        stamp: Stamp,
-    ) -> Result<Found, DbError>
-        ensures answer { IfOk result (λ found.
-            found.rows.items ≡ answer query.now (state_at self.old.database.history stamp)) }
-        ensures tag { IfOk result (λ found. found.tags ≡ query_tag query.now ∷ []) }
-        ensures only_if { IsOk result → IsAnswerable self.old.database stamp }
-        ensures refused { IfErr result (IsQueryRefused self.old.database query.now stamp) }
-        ensures same { self.new ≡ self.old }
-    {
-        self.database.query(alloc, query, stamp)
-    }
-
-    /// Commits the changes, where no event after the base matches what was read.
-    pub(crate) fn commit(
-        &mut self,
-        alloc: Global,
-        base: Stamp,
-        read: &TagSet,
-        changes: &[Change],
-    ) -> Result<Stamp, DbError>
-        ensures after { OnOk result (self.new.database ≡ after_commit self.old.database changes.now) }
-        ensures answer { IfOk result (λ stamp. stamp ≡ newest self.new.database) }
-        ensures only_if { IsOk result → IsCommittable self.old.database base read.now changes.now }
-        ensures refused { IfErr result (IsCommitRefused self.old.database base read.now changes.now) }
-        ensures left { IfErr result (IsLeft self.old.database self.new.database) }
-        ensures same { self.new ≡ record self.old { database = self.new.database } }
-    {
-        let stamp = self.database.commit(alloc, base, read, changes)?;
-        Ok(stamp)
-    }
 
     // Has the node take the next event, and says whether it took one. The front shows them all.
     fn take_event(&mut self, alloc: Global, front: &HistoryFront) -> bool
@@ -155,14 +144,6 @@ impl<A: App> Ports<A> {
         nodes::take_event(alloc, &mut self.node, front, tags)
     }
 
-    // Whether there is no event that the node can take.
-    fn has_taken_all(&self) -> bool
-        ensures all { result ≡ true → HasNoEventFor self.now.database self.now.node }
-        ensures left { result ≡ false → IsBehind self.now.database self.now.node }
-    {
-        self.database.tags_after(self.node.processed()).is_none()
-    }
-
     /// Has the node take the events that it has not taken yet, and says whether it took them all.
     pub(crate) fn take_events(&mut self, alloc: Global) -> bool
         ensures node { GoesOnByEvents self.old.node self.new.node }
@@ -170,7 +151,7 @@ impl<A: App> Ports<A> {
         ensures left { result ≡ false → IsBehind self.old.database self.old.node }
         ensures same { self.new ≡ record self.old { node = self.new.node } }
     {
-        if self.has_taken_all() {
+        if self.database.tags_after(self.node.processed()).is_none() {
             return true;
         }
         let Ok(front) = self.database.front() else {
@@ -181,126 +162,7 @@ impl<A: App> Ports<A> {
                 break;
             }
         }
-        self.has_taken_all()
-    }
-
-    // Gives the node an entry to keep.
-    fn insert(&mut self, alloc: Global, entry: Entry, seen: &HistoryFront) -> Option<Kept>
-        requires row { seen.now.events ≡ self.old.database.events }
-        requires is_true { IsTrueIn A.next seen.now.history entry }
-        ensures same { self.new ≡ record self.old { node = self.new.node } }
-        ensures leads { CallerInsertTransition seen.now entry self.old.node self.new.node result }
-    {
-        nodes::insert(alloc, &mut self.node, entry, seen)
-    }
-
-    // Adds a pin to the pincushion.
-    fn add(&mut self, pinned: &Pinned) -> Result<(), AddError>
-        requires { pinned.now.front.events ≡ self.old.database.events }
-        ensures leads { CallerAddTransition pinned.now self.old self.new result }
-        ensures same { self.new ≡ record self.old { cushion = self.new.cushion } }
-    {
-        match self.cushion.add(pinned) {
-            Ok(()) => Ok(()),
-            Err(refusal) => Err(refusal),
-        }
-    }
-
-    /// Takes one hold of the stamp away.
-    pub(crate) fn unpin(&mut self, stamp: Stamp) -> Result<(), DbError>
-        ensures leads { CallerUnpinTransition stamp self.old self.new result }
-        ensures history { self.new.database.history ≡ self.old.database.history }
-        ensures events { self.new.database.events ≡ self.old.database.events }
-        ensures same { self.new ≡ record self.old { database = self.new.database } }
-    {
-        match self.database.unpin(stamp) {
-            Ok(()) => Ok(()),
-            Err(refusal) => Err(refusal),
-        }
-    }
-
-    /// Takes the hold of a pin away that was not added, if there is one. It takes no memory.
-    pub(crate) fn let_go(&mut self, unpin: Option<Stamp>)
-        ensures unpinned { IsLetGo unpin self.old.database self.new.database }
-        ensures history { self.new.database.history ≡ self.old.database.history }
-        ensures events { self.new.database.events ≡ self.old.database.events }
-        ensures same { self.new ≡ record self.old { database = self.new.database } }
-    {
-        match unpin {
-            Some(stamp) => {
-                let _unpinned = self.unpin(stamp);
-            }
-            None => (),
-        }
-    }
-
-    // Takes the pins out that no transaction uses and that are more than `age` before `now`.
-    fn retire_pins(&mut self, alloc: Global, now: u64, age: u64) -> Result<Vec<Stamp>, AllocError>
-        ensures after { OnOk result (self.new
-            ≡ record self.old { cushion = after_retire self.old.cushion now age }) }
-        ensures answer { IfOk result (λ stamps. stamps.items ≡ retired self.old.cushion now age) }
-        ensures unchanged { OnErr result (self.new ≡ self.old) }
-    {
-        let stamps = self.cushion.retire(alloc, now, age)?;
-        Ok(stamps)
-    }
-
-    // Takes a hold of each of the stamps away.
-    fn let_each_go(&mut self, stamps: &[Stamp])
-        ensures unpinned { AreLetGo stamps.now self.old.database self.new.database }
-        ensures same { self.new ≡ record self.old { database = self.new.database } }
-    {
-        for stamp in stamps {
-            self.let_go(Some(*stamp));
-        }
-    }
-
-    /// Retires the pins that no transaction uses and that are more than `age` before `now`, both in milliseconds: takes
-    /// them out, and their holds away. It answers how many they were.
-    pub(crate) fn retire(&mut self, alloc: Global, now: u64, age: u64) -> Result<usize, AllocError>
-        ensures retired { OnOk result (HasRetired now age self.old self.new) }
-        ensures answer { IfOk result (λ count. count ≡ length (retired self.old.cushion now age)) }
-        ensures unchanged { OnErr result (self.new ≡ self.old) }
-    {
-        let stamps = self.retire_pins(alloc, now, age)?;
-        self.let_each_go(&stamps);
-        Ok(stamps.len())
-    }
-
-    // Makes the horizon the least stamp that is held, or the newest, and drops the versions that no stamp from there
-    // on shows.
-    fn vacuum_database(&mut self) -> Result<Stamp, DbError>
-        ensures after { OnOk result (self.new
-            ≡ record self.old { database = after_vacuum self.old.database }) }
-        ensures answer { IfOk result (λ horizon. horizon ≡ next_horizon self.old.database) }
-        ensures refused { IfErr result (IsVacuumRefused self.old.database) }
-        ensures unchanged { OnErr result (self.new ≡ self.old) }
-    {
-        let horizon = self.database.vacuum()?;
-        Ok(horizon)
-    }
-
-    /// Has the node take the events that it has not taken yet; the tags of those may be dropped then. Where it can't, there
-    /// is no memory for it. Then does the same.
-    pub(crate) fn vacuum(&mut self, alloc: Global) -> Result<Stamp, DbError>
-        ensures after { OnOk result (HasVacuumedPorts self.old self.new) }
-        ensures node { GoesOnByEvents self.old.node self.new.node }
-        ensures answer { IfOk result (λ horizon. horizon ≡ next_horizon self.old.database) }
-        ensures refused { IfErr result (IsKeepRefused self.old.database self.old.node) }
-        ensures unchanged { OnErr result (self.new ≡ record self.old { node = self.new.node }) }
-    {
-        if !self.take_events(alloc) {
-            return Err(DbError::Memory);
-        }
-        self.vacuum_database()
-    }
-
-    /// Has the node drop the entries that end at the horizon or before it, and counts them.
-    pub(crate) fn sweep(&mut self, alloc: Global, horizon: Stamp) -> Result<usize, NodeError>
-        ensures leads { CallerSweepTransition horizon self.old.node self.new.node result }
-        ensures same { self.new ≡ record self.old { node = self.new.node } }
-    {
-        nodes::sweep(alloc, &mut self.node, horizon)
+        self.database.tags_after(self.node.processed()).is_none()
     }
 
     /// An empty database with room for so many events, or that stores none where no number is given; an empty pincushion and
@@ -320,117 +182,21 @@ impl<A: App> Ports<A> {
         ensures refused { IfErr result IsWant }
     {
         let database = empty_database(alloc, room)?;
-        let cushion = CushionCore::new(alloc, database.reader()?);
-        let mut node = StoredNode::unstored(alloc, settings, Pen::new(), database.reader()?)?;
-        // The one pass of a new node, number 0.
-        let Ok(_pass) = node.pass() else {
+        let Ok(seen) = database.reader() else {
+            drop(database);
             return Err(DbError::Memory);
         };
-        Ok(Ports {
-            database,
-            cushion,
-            node,
-        })
-    }
-
-    /// The newest of the pins that the bounds allow, each with one user more.
-    pub(crate) fn fresh(
-        &mut self,
-        alloc: Global,
-        now: u64,
-        staleness: u64,
-        at_least: Stamp,
-    ) -> Result<Pins, AllocError>
-        ensures pins { IfOk result (λ pins. pins.pins.items ≡ handed_out self.old.cushion now staleness at_least) }
-        ensures allowed { IfOk result (λ pins. All (λ pin. IsAllowed pins.front.history pin.stamp now staleness at_least) pins.pins.items) }
-        ensures row { IfOk result (λ pins. pins.front.events ≡ self.old.database.events) }
-        ensures after { OnOk result
-            (self.new.cushion ≡ after_fresh self.old.cushion now staleness at_least) }
-        ensures same { self.new ≡ record self.old { cushion = self.new.cushion } }
-    {
-        self.cushion.fresh(alloc, now, staleness, at_least)
-    }
-
-    /// Gives the pins back, one user of each. It takes no memory.
-    pub(crate) fn give_back(&mut self, stamps: &[Stamp])
-        ensures same { self.new ≡ record self.old { cushion = self.new.cushion } }
-        ensures after { AreGivenBack stamps.now self.old.cushion self.new.cushion }
-    {
-        match self.cushion.give_back(stamps) {
-            Ok(()) => (),
-            Err(_) => (),
+        match around(alloc, settings, seen) {
+            Ok((cushion, node)) => Ok(Ports {
+                database,
+                cushion,
+                node,
+            }),
+            Err(_) => {
+                drop(database);
+                Err(DbError::Memory)
+            }
         }
-    }
-
-    /// Gives one user of each of the pins back. It takes no memory.
-    pub(crate) fn give_back_each(&mut self, pins: &Pins)
-        ensures same { self.new ≡ record self.old { cushion = self.new.cushion } }
-    {
-        for pin in &pins.pins {
-            self.give_back(&[pin.stamp]);
-        }
-    }
-
-    fn ask_pin(&mut self, alloc: Global, now: u64, at_least: Stamp) -> PortReply
-        ensures { (seen : FrontValue) → HasAskedPorts A.next seen (PortRequest.Pin now at_least) self.old self.new result }
-    {
-        let pinned = self.pin(alloc, now, at_least);
-        PortReply::Pin(pinned)
-    }
-
-    fn ask_add(&mut self, pinned: Pinned) -> PortReply
-        requires { pinned.front.events ≡ self.old.database.events }
-        ensures { (seen : FrontValue) → HasAskedPorts A.next seen (PortRequest.AddPin pinned) self.old self.new result }
-    {
-        let added = self.add(&pinned);
-        PortReply::AddPin(pinned, added)
-    }
-
-    fn ask_unpin(&mut self, stamp: Stamp) -> PortReply
-        ensures { (seen : FrontValue) → HasAskedPorts A.next seen (PortRequest.Unpin stamp) self.old self.new result }
-    {
-        let unpinned = self.unpin(stamp);
-        PortReply::Unpin(unpinned)
-    }
-
-    // A node that refuses has nothing.
-    fn ask_lookup(
-        &mut self,
-        alloc: Global,
-        node: usize,
-        key: &Key,
-        lo: Stamp,
-        hi: Stamp,
-    ) -> PortReply
-        ensures { (seen : FrontValue) → HasAskedPorts A.next seen (PortRequest.Lookup node key.now lo hi)
-            self.old self.new result }
-    {
-        let _node = node;
-        PortReply::Lookup(self.node.lookup(alloc, 0, key, lo, hi).unwrap_or(None))
-    }
-
-    fn ask_query(&mut self, alloc: Global, query: &Query, stamp: Stamp) -> PortReply
-        ensures { (seen : FrontValue) → HasAskedPorts A.next seen (PortRequest.Query query.now stamp)
-            self.old self.new result }
-    {
-        let found = self.find(alloc, query, stamp);
-        PortReply::Query(found)
-    }
-
-    fn ask_insert(
-        &mut self,
-        alloc: Global,
-        node: usize,
-        entry: Entry,
-        seen: &HistoryFront,
-    ) -> PortReply
-        requires row { seen.now.events ≡ self.old.database.events }
-        requires is_true { IsTrueIn A.next seen.now.history entry }
-        ensures { HasAskedPorts A.next seen.now (PortRequest.Insert node entry) self.old self.new result }
-    {
-        let _node = node;
-        let kept = self.insert(alloc, entry, seen);
-        PortReply::Insert(kept)
     }
 
     /// Asks what a transaction asks. It has seen that much of the history.
@@ -445,12 +211,24 @@ impl<A: App> Ports<A> {
         ensures { HasAskedPorts A.next seen.now request self.old self.new result }
     {
         match request {
-            PortRequest::Pin { now, at_least } => self.ask_pin(alloc, now, at_least),
-            PortRequest::AddPin(pinned) => self.ask_add(pinned),
-            PortRequest::Unpin(stamp) => self.ask_unpin(stamp),
-            PortRequest::Lookup { node, key, lo, hi } => self.ask_lookup(alloc, node, &key, lo, hi),
-            PortRequest::Query { query, stamp } => self.ask_query(alloc, &query, stamp),
-            PortRequest::Insert { node, entry } => self.ask_insert(alloc, node, entry, seen),
+            PortRequest::Pin { now, at_least } => PortReply::Pin(
+                self.database.pin(alloc, now, at_least),
+            ),
+            PortRequest::AddPin(pinned) => {
+                let added = self.cushion.add(&pinned);
+                PortReply::AddPin(pinned, added)
+            }
+            PortRequest::Unpin(stamp) => PortReply::Unpin(self.database.unpin(stamp)),
+            // A node that refuses has nothing.
+            PortRequest::Lookup { key, lo, hi, .. } => {
+                PortReply::Lookup(self.node.lookup(alloc, 0, &key, lo, hi).unwrap_or(None))
+            }
+            PortRequest::Query { query, stamp } => {
+                PortReply::Query(find(alloc, &mut self.database, &query, stamp))
+            }
+            PortRequest::Insert { entry, .. } => {
+                PortReply::Insert(nodes::insert(alloc, &mut self.node, entry, seen))
+            }
         }
     }
 }

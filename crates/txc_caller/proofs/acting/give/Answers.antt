@@ -1,16 +1,34 @@
-use Rattle.std.proofs.Common.{subst}
+use Rattle.std.proofs.Common.{◌∙◌, Some, ap, subst, sym}
 use Rattle.txc_tags.specs.Keys.{Call}
-use Rattle.txc_caller.specs.Acting.{HasCallerActed}
-use Rattle.txc_caller.proofs.Acts.{waits_as}
+use Rattle.txc_caller.specs.Acting.{HasCallerActed, IsActOf}
+use Rattle.txc_caller.proofs.Acts.{acted_self, waits_as}
 use Rattle.txc_caller.proofs.Looking.{not_computed}
 use Rattle.txc_caller.proofs.acting.give.Goals as goal
 
-pub close-requires : goal.close-requires
-close-requires g c = waits_as g.A.App.next c.args.ports.now c.args.txn.now c.args.frames.top c.in-Ok.around.frames.top c.args.kept c.in-Ok.ensures.around c.requires
+pub returns-then-not-is_reached-clause-acted : goal.returns-then-not-is_reached-clause-acted
+returns-then-not-is_reached-clause-acted g c =
+    acted_self g.A.App.next c.args.ports.now c.args.txn.now c.args.frames.top c.stays.result
+    (subst (λ (k : Call). IsActOf g.A.App.next c.args.txn.now.core.recorded k c.args.txn.now c.stays.result) c.in-Ok.ensures.around
+    (c.stays.ensures.acted g.A.App.next c.args.txn.now c.requires.kept (c.requires.top ∙ sym (ap (λ (k : Call). Some k) c.in-Ok.ensures.around))))
 
-pub returns-in-Ok-clause-acted : goal.returns-in-Ok-clause-acted
-returns-in-Ok-clause-acted g c =
-    subst (λ (k : Call). HasCallerActed g.A.App.next c.args.ports.now c.close.new.ports c.args.txn.now c.close.new.txn k c.close.result) c.in-Ok.ensures.around c.close.ensures.acted
+pub returns-then-not-is_reached-clause-on_miss : goal.returns-then-not-is_reached-clause-on_miss
+returns-then-not-is_reached-clause-on_miss g c =
+    not_computed c.args.txn.now.core c.args.ports.now.node c.args.ports.now.node c.stays.result.step c.stays.ensures.not_computed
+
+pub feed-stand-requires : goal.feed-stand-requires
+feed-stand-requires g c = record { kept = c.requires.kept; row = c.requires.row; nodes = c.requires.nodes }
+
+pub returns-else-not-is_reached-clause-acted : goal.returns-else-not-is_reached-clause-acted
+returns-else-not-is_reached-clause-acted g c =
+    let top = c.in-Ok.around.frames.top in
+    let is = c.in-Ok.ensures.around in
+    let acted : IsActOf g.A.App.next c.args.txn.now.core.recorded top c.feed-stand.new.txn c.standing.result =
+    c.standing.ensures.acted g.A.App.next c.args.txn.now.core.recorded c.feed-stand.new.txn (c.feed-stand.ensures.stands top (c.requires.top ∙ sym (ap (λ (k : Call). Some k) is))) in
+    record {
+      acted = subst (λ (k : Call). IsActOf g.A.App.next c.args.txn.now.core.recorded k c.feed-stand.new.txn c.standing.result) is acted;
+      keeps = c.feed-stand.ensures.keeps;
+      events = c.feed-stand.ensures.events;
+    }
 
 pub wait_for-requires : goal.wait_for-requires
 wait_for-requires g c = record {
@@ -26,5 +44,5 @@ pub returns-in_default-clause-on_miss : goal.returns-in_default-clause-on_miss
 returns-in_default-clause-on_miss g c =
     not_computed c.feed_to_end.new.txn.core c.args.ports.now.node c.feed_to_end.new.ports.node c.feed_to_end.result.step c.feed_to_end.ensures.not_computed
 
-pub returns-in-Ok-clause-on_miss : goal.returns-in-Ok-clause-on_miss
-returns-in-Ok-clause-on_miss g c = not_computed c.close.new.txn.core c.args.ports.now.node c.close.new.ports.node c.close.result.step c.close.ensures.not_computed
+pub returns-else-not-is_reached-clause-on_miss : goal.returns-else-not-is_reached-clause-on_miss
+returns-else-not-is_reached-clause-on_miss g c = not_computed c.feed-stand.new.txn.core c.args.ports.now.node c.feed-stand.new.ports.node c.standing.result.step c.standing.ensures.not_computed

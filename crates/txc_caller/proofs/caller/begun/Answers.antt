@@ -8,7 +8,7 @@ use Rattle.txc_caller.proofs.caller.begun.Goals as goal
 
 -- the core has seen what the front of its pins shows
 pub returns-in-Ok-clause-holds : goal.returns-in-Ok-clause-holds
-returns-in-Ok-clause-holds g c = λ next objects.
+returns-in-Ok-clause-holds c = λ next objects.
     c.in-Ok.ensures.holds next c.in-Ok.core.seen.history objects
     (subst (λ (L : History). All (IsFresh L c.args.bounds) c.in_ok-pins.pins.pins.items) (sym (ap (λ (v : CoreValue). v.seen.history) c.in-Ok.ensures.answer))
     (fresh_pins c.in_ok-pins.pins.front.history c.args.bounds c.in_ok-pins.pins.pins.items c.in_ok-pins.pins.shows c.in_ok-pins.ensures.allowed))

@@ -1,5 +1,6 @@
 use Rattle.std.proofs.Common.{◌∙◌, ap}
 use Rattle.txc_cushion.specs.Cushion.{after_fresh}
+use Rattle.txc_caller.specs.Ports.{CallerPorts}
 use Rattle.txc_caller.specs.Reading.{CallerValue}
 use Rattle.txc_caller.proofs.caller.Caller.begin.Goals as goal
 
@@ -12,4 +13,5 @@ new-requires g c = record {
 pub returns-in-Ok-clause-users : goal.returns-in-Ok-clause-users
 returns-in-Ok-clause-users g c =
     c.in-Ok.ensures.users
-    ∙ ap (λ (v : CallerValue). after_fresh v.ports.cushion c.args.bounds.now c.args.bounds.staleness c.args.bounds.at_least) c.self.view_is
+    ∙ (ap (λ (p : CallerPorts). after_fresh p.cushion c.args.bounds.now c.args.bounds.staleness c.args.bounds.at_least) c.ports.view_is
+    ∙ ap (λ (v : CallerValue). after_fresh v.ports.cushion c.args.bounds.now c.args.bounds.staleness c.args.bounds.at_least) c.self.view_is)

@@ -1,7 +1,7 @@
 use Rattle.std.proofs.Common.{◌∙◌, ℕ, List, ap, subst, sym}
 use Rattle.txc_txn.specs.Core.{Explains}
 use Rattle.txc_txn.specs.Sessions.{IsAtLeast}
-use Rattle.txc_caller.specs.Ports.{AreGivenBack}
+use Rattle.txc_caller.specs.Ports.{AreGivenBack, CallerPorts}
 use Rattle.txc_caller.specs.Reading.{CallerReading}
 use Rattle.txc_caller.proofs.Reading.{at_least_of, none_is}
 use Rattle.txc_caller.proofs.caller_txn.CallerTxn.commit.Goals as goal
@@ -23,6 +23,8 @@ returns-clause-only_if g c = λ yes.
 
 pub returns-clause-given_back : goal.returns-clause-given_back
 returns-clause-given_back g c =
-    let cushion = c.give_back.new.self.cushion in
-    subst (λ (r : CallerReading). AreGivenBack r.txn.core.taken r.ports.cushion cushion) c.self.view_is
-    (subst (λ (stamps : List ℕ). AreGivenBack stamps c.self.inside.ports.cushion cushion) (c.deref.ensures.value ∙ c.finish-receipt.ensures.give_back) c.give_back.ensures.after)
+    let taken = c.self.inside.txn.core.taken in
+    let last = c.give_back.new.cushion in
+    subst (λ (r : CallerReading). AreGivenBack r.txn.core.taken r.ports.cushion last) c.self.view_is
+    (subst (λ (p : CallerPorts). AreGivenBack taken p.cushion last) c.ports.view_is
+    (subst (λ (stamps : List ℕ). AreGivenBack stamps c.ports.inside.cushion last) (c.deref.ensures.value ∙ c.finish-receipt.ensures.give_back) c.give_back.ensures.after))

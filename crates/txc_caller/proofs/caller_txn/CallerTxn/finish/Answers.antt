@@ -3,5 +3,5 @@ use Rattle.txc_app.specs.declared.ask.Ask.TheVariants as asks
 use Rattle.txc_caller.specs.Reading.{AsksNext}
 use Rattle.txc_caller.proofs.caller_txn.CallerTxn.finish.Goals as goal
 
-pub act_if_computing-requires : goal.act_if_computing-requires
-act_if_computing-requires g c = subst (λ (bytes : List ℕ). AsksNext g.A.App.next c.args.self.now (asks.Done bytes)) (sym c.new.ensures) c.requires
+pub act-requires : goal.act-requires
+act-requires g c = subst (λ (bytes : List ℕ). AsksNext g.A.App.next c.args.self.now (asks.Done bytes)) (sym c.new.ensures) c.requires

@@ -1,28 +1,82 @@
-use Rattle.std.proofs.Common.{sym, subst}
-use Rattle.txc_ports.specs.declared.request.PortRequest.{PortRequest}
-use Rattle.txc_caller.specs.Ports.{HasAskedPorts}
+use Rattle.std.proofs.Common.{◌∙◌, Option, None, Some, refl, ap, sym, subst}
+use Rattle.std.specs.Result.{result_unwrap_or}
+use Rattle.txc_app.specs.Claims.{IsTrueIn, entry_shown}
+use Rattle.txc_db.specs.DatabaseValue.{DatabaseValue}
+use Rattle.txc_db.specs.declared.answered.Answered.{Answered}
+use Rattle.txc_node.specs.declared.hit.Shown.{Shown}
+use Rattle.txc_ports.specs.Asking.{MayAsk}
+use Rattle.txc_ports.specs.declared.request.PortRequest.TheVariants as requests
+use Rattle.txc_ports.specs.declared.reply.PortReply.TheVariants as replies
+use Rattle.txc_caller.specs.Ports.{CallerPorts, HasAskedPorts}
+use Rattle.txc_caller.proofs.Asked.{added_so, asked_add, asked_insert, asked_lookup, asked_pin, asked_query, asked_so, asked_unpin, found_so, hit_row, looked_up, pinned_events, pinned_so, unpinned_so}
+use Rattle.txc_caller.proofs.Letting.{let_go_events, let_go_so}
 use Rattle.txc_caller.proofs.ports.Ports.ask.Goals as goal
 
 pub returns-in-Pin : goal.returns-in-Pin
 returns-in-Pin g c =
-    subst (λ (r : PortRequest). HasAskedPorts g.A.App.next c.args.seen.now r c.args.self.now c.ask_pin.new.self c.ask_pin.result) (sym c.in-Pin.is) (c.ask_pin.ensures c.args.seen.now)
+    let now = c.in-Pin.now in
+    let at_least = c.in-Pin.at_least in
+    let old : CallerPorts = record { database = c.self.inside.database; cushion = c.self.inside.cushion; node = c.self.inside.node } in
+    let new : CallerPorts = record old { database = c.pin.new.self } in
+    let done = c.pin.ensures in
+    asked_so g.A.App.next c.args.seen.now c.args.request (requests.Pin now at_least) c.args.self.now old new (replies.Pin c.pin.result) c.in-Pin.is c.self.view_is
+    (asked_pin g.A.App.next c.args.seen.now old new now at_least c.pin.result (pinned_events now old.database new.database c.pin.result done.after done.unchanged)
+    (pinned_so now at_least old new.database c.pin.result done.after done.answer done.moment done.front done.only_if done.unchanged done.refused))
+
+pub add-added-requires : goal.add-added-requires
+add-added-requires g c =
+    subst (MayAsk g.A.App.next c.args.self.now.database.events 1 c.args.seen.now.history) c.in-AddPin.is c.requires.may
+    ∙ sym (c.self.invariant.cushion ∙ ap (λ (p : CallerPorts). p.database.events) c.self.view_is)
 
 pub returns-in-AddPin : goal.returns-in-AddPin
 returns-in-AddPin g c =
-    subst (λ (r : PortRequest). HasAskedPorts g.A.App.next c.args.seen.now r c.args.self.now c.ask_add.new.self c.ask_add.result) (sym c.in-AddPin.is) (c.ask_add.ensures c.args.seen.now)
+    let pinned = c.in-AddPin.pinned in
+    let old : CallerPorts = record { database = c.self.inside.database; cushion = c.self.inside.cushion; node = c.self.inside.node } in
+    let new : CallerPorts = record old { cushion = c.add-added.new.self } in
+    let done = c.add-added.ensures in
+    asked_so g.A.App.next c.args.seen.now c.args.request (requests.AddPin pinned) c.args.self.now old new (replies.AddPin pinned c.add-added.result) c.in-AddPin.is c.self.view_is
+    (asked_add g.A.App.next c.args.seen.now old new pinned c.add-added.result
+    (subst (MayAsk g.A.App.next c.args.self.now.database.events 1 c.args.seen.now.history) c.in-AddPin.is c.requires.may ∙ sym (ap (λ (p : CallerPorts). p.database.events) c.self.view_is))
+    refl (added_so pinned old new.cushion c.add-added.result done.after done.unchanged done.refused))
 
 pub returns-in-Unpin : goal.returns-in-Unpin
 returns-in-Unpin g c =
-    subst (λ (r : PortRequest). HasAskedPorts g.A.App.next c.args.seen.now r c.args.self.now c.ask_unpin.new.self c.ask_unpin.result) (sym c.in-Unpin.is) (c.ask_unpin.ensures c.args.seen.now)
+    let stamp = c.in-Unpin.stamp in
+    let old : CallerPorts = record { database = c.self.inside.database; cushion = c.self.inside.cushion; node = c.self.inside.node } in
+    let new : CallerPorts = record old { database = c.unpin.new.self } in
+    let done = c.unpin.ensures in
+    asked_so g.A.App.next c.args.seen.now c.args.request (requests.Unpin stamp) c.args.self.now old new (replies.Unpin c.unpin.result) c.in-Unpin.is c.self.view_is
+    (asked_unpin g.A.App.next c.args.seen.now old new stamp c.unpin.result
+    (let_go_events (Some stamp) old.database new.database (let_go_so stamp old.database new.database c.unpin.result done.after done.unchanged done.refused))
+    (unpinned_so stamp old new.database c.unpin.result done.after done.only_if done.unchanged done.refused))
 
 pub returns-in-Lookup : goal.returns-in-Lookup
 returns-in-Lookup g c =
-    subst (λ (r : PortRequest). HasAskedPorts g.A.App.next c.args.seen.now r c.args.self.now c.ask_lookup.new.self c.ask_lookup.result) (sym c.in-Lookup.is) (c.ask_lookup.ensures c.args.seen.now)
+    let key = c.in-Lookup.key in
+    let asked = requests.Lookup c.in-Lookup.node key c.in-Lookup.lo c.in-Lookup.hi in
+    let old : CallerPorts = record { database = c.self.inside.database; cushion = c.self.inside.cushion; node = c.self.inside.node } in
+    let new : CallerPorts = record old { node = c.lookup.new.self } in
+    let done = c.lookup.ensures in
+    let found = result_unwrap_or c.lookup.result None in
+    let leads = looked_up key c.in-Lookup.lo c.in-Lookup.hi old.node new.node c.lookup.result done.after done.answer done.front done.left done.refused in
+    subst (λ (hit : Option (Answered Shown)). HasAskedPorts g.A.App.next c.args.seen.now c.args.request c.args.self.now new (replies.Lookup hit)) (sym c.unwrap_or.ensures)
+    (asked_so g.A.App.next c.args.seen.now c.args.request asked c.args.self.now old new (replies.Lookup found) c.in-Lookup.is c.self.view_is
+    (asked_lookup g.A.App.next c.args.seen.now old new c.in-Lookup.node key c.in-Lookup.lo c.in-Lookup.hi found refl leads
+    (found_so (λ hit. IsTrueIn g.A.App.next hit.front.history (entry_shown key hit.answer)) c.lookup.result done.right)
+    (hit_row old.node new.node key c.in-Lookup.lo c.in-Lookup.hi found old.database.events c.self.invariant.node leads)))
 
 pub returns-in-Query : goal.returns-in-Query
 returns-in-Query g c =
-    subst (λ (r : PortRequest). HasAskedPorts g.A.App.next c.args.seen.now r c.args.self.now c.ask_query.new.self c.ask_query.result) (sym c.in-Query.is) (c.ask_query.ensures c.args.seen.now)
+    let asked = requests.Query c.in-Query.query c.in-Query.stamp in
+    let old : CallerPorts = record { database = c.self.inside.database; cushion = c.self.inside.cushion; node = c.self.inside.node } in
+    let new : CallerPorts = record old { database = c.find.new.database } in
+    asked_so g.A.App.next c.args.seen.now c.args.request asked c.args.self.now old new (replies.Query c.find.result) c.in-Query.is c.self.view_is
+    (asked_query g.A.App.next c.args.seen.now old new c.in-Query.query c.in-Query.stamp c.find.result (ap (λ (d : DatabaseValue). record old { database = d }) c.find.ensures.same) c.find.ensures.leads)
 
 pub returns-in-Insert : goal.returns-in-Insert
 returns-in-Insert g c =
-    subst (λ (r : PortRequest). HasAskedPorts g.A.App.next c.args.seen.now r c.args.self.now c.ask_insert.new.self c.ask_insert.result) (sym c.in-Insert.is) c.ask_insert.ensures
+    let asked = requests.Insert c.in-Insert.node c.in-Insert.entry in
+    let old : CallerPorts = record { database = c.self.inside.database; cushion = c.self.inside.cushion; node = c.self.inside.node } in
+    let new : CallerPorts = record old { node = c.insert.new.node } in
+    asked_so g.A.App.next c.args.seen.now c.args.request asked c.args.self.now old new (replies.Insert c.insert.result) c.in-Insert.is c.self.view_is
+    (asked_insert g.A.App.next c.args.seen.now old new c.in-Insert.node c.in-Insert.entry c.insert.result refl c.insert.ensures)
