@@ -6,6 +6,6 @@ mod calling;
 mod handing;
 mod one_row;
 
-pub use calling::page;
+pub use calling::computed;
 pub use handing::{registry, supplied};
 pub use one_row::OneRow;
