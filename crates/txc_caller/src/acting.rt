@@ -15,7 +15,7 @@ use crate::acted::Acted;
 use crate::asking::{given_by, is_miss, supply};
 use crate::engine::{feed, lead};
 use crate::frames::{Around, Frames, OpenCall};
-use crate::ports::{Ports, let_go};
+use crate::ports::CallPorts;
 use crate::stand::Stand;
 use crate::step::{CallerError, Step};
 use std::alloc::{AllocError, Global};
@@ -114,30 +114,33 @@ fn standing(stand: Stand, frames: Frames, answer: Answer) -> Acted
 }
 
 /// Gives the open call up: its functions end.
-pub(crate) fn end_call<A: App, C: Suppliable>(ports: &mut Ports<A>, txn: &mut RunningTxn<A, C>)
+pub(crate) fn end_call<A: App, C: Suppliable, P: CallPorts<A>>(
+    ports: &mut P,
+    txn: &mut RunningTxn<A, C>,
+)
     ensures idle { IsIdle txn.new.core }
     ensures recorded { txn.new.core.recorded ≡ txn.old.core.recorded }
     ensures keeps { KeepsOn txn.old txn.new }
-    ensures unpinned { IsLetGo (left_pin txn.old.core.pinning) ports.old.database ports.new.database }
-    ensures same { ports.new ≡ record ports.old { database = ports.new.database } }
-    ensures events { ports.new.database.events ≡ ports.old.database.events }
+    ensures unpinned { IsLetGo (left_pin txn.old.core.pinning) (P.ports ports.old).database (P.ports ports.new).database }
+    ensures same { (P.ports ports.new) ≡ record (P.ports ports.old) { database = (P.ports ports.new).database } }
+    ensures events { (P.ports ports.new).database.events ≡ (P.ports ports.old).database.events }
 {
     let unpin = txn.give_up();
-    let_go(&mut ports.database, unpin);
+    ports.let_go(unpin);
 }
 
 // ---- replies
 
 // Goes on with the reply that was kept back, with which the call ends. One that would wait again is given up.
-fn feed_to_end<A: App, C: Suppliable>(
+fn feed_to_end<A: App, C: Suppliable, P: CallPorts<A>>(
     alloc: Global,
-    ports: &mut Ports<A>,
+    ports: &mut P,
     txn: &mut RunningTxn<A, C>,
     frames: Frames,
     kept: PortReply,
 ) -> Acted
-    requires { IsAwaitingCaller A.next ports.old txn.old frames.top kept }
-    ensures acted { HasCallerActed A.next ports.old ports.new txn.old txn.new frames.top result }
+    requires { IsAwaitingCaller A.next (P.ports ports.old) txn.old frames.top kept }
+    ensures acted { HasCallerActed A.next (P.ports ports.old) (P.ports ports.new) txn.old txn.new frames.top result }
     ensures not_computed { IsNotComputed result.step }
 {
     drop(frames);
@@ -154,15 +157,15 @@ fn feed_to_end<A: App, C: Suppliable>(
 
 // The innermost function has its answer, of which the caller gets a copy. A reply that gives none ends the call. Out of
 // memory, the call is refused.
-fn answered<A: App, C: Suppliable>(
+fn answered<A: App, C: Suppliable, P: CallPorts<A>>(
     alloc: Global,
-    ports: &mut Ports<A>,
+    ports: &mut P,
     txn: &mut RunningTxn<A, C>,
     frames: Frames,
     kept: PortReply,
 ) -> Acted
-    requires { IsAwaitingCaller A.next ports.old txn.old frames.top kept }
-    ensures acted { HasCallerActed A.next ports.old ports.new txn.old txn.new frames.top result }
+    requires { IsAwaitingCaller A.next (P.ports ports.old) txn.old frames.top kept }
+    ensures acted { HasCallerActed A.next (P.ports ports.old) (P.ports ports.new) txn.old txn.new frames.top result }
     ensures not_computed { IsNotComputed result.step }
 {
     match given_by(alloc, &kept) {
@@ -179,18 +182,18 @@ fn answered<A: App, C: Suppliable>(
 
 // Goes on with the reply that was kept back, up to the one that the call waits for. Of a call of the innermost function
 // that was looked up, a hit is its answer.
-fn wait_for<A: App, C: Suppliable>(
+fn wait_for<A: App, C: Suppliable, P: CallPorts<A>>(
     alloc: Global,
-    ports: &mut Ports<A>,
+    ports: &mut P,
     txn: &mut RunningTxn<A, C>,
     frames: Frames,
     kept: PortReply,
     awaited: Awaited,
 ) -> Acted
-    requires waits { IsAwaitingCaller A.next ports.old txn.old frames.top kept }
+    requires waits { IsAwaitingCaller A.next (P.ports ports.old) txn.old frames.top kept }
     requires room { HasRoomFor awaited frames }
-    ensures acted { HasCallerActed A.next ports.old ports.new txn.old txn.new frames.top result }
-    ensures on_miss { IsComputedOnMiss txn.new.core ports.old.node ports.new.node result.step }
+    ensures acted { HasCallerActed A.next (P.ports ports.old) (P.ports ports.new) txn.old txn.new frames.top result }
+    ensures on_miss { IsComputedOnMiss txn.new.core (P.ports ports.old).node (P.ports ports.new).node result.step }
 {
     match feed(alloc, ports, txn, kept) {
         Stand::Kept(reply) => match awaited {
@@ -210,17 +213,17 @@ fn wait_for<A: App, C: Suppliable>(
 }
 
 /// The outermost call begins. Where it was looked up, a hit is its value.
-pub(crate) fn call_first<A: App, C: Suppliable>(
+pub(crate) fn call_first<A: App, C: Suppliable, P: CallPorts<A>>(
     alloc: Global,
-    ports: &mut Ports<A>,
+    ports: &mut P,
     txn: &mut RunningTxn<A, C>,
     key: Key,
 ) -> Acted
     requires idle { IsIdle txn.old.core }
-    requires row { txn.old.core.seen.events ≡ ports.old.database.events }
+    requires row { txn.old.core.seen.events ≡ (P.ports ports.old).database.events }
     requires nodes { txn.old.core.nodes ≡ 1 }
-    ensures acted { HasCallerActed A.next ports.old ports.new txn.old txn.new key result }
-    ensures on_miss { IsComputedOnMiss txn.new.core ports.old.node ports.new.node result.step }
+    ensures acted { HasCallerActed A.next (P.ports ports.old) (P.ports ports.new) txn.old txn.new key result }
+    ensures on_miss { IsComputedOnMiss txn.new.core (P.ports ports.old).node (P.ports ports.new).node result.step }
 {
     let frames = Frames::of(alloc, &key);
     let turn = txn.start(alloc, key);
@@ -242,17 +245,17 @@ pub(crate) fn call_first<A: App, C: Suppliable>(
 // The innermost function gives these bytes. A call whose value is too long is refused. The value is the next answer of the
 // function around it, or of the outermost call. One that depends on a row is kept at the node first. Of an inner one that
 // depends on none nothing is fed: its object is done at once, and then the one around it goes on in the same step.
-fn give<A: App, C: Suppliable>(
+fn give<A: App, C: Suppliable, P: CallPorts<A>>(
     alloc: Global,
-    ports: &mut Ports<A>,
+    ports: &mut P,
     txn: &mut RunningTxn<A, C>,
     frames: Frames,
     kept: PortReply,
     bytes: Vec<u8>,
 ) -> Acted
-    requires { IsAwaitingCaller A.next ports.old txn.old frames.top kept }
-    ensures acted { HasCallerActed A.next ports.old ports.new txn.old txn.new frames.top result }
-    ensures on_miss { IsComputedOnMiss txn.new.core ports.old.node ports.new.node result.step }
+    requires { IsAwaitingCaller A.next (P.ports ports.old) txn.old frames.top kept }
+    ensures acted { HasCallerActed A.next (P.ports ports.old) (P.ports ports.new) txn.old txn.new frames.top result }
+    ensures on_miss { IsComputedOnMiss txn.new.core (P.ports ports.old).node (P.ports ports.new).node result.step }
 {
     let Some(value) = Value::new(bytes) else {
         return feed_to_end(alloc, ports, txn, frames, kept);
@@ -293,17 +296,17 @@ fn asked_by(alloc: Global, frames: &mut Frames, act: Act) -> Result<(Ask, Told),
 }
 
 /// What the innermost function does: its object is told, and the call goes on.
-pub(crate) fn act_inside<A: App, C: Suppliable>(
+pub(crate) fn act_inside<A: App, C: Suppliable, P: CallPorts<A>>(
     alloc: Global,
-    ports: &mut Ports<A>,
+    ports: &mut P,
     txn: &mut RunningTxn<A, C>,
     call: OpenCall,
     act: Act,
 ) -> Acted
     requires asks { asks_next A.next txn.old.objects call.frames.inner.key call.given ≡ Some (ask_of act) }
-    requires waits { IsAwaitingCaller A.next ports.old txn.old call.frames.top call.kept }
-    ensures acted { HasCallerActed A.next ports.old ports.new txn.old txn.new call.frames.top result }
-    ensures on_miss { IsComputedOnMiss txn.new.core ports.old.node ports.new.node result.step }
+    requires waits { IsAwaitingCaller A.next (P.ports ports.old) txn.old call.frames.top call.kept }
+    ensures acted { HasCallerActed A.next (P.ports ports.old) (P.ports ports.new) txn.old txn.new call.frames.top result }
+    ensures on_miss { IsComputedOnMiss txn.new.core (P.ports ports.old).node (P.ports ports.new).node result.step }
 {
     let OpenCall {
         mut frames,

@@ -10,7 +10,7 @@ ghost use Rattle.txc_caller.specs.Ports.{is_of_pin};
 ghost use Rattle.txc_caller.specs.Looking.{IsLookedUp, StandsLookedUp};
 ghost use Rattle.txc_caller.specs.Standing.{HasPassed, IsGoing, IsKeptBack, IsTurnOf, IsStanding, KeepsOn};
 
-use crate::ports::Ports;
+use crate::ports::CallPorts;
 use crate::stand::Stand;
 use std::alloc::Global;
 use txc_app::App;
@@ -35,33 +35,33 @@ fn is_of_pin(request: &PortRequest) -> bool
 }
 
 // Asks, and returns the reply.
-fn asked<A: App, C: Cacheable>(
+fn asked<A: App, C: Cacheable, P: CallPorts<A>>(
     alloc: Global,
-    ports: &mut Ports<A>,
+    ports: &mut P,
     txn: &RunningTxn<A, C>,
     request: PortRequest,
 ) -> PortReply
-    requires { IsGoing ports.old.database.events txn.now.core (Turn.Ask request) }
+    requires { IsGoing (P.ports ports.old).database.events txn.now.core (Turn.Ask request) }
     ensures kept { IsKeptBack A.next txn.now result }
-    ensures looked_up { IsLookedUp txn.now.core ports.old.node ports.new.node result }
-    ensures node { is_of_pin request ≡ true → ports.new.node ≡ ports.old.node }
-    ensures events { ports.new.database.events ≡ ports.old.database.events }
+    ensures looked_up { IsLookedUp txn.now.core (P.ports ports.old).node (P.ports ports.new).node result }
+    ensures node { is_of_pin request ≡ true → (P.ports ports.new).node ≡ (P.ports ports.old).node }
+    ensures events { (P.ports ports.new).database.events ≡ (P.ports ports.old).database.events }
 {
     txn.is_kept();
     ports.ask(alloc, txn.core().seen(), request)
 }
 
 // Makes a request about the pin of the present, if the turn is one, and goes on. Any other turn stays.
-fn pass_pin<A: App, C: Cacheable>(
+fn pass_pin<A: App, C: Cacheable, P: CallPorts<A>>(
     alloc: Global,
-    ports: &mut Ports<A>,
+    ports: &mut P,
     txn: &mut RunningTxn<A, C>,
     turn: Turn<PortRequest, Value>,
 ) -> Turn<PortRequest, Value>
-    requires { IsGoing ports.old.database.events txn.old.core turn }
-    ensures passed { HasPassed ports.old.database.events txn.old turn txn.new result }
-    ensures node { ports.new.node ≡ ports.old.node }
-    ensures events { ports.new.database.events ≡ ports.old.database.events }
+    requires { IsGoing (P.ports ports.old).database.events txn.old.core turn }
+    ensures passed { HasPassed (P.ports ports.old).database.events txn.old turn txn.new result }
+    ensures node { (P.ports ports.new).node ≡ (P.ports ports.old).node }
+    ensures events { (P.ports ports.new).database.events ≡ (P.ports ports.old).database.events }
 {
     match turn {
         Turn::Ask(request) => {
@@ -89,18 +89,18 @@ fn at_its_end(outcome: Result<Value, TxnError>) -> Stand
 
 /// Leads the call on: the present is pinned where that is asked, and the reply to what is asked then is kept; or the call
 /// has ended.
-pub(crate) fn lead<A: App, C: Cacheable>(
+pub(crate) fn lead<A: App, C: Cacheable, P: CallPorts<A>>(
     alloc: Global,
-    ports: &mut Ports<A>,
+    ports: &mut P,
     txn: &mut RunningTxn<A, C>,
     turn: Turn<PortRequest, Value>,
 ) -> Stand
-    requires { IsGoing ports.old.database.events txn.old.core turn }
+    requires { IsGoing (P.ports ports.old).database.events txn.old.core turn }
     ensures stands { (before : List Recorded) (k : Call) → IsTurnOf before k txn.old.core turn
         → IsStanding A.next before k txn.new result }
-    ensures looked_up { StandsLookedUp txn.new.core ports.old.node ports.new.node result }
+    ensures looked_up { StandsLookedUp txn.new.core (P.ports ports.old).node (P.ports ports.new).node result }
     ensures keeps { KeepsOn txn.old txn.new }
-    ensures events { ports.new.database.events ≡ ports.old.database.events }
+    ensures events { (P.ports ports.new).database.events ≡ (P.ports ports.old).database.events }
 {
     // A pin, the addition of it, and, where that is refused, the end of its hold.
     let first = pass_pin(alloc, ports, txn, turn);
@@ -113,20 +113,20 @@ pub(crate) fn lead<A: App, C: Cacheable>(
 }
 
 /// Goes on with the reply that was kept back.
-pub(crate) fn feed<A: App, C: Cacheable>(
+pub(crate) fn feed<A: App, C: Cacheable, P: CallPorts<A>>(
     alloc: Global,
-    ports: &mut Ports<A>,
+    ports: &mut P,
     txn: &mut RunningTxn<A, C>,
     reply: PortReply,
 ) -> Stand
     requires kept { IsKeptBack A.next txn.old reply }
-    requires row { txn.old.core.seen.events ≡ ports.old.database.events }
+    requires row { txn.old.core.seen.events ≡ (P.ports ports.old).database.events }
     requires nodes { txn.old.core.nodes ≡ 1 }
     ensures stands { (k : Call) → open_call txn.old.core ≡ Some k
         → IsStanding A.next txn.old.core.recorded k txn.new result }
-    ensures looked_up { StandsLookedUp txn.new.core ports.old.node ports.new.node result }
+    ensures looked_up { StandsLookedUp txn.new.core (P.ports ports.old).node (P.ports ports.new).node result }
     ensures keeps { KeepsOn txn.old txn.new }
-    ensures events { ports.new.database.events ≡ ports.old.database.events }
+    ensures events { (P.ports ports.new).database.events ≡ (P.ports ports.old).database.events }
 {
     let turn = txn.next(alloc, reply);
     lead(alloc, ports, txn, turn)

@@ -27,8 +27,8 @@ impl<A: App, C: Suppliable> Caller<A, C> {
         Ok(stamps.len())
     }
 
-    /// Has the node take the events, whose tags may be dropped then. Then makes the horizon the least stamp that is held, or
-    /// the newest where none is, and drops what only stamps before it need.
+    /// Has the node take the events. Then makes the horizon the least stamp that is held, or the newest where none is, and drops
+    /// what only stamps before it need.
     pub fn vacuum(&mut self, alloc: Global) -> Result<Stamp, DbError>
         ensures after { OnOk result (HasVacuumedPorts self.old.ports self.new.ports) }
         ensures node { GoesOnByEvents self.old.ports.node self.new.ports.node }

@@ -42,6 +42,27 @@ impl<A: App> Model for Ports<A> {
     ghost invariant = { λ p. AreCallerPorts (record { database = p.database; cushion = p.cushion; node = p.node }) };
 }
 
+/// What a call asks of the ports.
+pub(crate) trait CallPorts<A: App> {
+    ghost use Rattle.txc_caller.specs.Ports.{CallerPorts, HasAskedPorts};
+    ghost use Rattle.txc_ports.specs.Asking.{MayAsk};
+
+    // What they are.
+    ghost ports: { Self → CallerPorts };
+
+    /// Asks what a transaction asks. It has seen that much of the history.
+    fn ask(&mut self, alloc: Global, seen: &HistoryFront, request: PortRequest) -> PortReply
+        requires row { seen.now.events ≡ (ports self.old).database.events }
+        requires may { MayAsk A.next (ports self.old).database.events 1 seen.now.history request }
+        ensures { HasAskedPorts A.next seen.now request (ports self.old) (ports self.new) result };
+
+    /// Takes the hold of a pin away that was not added, if there is one. It takes no memory.
+    fn let_go(&mut self, unpin: Option<Stamp>)
+        ensures unpinned { IsLetGo unpin (ports self.old).database (ports self.new).database }
+        ensures same { ports self.new ≡ record (ports self.old) { database = (ports self.new).database } }
+        ensures events { (ports self.new).database.events ≡ (ports self.old).database.events };
+}
+
 // An empty database with room for so many events, or that stores none.
 fn empty_database(alloc: Global, room: Option<usize>) -> Result<DbCore, DbError>
     requires { IfSome room (λ events. (1 ≤ events) × (events ≤ MAX_ROW)) }
@@ -129,9 +150,6 @@ fn around<A: App>(
 }
 
 impl<A: App> Ports<A> {
-    ghost use Rattle.txc_caller.specs.Ports.{HasAskedPorts};
-    ghost use Rattle.txc_ports.specs.Asking.{MayAsk};
-
     // Has the node take the next event, and says whether it took one. The front shows them all.
     fn take_event(&mut self, alloc: Global, front: &HistoryFront) -> bool
         requires { front.now ≡ front_of self.old.database }
@@ -198,18 +216,12 @@ impl<A: App> Ports<A> {
             }
         }
     }
+}
 
-    /// Asks what a transaction asks. It has seen that much of the history.
-    pub(crate) fn ask(
-        &mut self,
-        alloc: Global,
-        seen: &HistoryFront,
-        request: PortRequest,
-    ) -> PortReply
-        requires row { seen.now.events ≡ self.old.database.events }
-        requires may { MayAsk A.next self.old.database.events 1 seen.now.history request }
-        ensures { HasAskedPorts A.next seen.now request self.old self.new result }
-    {
+impl<A: App> CallPorts<A> for Ports<A> {
+    ghost ports = { λ p. p };
+
+    fn ask(&mut self, alloc: Global, seen: &HistoryFront, request: PortRequest) -> PortReply {
         match request {
             PortRequest::Pin { now, at_least } => PortReply::Pin(
                 self.database.pin(alloc, now, at_least),
@@ -230,5 +242,9 @@ impl<A: App> Ports<A> {
                 PortReply::Insert(nodes::insert(alloc, &mut self.node, entry, seen))
             }
         }
+    }
+
+    fn let_go(&mut self, unpin: Option<Stamp>) {
+        let_go(&mut self.database, unpin);
     }
 }

@@ -6,7 +6,7 @@ use Rattle.txc_caller.proofs.acting.answered.Goals as goal
 
 pub returns-in-Ok-Some-clause-acted : goal.returns-in-Ok-Some-clause-acted
 returns-in-Ok-Some-clause-acted g c =
-    acted_self g.A.App.next c.args.ports.now c.args.txn.now c.args.frames.top c.stays.result
+    acted_self g.A.App.next (g.P.CallPorts.ports c.args.ports.now) c.args.txn.now c.args.frames.top c.stays.result
     (subst (λ (k : Call). IsActOf g.A.App.next c.args.txn.now.core.recorded k c.args.txn.now c.stays.result) c.reach.ensures
     (c.stays.ensures.acted g.A.App.next c.args.txn.now c.requires.kept (c.requires.top ∙ sym (ap (λ (k : Call). Some k) c.reach.ensures))))
 

@@ -9,7 +9,7 @@ use Rattle.txc_caller.proofs.engine.asked.Goals as goal
 pub ask-requires : goal.ask-requires
 ask-requires g c =
     let txn = c.args.txn.now in
-    let row = c.args.ports.now.database.events in
+    let row = (g.P.CallPorts.ports c.args.ports.now).database.events in
     let same : c.seen.result.now ≡ txn.core.seen = c.seen.ensures ∙ ap (λ (w : CoreValue). w.seen) c.core.ensures in
     record {
       row = ap (λ (f : FrontValue). f.events) same ∙ c.requires.events;
@@ -25,7 +25,7 @@ returns-clause-kept g c = record {
 }
 
 pub returns-clause-looked_up : goal.returns-clause-looked_up
-returns-clause-looked_up g c = lookup_made c.seen.result.now c.args.ports.now c.ask.new.self c.args.txn.now.core c.args.request c.ask.result c.requires.fits c.ask.ensures.leads
+returns-clause-looked_up g c = lookup_made c.seen.result.now (g.P.CallPorts.ports c.args.ports.now) (g.P.CallPorts.ports c.ask.new.self) c.args.txn.now.core c.args.request c.ask.result c.requires.fits c.ask.ensures.leads
 
 pub returns-clause-node : goal.returns-clause-node
-returns-clause-node g c = λ of. node_kept c.seen.result.now c.args.ports.now c.ask.new.self c.args.request c.ask.result of c.ask.ensures.leads
+returns-clause-node g c = λ of. node_kept c.seen.result.now (g.P.CallPorts.ports c.args.ports.now) (g.P.CallPorts.ports c.ask.new.self) c.args.request c.ask.result of c.ask.ensures.leads

@@ -18,7 +18,7 @@ pass_pin-third-requires g c =
 
 pub asked-requires : goal.asked-requires
 asked-requires g c =
-    subst (IsGoing c.pass_pin-third.new.ports.database.events c.pass_pin-third.new.txn.core) c.in-Ask.is
+    subst (IsGoing (g.P.CallPorts.ports c.pass_pin-third.new.ports).database.events c.pass_pin-third.new.txn.core) c.in-Ask.is
     (subst (λ (row : Name). IsGoing row c.pass_pin-third.new.txn.core c.pass_pin-third.result) (sym c.pass_pin-third.ensures.events) c.pass_pin-third.ensures.passed.going)
 
 pub returns-in-Ask-clause-stands : goal.returns-in-Ask-clause-stands
@@ -57,8 +57,8 @@ returns-in-Ended-clause-events g c = c.pass_pin-third.ensures.events ∙ (c.pass
 
 pub returns-in-Ask-clause-looked_up : goal.returns-in-Ask-clause-looked_up
 returns-in-Ask-clause-looked_up g c =
-    subst (λ (n : NodeValue). IsLookedUp c.pass_pin-third.new.txn.core n c.asked.new.ports.node c.asked.result)
+    subst (λ (n : NodeValue). IsLookedUp c.pass_pin-third.new.txn.core n (g.P.CallPorts.ports c.asked.new.ports).node c.asked.result)
     (c.pass_pin-third.ensures.node ∙ (c.pass_pin-second.ensures.node ∙ c.pass_pin-first.ensures.node)) c.asked.ensures.looked_up
 
 pub returns-in-Ended-clause-looked_up : goal.returns-in-Ended-clause-looked_up
-returns-in-Ended-clause-looked_up g c = c.at_its_end.ensures.looked_up c.pass_pin-third.new.txn.core c.args.ports.now.node c.pass_pin-third.new.ports.node
+returns-in-Ended-clause-looked_up g c = c.at_its_end.ensures.looked_up c.pass_pin-third.new.txn.core (g.P.CallPorts.ports c.args.ports.now).node (g.P.CallPorts.ports c.pass_pin-third.new.ports).node
