@@ -1,5 +1,5 @@
 -- What comes of a step of a call, once it was told and written.
-use Rattle.std.proofs.Common.{◌≡◌, ◌∙◌, ℕ, List, [], ◌∷◌, ◌++◌, length, drop, nat_le, Option, Some, None, Bool, true, false, refl, ap, sym, arith}
+use Rattle.std.proofs.Common.{◌≡◌, ◌∙◌, ℕ, List, [], ◌∷◌, length, Option, Some, None, Bool, true, false, refl, ap, arith}
 use Rattle.std.proofs.lemmas.Bool.Decides.{nat_tests}
 use Rattle.std.specs.Prelude.{Result, Ok, Err, IsSome, IsTrue, ◌↔◌, if◌then◌else◌}
 use Rattle.txc_app.specs.declared.ask.Answer.{Answer}
@@ -11,7 +11,7 @@ use Rattle.txc_caller.specs.declared.frames.OpenCall.{OpenCall}
 use Rattle.txc_caller.specs.declared.step.CallerError.{CallerError}
 use Rattle.txc_caller.specs.declared.step.Step.{Step}
 use Rattle.txc_caller.specs.declared.step.Step.TheVariants as steps
-use Rattle.txc_c_site.specs.Asking.{buffer, given_up_number, Buffer, HasOpenCallStepped}
+use Rattle.txc_c_site.specs.Asking.{buffer, given_up_number, HasOpenCallStepped}
 use Rattle.txc_c_site.specs.Opaque.{opaque_next}
 use Rattle.txc_c_site.specs.Telling.{last_given, step_bytes, step_len, step_number}
 use Rattle.txc_crossing.specs.Crossing.{written_in}
@@ -59,10 +59,8 @@ module _ (old new : CallerReading) (step : Result Step CallerError) (bytes bytes
 
 -- ---- giving up
 
-pub gave_up : (doing : Option OpenCall) (was : Bool) → was ≡ true → (IsTrue was ↔ IsSome doing) → DONE ≡ given_up_number doing
-gave_up (Some o) was is h = refl
-gave_up None was is h = absurd (cc (h.0 is))
-
-pub gave_none_up : (doing : Option OpenCall) (was : Bool) → was ≡ false → (IsTrue was ↔ IsSome doing) → MISS ≡ given_up_number doing
-gave_none_up None was is h = refl
-gave_none_up (Some o) was is h = absurd (cc (sym (h.1 refl) ∙ is))
+pub gave_up : {A : Type 0} (doing : Option A) (was : Bool) → (IsTrue was ↔ IsSome doing) → (if was then DONE else MISS) ≡ given_up_number doing
+gave_up (Some o) true h = refl
+gave_up None true h = absurd (cc (h.0 refl))
+gave_up None false h = refl
+gave_up (Some o) false h = absurd (cc (h.1 refl))

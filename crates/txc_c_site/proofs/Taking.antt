@@ -1,11 +1,14 @@
 -- A node that takes events before a transaction begins.
-use Rattle.std.proofs.Common.{◌≡◌, ◌∙◌, Bool, true, false, [], inl, inr, refl, ap, sym, subst}
+use Rattle.std.proofs.Common.{◌≡◌, ◌∙◌, ℕ, Bool, true, false, [], inl, inr, refl, ap, sym, subst}
 use Rattle.std.specs.Prelude.{None}
 use Rattle.txc_cushion.specs.Cushion.{after_fresh, handed_out}
 use Rattle.txc_ports.specs.declared.bounds.Bounds.{Bounds}
 use Rattle.txc_caller.specs.Ports.{GoesOnByEvents, HasNoEventFor, IsBehind, MayHaveTaken}
 use Rattle.txc_caller.specs.Reading.{caller_of, CallerReading, CallerValue}
 use Rattle.txc_c_site.specs.Turning.{IsReadBegun}
+
+abbrev pub bounds_of : ℕ → ℕ → ℕ → Bounds
+bounds_of now staleness at_least = record { now = now; staleness = staleness; at_least = at_least }
 
 -- it took them all, or memory was wanting
 pub took : (c mid : CallerValue) (has_all : Bool) → GoesOnByEvents c.ports.node mid.ports.node → (has_all ≡ true → HasNoEventFor mid.ports.database mid.ports.node)

@@ -1,5 +1,5 @@
 -- What comes of what is asked in a transaction.
-use Rattle.std.specs.Prelude.{◌≡◌, ◌⊎◌, ℕ, ◌++◌, ◌∷◌, [], nat_le, List, length, slice_get, Option, Some, None, Result, Ok, Err}
+use Rattle.std.specs.Prelude.{◌≡◌, ◌⊎◌, ℕ, [], nat_le, List, length, slice_get, Option, Some, None, Result, Ok, Err}
 use Rattle.std.specs.Bool.{MatchBool}
 use Rattle.txc_tags.specs.Keys.{Call}
 use Rattle.txc_tags.specs.declared.tag.TheConstants.{LAST_TABLE}
@@ -152,15 +152,18 @@ QueryComesTo query count count' old number new =
     MatchBool (is_query query) (QuerySiteComesTo (query_of query) count count' old number new)
     (Stays BAD_ARGUMENT old number new × (count' ≡ count))
 
--- the rows that were found last
+-- what was answered last, and the rows that were found
 abbrev pub given_rows : Option Answer → List RowValue
 given_rows (Some (Rows rows)) = rows
 given_rows given = []
 
+abbrev pub last_answer : Site → Option Answer
+last_answer (Reading r) = last_given r
+last_answer (Writing w) = w.given
+last_answer (Resting c) = None
+
 abbrev pub rows_found : Site → List RowValue
-rows_found (Reading r) = given_rows (last_given r)
-rows_found (Writing w) = given_rows w.given
-rows_found (Resting c) = []
+rows_found site = given_rows (last_answer site)
 
 -- ---- giving up
 

@@ -5,3 +5,4 @@ pub mod Turning
 pub mod Telling
 pub mod Asking
 pub mod Keeping
+pub mod Rooms

@@ -1,5 +1,5 @@
 -- The functions of a caller in C.
-use Rattle.std.specs.Prelude.{◌≡◌, ◌≢◌, ℕ, List, [], Option, Some, None}
+use Rattle.std.specs.Prelude.{◌≢◌, ℕ, List, [], Option, Some, None}
 use mathlib.Core.Path.{subst}
 use Rattle.txc_app.specs.declared.ask.Ask.{Ask}
 use Rattle.txc_app.specs.declared.ask.Ask.TheVariants.{Done}

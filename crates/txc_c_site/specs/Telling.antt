@@ -13,11 +13,11 @@ use Rattle.txc_crossing.specs.Crossing.{written_in}
 use Rattle.txc_crossing.specs.Numbers.{bytes_number}
 use Rattle.txc_crossing.specs.declared.numbers.TheConstants.{DONE, MISS, NO_MEMORY, COMPUTE, ANSWERED, NOT_OPEN, REFUSED, OTHER_ASK}
 
--- ---- the answer that a function was given: the value of a call, or of rows how many they are
+-- ---- an answer: the value of a call, by this number where there is room for it, or of rows how many they are
 
-abbrev pub answer_number : ℕ → Answer → ℕ
-answer_number room (answers.Value value) = bytes_number ANSWERED room value
-answer_number room (answers.Rows rows) = ANSWERED
+abbrev pub answer_number : ℕ → ℕ → Answer → ℕ
+answer_number number room (answers.Value value) = bytes_number number room value
+answer_number number room (answers.Rows rows) = ANSWERED
 
 abbrev pub answer_len : Answer → ℕ
 answer_len (answers.Value value) = length value
@@ -45,7 +45,7 @@ error_number errors.NoFunction = NOT_OPEN
 error_number errors.Memory = NO_MEMORY
 
 abbrev pub given_number : ℕ → Option Answer → ℕ
-given_number room (Some answer) = answer_number room answer
+given_number room (Some answer) = answer_number ANSWERED room answer
 given_number room None = ANSWERED
 
 abbrev pub given_len : Option Answer → ℕ → ℕ
@@ -92,18 +92,13 @@ value_bytes (Some r) old = written_in r.value old
 value_bytes None old = old
 
 abbrev pub computed_number : ℕ → Option Answer → ℕ
-computed_number room (Some answer) = answer_number room answer
+computed_number room (Some answer) = answer_number ANSWERED room answer
 computed_number room None = MISS
 
--- outside all functions of a transaction that writes: the value of the outermost call, or of rows how many they are
-abbrev pub outside_number : ℕ → Answer → ℕ
-outside_number room (answers.Value value) = bytes_number DONE room value
-outside_number room (answers.Rows rows) = ANSWERED
-
--- in such a transaction, to the function that is computed, or else outside all
+-- in a transaction that writes, to the function that is computed, or else outside all
 abbrev pub written_number : ℕ → Option ℕ → Option Answer → ℕ
 written_number room (Some function) given = computed_number room given
-written_number room None (Some answer) = outside_number room answer
+written_number room None (Some answer) = answer_number DONE room answer
 written_number room None None = MISS
 
 -- to the function that is computed, or else to the outermost call

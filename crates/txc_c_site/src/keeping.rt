@@ -1,6 +1,6 @@
 //! What keeps a site small, while no transaction is open.
 ghost use Rattle.std.specs.Prelude.{◌≡◌};
-ghost use Rattle.txc_c_site.specs.Keeping.{node_number, HasKept, HasSweptNode, HasVacuumed, KeepComesTo};
+ghost use Rattle.txc_c_site.specs.Keeping.{node_number, HasKept, KeepComesTo};
 
 use crate::opaque::Opaque;
 use crate::site::{Object, Site};
@@ -9,7 +9,6 @@ use std::alloc::Global;
 use txc_caller::Caller;
 use txc_crossing::{ALREADY_OPEN, DONE, NO_MEMORY, REFUSED};
 use txc_shared::NodeError;
-use txc_stamp::Stamp;
 
 /// What a keep did: pins that it retired, the horizon, and entries that the node dropped.
 #[repr(C)]
@@ -30,39 +29,8 @@ fn node_number(error: NodeError) -> u32
     }
 }
 
-// The node drops what ends at the horizon or before it.
-fn sweep(
-    alloc: Global,
-    caller: &mut Caller<Opaque, Object>,
-    horizon: Stamp,
-    kept: &mut TxcKept,
-) -> u32
-    ensures { HasSweptNode horizon caller.old result kept.old kept.new caller.new }
-{
-    match caller.sweep(alloc, horizon) {
-        Ok(count) => {
-            kept.swept = count;
-            DONE
-        }
-        Err(error) => node_number(error),
-    }
-}
-
-// The node takes the events, the database drops the versions that no stamp from the horizon on shows, and then the node
-// what ends there.
-fn vacuum(alloc: Global, caller: &mut Caller<Opaque, Object>, kept: &mut TxcKept) -> u32
-    ensures { HasVacuumed caller.old result kept.old kept.new caller.new }
-{
-    match caller.vacuum(alloc) {
-        Ok(horizon) => {
-            kept.horizon = horizon.number();
-            sweep(alloc, caller, horizon, kept)
-        }
-        Err(error) => database_number(error),
-    }
-}
-
-// Retires pins, and then does the rest.
+// Retires pins; the node takes the events, and the database drops the versions that no stamp from the horizon on shows; then
+// the node drops what ends there.
 fn keep(
     alloc: Global,
     caller: &mut Caller<Opaque, Object>,
@@ -76,7 +44,19 @@ fn keep(
         return NO_MEMORY;
     };
     kept.retired = retired;
-    vacuum(alloc, caller, kept)
+    match caller.vacuum(alloc) {
+        Ok(horizon) => {
+            kept.horizon = horizon.number();
+            match caller.sweep(alloc, horizon) {
+                Ok(count) => {
+                    kept.swept = count;
+                    DONE
+                }
+                Err(error) => node_number(error),
+            }
+        }
+        Err(error) => database_number(error),
+    }
 }
 
 impl Site {

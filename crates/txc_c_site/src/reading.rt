@@ -1,31 +1,24 @@
 //! What is asked of a site, whichever transaction is open.
-ghost use Rattle.std.specs.Prelude.{◌≡◌, MatchOption, None, Some, slice_get};
+ghost use Rattle.std.specs.Prelude.{◌≡◌, MatchOption, None, Some, if◌then◌else◌, slice_get};
 ghost use Rattle.txc_app.specs.declared.ask.Ask.TheVariants as asks;
 ghost use Rattle.txc_crossing.specs.Crossing.{named_call};
 ghost use Rattle.txc_c_site.specs.Receipts.{query_of};
-ghost use Rattle.txc_c_site.specs.Asking.{buffer, given_rows, rows_found, CallComesTo, CallSiteComesTo, FinishComesTo, GiveUpComesTo, LastTold, QueryComesTo, QuerySiteComesTo, RowTold, SiteAsksNext};
-ghost use Rattle.txc_c_site.specs.Telling.{last_given};
+ghost use Rattle.txc_c_site.specs.Asking.{buffer, given_rows, last_answer, rows_found, CallComesTo, FinishComesTo, GiveUpComesTo, LastTold, QueryComesTo, RowTold, SiteAsksNext};
 
-use crate::asking;
-use crate::opaque::Opaque;
 use crate::receipts::{TxcQuery, TxcRow};
-use crate::site::{Object, Site};
-use crate::telling::{given, tell_last, tell_written};
+use crate::site::Site;
+use crate::telling::{error_number, given, tell_last, tell_step, tell_written};
+use crate::turning::database_number;
 use std::alloc::Global;
 use txc_app::Answer;
-use txc_caller::{CallerTxn, CallerWrite};
-use txc_crossing::{BAD_ARGUMENT, DONE, MISS, NOT_OPEN, TxcKey, tell};
-use txc_rows::{Query, Row};
-use txc_tags::Key;
+use txc_crossing::{BAD_ARGUMENT, COMPUTE, DONE, MISS, NO_MEMORY, NOT_OPEN, TxcKey, tell};
+use txc_rows::Row;
 
-// The row at that place, if there is one.
-fn row_of(rows: &[Row], at: usize) -> Option<&Row>
-    ensures { MatchOption result (slice_get rows.now at ≡ None) (λ row. slice_get rows.now at ≡ Some row.now) }
+// The number of giving up, by whether a call was open.
+fn open_number(was_open: bool) -> u32
+    ensures { result ≡ (if was_open then DONE else MISS) }
 {
-    match rows.get(at) {
-        Some(row) => Some(row),
-        None => None,
-    }
+    if was_open { DONE } else { MISS }
 }
 
 // A row of an answer.
@@ -34,47 +27,15 @@ fn row_in(answer: &Answer, at: usize) -> Option<&Row>
         (λ row. slice_get (given_rows (Some answer.now)) at ≡ Some row.now) }
 {
     match answer {
-        Answer::Rows(rows) => row_of(rows.as_slice(), at),
+        Answer::Rows(rows) => match rows.as_slice().get(at) {
+            Some(row) => Some(row),
+            None => None,
+        },
         Answer::Value(_) => None,
     }
 }
 
-// A row of those that the function was answered last.
-fn row_given(txn: &CallerTxn<Opaque, Object>, at: usize) -> Option<&Row>
-    ensures { MatchOption result (slice_get (given_rows (last_given txn.now)) at ≡ None)
-        (λ row. slice_get (given_rows (last_given txn.now)) at ≡ Some row.now) }
-{
-    match given(txn) {
-        Some(answer) => row_in(answer, at),
-        None => None,
-    }
-}
-
-// The same of those that a transaction that writes was answered last.
-fn row_written(write: &CallerWrite<Opaque, Object>, at: usize) -> Option<&Row>
-    ensures { MatchOption result (slice_get (given_rows write.now.given) at ≡ None)
-        (λ row. slice_get (given_rows write.now.given) at ≡ Some row.now) }
-{
-    match write.answer() {
-        Some(answer) => row_in(answer, at),
-        None => None,
-    }
-}
-
 impl Site {
-    // Asks for the value of a call.
-    fn call_key(&mut self, alloc: Global, key: Key, value: &mut [u8], len: &mut usize) -> u32
-        requires { SiteAsksNext (asks.Call key) self.old }
-        ensures { CallSiteComesTo key (buffer value.old len.old) (buffer value.new len.new)
-            self.old result self.new }
-    {
-        match self {
-            Site::Reading(txn) => asking::call(alloc, txn, key, value, len),
-            Site::Writing(write) => asking::call_to_write(write, &key),
-            Site::Resting(_) => NOT_OPEN,
-        }
-    }
-
     /// Asks for the value of a call.
     pub fn call(&mut self, alloc: Global, key: &TxcKey, value: &mut [u8], len: &mut usize) -> u32
         requires { SiteAsksNext (asks.Call (named_call key.now)) self.old }
@@ -84,17 +45,15 @@ impl Site {
         let Some(key) = key.key() else {
             return BAD_ARGUMENT;
         };
-        self.call_key(alloc, key, value, len)
-    }
-
-    // Asks for the rows of a query.
-    fn ask_query(&mut self, alloc: Global, query: Query, count: &mut usize) -> u32
-        requires { SiteAsksNext (asks.Query query) self.old }
-        ensures { QuerySiteComesTo query count.old count.new self.old result self.new }
-    {
         match self {
-            Site::Reading(txn) => asking::query(alloc, txn, query, count),
-            Site::Writing(write) => asking::query_to_write(alloc, write, &query, count),
+            Site::Reading(txn) => {
+                let step = txn.call(alloc, key);
+                tell_step(txn, step, value, len)
+            }
+            Site::Writing(write) => match write.call(key.function()) {
+                Ok(()) => COMPUTE,
+                Err(error) => error_number(error),
+            },
             Site::Resting(_) => NOT_OPEN,
         }
     }
@@ -107,17 +66,26 @@ impl Site {
         let Some(query) = query.query() else {
             return BAD_ARGUMENT;
         };
-        self.ask_query(alloc, query, count)
+        match self {
+            Site::Reading(txn) => {
+                let step = txn.query(alloc, query);
+                tell_step(txn, step, &mut [], count)
+            }
+            Site::Writing(write) => match write.query(alloc, &query) {
+                Ok(()) => tell_written(write, &mut [], count),
+                Err(error) => database_number(error),
+            },
+            Site::Resting(_) => NOT_OPEN,
+        }
     }
 
-    // A row of those that were found last.
-    fn row_at(&self, at: usize) -> Option<&Row>
-        ensures { MatchOption result (slice_get (rows_found self.now) at ≡ None)
-            (λ row. slice_get (rows_found self.now) at ≡ Some row.now) }
+    // What was answered last.
+    fn answer(&self) -> Option<&Answer>
+        ensures { MatchOption result (last_answer self.now ≡ None) (λ answer. last_answer self.now ≡ Some answer.now) }
     {
         match self {
-            Site::Reading(txn) => row_given(txn, at),
-            Site::Writing(write) => row_written(write, at),
+            Site::Reading(txn) => given(txn),
+            Site::Writing(write) => write.answer(),
             Site::Resting(_) => None,
         }
     }
@@ -127,22 +95,39 @@ impl Site {
         ensures { RowTold (slice_get (rows_found self.now) at) result row.old row.new
             (buffer body.old len.old) (buffer body.new len.new) }
     {
-        let Some(found) = self.row_at(at) else {
+        let Some(answer) = self.answer() else {
+            return MISS;
+        };
+        let Some(found) = row_in(answer, at) else {
             return MISS;
         };
         *row = TxcRow::of(found);
         tell(DONE, found.body(), body, len)
     }
 
-    /// The function that is computed gives these bytes.
+    /// The function that is computed gives a copy of these bytes.
     pub fn finish(&mut self, alloc: Global, bytes: &[u8], value: &mut [u8], len: &mut usize) -> u32
         requires { SiteAsksNext (asks.Done bytes.now) self.old }
         ensures { FinishComesTo bytes.now (buffer value.old len.old) (buffer value.new len.new)
             self.old result self.new }
     {
         match self {
-            Site::Reading(txn) => asking::finish(alloc, txn, bytes, value, len),
-            Site::Writing(write) => asking::finish_write(alloc, write, bytes, value, len),
+            Site::Reading(txn) => {
+                let Ok(copy) = bytes.to_vec(alloc) else {
+                    return NO_MEMORY;
+                };
+                let step = txn.finish(alloc, copy);
+                tell_step(txn, step, value, len)
+            }
+            Site::Writing(write) => {
+                let Ok(copy) = bytes.to_vec(alloc) else {
+                    return NO_MEMORY;
+                };
+                match write.finish(copy) {
+                    Ok(()) => tell_written(write, value, len),
+                    Err(error) => error_number(error),
+                }
+            }
             Site::Resting(_) => NOT_OPEN,
         }
     }
@@ -163,8 +148,8 @@ impl Site {
         ensures { GiveUpComesTo self.old result self.new }
     {
         match self {
-            Site::Reading(txn) => asking::give_up(txn),
-            Site::Writing(write) => asking::give_up_write(write),
+            Site::Reading(txn) => open_number(txn.give_up()),
+            Site::Writing(write) => open_number(write.give_up()),
             Site::Resting(_) => NOT_OPEN,
         }
     }

@@ -1,12 +1,11 @@
 //! Transactions of a site that begin and end.
 ghost use Rattle.std.specs.Prelude.{◌≡◌, is_some, IfSome};
-ghost use Rattle.txc_c_site.specs.Turning.{database_number, is_site_stamp, write_number, BegunComesTo, BegunWriteAtComesTo, BegunWriteComesTo, CommittedComesTo, WrittenComesTo};
+ghost use Rattle.txc_c_site.specs.Turning.{database_number, is_site_stamp, write_number, AbortComesTo, BeginComesTo, BeginWriteAtComesTo, BeginWriteComesTo, CommitComesTo, CommitWriteComesTo};
 
-use crate::opaque::Opaque;
 use crate::receipts::TxcReceipt;
-use crate::site::{Object, Site};
+use crate::site::Site;
 use std::alloc::Global;
-use txc_caller::{Caller, CallerTxn, CallerWrite, WriteError};
+use txc_caller::WriteError;
 use txc_crossing::{
     ALREADY_OPEN, BAD_ARGUMENT, CONFLICT, DONE, MID_CALL, NO_MEMORY, NOT_OPEN, REFUSED,
 };
@@ -46,71 +45,7 @@ fn site_stamp(number: u32) -> Option<Stamp>
     Some(Stamp::after(number as usize))
 }
 
-// A site at rest begins a transaction that only reads, once the node has taken the events.
-fn begun(alloc: Global, mut caller: Caller<Opaque, Object>, bounds: Bounds) -> (u32, Site)
-    ensures { BegunComesTo bounds caller result.0 result.1 }
-{
-    let _has_all = caller.take_events(alloc);
-    match caller.begin(alloc, bounds) {
-        Ok(txn) => (DONE, Site::Reading(txn)),
-        Err(caller) => (NO_MEMORY, Site::Resting(caller)),
-    }
-}
-
-// A site at rest begins a transaction that writes over the newest state.
-fn begun_write(alloc: Global, caller: Caller<Opaque, Object>) -> (u32, Site)
-    ensures { BegunWriteComesTo caller result.0 result.1 }
-{
-    (DONE, Site::Writing(caller.begin_write(alloc)))
-}
-
-// The same over the state of that stamp.
-fn begun_write_at(alloc: Global, caller: Caller<Opaque, Object>, base: Stamp) -> (u32, Site)
-    ensures { BegunWriteAtComesTo base caller result.0 result.1 }
-{
-    match caller.begin_write_at(alloc, base) {
-        Ok(write) => (DONE, Site::Writing(write)),
-        Err(back) => {
-            let (error, caller) = back;
-            (database_number(error), Site::Resting(caller))
-        }
-    }
-}
-
-// A transaction that only reads ends, and its receipt is written.
-fn committed(txn: CallerTxn<Opaque, Object>, receipt: &mut TxcReceipt) -> (u32, Site)
-    ensures { CommittedComesTo txn receipt.old receipt.new result.0 result.1 }
-{
-    match txn.commit() {
-        Ok(done) => {
-            let (given, caller) = done;
-            *receipt = TxcReceipt::of(given.pin, given.answers.len());
-            (DONE, Site::Resting(caller))
-        }
-        Err(txn) => (MID_CALL, Site::Reading(txn)),
-    }
-}
-
-// A transaction that writes ends, and the newest stamp is written.
-fn written(alloc: Global, write: CallerWrite<Opaque, Object>, stamp: &mut u32) -> (u32, Site)
-    ensures { WrittenComesTo write stamp.old stamp.new result.0 result.1 }
-{
-    match write.commit(alloc) {
-        Ok(done) => {
-            let (newest, caller) = done;
-            *stamp = newest.number();
-            (DONE, Site::Resting(caller))
-        }
-        Err(back) => {
-            let (error, write) = back;
-            (write_number(error), Site::Writing(write))
-        }
-    }
-}
-
 impl Site {
-    ghost use Rattle.txc_c_site.specs.Turning.{AbortComesTo, BeginComesTo, BeginWriteAtComesTo, BeginWriteComesTo, CommitComesTo, CommitWriteComesTo};
-
     /// Begins a transaction that only reads.
     pub fn begin(self, alloc: Global, now: u64, staleness: u64, at_least: u32) -> (u32, Site)
         ensures { BeginComesTo now staleness at_least self result.0 result.1 }
@@ -124,7 +59,13 @@ impl Site {
             at_least,
         };
         match self {
-            Site::Resting(caller) => begun(alloc, caller, bounds),
+            Site::Resting(mut caller) => {
+                let _has_all = caller.take_events(alloc);
+                match caller.begin(alloc, bounds) {
+                    Ok(txn) => (DONE, Site::Reading(txn)),
+                    Err(caller) => (NO_MEMORY, Site::Resting(caller)),
+                }
+            }
             Site::Reading(txn) => (ALREADY_OPEN, Site::Reading(txn)),
             Site::Writing(write) => (ALREADY_OPEN, Site::Writing(write)),
         }
@@ -135,7 +76,7 @@ impl Site {
         ensures { BeginWriteComesTo self result.0 result.1 }
     {
         match self {
-            Site::Resting(caller) => begun_write(alloc, caller),
+            Site::Resting(caller) => (DONE, Site::Writing(caller.begin_write(alloc))),
             Site::Reading(txn) => (ALREADY_OPEN, Site::Reading(txn)),
             Site::Writing(write) => (ALREADY_OPEN, Site::Writing(write)),
         }
@@ -149,7 +90,13 @@ impl Site {
             return (BAD_ARGUMENT, self);
         };
         match self {
-            Site::Resting(caller) => begun_write_at(alloc, caller, base),
+            Site::Resting(caller) => match caller.begin_write_at(alloc, base) {
+                Ok(write) => (DONE, Site::Writing(write)),
+                Err(back) => {
+                    let (error, caller) = back;
+                    (database_number(error), Site::Resting(caller))
+                }
+            },
             Site::Reading(txn) => (ALREADY_OPEN, Site::Reading(txn)),
             Site::Writing(write) => (ALREADY_OPEN, Site::Writing(write)),
         }
@@ -160,7 +107,14 @@ impl Site {
         ensures { CommitComesTo receipt.old receipt.new self result.0 result.1 }
     {
         match self {
-            Site::Reading(txn) => committed(txn, receipt),
+            Site::Reading(txn) => match txn.commit() {
+                Ok(done) => {
+                    let (given, caller) = done;
+                    *receipt = TxcReceipt::of(given.pin, given.answers.len());
+                    (DONE, Site::Resting(caller))
+                }
+                Err(txn) => (MID_CALL, Site::Reading(txn)),
+            },
             Site::Resting(caller) => (NOT_OPEN, Site::Resting(caller)),
             Site::Writing(write) => (NOT_OPEN, Site::Writing(write)),
         }
@@ -171,7 +125,17 @@ impl Site {
         ensures { CommitWriteComesTo stamp.old stamp.new self result.0 result.1 }
     {
         match self {
-            Site::Writing(write) => written(alloc, write, stamp),
+            Site::Writing(write) => match write.commit(alloc) {
+                Ok(done) => {
+                    let (newest, caller) = done;
+                    *stamp = newest.number();
+                    (DONE, Site::Resting(caller))
+                }
+                Err(back) => {
+                    let (error, write) = back;
+                    (write_number(error), Site::Writing(write))
+                }
+            },
             Site::Resting(caller) => (NOT_OPEN, Site::Resting(caller)),
             Site::Reading(txn) => (NOT_OPEN, Site::Reading(txn)),
         }

@@ -1,0 +1,56 @@
+use Rattle.std.proofs.Common.{refl, sym, subst}
+use Rattle.txc_c_site.specs.Turning.{BeginAtRestComesTo, BeginComesTo, BegunComesTo}
+use Rattle.txc_c_site.specs.declared.site.Site.{Site}
+use Rattle.txc_c_site.specs.declared.site.Site.TheVariants.{Reading, Resting, Writing}
+use Rattle.txc_c_site.proofs.Asked.{asked_so, not_asked}
+use Rattle.txc_c_site.proofs.Taking.{began_after, bounds_of, left_after, left_taken, took}
+use Rattle.txc_c_site.proofs.site.Site.begin.Goals as goal
+
+pub returns-in-Ok : goal.returns-in-Ok
+returns-in-Ok c =
+    let done = c.take_events-has_all.ensures in
+    let old = c.in-Resting.caller in
+    let mid = c.take_events-has_all.new.self in
+    let new = c.in-Ok.txn in
+    subst (λ (s : Site). BeginComesTo c.args.now c.args.staleness c.args.at_least s 0 (Reading new)) (sym c.in-Resting.is)
+    (asked_so (λ at_least. BegunComesTo (bounds_of c.args.now c.args.staleness at_least) old 0 (Reading new)) _ _ _ _ c.in-Some.ensures.there c.in-Some.ensures.stamp (
+      refl,
+      began_after (bounds_of c.args.now c.args.staleness c.in-Some.at_least) old mid new (took old mid c.take_events-has_all.result done.node done.all done.left done.same) done.same
+          (record {
+            bounds = c.in-Ok.ensures.bounds;
+            recorded = c.in-Ok.ensures.recorded;
+            members = c.in-Ok.ensures.members;
+            present = c.in-Ok.ensures.present;
+            users = c.in-Ok.ensures.users;
+            none = c.in-Ok.ensures.none;
+            caller = c.in-Ok.ensures.caller;
+          }),
+    ))
+
+pub returns-in-Err : goal.returns-in-Err
+returns-in-Err c =
+    let done = c.take_events-has_all.ensures in
+    let old = c.in-Resting.caller in
+    let mid = c.take_events-has_all.new.self in
+    let left = c.in-Err.caller in
+    subst (λ (s : Site). BeginComesTo c.args.now c.args.staleness c.args.at_least s 11 (Resting left)) (sym c.in-Resting.is)
+    (asked_so (λ at_least. BegunComesTo (bounds_of c.args.now c.args.staleness at_least) old 11 (Resting left)) _ _ _ _ c.in-Some.ensures.there c.in-Some.ensures.stamp (
+      refl,
+      left_taken old mid left (took old mid c.take_events-has_all.result done.node done.all done.left done.same) c.in-Err.ensures.handed_back,
+      left_after old mid left done.same c.in-Err.ensures.handed_back,
+    ))
+
+pub returns-in_default : goal.returns-in_default
+returns-in_default c = not_asked _ _ _ c.in_default.ensures.there (refl, refl)
+
+pub returns-in-Reading : goal.returns-in-Reading
+returns-in-Reading c =
+    let site = Reading c.in-Reading.txn in
+    subst (λ (s : Site). BeginComesTo c.args.now c.args.staleness c.args.at_least s 5 site) (sym c.in-Reading.is)
+    (asked_so (λ at_least. BeginAtRestComesTo (bounds_of c.args.now c.args.staleness at_least) site 5 site) _ _ _ _ c.in-Some.ensures.there c.in-Some.ensures.stamp (refl, refl))
+
+pub returns-in-Writing : goal.returns-in-Writing
+returns-in-Writing c =
+    let site = Writing c.in-Writing.write in
+    subst (λ (s : Site). BeginComesTo c.args.now c.args.staleness c.args.at_least s 5 site) (sym c.in-Writing.is)
+    (asked_so (λ at_least. BeginAtRestComesTo (bounds_of c.args.now c.args.staleness at_least) site 5 site) _ _ _ _ c.in-Some.ensures.there c.in-Some.ensures.stamp (refl, refl))
