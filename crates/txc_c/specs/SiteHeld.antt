@@ -5,4 +5,4 @@ use Rattle.txc_c.specs.declared.site_handle.TxcSite.{TxcSite}
 
 -- the site that an open handle has
 abbrev pub site_held : TxcSite → Option Site
-site_held handle = if handle.is_open then handle.slot.value.site else None
+site_held handle = if handle.is_open then handle.slot.value else None

@@ -10,7 +10,6 @@ mod handle;
 mod node;
 mod parts;
 mod site_handle;
-mod site_room;
 mod site_taking;
 mod taking;
 mod txn;

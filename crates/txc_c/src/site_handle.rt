@@ -1,13 +1,13 @@
 //! The handle of a site: a pointer to one that stands on the heap.
 ghost use Rattle.std.specs.Prelude.{◌≡◌, Bool, true, false};
-ghost use Rattle.txc_c.specs.declared.site_room.SiteRoom.{SiteRoom as RoomValue};
+ghost use Rattle.txc_c_site.specs.declared.room.SiteRoom.{SiteRoom as RoomValue};
 
 use crate::handle::crosses;
 use crate::parts::Parts;
-use crate::site_room::SiteRoom;
 use std::alloc::Global;
 use std::marker::Model;
 use std::ptr;
+use txc_c_site::SiteRoom;
 
 /// A pointer to a site, or to none.
 #[repr(C)]
@@ -22,7 +22,7 @@ pub struct SiteSlot {
 impl Model for SiteSlot {
     ghost use Rattle.std.specs.Box.Ownership.{box_owns};
     ghost use Rattle.txc_c.specs.Owned.{when};
-    ghost use Rattle.txc_c.specs.contracts.site_room.SiteRoom.{the_row};
+    ghost use Rattle.txc_c_site.specs.contracts.room.SiteRoom.{the_row};
     ghost use Rattle.std.specs.contracts.impls.GlobalAllocator.TheImpl.{ghosts};
 
     ghost also_owns = { λ n. when n.is_full (box_owns (ghosts.dealloc_token n.alloc) the_row n.ptr n.value) };

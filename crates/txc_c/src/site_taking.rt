@@ -5,10 +5,9 @@ ghost use Rattle.txc_c.specs.SiteHeld.{site_held};
 
 use crate::parts::Parts;
 use crate::site_handle::{SiteSlot, TxcSite};
-use crate::site_room::SiteRoom;
 use std::alloc::Global;
 use std::mem;
-use txc_c_site::Site;
+use txc_c_site::{Site, SiteRoom};
 
 impl TxcSite {
     pub(crate) fn closed(alloc: Global) -> TxcSite
@@ -22,7 +21,7 @@ impl TxcSite {
 
     /// Takes the room of its site out, if there is one.
     pub(crate) fn take_room(&mut self, alloc: Global) -> Option<Box<SiteRoom, Global>>
-        ensures site { option_and_then (λ room. room.value.site) result ≡ site_held self.old }
+        ensures site { option_and_then (λ room. room.value) result ≡ site_held self.old }
         ensures after { site_held self.new ≡ None }
     {
         let TxcSite { slot, is_open } = mem::replace(self, TxcSite::closed(alloc));
@@ -39,14 +38,14 @@ impl TxcSite {
         ensures after { site_held self.new ≡ None }
     {
         let mut room = self.take_room(alloc)?;
-        let site = room.site.take()?;
+        let site = room.take()?;
         Some((site, room))
     }
 
     /// Puts a room in where there is none, with the site that stands there.
     pub(crate) fn put_room(&mut self, room: Box<SiteRoom, Global>)
         requires { site_held self.old ≡ None }
-        ensures { site_held self.new ≡ room.value.site }
+        ensures { site_held self.new ≡ room.value }
     {
         *self = TxcSite {
             slot: SiteSlot::of_parts(Parts::of(room)),
@@ -59,7 +58,7 @@ impl TxcSite {
         requires { site_held self.old ≡ None }
         ensures { site_held self.new ≡ Some site }
     {
-        drop(mem::replace(&mut room.site, Some(site)));
+        *room = SiteRoom::of(site);
         self.put_room(room);
     }
 }

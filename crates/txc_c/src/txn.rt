@@ -4,19 +4,19 @@ ghost use Rattle.txc_app.specs.declared.ask.Ask.TheVariants as asks;
 ghost use Rattle.txc_crossing.specs.Crossing.{are_sizes, named_call};
 ghost use Rattle.txc_c_site.specs.Keeping.{KeepComesTo};
 ghost use Rattle.txc_c_site.specs.Receipts.{query_of};
+ghost use Rattle.txc_c_site.specs.Rooms.{ComesTo, HeldAsksNext};
 ghost use Rattle.txc_c_site.specs.Sites.{is_room, IsNewSite};
 ghost use Rattle.txc_node.specs.declared.node.TheConstants.{MAX_CAPACITY, MAX_RECENT};
 ghost use Rattle.txc_stream.specs.declared.row.TheConstants.{MAX_CAPACITY as MAX_EVENTS};
-ghost use Rattle.txc_c.specs.Exports.{open_site_number, ComesTo, HasNewSite, HeldAsksNext};
+ghost use Rattle.txc_c.specs.Exports.{open_site_number, HasNewSite};
 ghost use Rattle.txc_c.specs.SiteHeld.{site_held};
 ghost use Rattle.txc_c.specs.Life.{close_number};
 ghost use Rattle.txc_c_site.specs.Turning.{AbortComesTo, BeginComesTo, BeginWriteAtComesTo, BeginWriteComesTo, CommitComesTo, CommitWriteComesTo};
 ghost use Rattle.txc_c_site.specs.Asking.{buffer, CallComesTo, FinishComesTo, GiveUpComesTo, LastComesTo, PutComesTo, QueryComesTo, RemoveComesTo, RowComesTo};
 
 use crate::site_handle::TxcSite;
-use crate::site_room::SiteRoom;
 use std::alloc::Global;
-use txc_c_site::{Site, TxcKept, TxcQuery, TxcReceipt, TxcRow, is_room};
+use txc_c_site::{Site, SiteRoom, TxcKept, TxcQuery, TxcReceipt, TxcRow, is_room};
 use txc_crossing::{ALREADY_OPEN, BAD_ARGUMENT, CLOSED, DONE, NO_MEMORY, TxcKey, are_sizes};
 use txc_shared::NodeSettings;
 
@@ -56,7 +56,7 @@ fn open(
     if !may_open(events, settings.capacity, settings.recent) {
         return BAD_ARGUMENT;
     }
-    let Some(room) = Box::new(alloc, SiteRoom { site: None }).ok() else {
+    let Some(room) = Box::new(alloc, SiteRoom::empty()).ok() else {
         return NO_MEMORY;
     };
     let Some(site) = new_site(alloc, events, settings, renew_after) else {
@@ -147,10 +147,7 @@ pub extern "C" fn txc_call(
     let Some(mut room) = handle.take_room(alloc) else {
         return CLOSED;
     };
-    let Some(site) = &mut room.site else {
-        return CLOSED;
-    };
-    let number = site.call(alloc, key, value, len);
+    let number = room.call(alloc, key, value, len);
     handle.put_room(room);
     number
 }
@@ -170,10 +167,7 @@ pub extern "C" fn txc_query_rows(
     let Some(mut room) = handle.take_room(alloc) else {
         return CLOSED;
     };
-    let Some(site) = &mut room.site else {
-        return CLOSED;
-    };
-    let number = site.query(alloc, query, count);
+    let number = room.query(alloc, query, count);
     handle.put_room(room);
     number
 }
@@ -195,10 +189,7 @@ pub extern "C" fn txc_row_at(
     let Some(room) = handle.take_room(alloc) else {
         return CLOSED;
     };
-    let Some(site) = &room.site else {
-        return CLOSED;
-    };
-    let number = site.tell_row(at, row, body, len);
+    let number = room.tell_row(at, row, body, len);
     handle.put_room(room);
     number
 }
@@ -217,10 +208,7 @@ pub extern "C" fn txc_answer(
     let Some(room) = handle.take_room(alloc) else {
         return CLOSED;
     };
-    let Some(site) = &room.site else {
-        return CLOSED;
-    };
-    let number = site.tell_last(value, len);
+    let number = room.tell_last(value, len);
     handle.put_room(room);
     number
 }
@@ -241,10 +229,7 @@ pub extern "C" fn txc_finish(
     let Some(mut room) = handle.take_room(alloc) else {
         return CLOSED;
     };
-    let Some(site) = &mut room.site else {
-        return CLOSED;
-    };
-    let number = site.finish(alloc, bytes, value, len);
+    let number = room.finish(alloc, bytes, value, len);
     handle.put_room(room);
     number
 }
@@ -257,10 +242,7 @@ pub extern "C" fn txc_give_up(alloc: Global, handle: &mut TxcSite) -> u32
     let Some(mut room) = handle.take_room(alloc) else {
         return CLOSED;
     };
-    let Some(site) = &mut room.site else {
-        return CLOSED;
-    };
-    let number = site.give_up();
+    let number = room.give_up();
     handle.put_room(room);
     number
 }
@@ -333,10 +315,7 @@ pub extern "C" fn txc_put(
     let Some(mut room) = handle.take_room(alloc) else {
         return CLOSED;
     };
-    let Some(site) = &mut room.site else {
-        return CLOSED;
-    };
-    let number = site.put(alloc, table, id, group, body);
+    let number = room.put(alloc, table, id, group, body);
     handle.put_room(room);
     number
 }
@@ -349,10 +328,7 @@ pub extern "C" fn txc_remove(alloc: Global, handle: &mut TxcSite, table: u8, id:
     let Some(mut room) = handle.take_room(alloc) else {
         return CLOSED;
     };
-    let Some(site) = &mut room.site else {
-        return CLOSED;
-    };
-    let number = site.remove(table, id);
+    let number = room.remove(table, id);
     handle.put_room(room);
     number
 }
@@ -386,10 +362,7 @@ pub extern "C" fn txc_keep(
     let Some(mut room) = handle.take_room(alloc) else {
         return CLOSED;
     };
-    let Some(site) = &mut room.site else {
-        return CLOSED;
-    };
-    let number = site.keep(alloc, now, age, kept);
+    let number = room.keep(alloc, now, age, kept);
     handle.put_room(room);
     number
 }

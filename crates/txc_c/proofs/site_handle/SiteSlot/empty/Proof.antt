@@ -28,7 +28,7 @@ use Rattle.std_alloc.proofs.BoxSteps.Form.{P}
 use Rattle.std.proofs.raw_atomic.Walks.{proved_at, leaves}
 use Rattle.std.specs.contracts.alloc.Global as Heap
 use Rattle.std.specs.Prelude.{None}
-use Rattle.txc_c.specs.declared.site_room.SiteRoom.{SiteRoom}
+use Rattle.txc_c_site.specs.declared.room.SiteRoom.{SiteRoom}
 use Rattle.txc_c.proofs.SiteAsBox.{E}
 use Rattle.txc_c.specs.contracts.site_handle.SiteSlot as slot
 use Rattle.txc_c.specs.contracts.site_handle.SiteSlot.empty.{ended, clauses}
@@ -38,7 +38,7 @@ use Rattle.txc_c.proofs.site_handle.SiteSlot.empty.Code as code
 
 -- what stands there where nothing is owned
 nothing_held : SiteRoom
-nothing_held = record { site = None }
+nothing_held = None
 
 pub empty_spec : {M : Type 1} → statement M
 empty_spec 𝓤 𝓛 𝓜 𝓡 wired =

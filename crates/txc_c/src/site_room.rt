@@ -1,7 +1,0 @@
-use txc_c_site::Site;
-
-/// Where the site of a handle stands; none is there while it is led on.
-#[derive(Drop)]
-pub struct SiteRoom {
-    pub(crate) site: Option<Site>,
-}
