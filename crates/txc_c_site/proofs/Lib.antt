@@ -1,5 +1,4 @@
 pub mod Asked
-pub mod Stepping
 pub mod LastAnswers
 pub mod Kept
 pub mod Functions

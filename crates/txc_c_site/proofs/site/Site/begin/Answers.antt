@@ -1,8 +1,8 @@
 use Rattle.std.proofs.Common.{refl, sym, subst}
-use Rattle.txc_c_site.specs.Turning.{BeginAtRestComesTo, BeginComesTo, BegunComesTo}
+use Rattle.txc_c_site.specs.Turning.{BeginComesTo, BegunComesTo}
 use Rattle.txc_c_site.specs.declared.site.Site.{Site}
-use Rattle.txc_c_site.specs.declared.site.Site.TheVariants.{Reading, Resting, Writing}
-use Rattle.txc_c_site.proofs.Asked.{asked_so, not_asked}
+use Rattle.txc_c_site.specs.declared.site.Site.TheVariants.{Reading, Resting}
+use Rattle.txc_c_site.proofs.Asked.{asked_so}
 use Rattle.txc_c_site.proofs.Taking.{began_after, bounds_of, left_after, left_taken, took}
 use Rattle.txc_c_site.proofs.site.Site.begin.Goals as goal
 
@@ -39,18 +39,3 @@ returns-in-Err c =
       left_taken old mid left (took old mid c.take_events-has_all.result done.node done.all done.left done.same) c.in-Err.ensures.handed_back,
       left_after old mid left done.same c.in-Err.ensures.handed_back,
     ))
-
-pub returns-in_default : goal.returns-in_default
-returns-in_default c = not_asked _ _ _ c.in_default.ensures.there (refl, refl)
-
-pub returns-in-Reading : goal.returns-in-Reading
-returns-in-Reading c =
-    let site = Reading c.in-Reading.txn in
-    subst (λ (s : Site). BeginComesTo c.args.now c.args.staleness c.args.at_least s 5 site) (sym c.in-Reading.is)
-    (asked_so (λ at_least. BeginAtRestComesTo (bounds_of c.args.now c.args.staleness at_least) site 5 site) _ _ _ _ c.in-Some.ensures.there c.in-Some.ensures.stamp (refl, refl))
-
-pub returns-in-Writing : goal.returns-in-Writing
-returns-in-Writing c =
-    let site = Writing c.in-Writing.write in
-    subst (λ (s : Site). BeginComesTo c.args.now c.args.staleness c.args.at_least s 5 site) (sym c.in-Writing.is)
-    (asked_so (λ at_least. BeginAtRestComesTo (bounds_of c.args.now c.args.staleness at_least) site 5 site) _ _ _ _ c.in-Some.ensures.there c.in-Some.ensures.stamp (refl, refl))
