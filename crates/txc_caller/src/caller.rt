@@ -26,11 +26,21 @@ use txc_txn::{RunningTxn, TxnCore};
 
 /// A database, its pincushion and one node of a caller in one thread, and the objects of the functions that he
 /// computes himself. No transaction is open.
-#[derive(Drop)]
 pub struct Caller<A: App, C: Suppliable> {
     pub(crate) ports: Ports<A>,
     pub(crate) renew_after: u64,
     pub(crate) registry: Registry<A, C>,
+}
+
+// Not derived: a derived one is proved again in each crate above.
+impl<A: App, C: Suppliable> Drop for Caller<A, C> {
+    fn drop(self) {
+        let Caller {
+            ports: _,
+            renew_after: _,
+            registry: _,
+        } = self;
+    }
 }
 
 impl<A: App, C: Suppliable> Model for Caller<A, C> {

@@ -28,12 +28,23 @@ use txc_txn::{Receipt, RunningTxn};
 /// caller says that his functions ask and give, the receipt explains each answer by it.
 ///
 /// [`CallerTxn::commit`] and [`CallerTxn::abort`] return the caller. Who lets it go lets the caller go too.
-#[derive(Drop)]
 pub struct CallerTxn<A: App, C: Suppliable> {
     pub(crate) ports: Ports<A>,
     pub(crate) renew_after: u64,
     pub(crate) txn: RunningTxn<A, C>,
     pub(crate) doing: Option<OpenCall>,
+}
+
+// Not derived: a derived one is proved again in each crate above.
+impl<A: App, C: Suppliable> Drop for CallerTxn<A, C> {
+    fn drop(self) {
+        let CallerTxn {
+            ports: _,
+            renew_after: _,
+            txn: _,
+            doing: _,
+        } = self;
+    }
 }
 
 impl<A: App, C: Suppliable> Model for CallerTxn<A, C> {

@@ -26,7 +26,6 @@ pub const MAX_CHANGES: usize = 256;
 
 /// A transaction that writes. It reads the state of one stamp, uses no node, and keeps its changes until it commits, which it
 /// does where nothing that it has read has changed since that stamp.
-#[derive(Drop)]
 pub struct CallerWrite<A: App, C: Suppliable> {
     pub(crate) caller: Caller<A, C>,
     pub(crate) base: Stamp,
@@ -37,6 +36,21 @@ pub struct CallerWrite<A: App, C: Suppliable> {
     pub(crate) inner: Option<u8>,
     pub(crate) outer: Vec<u8>,
     pub(crate) given: Option<Answer>,
+}
+
+// Not derived: a derived one is proved again in each crate above.
+impl<A: App, C: Suppliable> Drop for CallerWrite<A, C> {
+    fn drop(self) {
+        let CallerWrite {
+            caller: _,
+            base: _,
+            read: _,
+            changes: _,
+            inner: _,
+            outer: _,
+            given: _,
+        } = self;
+    }
 }
 
 impl<A: App, C: Suppliable> Model for CallerWrite<A, C> {

@@ -35,7 +35,6 @@ use txc_validity::{Found, answer_at};
 /// A stamp names the state after so many events of the history. `Memory` and `Store`, where the store
 /// refused by itself, may be answered by any call that needs memory or the store; every other refusal comes
 /// exactly where the clauses say.
-#[derive(Drop)]
 pub struct DbCore {
     pub(crate) store: VersionRows,
     pub(crate) told: History,
@@ -43,6 +42,19 @@ pub struct DbCore {
     // The earliest hold first, so that they rise.
     pub(crate) holds: Vec<Stamp>,
     pub(crate) broken: bool,
+}
+
+// Not derived: a derived one is proved again in each crate above.
+impl Drop for DbCore {
+    fn drop(self) {
+        let DbCore {
+            store: _,
+            told: _,
+            horizon: _,
+            holds: _,
+            broken: _,
+        } = self;
+    }
 }
 
 impl Model for DbCore {

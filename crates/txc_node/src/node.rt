@@ -61,11 +61,22 @@ pub enum Inserted {
 }
 
 /// The versioned cache of one node.
-#[derive(Debug, Drop)]
+#[derive(Debug)]
 pub struct NodeCore {
     entries: IndexedEntries,
     processed: Stamp,
     recent: HeapCircularBuffer<TagSet>,
+}
+
+// Not derived: a derived one is proved again in each crate above.
+impl Drop for NodeCore {
+    fn drop(self) {
+        let NodeCore {
+            entries: _,
+            processed: _,
+            recent: _,
+        } = self;
+    }
 }
 
 impl Model for NodeCore {

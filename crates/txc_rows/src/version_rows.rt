@@ -18,11 +18,17 @@ use txc_stamp::{MOST_STAMP, Stamp};
 
 /// Row versions in a store in memory: the last of each table, id and group in a table of SQLite, and those that later ones
 /// replaced beside it. Contracts see the list of its versions, the earliest put first.
-#[derive(Drop)]
 pub struct VersionRows {
     store: Store,
     /// The stored stamp that is 0 in the present history.
     first: u32,
+}
+
+// Not derived: a derived one is proved again in each crate above.
+impl Drop for VersionRows {
+    fn drop(self) {
+        let VersionRows { store: _, first: _ } = self;
+    }
 }
 
 impl Model for VersionRows {

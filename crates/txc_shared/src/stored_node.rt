@@ -38,7 +38,6 @@ use txc_tags::{Key, TagSet};
 ///
 /// It is the state after its history, unless it is broken, and each result that it holds is true in what it
 /// has seen. A step is one of a pass, by the pass's number: its record has the pass's next turn.
-#[derive(Drop)]
 pub struct StoredNode<A: App> {
     settings: NodeSettings,
     from: Stamp,
@@ -48,6 +47,22 @@ pub struct StoredNode<A: App> {
     seen: HistoryFront,
     broken: bool,
     of: PhantomData<A>,
+}
+
+// Not derived: a derived one is proved again in each crate above.
+impl<A: App> Drop for StoredNode<A> {
+    fn drop(self) {
+        let StoredNode {
+            settings: _,
+            from: _,
+            core: _,
+            log: _,
+            counts: _,
+            seen: _,
+            broken: _,
+            of: _,
+        } = self;
+    }
 }
 
 impl<A: App> Model for StoredNode<A> {

@@ -18,10 +18,19 @@ use txc_tags::Key;
 
 /// A read-only transaction with the registry of its functions. In the history that it has seen, its pin set
 /// means what it says.
-#[derive(Drop)]
 pub struct RunningTxn<A: App, C: Cacheable> {
     core: TxnCore,
     registry: Registry<A, C>,
+}
+
+// Not derived: a derived one is proved again in each crate above.
+impl<A: App, C: Cacheable> Drop for RunningTxn<A, C> {
+    fn drop(self) {
+        let RunningTxn {
+            core: _,
+            registry: _,
+        } = self;
+    }
 }
 
 impl<A: App, C: Cacheable> Model for RunningTxn<A, C> {
