@@ -19,7 +19,6 @@ use txc_stream::{EventRow, Front, prefix_of_itself, prefix_of_prefix};
 ///
 /// A caller makes its steps through a pass of its own, and finds the records of them in each history that
 /// the pass meets.
-#[derive(Drop)]
 pub struct NodePass<J: Naming> {
     pub(crate) settings: NodeSettings,
     pub(crate) pass: usize,
@@ -29,6 +28,21 @@ pub struct NodePass<J: Naming> {
     pub(crate) records: NodeFront,
     pub(crate) events: HistoryFront,
     of: PhantomData<J>,
+}
+
+// Not derived: a derived one is proved again in each crate above.
+impl<J: Naming> Drop for NodePass<J> {
+    fn drop(self) {
+        let NodePass {
+            settings: _,
+            pass: _,
+            turn: _,
+            own: _,
+            records: _,
+            events: _,
+            of: _,
+        } = self;
+    }
 }
 
 impl<J: Naming> Model for NodePass<J> {

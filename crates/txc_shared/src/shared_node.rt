@@ -38,12 +38,22 @@ use txc_tags::Key;
 /// A caller draws a pass, and makes its steps through it: each does the step of [`StoredNode`] of its name,
 /// for some beginning of the named history, and leaves the pass with what it has seen of that history. A node
 /// that a call finds `Broken` refuses each call so from then on.
-#[derive(Drop)]
 pub struct SharedNode<A: App, J: Naming> {
     settings: NodeSettings,
     // Shows nothing.
     start: NodeFront,
     lock: Mutex<Held<A, J>>,
+}
+
+// Not derived: a derived one is proved again in each crate above.
+impl<A: App, J: Naming> Drop for SharedNode<A, J> {
+    fn drop(self) {
+        let SharedNode {
+            settings: _,
+            start: _,
+            lock: _,
+        } = self;
+    }
 }
 
 impl<A: App, J: Naming> Model for SharedNode<A, J> {
