@@ -31,21 +31,11 @@ use txc_txn::{RunningTxn, Session, TxnCore};
 /// A client of a database, its pincushion and its nodes, with the functions that it calls, all idle.
 ///
 /// It is sent to the thread that uses it, and begins one transaction at a time.
+#[derive(Drop)]
 pub struct Client<'a, A: App, C: Cacheable, J: Naming> {
     pub(crate) ports: Ports<'a, A, J>,
     pub(crate) registry: Registry<A, C>,
     pub(crate) renew_after: u64,
-}
-
-// Not derived: a derived one is proved again in each crate above.
-impl<'a, A: App, C: Cacheable, J: Naming> Drop for Client<'a, A, C, J> {
-    fn drop(self) {
-        let Client {
-            ports: _,
-            registry: _,
-            renew_after: _,
-        } = self;
-    }
 }
 
 impl<'a, A: App, C: Cacheable, J: Naming> Model for Client<'a, A, C, J> {
