@@ -117,8 +117,9 @@ impl<A: App, C: Cacheable> RunningTxn<A, C> {
         ensures registry { result.2 ≡ self.objects }
         ensures idle { AllIdle result.2 }
     {
-        let (receipt, give_back) = self.core.finish();
-        (receipt, give_back, self.registry)
+        let RunningTxn { core, registry } = self;
+        let (receipt, give_back) = core.finish();
+        (receipt, give_back, registry)
     }
 
     /// Gives the transaction up, in the middle of a call too, and returns what is left to be done, and the
@@ -129,8 +130,8 @@ impl<A: App, C: Cacheable> RunningTxn<A, C> {
         ensures functions { numbers_of result.1 ≡ numbers_of self.objects }
         ensures idle { AllIdle result.1 }
     {
-        let mut registry = self.registry;
-        let left = self.core.cancel(&mut registry);
+        let RunningTxn { core, mut registry } = self;
+        let left = core.cancel(&mut registry);
         (left, registry)
     }
 }

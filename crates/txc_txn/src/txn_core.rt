@@ -11,6 +11,7 @@ use txc_stamp::Stamp;
 ///
 /// It has no lock, no thread and no clock. The registry of its functions is lent to each call, always the
 /// same one.
+#[derive(Drop)]
 pub struct TxnCore {
     pub(crate) bounds: Bounds,
     pub(crate) renew_after: u64,
@@ -23,21 +24,4 @@ pub struct TxnCore {
     pub(crate) pinning: Option<Pinning>,
     pub(crate) seen: HistoryFront,
     ghost room: { pins.has_present ≡ true → vec_len taken < vec_capacity taken },
-}
-
-// Not derived: a derived one is proved again in each crate above.
-impl Drop for TxnCore {
-    fn drop(self) {
-        let TxnCore {
-            bounds: _,
-            renew_after: _,
-            nodes: _,
-            pins: _,
-            taken: _,
-            recorded: _,
-            machine: _,
-            pinning: _,
-            seen: _,
-        } = self;
-    }
 }
