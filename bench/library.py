@@ -30,11 +30,11 @@ import unproved  # noqa: E402
 # By the folder of the two programs, and the crate over which the one in Rattle stands: how many of each kind are made.
 KINDS = {
     ("library_bench", "txc_node"): {"hit": 2_000_000, "miss": 2_000_000, "insertion": 500_000},
-    ("library_site", "txc_c_site"): {"hit": 1_024_000, "miss": 128_000},
+    ("library_site", "txc_c"): {"hit": 1_024_000, "miss": 128_000},
 }
 USES = {
     "library_bench": "txc_stamp txc_tags txc_node anyhow",
-    "library_site": "txc_stamp txc_tags txc_node txc_rows txc_app txc_shared txc_registry txc_supply txc_ports txc_caller txc_c_site anyhow",
+    "library_site": "txc_stamp txc_tags txc_node txc_rows txc_app txc_shared txc_registry txc_supply txc_ports txc_caller anyhow",
 }
 NAMES = {"library_bench": "a node's", "library_site": "a site's"}
 CAPACITIES = [1024, 65536]

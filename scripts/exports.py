@@ -7,7 +7,7 @@ import re
 
 ROOT = os.path.dirname(os.path.dirname(os.path.abspath(__file__)))
 # The crates that declare what crosses.
-CRATES = ("txc_crossing", "txc_c_site", "txc_c")
+CRATES = ("txc_crossing", "txc_c")
 HEADER = f"{ROOT}/bindings/c/txc.h"
 
 EXPORT = re.compile(r'^#\[unsafe\(no_mangle\)\]\npub extern "C" fn (\w+)\(([^)]*)\) -> (\w+)', re.M)

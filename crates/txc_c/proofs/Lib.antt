@@ -1,3 +1,8 @@
 pub mod AsBox
 pub mod SiteAsBox
 pub mod Made
+pub mod Asked
+pub mod LastAnswers
+pub mod Kept
+pub mod Functions
+pub mod EventsTaken

@@ -4,9 +4,9 @@ use Rattle.txc_app.specs.declared.ask.Ask.{Ask}
 use Rattle.txc_shared.specs.declared.settings.NodeSettings.{NodeSettings}
 use Rattle.txc_crossing.specs.Crossing.{are_sizes}
 use Rattle.txc_crossing.specs.declared.numbers.TheConstants.{ALREADY_OPEN, BAD_ARGUMENT, CLOSED, DONE}
-use Rattle.txc_c_site.specs.Asking.{SiteAsksNext}
-use Rattle.txc_c_site.specs.Sites.{is_room, IsNewSite}
-use Rattle.txc_c_site.specs.declared.site.Site.{Site}
+use Rattle.txc_c.specs.Asking.{SiteAsksNext}
+use Rattle.txc_c.specs.Sites.{is_room, IsNewSite}
+use Rattle.txc_c.specs.declared.site.Site.{Site}
 
 -- the number of an opening, where memory is at hand
 abbrev pub open_site_number : Option Site → ℕ → ℕ → ℕ → ℕ

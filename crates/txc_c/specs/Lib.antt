@@ -6,3 +6,10 @@ pub mod Held
 pub mod Life
 pub mod SiteHeld
 pub mod Exports
+pub mod Opaque
+pub mod Sites
+pub mod Receipts
+pub mod Turning
+pub mod Telling
+pub mod Asking
+pub mod Keeping

@@ -1,6 +1,6 @@
 -- The site of a handle.
 use Rattle.std.specs.Prelude.{Option, Some, None, if◌then◌else◌}
-use Rattle.txc_c_site.specs.declared.site.Site.{Site}
+use Rattle.txc_c.specs.declared.site.Site.{Site}
 use Rattle.txc_c.specs.declared.site_handle.TxcSite.{TxcSite}
 
 -- the site that an open handle has

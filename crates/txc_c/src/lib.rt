@@ -5,23 +5,32 @@
 //! where. The header is `bindings/c/txc.h`.
 #![tactic(auto)]
 
+mod changing;
 mod counted;
 mod handle;
+mod keeping;
 mod node;
+mod opaque;
 mod parts;
+mod reading;
+mod receipts;
+mod site;
 mod site_handle;
 mod site_room;
 mod site_taking;
 mod taking;
+mod telling;
+mod turning;
 mod txn;
 
 pub use handle::{TxcNode, handle_crosses};
+pub use keeping::TxcKept;
 pub use node::{
     txc_node_close, txc_node_count, txc_node_event, txc_node_insert, txc_node_lookup,
     txc_node_open, txc_node_sweep,
 };
+pub use receipts::{TxcQuery, TxcReceipt, TxcRow};
 pub use site_handle::{TxcSite, site_crosses};
-pub use txc_c_site::{TxcKept, TxcQuery, TxcReceipt, TxcRow};
 pub use txc_crossing::{TxcCounts, TxcKey, TxcReach, TxcStored, TxcTag};
 pub use txn::{
     txc_abort, txc_answer, txc_begin, txc_begin_write, txc_begin_write_at, txc_call, txc_commit,

@@ -1,7 +1,7 @@
-use txc_c_site::Site;
+use crate::site::Site;
 
 /// Where the site of a handle stands; none is there while it is led on.
 #[derive(Drop)]
-pub struct SiteRoom {
+pub(crate) struct SiteRoom {
     pub(crate) site: Option<Site>,
 }

@@ -4,11 +4,11 @@ ghost use Rattle.std.specs.Option.{option_and_then, option_map};
 ghost use Rattle.txc_c.specs.SiteHeld.{site_held};
 
 use crate::parts::Parts;
+use crate::site::Site;
 use crate::site_handle::{SiteSlot, TxcSite};
 use crate::site_room::SiteRoom;
 use std::alloc::Global;
 use std::mem;
-use txc_c_site::Site;
 
 impl TxcSite {
     pub(crate) fn closed(alloc: Global) -> TxcSite

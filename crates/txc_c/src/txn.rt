@@ -2,21 +2,23 @@
 ghost use Rattle.std.specs.Prelude.{◌≡◌, ◌≢◌, ◌≤◌, ◌&&◌, IfSome, None};
 ghost use Rattle.txc_app.specs.declared.ask.Ask.TheVariants as asks;
 ghost use Rattle.txc_crossing.specs.Crossing.{are_sizes, named_call};
-ghost use Rattle.txc_c_site.specs.Keeping.{KeepComesTo};
-ghost use Rattle.txc_c_site.specs.Receipts.{query_of};
-ghost use Rattle.txc_c_site.specs.Sites.{is_room, IsNewSite};
+ghost use Rattle.txc_c.specs.Keeping.{KeepComesTo};
+ghost use Rattle.txc_c.specs.Receipts.{query_of};
+ghost use Rattle.txc_c.specs.Sites.{is_room, IsNewSite};
 ghost use Rattle.txc_node.specs.declared.node.TheConstants.{MAX_CAPACITY, MAX_RECENT};
 ghost use Rattle.txc_stream.specs.declared.row.TheConstants.{MAX_CAPACITY as MAX_EVENTS};
 ghost use Rattle.txc_c.specs.Exports.{open_site_number, ComesTo, HasNewSite, HeldAsksNext};
 ghost use Rattle.txc_c.specs.SiteHeld.{site_held};
 ghost use Rattle.txc_c.specs.Life.{close_number};
-ghost use Rattle.txc_c_site.specs.Turning.{AbortComesTo, BeginComesTo, BeginWriteAtComesTo, BeginWriteComesTo, CommitComesTo, CommitWriteComesTo};
-ghost use Rattle.txc_c_site.specs.Asking.{buffer, CallComesTo, FinishComesTo, GiveUpComesTo, LastComesTo, PutComesTo, QueryComesTo, RemoveComesTo, RowComesTo};
+ghost use Rattle.txc_c.specs.Turning.{AbortComesTo, BeginComesTo, BeginWriteAtComesTo, BeginWriteComesTo, CommitComesTo, CommitWriteComesTo};
+ghost use Rattle.txc_c.specs.Asking.{buffer, CallComesTo, FinishComesTo, GiveUpComesTo, LastComesTo, PutComesTo, QueryComesTo, RemoveComesTo, RowComesTo};
 
+use crate::keeping::TxcKept;
+use crate::receipts::{TxcQuery, TxcReceipt, TxcRow};
+use crate::site::{Site, is_room};
 use crate::site_handle::TxcSite;
 use crate::site_room::SiteRoom;
 use std::alloc::Global;
-use txc_c_site::{Site, TxcKept, TxcQuery, TxcReceipt, TxcRow, is_room};
 use txc_crossing::{ALREADY_OPEN, BAD_ARGUMENT, CLOSED, DONE, NO_MEMORY, TxcKey, are_sizes};
 use txc_shared::NodeSettings;
 

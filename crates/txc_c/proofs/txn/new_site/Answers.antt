@@ -1,8 +1,8 @@
 use Rattle.std.proofs.Common.{Option, Result, Ok, Err, sym, subst}
 use Rattle.std.specs.Prelude.{IfOk, IfSome}
 use Rattle.std.specs.Result.{result_ok}
-use Rattle.txc_c_site.specs.Sites.{IsNewSite}
-use Rattle.txc_c_site.specs.declared.site.Site.{Site}
+use Rattle.txc_c.specs.Sites.{IsNewSite}
+use Rattle.txc_c.specs.declared.site.Site.{Site}
 use Rattle.txc_c.proofs.txn.new_site.Goals as goal
 
 of_ok : {E : Type 0} (P : Site → Type 0) (r : Result Site E) → IfOk r P → IfSome (result_ok r) P

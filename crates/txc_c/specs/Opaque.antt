@@ -1,0 +1,21 @@
+-- The functions of a caller in C.
+use Rattle.std.specs.Prelude.{◌≢◌, ℕ, List, [], Option, Some, None}
+use mathlib.Core.Path.{subst}
+use Rattle.txc_app.specs.declared.ask.Ask.{Ask}
+use Rattle.txc_app.specs.declared.ask.Ask.TheVariants.{Done}
+use Rattle.txc_app.specs.Eval.{Next}
+
+-- What they ask and give. Its body is none of a proof's business, and no proof can use it: what is proved holds of
+-- whatever stands here.
+pub opaque_next : Next
+opaque_next function args answers = Some (Done [])
+
+-- something is asked
+abbrev AsksSome : Option Ask → Type 0
+AsksSome None = ⊥
+AsksSome (Some ask) = Unit {0}
+
+-- but that a function refuses no arguments
+pub takes_all : (function : ℕ) (args : List ℕ) → opaque_next function args [] ≢ None
+unfolding opaque_next
+takes_all function args is = subst AsksSome is tt

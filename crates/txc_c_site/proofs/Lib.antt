@@ -1,5 +1,0 @@
-pub mod Stepping
-pub mod LastAnswers
-pub mod Kept
-pub mod Functions
-pub mod Taking
