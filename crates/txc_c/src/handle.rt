@@ -3,7 +3,7 @@ ghost use Rattle.std.specs.Prelude.{◌≡◌, Bool, true, false};
 ghost use Rattle.txc_c.specs.Counted.{Counted};
 
 use crate::counted::CountedNode;
-use crate::parts::Parts;
+use txc_parts::Parts;
 use std::alloc::Global;
 use std::marker::Model;
 use std::ptr;

@@ -11,7 +11,6 @@ mod handle;
 mod keeping;
 mod node;
 mod opaque;
-mod parts;
 mod reading;
 mod receipts;
 mod site;

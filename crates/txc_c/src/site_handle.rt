@@ -3,7 +3,7 @@ ghost use Rattle.std.specs.Prelude.{◌≡◌, Bool, true, false};
 ghost use Rattle.txc_c.specs.declared.site_room.SiteRoom.{SiteRoom as RoomValue};
 
 use crate::handle::crosses;
-use crate::parts::Parts;
+use txc_parts::Parts;
 use crate::site_room::SiteRoom;
 use std::alloc::Global;
 use std::marker::Model;

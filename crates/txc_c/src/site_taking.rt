@@ -3,7 +3,7 @@ ghost use Rattle.std.specs.Prelude.{◌≡◌, Some, None};
 ghost use Rattle.std.specs.Option.{option_and_then, option_map};
 ghost use Rattle.txc_c.specs.SiteHeld.{site_held};
 
-use crate::parts::Parts;
+use txc_parts::Parts;
 use crate::site::Site;
 use crate::site_handle::{SiteSlot, TxcSite};
 use crate::site_room::SiteRoom;

@@ -5,7 +5,7 @@ ghost use Rattle.txc_c.specs.Held.{held};
 
 use crate::counted::CountedNode;
 use crate::handle::{Slot, TxcNode};
-use crate::parts::Parts;
+use txc_parts::Parts;
 use std::alloc::Global;
 use std::mem;
 

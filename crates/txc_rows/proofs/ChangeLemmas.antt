@@ -1,5 +1,5 @@
 -- What one change leaves.
-use Rattle.std.proofs.Common.{◌≡◌, ◌⊎◌, inl, inr, ℕ, [], ◌∷◌, filter, Bool, true, false, not, nat_lt, ◌&&◌, ◌||◌, ◌==◌, ap, arith}
+use Rattle.std.proofs.Common.{◌≡◌, ◌⊎◌, inl, inr, ℕ, ◌∷◌, filter, Bool, true, false, not, nat_lt, ◌&&◌, ◌||◌, ◌==◌, ap, arith}
 use Rattle.std.proofs.lemmas.Bool.Decides.{nat_tests}
 use borrow.Author.Tests.{eq-eqb}
 use Rattle.txc_rows.specs.declared.query.Change.{Change}

@@ -1,13 +1,13 @@
 -- Versions by stamps that are counted from a later one on.
-use Rattle.std.proofs.Common.{◌≡◌, ◌≢◌, ℕ, zero, suc, ◌+◌, ◌-◌, ◌<◌, ◌≤◌, List, [], ◌∷◌, ◌++◌, map, filter, length, get_or, Bool, true, false, cond, not, nat_le, nat_lt, ◌&&◌, Option, Some, None, is_none, Ok, Err, Result, Vec, Global, IfOk, refl, sym, ap, subst, ◌∙◌, arith}
+use Rattle.std.proofs.Common.{◌≡◌, ℕ, zero, suc, ◌+◌, ◌-◌, ◌<◌, ◌≤◌, List, [], ◌∷◌, ◌++◌, map, filter, length, get_or, Bool, true, false, cond, not, nat_le, nat_lt, ◌&&◌, Option, Some, None, is_none, refl, sym, ap, subst, ◌∙◌, arith}
 use Rattle.std.proofs.lemmas.Bool.Decides.{nat_tests}
 use Rattle.std.proofs.lemmas.List.{length-map, map-append}
-use borrow.Author.Tests.{le-leb, lt-leb}
+use borrow.Author.Tests.{le-leb}
 use Rattle.std.specs.declared.cmp.Ordering.{Ordering}
 use Rattle.std.specs.declared.cmp.Ordering.TheVariants.{Less, Equal, Greater}
 use Rattle.std.specs.Ordering.{is_lt, nat_cmp, ordering_then}
 use Rattle.std.specs.List.{AllByRecursion, Contains}
-use Rattle.std.specs.List.Sorted.{IsPermutation, IsSorted}
+use Rattle.std.specs.List.Sorted.{IsSorted}
 use Rattle.std.proofs.lemmas.List.Sorted.{IsPermutation-map}
 use Rattle.sqlite_trees.proofs.ListLemmas.{map-map, filter-map, filter_same, filter_all, all_of, all_weaker, all-map}
 use Rattle.txc_stamp.specs.declared.stamp.TheConstants.{MOST_STAMP}
@@ -16,8 +16,8 @@ use Rattle.txc_rows.specs.declared.query.Query.{Query}
 use Rattle.txc_rows.specs.declared.query.Change.{Change}
 use Rattle.txc_rows.specs.declared.query.Change.TheVariants.{Put, Remove}
 use Rattle.txc_rows.specs.Values.{RowValue}
-use Rattle.txc_rows.specs.States.{State, IsState, is_at}
-use Rattle.txc_rows.specs.Versions.{suits, row_of, is_visible, lives_at, visible_rows, is_current, current, closed, removed, put, after_net, died_by, has_died_by, purged, death_from, counted_from, version_cmp, Follows, Pairwise, IsVersion, AreVersions}
+use Rattle.txc_rows.specs.States.{State, is_at}
+use Rattle.txc_rows.specs.Versions.{suits, row_of, is_visible, lives_at, visible_rows, is_current, current, closed, removed, put, after_net, died_by, has_died_by, purged, death_from, counted_from, version_cmp, Follows, Pairwise, IsVersion}
 use Rattle.txc_rows.specs.Holdable.{IsStorable}
 use Rattle.txc_rows.specs.Says.{VersionsSay, AreUpTo}
 use Rattle.txc_rows.specs.Found.{Finds}

@@ -38,4 +38,5 @@ pub mod CountedLemmas
 pub mod StoreLemmas
 pub mod UsesLemmas
 pub mod IndexLemmas
+pub mod StoreAsBox
 pub mod Offered

@@ -16,3 +16,4 @@ pub mod Kept
 pub mod Keeping
 pub mod Uses
 pub mod Codes
+pub mod Owned

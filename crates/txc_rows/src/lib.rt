@@ -13,6 +13,7 @@ mod statements;
 mod store;
 mod store_error;
 mod store_laws;
+mod store_slot;
 mod texts;
 mod version;
 mod version_rows;

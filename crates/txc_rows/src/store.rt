@@ -34,7 +34,7 @@ const MOST_KNOWN: usize = 256;
 /// Row versions by the stamps that are stored: the last of each table, id and group in a table of SQLite, and those that
 /// later ones replaced beside it. Contracts see the list of its versions, the earliest put first.
 #[derive(Drop)]
-pub(crate) struct Store {
+pub struct Store {
     conn: Connection<MemStore>,
     replaced: Replaced,
     /// The place of the next version: each that is stored has a lower one.

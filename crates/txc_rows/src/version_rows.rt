@@ -11,6 +11,7 @@ ghost use Rattle.txc_rows.specs.declared.store_error.TheConstants.{MAX_MATCHING}
 use crate::query::{Change, Query};
 use crate::store::Store;
 use crate::store_error::StoreError;
+use crate::store_slot::StoreSlot;
 use crate::version::Versioned;
 use std::alloc::Global;
 use std::marker::Model;
@@ -19,26 +20,33 @@ use txc_stamp::{MOST_STAMP, Stamp};
 /// Row versions in a store in memory: the last of each table, id and group in a table of SQLite, and those that later ones
 /// replaced beside it. Contracts see the list of its versions, the earliest put first.
 pub struct VersionRows {
-    store: Store,
+    slot: StoreSlot,
+    alloc: Global,
     /// The stored stamp that is 0 in the present history.
     first: u32,
 }
 
-// Not derived: a derived one is proved again in each crate above.
 impl Drop for VersionRows {
     fn drop(self) {
-        let VersionRows { store: _, first: _ } = self;
+        let VersionRows {
+            slot,
+            alloc: _,
+            first: _,
+        } = self;
+        drop(slot.into_store());
     }
 }
 
 impl Model for VersionRows {
-    ghost use Rattle.std.specs.Prelude.{List, map};
+    ghost use Rattle.std.specs.Prelude.{◌≡◌, List, map, true};
     ghost use Rattle.txc_rows.specs.declared.version.Versioned.{Versioned};
     ghost use Rattle.txc_rows.specs.Versions.{counted_from};
 
     ghost Value = { List Versioned };
 
-    ghost view = { λ a. map (counted_from a.first) a.store };
+    ghost view = { λ a. map (counted_from a.first) a.slot.value };
+
+    ghost invariant = { λ a. a.slot.is_full ≡ true };
 }
 
 /// The refusal of a store whose stamps or places are used up.
@@ -90,6 +98,17 @@ fn count_all(versions: &mut Vec<Versioned>, first: u32)
     count_each(versions, first);
 }
 
+/// Has the store delete what died at the stamp or before, where half of its stamps and of its places are left.
+fn begin_store_at(store: &mut Store, stored: Stamp) -> Result<(), StoreError>
+    ensures after { OnOk result (store.new ≡ purged stored store.old) }
+    ensures unchanged { OnErr result (store.new ≡ store.old) }
+    ensures refused { IfErr result IsStoreRefusal }
+{
+    check_room(stored, store.is_half_full())?;
+    store.purge(stored)?;
+    Ok(())
+}
+
 impl VersionRows {
     /// A store that has no version. It is refused where the store is out of memory.
     pub fn open_in_memory(alloc: Global) -> Result<VersionRows, StoreError>
@@ -98,8 +117,14 @@ impl VersionRows {
             (states : ℕ → State) → states 0 ≡ [] → KeepsStates states 0 0 rows) }
         ensures refused { IfErr result IsStoreRefusal }
     {
-        let store = Store::open_in_memory(alloc)?;
-        Ok(VersionRows { store, first: 0 })
+        let Ok(store) = Box::new(alloc, Store::open_in_memory(alloc)?) else {
+            return Err(StoreError::StoreMemory);
+        };
+        Ok(VersionRows {
+            slot: StoreSlot::of(store),
+            alloc,
+            first: 0,
+        })
     }
 
     /// The versions that match, by id and then by birth. No other version is looked at.
@@ -111,7 +136,10 @@ impl VersionRows {
         ensures refused { result ≡ Err StoreError.TooManyRows
             → MAX_MATCHING < length (filter (suits query.now) self.old) }
     {
-        let mut found = self.store.matching(query)?;
+        let mut store = self.slot.take(self.alloc);
+        let answer = store.matching(query);
+        self.slot.put(store);
+        let mut found = answer?;
         count_all(&mut found, self.first);
         Ok(found)
     }
@@ -126,7 +154,10 @@ impl VersionRows {
         ensures refused { result ≡ Err StoreError.TooManyRows
             → MAX_MATCHING < length (filter (suits query.now) self.old) }
     {
-        let mut found = self.store.current(query)?;
+        let mut store = self.slot.take(self.alloc);
+        let answer = store.current(query);
+        self.slot.put(store);
+        let mut found = answer?;
         count_all(&mut found, self.first);
         Ok(found)
     }
@@ -140,7 +171,10 @@ impl VersionRows {
         ensures refused { IfErr result IsStoreRefusal }
     {
         let stored = stored_stamp(stamp, self.first)?;
-        self.store.write(net, stored)?;
+        let mut store = self.slot.take(self.alloc);
+        let written = store.write(net, stored);
+        self.slot.put(store);
+        written?;
         Ok(())
     }
 
@@ -152,7 +186,10 @@ impl VersionRows {
         ensures refused { IfErr result IsStoreRefusal }
     {
         let stored = stored_stamp(horizon, self.first)?;
-        self.store.purge(stored)?;
+        let mut store = self.slot.take(self.alloc);
+        let purged = store.purge(stored);
+        self.slot.put(store);
+        purged?;
         Ok(())
     }
 
@@ -168,8 +205,10 @@ impl VersionRows {
         ensures refused { IfErr result IsStoreRefusal }
     {
         let stored = stored_stamp(stamp, self.first)?;
-        check_room(stored, self.store.is_half_full())?;
-        self.store.purge(stored)?;
+        let mut store = self.slot.take(self.alloc);
+        let begun = begin_store_at(&mut store, stored);
+        self.slot.put(store);
+        begun?;
         self.first = stored.number();
         Ok(())
     }
@@ -179,6 +218,8 @@ impl VersionRows {
     pub fn set_step_limit(&mut self, limit: Option<u64>)
         ensures { self.new ≡ self.old }
     {
-        self.store.set_step_limit(limit);
+        let mut store = self.slot.take(self.alloc);
+        store.set_step_limit(limit);
+        self.slot.put(store);
     }
 }

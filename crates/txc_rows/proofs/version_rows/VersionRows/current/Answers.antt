@@ -6,28 +6,22 @@ use Rattle.txc_rows.proofs.CurrentLemmas.{newest_answers}
 use Rattle.txc_rows.proofs.CountedLemmas.{newest_counted, as_many}
 use Rattle.txc_rows.proofs.version_rows.VersionRows.current.Goals as goal
 
-pub returns-clause-same : goal.returns-clause-same
-returns-clause-same c = ap (map (counted_from c.self.inside.first)) c.current.ensures.same ∙ c.self.view_is
-
 pub returns-clause-answer : goal.returns-clause-answer
 returns-clause-answer c =
-    newest_counted c.self.inside.first c.self.inside.store c.args.self.now c.self.view_is c.args.query.now c.in_ok-found.found.items c.count_all.new.versions.items c.count_all.ensures c.in_ok-found.ensures.answer
+    newest_counted c.self.inside.first c.deref_mut.result.now c.args.self.now (ap (map (counted_from c.self.inside.first)) (c.deref_mut.ensures.value ∙ c.take-store.ensures.store) ∙ c.self.view_is) c.args.query.now c.in_ok-found.found.items c.count_all.new.versions.items c.count_all.ensures c.in_ok-found.ensures.answer
 
 pub returns-clause-bound : goal.returns-clause-bound
 returns-clause-bound c =
     let few = c.in_ok-found.ensures.bound in
-    omega (arith, few, as_many c.self.inside.first c.self.inside.store c.args.self.now c.self.view_is c.args.query.now)
+    omega (arith, few, as_many c.self.inside.first c.deref_mut.result.now c.args.self.now (ap (map (counted_from c.self.inside.first)) (c.deref_mut.ensures.value ∙ c.take-store.ensures.store) ∙ c.self.view_is) c.args.query.now)
 
 pub returns-clause-answers : goal.returns-clause-answers
 returns-clause-answers c =
     newest_answers c.args.query.now c.args.self.now c.count_all.new.versions.items
-    (newest_counted c.self.inside.first c.self.inside.store c.args.self.now c.self.view_is c.args.query.now c.in_ok-found.found.items c.count_all.new.versions.items c.count_all.ensures c.in_ok-found.ensures.answer)
-
-pub returns-in_err-found-clause-same : goal.returns-in_err-found-clause-same
-returns-in_err-found-clause-same c = ap (map (counted_from c.self.inside.first)) c.current.ensures.same ∙ c.self.view_is
+    (newest_counted c.self.inside.first c.deref_mut.result.now c.args.self.now (ap (map (counted_from c.self.inside.first)) (c.deref_mut.ensures.value ∙ c.take-store.ensures.store) ∙ c.self.view_is) c.args.query.now c.in_ok-found.found.items c.count_all.new.versions.items c.count_all.ensures c.in_ok-found.ensures.answer)
 
 pub returns-in_err-found-clause-refused : goal.returns-in_err-found-clause-refused
 returns-in_err-found-clause-refused c = λ many.
     let passed = passed_error c.from_residual.result c.in_err-found.field-0.0 TooManyRows c.from_residual.ensures.1 many in
     let high = c.in_err-found.ensures.refused (ap (λ e. Err e) passed) in
-    omega (arith, high, as_many c.self.inside.first c.self.inside.store c.args.self.now c.self.view_is c.args.query.now)
+    omega (arith, high, as_many c.self.inside.first c.deref_mut.result.now c.args.self.now (ap (map (counted_from c.self.inside.first)) (c.deref_mut.ensures.value ∙ c.take-store.ensures.store) ∙ c.self.view_is) c.args.query.now)

@@ -7,12 +7,9 @@ use Rattle.txc_rows.proofs.KeepingLemmas.{found_answers}
 use Rattle.txc_rows.proofs.CountedLemmas.{found_counted, as_many}
 use Rattle.txc_rows.proofs.version_rows.VersionRows.matching.Goals as goal
 
-pub returns-clause-same : goal.returns-clause-same
-returns-clause-same c = ap (map (counted_from c.self.inside.first)) c.matching.ensures.same ∙ c.self.view_is
-
 pub returns-clause-answer : goal.returns-clause-answer
 returns-clause-answer c =
-    found_counted c.self.inside.first c.self.inside.store c.args.self.now c.self.view_is c.args.query.now c.in_ok-found.found.items c.count_all.new.versions.items c.count_all.ensures c.in_ok-found.ensures.answer
+    found_counted c.self.inside.first c.deref_mut.result.now c.args.self.now (ap (map (counted_from c.self.inside.first)) (c.deref_mut.ensures.value ∙ c.take-store.ensures.store) ∙ c.self.view_is) c.args.query.now c.in_ok-found.found.items c.count_all.new.versions.items c.count_all.ensures c.in_ok-found.ensures.answer
 
 pub returns-clause-bound : goal.returns-clause-bound
 returns-clause-bound c =
@@ -22,13 +19,10 @@ returns-clause-bound c =
 pub returns-clause-answers : goal.returns-clause-answers
 returns-clause-answers c =
     found_answers c.args.query.now c.args.self.now c.count_all.new.versions.items
-    (found_counted c.self.inside.first c.self.inside.store c.args.self.now c.self.view_is c.args.query.now c.in_ok-found.found.items c.count_all.new.versions.items c.count_all.ensures c.in_ok-found.ensures.answer)
-
-pub returns-in_err-found-clause-same : goal.returns-in_err-found-clause-same
-returns-in_err-found-clause-same c = ap (map (counted_from c.self.inside.first)) c.matching.ensures.same ∙ c.self.view_is
+    (found_counted c.self.inside.first c.deref_mut.result.now c.args.self.now (ap (map (counted_from c.self.inside.first)) (c.deref_mut.ensures.value ∙ c.take-store.ensures.store) ∙ c.self.view_is) c.args.query.now c.in_ok-found.found.items c.count_all.new.versions.items c.count_all.ensures c.in_ok-found.ensures.answer)
 
 pub returns-in_err-found-clause-refused : goal.returns-in_err-found-clause-refused
 returns-in_err-found-clause-refused c = λ many.
     let passed = passed_error c.from_residual.result c.in_err-found.field-0.0 TooManyRows c.from_residual.ensures.1 many in
     let high = c.in_err-found.ensures.refused (ap (λ e. Err e) passed) in
-    omega (arith, high, as_many c.self.inside.first c.self.inside.store c.args.self.now c.self.view_is c.args.query.now)
+    omega (arith, high, as_many c.self.inside.first c.deref_mut.result.now c.args.self.now (ap (map (counted_from c.self.inside.first)) (c.deref_mut.ensures.value ∙ c.take-store.ensures.store) ∙ c.self.view_is) c.args.query.now)
