@@ -12,12 +12,20 @@ use txc_parts::Parts;
 ///
 /// Each function of the crates above carries the layout of every type that its own types reach, and a store reaches some
 /// hundred of SQLite's. So the pointer is to a byte.
-#[derive(Drop)]
 pub(crate) struct StoreSlot {
     ptr: *mut u8,
     alloc: Global,
     ghost is_full: { Bool },
     ghost value: { List VersionedValue },
+}
+
+impl Drop for StoreSlot {
+    /// A slot that is full is not let go: its store would never be freed.
+    fn drop(self)
+        requires { self.is_full ≡ false }
+    {
+        let StoreSlot { ptr: _, alloc: _ } = self;
+    }
 }
 
 impl Model for StoreSlot {
