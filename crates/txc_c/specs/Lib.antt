@@ -1,4 +1,3 @@
-pub mod Owned
 pub mod Counted
 pub mod Numbers
 pub mod Told

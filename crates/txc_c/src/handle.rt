@@ -3,14 +3,13 @@ ghost use Rattle.std.specs.Prelude.{◌≡◌, Bool, true, false};
 ghost use Rattle.txc_c.specs.Counted.{Counted};
 
 use crate::counted::CountedNode;
-use txc_parts::Parts;
 use std::alloc::Global;
 use std::marker::Model;
 use std::ptr;
+use txc_parts::Parts;
 
 /// A pointer to a node, or to none.
 #[repr(C)]
-#[derive(Drop)]
 pub struct Slot {
     ptr: *mut u8,
     alloc: Global,
@@ -18,9 +17,18 @@ pub struct Slot {
     ghost value: { Counted },
 }
 
+impl Drop for Slot {
+    /// A slot that is full is not let go: its node would never be freed.
+    fn drop(self)
+        requires { self.is_full ≡ false }
+    {
+        let Slot { ptr: _, alloc: _ } = self;
+    }
+}
+
 impl Model for Slot {
     ghost use Rattle.std.specs.Box.Ownership.{box_owns};
-    ghost use Rattle.txc_c.specs.Owned.{when};
+    ghost use Rattle.txc_rows.specs.Owned.{when};
     ghost use Rattle.txc_c.specs.contracts.counted.CountedNode.{the_row};
     ghost use Rattle.std.specs.contracts.impls.GlobalAllocator.TheImpl.{ghosts};
 
@@ -61,11 +69,34 @@ impl Slot {
 
 /// The handle of a node, or of none.
 #[repr(C)]
-#[derive(Drop)]
 pub struct TxcNode {
     pub(crate) slot: Slot,
     pub(crate) is_open: bool,
     ghost full: { is_open ≡ slot.is_full },
+}
+
+impl Drop for TxcNode {
+    /// An open handle is not let go.
+    fn drop(self)
+        requires { self.is_open ≡ false }
+    {
+        let TxcNode {
+            slot: _,
+            is_open: _,
+        } = self;
+    }
+}
+
+impl TxcNode {
+    /// Its slot, and whether that has a node.
+    pub(crate) fn into_slot(self) -> (Slot, bool)
+        ensures slot { result.0 ≡ self.slot }
+        ensures open { result.1 ≡ self.is_open }
+        ensures full { result.1 ≡ result.0.is_full }
+    {
+        let TxcNode { slot, is_open } = self;
+        (slot, is_open)
+    }
 }
 
 // What the slot points to may go to another thread, and so may the slot.

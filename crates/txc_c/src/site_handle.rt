@@ -3,15 +3,14 @@ ghost use Rattle.std.specs.Prelude.{◌≡◌, Bool, true, false};
 ghost use Rattle.txc_c.specs.declared.site_room.SiteRoom.{SiteRoom as RoomValue};
 
 use crate::handle::crosses;
-use txc_parts::Parts;
 use crate::site_room::SiteRoom;
 use std::alloc::Global;
 use std::marker::Model;
 use std::ptr;
+use txc_parts::Parts;
 
 /// A pointer to a site, or to none.
 #[repr(C)]
-#[derive(Drop)]
 pub struct SiteSlot {
     ptr: *mut u8,
     alloc: Global,
@@ -19,9 +18,18 @@ pub struct SiteSlot {
     ghost value: { RoomValue },
 }
 
+impl Drop for SiteSlot {
+    /// A slot that is full is not let go: its site would never be freed.
+    fn drop(self)
+        requires { self.is_full ≡ false }
+    {
+        let SiteSlot { ptr: _, alloc: _ } = self;
+    }
+}
+
 impl Model for SiteSlot {
     ghost use Rattle.std.specs.Box.Ownership.{box_owns};
-    ghost use Rattle.txc_c.specs.Owned.{when};
+    ghost use Rattle.txc_rows.specs.Owned.{when};
     ghost use Rattle.txc_c.specs.contracts.site_room.SiteRoom.{the_row};
     ghost use Rattle.std.specs.contracts.impls.GlobalAllocator.TheImpl.{ghosts};
 
@@ -62,11 +70,34 @@ impl SiteSlot {
 
 /// The handle of a site, or of none.
 #[repr(C)]
-#[derive(Drop)]
 pub struct TxcSite {
     pub(crate) slot: SiteSlot,
     pub(crate) is_open: bool,
     ghost full: { is_open ≡ slot.is_full },
+}
+
+impl Drop for TxcSite {
+    /// An open handle is not let go.
+    fn drop(self)
+        requires { self.is_open ≡ false }
+    {
+        let TxcSite {
+            slot: _,
+            is_open: _,
+        } = self;
+    }
+}
+
+impl TxcSite {
+    /// Its slot, and whether that has a room.
+    pub(crate) fn into_slot(self) -> (SiteSlot, bool)
+        ensures slot { result.0 ≡ self.slot }
+        ensures open { result.1 ≡ self.is_open }
+        ensures full { result.1 ≡ result.0.is_full }
+    {
+        let TxcSite { slot, is_open } = self;
+        (slot, is_open)
+    }
 }
 
 // What the slot points to may go to another thread, and so may the slot.

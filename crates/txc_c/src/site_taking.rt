@@ -1,18 +1,19 @@
 //! The site of a handle, taken out for a call and put in again.
-ghost use Rattle.std.specs.Prelude.{◌≡◌, Some, None};
+ghost use Rattle.std.specs.Prelude.{◌≡◌, Some, None, false};
 ghost use Rattle.std.specs.Option.{option_and_then, option_map};
 ghost use Rattle.txc_c.specs.SiteHeld.{site_held};
 
-use txc_parts::Parts;
 use crate::site::Site;
 use crate::site_handle::{SiteSlot, TxcSite};
 use crate::site_room::SiteRoom;
 use std::alloc::Global;
 use std::mem;
+use txc_parts::Parts;
 
 impl TxcSite {
     pub(crate) fn closed(alloc: Global) -> TxcSite
-        ensures { site_held result ≡ None }
+        ensures none { site_held result ≡ None }
+        ensures closed { result.is_open ≡ false }
     {
         TxcSite {
             slot: SiteSlot::empty(alloc),
@@ -24,8 +25,9 @@ impl TxcSite {
     pub(crate) fn take_room(&mut self, alloc: Global) -> Option<Box<SiteRoom, Global>>
         ensures site { option_and_then (λ room. room.value.site) result ≡ site_held self.old }
         ensures after { site_held self.new ≡ None }
+        ensures closed { self.new.is_open ≡ false }
     {
-        let TxcSite { slot, is_open } = mem::replace(self, TxcSite::closed(alloc));
+        let (slot, is_open) = mem::replace(self, TxcSite::closed(alloc)).into_slot();
         if is_open {
             Some(slot.into_parts().into_box())
         } else {
@@ -37,6 +39,7 @@ impl TxcSite {
     pub(crate) fn take(&mut self, alloc: Global) -> Option<(Site, Box<SiteRoom, Global>)>
         ensures site { option_map (λ it. it.0) result ≡ site_held self.old }
         ensures after { site_held self.new ≡ None }
+        ensures closed { self.new.is_open ≡ false }
     {
         let mut room = self.take_room(alloc)?;
         let site = room.site.take()?;
@@ -45,7 +48,7 @@ impl TxcSite {
 
     /// Puts a room in where there is none, with the site that stands there.
     pub(crate) fn put_room(&mut self, room: Box<SiteRoom, Global>)
-        requires { site_held self.old ≡ None }
+        requires { self.old.is_open ≡ false }
         ensures { site_held self.new ≡ room.value.site }
     {
         *self = TxcSite {
@@ -56,7 +59,7 @@ impl TxcSite {
 
     /// Puts a site in where there is none, into its room.
     pub(crate) fn put(&mut self, site: Site, mut room: Box<SiteRoom, Global>)
-        requires { site_held self.old ≡ None }
+        requires { self.old.is_open ≡ false }
         ensures { site_held self.new ≡ Some site }
     {
         drop(mem::replace(&mut room.site, Some(site)));

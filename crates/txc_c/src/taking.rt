@@ -5,9 +5,9 @@ ghost use Rattle.txc_c.specs.Held.{held};
 
 use crate::counted::CountedNode;
 use crate::handle::{Slot, TxcNode};
-use txc_parts::Parts;
 use std::alloc::Global;
 use std::mem;
+use txc_parts::Parts;
 
 impl TxcNode {
     /// Whether it has a node.
@@ -31,7 +31,7 @@ impl TxcNode {
         ensures node { option_map (λ node. node.value) result ≡ held self.old }
         ensures after { held self.new ≡ None }
     {
-        let TxcNode { slot, is_open } = mem::replace(self, TxcNode::closed(alloc));
+        let (slot, is_open) = mem::replace(self, TxcNode::closed(alloc)).into_slot();
         if is_open {
             Some(slot.into_parts().into_box())
         } else {

@@ -1,5 +1,5 @@
 //! The exports of a site and its transactions.
-ghost use Rattle.std.specs.Prelude.{◌≡◌, ◌≢◌, ◌≤◌, ◌&&◌, IfSome, None};
+ghost use Rattle.std.specs.Prelude.{◌≡◌, ◌≢◌, ◌≤◌, ◌&&◌, IfSome, None, false};
 ghost use Rattle.txc_app.specs.declared.ask.Ask.TheVariants as asks;
 ghost use Rattle.txc_crossing.specs.Crossing.{are_sizes, named_call};
 ghost use Rattle.txc_c.specs.Keeping.{KeepComesTo};
@@ -47,7 +47,7 @@ fn open(
     settings: NodeSettings,
     renew_after: u64,
 ) -> u32
-    requires none { site_held handle.old ≡ None }
+    requires closed { handle.old.is_open ≡ false }
     ensures number { result ≢ NO_MEMORY
         → result ≡ open_site_number None events settings.capacity settings.recent }
     ensures no_memory { result ≡ NO_MEMORY

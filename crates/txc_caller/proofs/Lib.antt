@@ -7,3 +7,4 @@ pub mod Reading
 pub mod Committing
 pub mod Letting
 pub mod Taken
+pub mod PortsAsBox

@@ -104,14 +104,6 @@ IsWriteLeft old (writes.Database error) new =
       caller = record old.caller { ports = record old.caller.ports { database = new.caller.ports.database } };
     })
 
--- a commit is one of the database, whose events the node takes
-abbrev pub IsWriteAfter : CallerWriting → CallerWriting → Type 0
-IsWriteAfter old new = new ≡ record old {
-  caller = record old.caller {
-    ports = record old.caller.ports { database = new.caller.ports.database; node = new.caller.ports.node };
-  };
-}
-
 -- ---- changes
 
 -- of a change: there are as many as may be; else out of memory

@@ -13,9 +13,9 @@ ghost use Rattle.txc_caller.specs.Standing.{asks_next, IsKeptBack, IsStanding, K
 use crate::act::{Act, Awaited, Told};
 use crate::acted::Acted;
 use crate::asking::{given_by, is_miss, supply};
+use crate::call_ports::CallPorts;
 use crate::engine::{feed, lead};
 use crate::frames::{Around, Frames, OpenCall};
-use crate::ports::CallPorts;
 use crate::stand::Stand;
 use crate::step::{CallerError, Step};
 use std::alloc::{AllocError, Global};

@@ -13,7 +13,8 @@ ghost use Rattle.txc_caller.specs.Ports.{GoesOnByEvents, HasEventRoom, HasNoEven
 ghost use Rattle.txc_caller.specs.Reading.{caller_of};
 
 use crate::caller_txn::CallerTxn;
-use crate::ports::{Ports, give_back};
+use crate::plain_ports::{PlainPorts, give_back};
+use crate::ports::Ports;
 use std::alloc::{AllocError, Global};
 use std::marker::Model;
 use txc_app::App;
@@ -124,9 +125,11 @@ impl<A: App, C: Suppliable> Caller<A, C> {
         ensures functions { IfOk result (λ caller. caller.objects ≡ registry) }
         ensures refused { IfErr result IsWant }
     {
-        let ports = Ports::new(alloc, room, node)?;
+        let Ok(plain) = Box::new(alloc, PlainPorts::new(alloc, room, node)?) else {
+            return Err(DbError::Memory);
+        };
         Ok(Caller {
-            ports,
+            ports: Ports::of(alloc, plain),
             renew_after,
             registry,
         })
@@ -150,11 +153,14 @@ impl<A: App, C: Suppliable> Caller<A, C> {
             ≡ record self { ports = record self.ports { cushion = caller.ports.cushion } }) }
     {
         let Caller {
-            mut ports,
+            ports,
             renew_after,
             registry,
         } = self;
-        match begun(alloc, &mut ports.cushion, renew_after, bounds) {
+        let mut plain = ports.into_plain();
+        let begun = begun(alloc, &mut plain.cushion, renew_after, bounds);
+        let ports = Ports::of(alloc, plain);
+        match begun {
             Ok(core) => Ok(CallerTxn {
                 ports,
                 renew_after,

@@ -10,9 +10,10 @@ ghost use Rattle.txc_caller.specs.Reading.{caller_of, top_or, AsksNext, KeepsRea
 
 use crate::act::Act;
 use crate::acting::{act_inside, call_first, end_call};
+use crate::call_ports::CallPorts;
 use crate::caller::Caller;
 use crate::frames::OpenCall;
-use crate::ports::{Ports, give_back, let_go};
+use crate::ports::Ports;
 use crate::step::{CallerError, Step};
 use std::alloc::Global;
 use std::marker::Model;
@@ -200,7 +201,7 @@ impl<A: App, C: Suppliable> CallerTxn<A, C> {
         } = self;
         drop(doing);
         let (receipt, pins, registry) = txn.finish();
-        give_back(&mut ports.cushion, &pins);
+        ports.give_back(&pins);
         let caller = Caller {
             ports,
             renew_after,
@@ -227,8 +228,8 @@ impl<A: App, C: Suppliable> CallerTxn<A, C> {
         } = self;
         drop(doing);
         let (left, registry) = txn.cancel();
-        give_back(&mut ports.cushion, &left.give_back);
-        let_go(&mut ports.database, left.unpin);
+        ports.give_back(&left.give_back);
+        ports.let_go(left.unpin);
         Caller {
             ports,
             renew_after,

@@ -107,8 +107,9 @@ impl<A: App, C: Suppliable> Caller<A, C> {
     pub fn begin_write(self, alloc: Global) -> CallerWrite<A, C>
         ensures { IsBegunWrite self (newest self.ports.database) result }
     {
-        let base = self.ports.database.newest();
-        self.begin_over(alloc, base)
+        let mut caller = self;
+        let base = caller.ports.newest();
+        caller.begin_over(alloc, base)
     }
 
     /// Begins a transaction that writes, and reads the state of that stamp, which a transaction that only reads told by its
@@ -123,15 +124,16 @@ impl<A: App, C: Suppliable> Caller<A, C> {
         ensures refused { IfErr result (λ back. IsBaseRefused self.ports.database base back.0) }
         ensures handed_back { IfErr result (λ back. back.1 ≡ self) }
     {
-        match self.ports.database.check_base(base) {
-            Ok(_) => Ok(self.begin_over(alloc, base)),
-            Err(error) => Err((error, self)),
+        let mut caller = self;
+        match caller.ports.check_base(base) {
+            Ok(_) => Ok(caller.begin_over(alloc, base)),
+            Err(error) => Err((error, caller)),
         }
     }
 }
 
 impl<A: App, C: Suppliable> CallerWrite<A, C> {
-    ghost use Rattle.txc_caller.specs.Writing.{after_call_of, after_query, without_calls, HasGivenValue, IsWriteCallRefused, ChangeLeaves, MayCall, IsWriteFinishRefused, IsWriteAfter, IsWriteLeft, IsWriteCommitRefused};
+    ghost use Rattle.txc_caller.specs.Writing.{after_call_of, after_query, without_calls, HasGivenValue, IsWriteCallRefused, ChangeLeaves, MayCall, IsWriteFinishRefused, IsWriteLeft, IsWriteCommitRefused};
 
     /// Asks for the rows of the query, which are its [`CallerWrite::answer`] and count as read. It does not see the changes of
     /// its own.
@@ -140,7 +142,7 @@ impl<A: App, C: Suppliable> CallerWrite<A, C> {
         ensures refused { IfErr result (IsQueryRefused self.old.caller.ports.database query.now self.old.base) }
         ensures unchanged { OnErr result (self.new ≡ self.old) }
     {
-        let found = self.caller.ports.database.query(alloc, query, self.base)?;
+        let found = self.caller.ports.query(alloc, query, self.base)?;
         self.read.join(&found.tags)?;
         self.given = Some(Answer::Rows(Rows::new(found.rows)));
         Ok(())
@@ -226,29 +228,6 @@ impl<A: App, C: Suppliable> CallerWrite<A, C> {
         keep(&mut self.changes, Change::Remove(table, id))
     }
 
-    // Commits the changes. The node then takes the events.
-    fn commit_changes(&mut self, alloc: Global) -> Result<Stamp, DbError>
-        ensures after { OnOk result (self.new.caller.ports.database
-            ≡ after_commit self.old.caller.ports.database self.old.changes) }
-        ensures answer { IfOk result (λ stamp. stamp ≡ newest self.new.caller.ports.database) }
-        ensures only_if { IsOk result
-            → IsCommittable self.old.caller.ports.database self.old.base self.old.read self.old.changes }
-        ensures node { OnOk result (MayHaveTaken self.new.caller.ports.database
-            self.old.caller.ports.node self.new.caller.ports.node) }
-        ensures same { OnOk result (IsWriteAfter self.old self.new) }
-        ensures refused { IfErr result (λ error. IsWriteCommitRefused self.old (Database error)) }
-        ensures left { IfErr result (λ error. IsWriteLeft self.old (Database error) self.new) }
-    {
-        let base = self.base;
-        let stamp = self
-            .caller
-            .ports
-            .database
-            .commit(alloc, base, &self.read, &self.changes)?;
-        let _has_all = self.caller.take_events(alloc);
-        Ok(stamp)
-    }
-
     /// Commits the changes, where no event after its stamp matches what it has read, and answers the newest stamp that they
     /// leave. The node then takes the events. A refusal returns the transaction, open.
     pub fn commit(
@@ -273,7 +252,8 @@ impl<A: App, C: Suppliable> CallerWrite<A, C> {
             return Err((WriteError::MidCall, self));
         }
         let mut write = self;
-        match write.commit_changes(alloc) {
+        let ports = &mut write.caller.ports;
+        match ports.commit(alloc, write.base, &write.read, &write.changes) {
             Ok(stamp) => Ok((stamp, write.abort())),
             Err(error) => Err((WriteError::Database(error), write)),
         }

@@ -10,7 +10,7 @@ ghost use Rattle.txc_caller.specs.Ports.{is_of_pin};
 ghost use Rattle.txc_caller.specs.Looking.{IsLookedUp, StandsLookedUp};
 ghost use Rattle.txc_caller.specs.Standing.{HasPassed, IsGoing, IsKeptBack, IsTurnOf, IsStanding, KeepsOn};
 
-use crate::ports::CallPorts;
+use crate::call_ports::CallPorts;
 use crate::stand::Stand;
 use std::alloc::Global;
 use txc_app::App;

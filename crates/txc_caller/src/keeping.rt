@@ -5,7 +5,6 @@ ghost use Rattle.txc_db.specs.DatabaseValue.{next_horizon};
 ghost use Rattle.txc_caller.specs.Ports.{CallerSweepTransition, GoesOnByEvents, HasRetired, HasVacuumedPorts, IsKeepRefused};
 
 use crate::caller::Caller;
-use crate::ports::let_each_go;
 use std::alloc::{AllocError, Global};
 use txc_app::App;
 use txc_db::DbError;
@@ -22,9 +21,7 @@ impl<A: App, C: Suppliable> Caller<A, C> {
         ensures same { self.new ≡ record self.old { ports = self.new.ports } }
         ensures unchanged { OnErr result (self.new ≡ self.old) }
     {
-        let stamps = self.ports.cushion.retire(alloc, now, age)?;
-        let_each_go(&mut self.ports.database, &stamps);
-        Ok(stamps.len())
+        self.ports.retire(alloc, now, age)
     }
 
     /// Has the node take the events. Then makes the horizon the least stamp that is held, or the newest where none is, and drops
@@ -37,11 +34,7 @@ impl<A: App, C: Suppliable> Caller<A, C> {
         ensures unchanged { OnErr result (self.new.ports ≡ record self.old.ports { node = self.new.ports.node }) }
         ensures same { self.new ≡ record self.old { ports = self.new.ports } }
     {
-        if !self.ports.take_events(alloc) {
-            return Err(DbError::Memory);
-        }
-        let horizon = self.ports.database.vacuum()?;
-        Ok(horizon)
+        self.ports.vacuum(alloc)
     }
 
     /// Has the node drop the entries that end at the horizon or before it, and counts them.
@@ -49,6 +42,6 @@ impl<A: App, C: Suppliable> Caller<A, C> {
         ensures leads { CallerSweepTransition horizon self.old.ports.node self.new.ports.node result }
         ensures same { self.new ≡ record self.old { ports = record self.old.ports { node = self.new.ports.node } } }
     {
-        self.ports.node.sweep(alloc, 0, horizon)
+        self.ports.sweep(alloc, horizon)
     }
 }

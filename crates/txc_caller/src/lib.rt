@@ -9,6 +9,7 @@ mod act;
 mod acted;
 mod acting;
 mod asking;
+mod call_ports;
 mod caller;
 mod caller_txn;
 mod caller_write;
@@ -16,7 +17,9 @@ mod engine;
 mod frames;
 mod keeping;
 mod nodes;
+mod plain_ports;
 mod ports;
+mod ports_slot;
 mod stand;
 mod step;
 

@@ -1,165 +1,70 @@
-//! The plain ports of a caller, for one thread.
-ghost use Rattle.std.specs.Prelude.{◌≡◌, ◌≤◌, [], true, false, IfErr, IfOk, IfSome};
-ghost use Rattle.txc_cushion.specs.Cushion.{empty_cushion};
-ghost use Rattle.txc_db.specs.DatabaseValue.{front_of};
-ghost use Rattle.txc_db.specs.Refusals.{IsWant};
-ghost use Rattle.txc_node.specs.declared.node.TheConstants.{MAX_CAPACITY, MAX_RECENT};
-ghost use Rattle.txc_stream.specs.Names.{HasRow};
-ghost use Rattle.txc_stream.specs.declared.row.TheConstants.{MAX_CAPACITY as MAX_ROW};
-ghost use Rattle.txc_shared.specs.Nodes.{start_of};
-ghost use Rattle.txc_caller.specs.Ports.{CallerFindTransition, AreLetGo, AreGivenBack, HasEventRoom, HasNoEventFor, GoesOnByEvents, IsBehind, IsLetGo, IsNewDatabase};
+//! The ports of a caller, whose types nothing above sees.
+ghost use Rattle.std.specs.Prelude.{◌≡◌, ◌≤◌, ◌∷◌, ◌↔◌, [], IfErr, IfOk, IsOk, OnErr, OnOk, length, true, false};
+ghost use Rattle.txc_cushion.specs.Cushion.{retired};
+ghost use Rattle.txc_db.specs.Calls.{matching_of, IsAnswerable, IsBase, IsCommitRefused, IsCommittable, IsLeft, IsQueryRefused};
+ghost use Rattle.txc_db.specs.DatabaseValue.{after_commit, newest, next_horizon};
+ghost use Rattle.txc_db.specs.History.{state_at};
+ghost use Rattle.txc_db.specs.Steps.{IsBaseRefused};
+ghost use Rattle.txc_rows.specs.RowTags.{query_tag};
+ghost use Rattle.txc_rows.specs.declared.store_error.TheConstants.{MAX_MATCHING};
+ghost use Rattle.txc_validity.specs.Answers.{IsAnswer};
+ghost use Rattle.txc_caller.specs.Ports.{AreGivenBack, CallerSweepTransition, GoesOnByEvents, HasNoEventFor, HasRetired, HasVacuumedPorts, IsBehind, IsKeepRefused, IsLetGo, MayHaveTaken};
 
-use crate::nodes;
+use crate::call_ports::CallPorts;
+use crate::plain_ports::{PlainPorts, give_back, let_each_go};
+use crate::ports_slot::PortsSlot;
 use std::alloc::{AllocError, Global};
 use std::marker::Model;
 use txc_app::App;
-use txc_app::laws::found_rows_give_true_entries;
-use txc_cushion::CushionCore;
-use txc_db::{Answered, DbCore, DbError, HistoryFront};
+use txc_db::{DbError, HistoryFront};
 use txc_ports::{PortReply, PortRequest};
-use txc_rows::Query;
-use txc_shared::{NodeSettings, StoredNode};
+use txc_rows::{Change, Query};
+use txc_shared::NodeError;
 use txc_stamp::Stamp;
-use txc_stream::Pen;
+use txc_tags::TagSet;
 use txc_validity::Found;
 
-/// A database, its pincushion, and one node that takes its events. None has a lock.
-#[derive(Drop)]
+/// A database, its pincushion, and one node that takes its events, behind a pointer. A method takes them out, calls one of
+/// theirs, and puts them back.
 pub(crate) struct Ports<A: App> {
-    pub(crate) database: DbCore,
-    pub(crate) cushion: CushionCore,
-    pub(crate) node: StoredNode<A>,
+    slot: PortsSlot<A>,
+    alloc: Global,
+}
+
+impl<A: App> Drop for Ports<A> {
+    fn drop(self) {
+        drop(self.into_plain());
+    }
 }
 
 impl<A: App> Model for Ports<A> {
-    ghost use Rattle.std.specs.Prelude.{◌≡◌};
-    ghost use Rattle.txc_caller.specs.Ports.{CallerPorts, AreCallerPorts};
+    ghost use Rattle.std.specs.Prelude.{◌≡◌, true};
+    ghost use Rattle.txc_caller.specs.Ports.{CallerPorts};
 
     ghost Value = { CallerPorts };
 
-    ghost view = { λ p. record { database = p.database; cushion = p.cushion; node = p.node } };
+    ghost view = { λ p. p.slot.value };
 
-    ghost invariant = { λ p. AreCallerPorts (record { database = p.database; cushion = p.cushion; node = p.node }) };
-}
-
-/// What a call asks of the ports.
-pub(crate) trait CallPorts<A: App> {
-    ghost use Rattle.txc_caller.specs.Ports.{CallerPorts, HasAskedPorts};
-    ghost use Rattle.txc_ports.specs.Asking.{MayAsk};
-
-    // What they are.
-    ghost ports: { Self → CallerPorts };
-
-    /// Asks what a transaction asks. It has seen that much of the history.
-    fn ask(&mut self, alloc: Global, seen: &HistoryFront, request: PortRequest) -> PortReply
-        requires row { seen.now.events ≡ (ports self.old).database.events }
-        requires may { MayAsk A.next (ports self.old).database.events 1 seen.now.history request }
-        ensures { HasAskedPorts A.next seen.now request (ports self.old) (ports self.new) result };
-
-    /// Takes the hold of a pin away that was not added, if there is one. It takes no memory.
-    fn let_go(&mut self, unpin: Option<Stamp>)
-        ensures unpinned { IsLetGo unpin (ports self.old).database (ports self.new).database }
-        ensures same { ports self.new ≡ record (ports self.old) { database = (ports self.new).database } }
-        ensures events { (ports self.new).database.events ≡ (ports self.old).database.events };
-}
-
-// An empty database with room for so many events, or that stores none.
-fn empty_database(alloc: Global, room: Option<usize>) -> Result<DbCore, DbError>
-    requires { IfSome room (λ events. (1 ≤ events) × (events ≤ MAX_ROW)) }
-    ensures room { IfOk result (λ d. HasEventRoom room d.events) }
-    ensures new { IfOk result IsNewDatabase }
-    ensures refused { IfErr result IsWant }
-{
-    match room {
-        Some(events) => DbCore::new(alloc, events),
-        None => DbCore::unstored(alloc, Pen::new()),
-    }
-}
-
-/// Gives the pins back, one user of each. It takes no memory.
-pub(crate) fn give_back(cushion: &mut CushionCore, stamps: &[Stamp])
-    ensures after { AreGivenBack stamps.now cushion.old cushion.new }
-    ensures events { cushion.new.events ≡ cushion.old.events }
-{
-    match cushion.give_back(stamps) {
-        Ok(()) => (),
-        Err(_) => (),
-    }
-}
-
-/// Takes the hold of a pin away that was not added, if there is one. It takes no memory.
-pub(crate) fn let_go(database: &mut DbCore, unpin: Option<Stamp>)
-    ensures unpinned { IsLetGo unpin database.old database.new }
-    ensures history { database.new.history ≡ database.old.history }
-    ensures events { database.new.events ≡ database.old.events }
-{
-    match unpin {
-        Some(stamp) => {
-            let _unpinned = database.unpin(stamp);
-        }
-        None => (),
-    }
-}
-
-/// Takes a hold of each of the stamps away.
-pub(crate) fn let_each_go(database: &mut DbCore, stamps: &[Stamp])
-    ensures unpinned { AreLetGo stamps.now database.old database.new }
-    ensures events { database.new.events ≡ database.old.events }
-{
-    for stamp in stamps {
-        let_go(database, Some(*stamp));
-    }
-}
-
-// What the database finds for the query at the stamp, with a front of the whole history.
-fn find(
-    alloc: Global,
-    database: &mut DbCore,
-    query: &Query,
-    stamp: Stamp,
-) -> Result<Answered<Found>, DbError>
-    ensures same { database.new ≡ database.old }
-    ensures leads { CallerFindTransition query.now stamp database.old result }
-{
-    found_rows_give_true_entries();
-    let answer = database.query(alloc, query, stamp)?;
-    let front = database.front()?;
-    Ok(Answered { answer, front })
-}
-
-// An empty pincushion, and an empty node with its one pass, number 0, over the row of that front.
-fn around<A: App>(
-    alloc: Global,
-    settings: NodeSettings,
-    seen: HistoryFront,
-) -> Result<(CushionCore, StoredNode<A>), AllocError>
-    requires node { (1 ≤ settings.capacity) × (settings.capacity ≤ MAX_CAPACITY) }
-    requires recent { (1 ≤ settings.recent) × (settings.recent ≤ MAX_RECENT) }
-    ensures cushion { IfOk result (λ it. it.0 ≡ empty_cushion seen) }
-    ensures row { IfOk result (λ it. it.1.seen.events ≡ seen.events) }
-    ensures pass { IfOk result (λ it. it.1.passes ≡ 1) }
-    ensures unstored { IfOk result (λ it. ¬ (HasRow it.1.name)) }
-    ensures whole { IfOk result (λ it. it.1.broken ≡ false) }
-    ensures cache { IfOk result (λ it. it.1.cache ≡ start_of settings 0) }
-{
-    let mut node = StoredNode::unstored(alloc, settings, Pen::new(), seen.again()?)?;
-    match node.pass() {
-        Ok(_) => Ok((CushionCore::new(alloc, seen), node)),
-        Err(_) => Err(AllocError),
-    }
+    ghost invariant = { λ p. p.slot.is_full ≡ true };
 }
 
 impl<A: App> Ports<A> {
-    // Has the node take the next event, and says whether it took one. The front shows them all.
-    fn take_event(&mut self, alloc: Global, front: &HistoryFront) -> bool
-        requires { front.now ≡ front_of self.old.database }
-        ensures node { GoesOnByEvents self.old.node self.new.node }
-        ensures same { self.new ≡ record self.old { node = self.new.node } }
+    /// These ports, behind a pointer.
+    pub(crate) fn of(alloc: Global, plain: Box<PlainPorts<A>, Global>) -> Ports<A>
+        ensures { result ≡ plain.value }
     {
-        let Some(tags) = self.database.tags_after(self.node.processed()) else {
-            return false;
-        };
-        nodes::take_event(alloc, &mut self.node, front, tags)
+        Ports {
+            slot: PortsSlot::of(plain),
+            alloc,
+        }
+    }
+
+    /// The ports, in sight.
+    pub(crate) fn into_plain(self) -> Box<PlainPorts<A>, Global>
+        ensures { result.value ≡ self }
+    {
+        let Ports { slot, alloc: _ } = self;
+        slot.into_ports()
     }
 
     /// Has the node take the events that it has not taken yet, and says whether it took them all.
@@ -169,52 +74,140 @@ impl<A: App> Ports<A> {
         ensures left { result ≡ false → IsBehind self.old.database self.old.node }
         ensures same { self.new ≡ record self.old { node = self.new.node } }
     {
-        if self.database.tags_after(self.node.processed()).is_none() {
-            return true;
-        }
-        let Ok(front) = self.database.front() else {
-            return false;
-        };
-        for number in 0..front.len() {
-            if !self.take_event(alloc, &front) {
-                break;
-            }
-        }
-        self.database.tags_after(self.node.processed()).is_none()
+        let mut plain = self.slot.take(self.alloc);
+        let has_all = plain.take_events(alloc);
+        self.slot.put(plain);
+        has_all
     }
 
-    /// An empty database with room for so many events, or that stores none where no number is given; an empty pincushion and
-    /// an empty node.
-    pub(crate) fn new(
-        alloc: Global,
-        room: Option<usize>,
-        settings: NodeSettings,
-    ) -> Result<Ports<A>, DbError>
-        requires room { IfSome room (λ events. (1 ≤ events) × (events ≤ MAX_ROW)) }
-        requires node { (1 ≤ settings.capacity) × (settings.capacity ≤ MAX_CAPACITY) }
-        requires recent { (1 ≤ settings.recent) × (settings.recent ≤ MAX_RECENT) }
-        ensures room { IfOk result (λ ports. HasEventRoom room ports.database.events) }
-        ensures new { IfOk result (λ ports. IsNewDatabase ports.database) }
-        ensures cushion { IfOk result (λ ports. ports.cushion.entries ≡ []) }
-        ensures node { IfOk result (λ ports. ports.node.cache ≡ start_of settings 0) }
-        ensures refused { IfErr result IsWant }
+    /// The newest stamp.
+    pub(crate) fn newest(&mut self) -> Stamp
+        ensures same { self.new ≡ self.old }
+        ensures answer { result ≡ newest self.old.database }
     {
-        let database = empty_database(alloc, room)?;
-        let Ok(seen) = database.reader() else {
-            drop(database);
-            return Err(DbError::Memory);
-        };
-        match around(alloc, settings, seen) {
-            Ok((cushion, node)) => Ok(Ports {
-                database,
-                cushion,
-                node,
-            }),
-            Err(_) => {
-                drop(database);
-                Err(DbError::Memory)
+        let plain = self.slot.take(self.alloc);
+        let newest = plain.database.newest();
+        self.slot.put(plain);
+        newest
+    }
+
+    /// The newest stamp, where a commit may have that base.
+    pub(crate) fn check_base(&mut self, base: Stamp) -> Result<Stamp, DbError>
+        ensures same { self.new ≡ self.old }
+        ensures only_if { IsOk result ↔ IsBase self.old.database base }
+        ensures refused { IfErr result (IsBaseRefused self.old.database base) }
+    {
+        let plain = self.slot.take(self.alloc);
+        let checked = plain.database.check_base(base);
+        self.slot.put(plain);
+        checked
+    }
+
+    /// The answer of the query at a stamp, with the query's tag.
+    pub(crate) fn query(
+        &mut self,
+        alloc: Global,
+        query: &Query,
+        stamp: Stamp,
+    ) -> Result<Found, DbError>
+        ensures same { self.new ≡ self.old }
+        ensures answer { IfOk result (λ found. IsAnswer (state_at self.old.database.history) query.now stamp
+            self.old.database.horizon (newest self.old.database) found) }
+        ensures tag { IfOk result (λ found. found.tags ≡ query_tag query.now ∷ []) }
+        ensures only_if { IsOk result → IsAnswerable self.old.database stamp }
+        ensures few { IsOk result → matching_of self.old.database query.now ≤ MAX_MATCHING }
+        ensures refused { IfErr result (IsQueryRefused self.old.database query.now stamp) }
+    {
+        let mut plain = self.slot.take(self.alloc);
+        let found = plain.database.query(alloc, query, stamp);
+        self.slot.put(plain);
+        found
+    }
+
+    /// Commits the changes, where no event after the base has tags that match those read. The node then takes the events.
+    pub(crate) fn commit(
+        &mut self,
+        alloc: Global,
+        base: Stamp,
+        read: &TagSet,
+        changes: &[Change],
+    ) -> Result<Stamp, DbError>
+        ensures after { OnOk result (self.new.database ≡ after_commit self.old.database changes.now) }
+        ensures answer { IfOk result (λ stamp. stamp ≡ newest self.new.database) }
+        ensures only_if { IsOk result → IsCommittable self.old.database base read.now changes.now }
+        ensures node { OnOk result (MayHaveTaken self.new.database self.old.node self.new.node) }
+        ensures same { OnOk result
+            (self.new ≡ record self.old { database = self.new.database; node = self.new.node }) }
+        ensures refused { IfErr result (IsCommitRefused self.old.database base read.now changes.now) }
+        ensures left { IfErr result (IsLeft self.old.database self.new.database) }
+        ensures unchanged { OnErr result (self.new ≡ record self.old { database = self.new.database }) }
+    {
+        let mut plain = self.slot.take(self.alloc);
+        let committed = plain.database.commit(alloc, base, read, changes);
+        self.slot.put(plain);
+        let stamp = committed?;
+        let _has_all = self.take_events(alloc);
+        Ok(stamp)
+    }
+
+    /// Gives the pins back, one user of each. It takes no memory.
+    pub(crate) fn give_back(&mut self, stamps: &[Stamp])
+        ensures after { AreGivenBack stamps.now self.old.cushion self.new.cushion }
+        ensures same { self.new ≡ record self.old { cushion = self.new.cushion } }
+    {
+        let mut plain = self.slot.take(self.alloc);
+        give_back(&mut plain.cushion, stamps);
+        self.slot.put(plain);
+    }
+
+    /// Retires the pins that no transaction uses and that are more than `age` before `now`: takes them out, and their
+    /// holds away. It answers how many they were.
+    pub(crate) fn retire(&mut self, alloc: Global, now: u64, age: u64) -> Result<usize, AllocError>
+        ensures retired { OnOk result (HasRetired now age self.old self.new) }
+        ensures answer { IfOk result (λ count. count ≡ length (retired self.old.cushion now age)) }
+        ensures unchanged { OnErr result (self.new ≡ self.old) }
+    {
+        let mut plain = self.slot.take(self.alloc);
+        match plain.cushion.retire(alloc, now, age) {
+            Ok(stamps) => {
+                let_each_go(&mut plain.database, &stamps);
+                self.slot.put(plain);
+                Ok(stamps.len())
+            }
+            Err(error) => {
+                self.slot.put(plain);
+                Err(error)
             }
         }
+    }
+
+    /// Has the node take the events. Then makes the horizon the least stamp that is held, or the newest where none is, and
+    /// drops what only stamps before it need.
+    pub(crate) fn vacuum(&mut self, alloc: Global) -> Result<Stamp, DbError>
+        ensures after { OnOk result (HasVacuumedPorts self.old self.new) }
+        ensures node { GoesOnByEvents self.old.node self.new.node }
+        ensures answer { IfOk result (λ horizon. horizon ≡ next_horizon self.old.database) }
+        ensures refused { IfErr result (IsKeepRefused self.old.database self.old.node) }
+        ensures unchanged { OnErr result (self.new ≡ record self.old { node = self.new.node }) }
+    {
+        if !self.take_events(alloc) {
+            return Err(DbError::Memory);
+        }
+        let mut plain = self.slot.take(self.alloc);
+        let horizon = plain.database.vacuum();
+        self.slot.put(plain);
+        horizon
+    }
+
+    /// Has the node drop the entries that end at the horizon or before it, and counts them.
+    pub(crate) fn sweep(&mut self, alloc: Global, horizon: Stamp) -> Result<usize, NodeError>
+        ensures leads { CallerSweepTransition horizon self.old.node self.new.node result }
+        ensures same { self.new ≡ record self.old { node = self.new.node } }
+    {
+        let mut plain = self.slot.take(self.alloc);
+        let swept = plain.node.sweep(alloc, 0, horizon);
+        self.slot.put(plain);
+        swept
     }
 }
 
@@ -222,29 +215,15 @@ impl<A: App> CallPorts<A> for Ports<A> {
     ghost ports = { λ p. p };
 
     fn ask(&mut self, alloc: Global, seen: &HistoryFront, request: PortRequest) -> PortReply {
-        match request {
-            PortRequest::Pin { now, at_least } => PortReply::Pin(
-                self.database.pin(alloc, now, at_least),
-            ),
-            PortRequest::AddPin(pinned) => {
-                let added = self.cushion.add(&pinned);
-                PortReply::AddPin(pinned, added)
-            }
-            PortRequest::Unpin(stamp) => PortReply::Unpin(self.database.unpin(stamp)),
-            // A node that refuses has nothing.
-            PortRequest::Lookup { key, lo, hi, .. } => {
-                PortReply::Lookup(self.node.lookup(alloc, 0, &key, lo, hi).unwrap_or(None))
-            }
-            PortRequest::Query { query, stamp } => {
-                PortReply::Query(find(alloc, &mut self.database, &query, stamp))
-            }
-            PortRequest::Insert { entry, .. } => {
-                PortReply::Insert(nodes::insert(alloc, &mut self.node, entry, seen))
-            }
-        }
+        let mut plain = self.slot.take(self.alloc);
+        let reply = plain.ask(alloc, seen, request);
+        self.slot.put(plain);
+        reply
     }
 
     fn let_go(&mut self, unpin: Option<Stamp>) {
-        let_go(&mut self.database, unpin);
+        let mut plain = self.slot.take(self.alloc);
+        plain.let_go(unpin);
+        self.slot.put(plain);
     }
 }

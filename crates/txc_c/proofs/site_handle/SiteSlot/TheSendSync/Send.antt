@@ -10,7 +10,7 @@ use denote.Param.Send.{IsSend, AllSend, owning_send, struct_send, sendable}
 use Rattle.std.proofs.Crossing as heap
 use Rattle.std_alloc.proofs.SendSync.{quiet, lies}
 use Rattle.std_heap.proofs.Global.TheSendSync as handle
-use Rattle.txc_c.specs.Owned.{when}
+use Rattle.txc_rows.specs.Owned.{when}
 use Rattle.txc_c.specs.contracts.site_room.SiteRoom as Core
 use Rattle.txc_c.proofs.site_room.SiteRoom.TheSendSync.{the_send as core}
 use Rattle.txc_c.specs.contracts.site_handle.SiteSlot.{the_row, the_type}

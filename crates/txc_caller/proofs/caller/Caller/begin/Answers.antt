@@ -12,6 +12,7 @@ new-requires g c = record {
 
 pub returns-in-Ok-clause-users : goal.returns-in-Ok-clause-users
 returns-in-Ok-clause-users g c =
-    c.in-Ok.ensures.users
-    ∙ (ap (λ (p : CallerPorts). after_fresh p.cushion c.args.bounds.now c.args.bounds.staleness c.args.bounds.at_least) c.ports.view_is
-    ∙ ap (λ (v : CallerValue). after_fresh v.ports.cushion c.args.bounds.now c.args.bounds.staleness c.args.bounds.at_least) c.self.view_is)
+    ap (λ (p : CallerPorts). p.cushion) c.of-ports.ensures
+    ∙ (c.in-Ok.ensures.users
+    ∙ (ap (λ (p : CallerPorts). after_fresh p.cushion c.args.bounds.now c.args.bounds.staleness c.args.bounds.at_least) (c.behind-plain.view_is ∙ (c.deref_mut.ensures.value ∙ c.into_plain-plain.ensures))
+    ∙ ap (λ (v : CallerValue). after_fresh v.ports.cushion c.args.bounds.now c.args.bounds.staleness c.args.bounds.at_least) c.self.view_is))

@@ -1,7 +1,6 @@
-use Rattle.std.proofs.Common.{◌∙◌, ℕ, List, ap, subst, sym}
+use Rattle.std.proofs.Common.{◌∙◌, ap, subst, sym}
 use Rattle.txc_txn.specs.Core.{Explains}
 use Rattle.txc_txn.specs.Sessions.{IsAtLeast}
-use Rattle.txc_caller.specs.Ports.{AreGivenBack, CallerPorts}
 use Rattle.txc_caller.specs.Reading.{CallerReading}
 use Rattle.txc_caller.proofs.Reading.{at_least_of, none_is}
 use Rattle.txc_caller.proofs.caller_txn.CallerTxn.commit.Goals as goal
@@ -20,11 +19,3 @@ returns-clause-not_before g c =
 pub returns-clause-only_if : goal.returns-clause-only_if
 returns-clause-only_if g c = λ yes.
     sym (ap (λ (r : CallerReading). r.doing) c.self.view_is) ∙ none_is c.self.inside.doing (sym c.is_some.ensures ∙ c.if-is_some.false)
-
-pub returns-clause-given_back : goal.returns-clause-given_back
-returns-clause-given_back g c =
-    let taken = c.self.inside.txn.core.taken in
-    let last = c.give_back.new.cushion in
-    subst (λ (r : CallerReading). AreGivenBack r.txn.core.taken r.ports.cushion last) c.self.view_is
-    (subst (λ (p : CallerPorts). AreGivenBack taken p.cushion last) c.ports.view_is
-    (subst (λ (stamps : List ℕ). AreGivenBack stamps c.ports.inside.cushion last) (c.deref.ensures.value ∙ c.finish-receipt.ensures.give_back) c.give_back.ensures.after))

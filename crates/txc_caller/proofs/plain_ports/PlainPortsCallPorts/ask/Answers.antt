@@ -10,7 +10,7 @@ use Rattle.txc_ports.specs.declared.reply.PortReply.TheVariants as replies
 use Rattle.txc_caller.specs.Ports.{CallerPorts, HasAskedPorts}
 use Rattle.txc_caller.proofs.Asked.{added_so, asked_add, asked_insert, asked_lookup, asked_pin, asked_query, asked_so, asked_unpin, found_so, hit_row, looked_up, pinned_events, pinned_so, unpinned_so}
 use Rattle.txc_caller.proofs.Letting.{let_go_events, let_go_so}
-use Rattle.txc_caller.proofs.ports.PortsCallPorts.ask.Goals as goal
+use Rattle.txc_caller.proofs.plain_ports.PlainPortsCallPorts.ask.Goals as goal
 
 pub returns-in-Pin : goal.returns-in-Pin
 returns-in-Pin g c =

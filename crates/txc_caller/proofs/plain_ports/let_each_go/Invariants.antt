@@ -1,7 +1,7 @@
 use Rattle.std.proofs.Common.{◌≡◌, drop}
 use Rattle.txc_db.specs.DatabaseValue.{DatabaseValue}
 use Rattle.txc_caller.specs.Ports.{AreLetGo}
-use Rattle.txc_caller.proofs.ports.let_each_go.Given as goal
+use Rattle.txc_caller.proofs.plain_ports.let_each_go.Given as goal
 
 -- the stamps that are left go with those that are gone
 abbrev pub invariant-loop-stamp : goal.invariant-loop-stamp

@@ -1,7 +1,7 @@
 use Rattle.std.proofs.Common.{ℕ, Option, Some, refl, sym, subst}
 use Rattle.txc_caller.specs.Ports.{IsLetGo}
 use Rattle.txc_caller.proofs.Letting.{let_go_events, let_go_history, let_go_so}
-use Rattle.txc_caller.proofs.ports.let_go.Goals as goal
+use Rattle.txc_caller.proofs.plain_ports.let_go.Goals as goal
 
 pub returns-in-Some-clause-unpinned : goal.returns-in-Some-clause-unpinned
 returns-in-Some-clause-unpinned c =

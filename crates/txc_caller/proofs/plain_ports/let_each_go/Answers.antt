@@ -1,6 +1,6 @@
 use Rattle.std.proofs.Common.{◌∙◌, arith}
 use Rattle.txc_caller.proofs.Letting.{unpinned_more}
-use Rattle.txc_caller.proofs.ports.let_each_go.Goals as goal
+use Rattle.txc_caller.proofs.plain_ports.let_each_go.Goals as goal
 
 pub loop-stamp-preserved : goal.loop-stamp-preserved
 loop-stamp-preserved c = record {

@@ -2,7 +2,7 @@ use Rattle.std.proofs.Common.{◌∙◌, ap, sym}
 use Rattle.txc_db.specs.Seen.{FrontValue}
 use Rattle.txc_caller.specs.Ports.{CallerPorts}
 use Rattle.txc_caller.proofs.Asked.{ports_with_node}
-use Rattle.txc_caller.proofs.ports.Ports.take_event.Goals as goal
+use Rattle.txc_caller.proofs.plain_ports.PlainPorts.take_event.Goals as goal
 
 pub take_event-requires-clause-row : goal.take_event-requires-clause-row
 take_event-requires-clause-row g c = ap (λ (f : FrontValue). f.events) c.requires ∙ sym (c.self.invariant.node ∙ ap (λ (p : CallerPorts). p.database.events) c.self.view_is)
