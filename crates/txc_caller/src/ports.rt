@@ -95,6 +95,7 @@ impl<A: App> Ports<A> {
     pub(crate) fn check_base(&mut self, base: Stamp) -> Result<Stamp, DbError>
         ensures same { self.new ≡ self.old }
         ensures only_if { IsOk result ↔ IsBase self.old.database base }
+        ensures answer { IfOk result (λ stamp. stamp ≡ newest self.old.database) }
         ensures refused { IfErr result (IsBaseRefused self.old.database base) }
     {
         let plain = self.slot.take(self.alloc);
