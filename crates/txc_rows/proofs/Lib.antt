@@ -40,3 +40,4 @@ pub mod UsesLemmas
 pub mod IndexLemmas
 pub mod StoreAsBox
 pub mod Offered
+pub mod OwnedLemmas

@@ -1,7 +1,4 @@
 -- A slot may go to another thread, since what it points to may.
-use mathlib.Core.Bool.{Bool, true, false}
-use base.Fml.{Fml}
-use base.Shift.{Keyless}
 use mir.Raw.{raw}
 use denote.Memory.{lone}
 use denote.Struct.Struct.{exits_of}
@@ -10,14 +7,10 @@ use denote.Param.Send.{IsSend, AllSend, owning_send, struct_send, sendable}
 use Rattle.std.proofs.Crossing as heap
 use Rattle.std_alloc.proofs.SendSync.{quiet, lies}
 use Rattle.std_heap.proofs.Global.TheSendSync as handle
-use Rattle.txc_rows.specs.Owned.{when}
+use Rattle.txc_rows.proofs.OwnedLemmas.{when_keyless}
 use Rattle.txc_c.specs.contracts.counted.CountedNode as Core
 use Rattle.txc_c.proofs.counted.CountedNode.TheSendSync.{the_send as core}
 use Rattle.txc_c.specs.contracts.handle.Slot.{the_row, the_type}
-
-when_keyless : (y : Bool) (F : Fml) → Keyless F → Keyless (when y F)
-when_keyless true F k = k
-when_keyless false F k = tt
 
 pub send : IsSend the_row
 send =
