@@ -5,4 +5,3 @@ pub mod Asked
 pub mod LastAnswers
 pub mod Kept
 pub mod Functions
-pub mod EventsTaken

@@ -1,20 +1,18 @@
 -- What comes of transactions that begin and end.
-use Rattle.std.specs.Prelude.{◌≡◌, ℕ, nat_le, Bool, true, [], length, IsSome, None}
+use Rattle.std.specs.Prelude.{◌≡◌, ℕ, nat_le, Bool, length, IsSome}
 use Rattle.std.specs.Bool.{MatchBool}
-use Rattle.txc_cushion.specs.Cushion.{after_fresh, handed_out}
 use Rattle.txc_stamp.specs.declared.stamp.TheConstants.{MOST_STAMP}
-use Rattle.txc_db.specs.Calls.{IsBase, IsCommittable}
-use Rattle.txc_db.specs.DatabaseValue.{after_commit, newest}
+use Rattle.txc_db.specs.Calls.{IsBase}
+use Rattle.txc_db.specs.DatabaseValue.{newest}
 use Rattle.txc_db.specs.declared.error.DbError.{DbError}
 use Rattle.txc_db.specs.declared.error.DbError.TheVariants.{Conflict, Memory}
 use Rattle.txc_db.specs.Steps.{IsBaseRefused}
-use Rattle.txc_registry.specs.Objects.{numbers_of}
 use Rattle.txc_ports.specs.declared.bounds.Bounds.{Bounds}
-use Rattle.txc_txn.specs.Core.{left_pin, receipt_pin, Explains}
+use Rattle.txc_txn.specs.Core.{receipt_pin, Explains}
 use Rattle.txc_txn.specs.Sessions.{IsAtLeast}
-use Rattle.txc_caller.specs.Ports.{AreGivenBack, IsLetGo, MayHaveTaken}
-use Rattle.txc_caller.specs.Reading.{caller_of, CallerReading, CallerValue}
-use Rattle.txc_caller.specs.Writing.{CallerWriting, IsBegunWrite, IsWriteLeft, IsWriteCommitRefused}
+use Rattle.txc_caller.specs.Ports.{AreGivenBack, MayHaveTaken}
+use Rattle.txc_caller.specs.Reading.{caller_of, CallerReading, CallerValue, HasAborted, IsBegunReading}
+use Rattle.txc_caller.specs.Writing.{CallerWriting, HasCommittedWrite, IsBegunWrite, IsWriteLeft, IsWriteCommitRefused}
 use Rattle.txc_caller.specs.declared.step.WriteError.{WriteError}
 use Rattle.txc_caller.specs.declared.step.WriteError.TheVariants.{Database, MidCall}
 use Rattle.txc_c.specs.Opaque.{opaque_next}
@@ -42,23 +40,18 @@ is_site_stamp number = nat_le number MOST_STAMP
 
 -- ---- beginnings
 
--- it has the newest of the pins that its bounds allow, and the present; and the node has taken the events
-pub record IsReadBegun (asked : Bounds) (c : CallerValue) (r : CallerReading) : Type 0 where
-  pub bounds : r.txn.core.bounds ≡ asked
-  pub recorded : r.txn.core.recorded ≡ []
-  pub members : r.txn.core.pins.members ≡ handed_out c.ports.cushion asked.now asked.staleness asked.at_least
-  pub present : r.txn.core.pins.has_present ≡ true
-  pub users : r.ports.cushion ≡ after_fresh c.ports.cushion asked.now asked.staleness asked.at_least
-  pub none : r.doing ≡ None
-  pub taken : MayHaveTaken c.ports.database c.ports.node r.ports.node
-  pub caller : caller_of r ≡ record c { ports = record c.ports { cushion = r.ports.cushion; node = r.ports.node } }
+-- the node has taken the events, or memory was wanting
+pub record MayHaveCaughtUp (old new : CallerValue) : Type 0 where
+  pub taken : MayHaveTaken old.ports.database old.ports.node new.ports.node
+  pub same : new ≡ record old { ports = record old.ports { node = new.ports.node } }
 
--- at rest: the transaction begins; or memory is wanting
+-- at rest: the node goes on, and the transaction begins; or memory is wanting
 abbrev pub BegunComesTo : Bounds → CallerValue → ℕ → Site → Type 0
-BegunComesTo bounds c number (Reading r) = (number ≡ DONE) × IsReadBegun bounds c r
+BegunComesTo bounds c number (Reading r) =
+    (number ≡ DONE) × ((first : CallerValue) × MayHaveCaughtUp c first × IsBegunReading opaque_next first bounds r)
 BegunComesTo bounds c number (Resting left) = (number ≡ NO_MEMORY)
-    × MayHaveTaken c.ports.database c.ports.node left.ports.node
-    × (left ≡ record c { ports = record c.ports { cushion = left.ports.cushion; node = left.ports.node } })
+    × ((first : CallerValue) × MayHaveCaughtUp c first
+    × (left ≡ record first { ports = record first.ports { cushion = left.ports.cushion } }))
 BegunComesTo bounds c number (Writing w) = ⊥
 
 abbrev pub BeginAtRestComesTo : Bounds → Site → ℕ → Site → Type 0
@@ -118,17 +111,6 @@ abbrev pub CommitComesTo : TxcReceipt → TxcReceipt → Site → ℕ → Site �
 CommitComesTo was is (Reading r) number new = CommittedComesTo r was is number new
 CommitComesTo was is old number new = Stays NOT_OPEN old number new × (is ≡ was)
 
--- nothing that it read has changed, and the newest stamp is told
-pub record HasCommittedWrite (w : CallerWriting) (stamp : ℕ) (c : CallerValue) : Type 0 where
-  pub none : w.inner ≡ None
-  pub could : IsCommittable w.caller.ports.database w.base w.read w.changes
-  pub after : c.ports.database ≡ after_commit w.caller.ports.database w.changes
-  pub told : stamp ≡ newest c.ports.database
-  pub taken : MayHaveTaken c.ports.database w.caller.ports.node c.ports.node
-  pub same : c ≡ record w.caller {
-    ports = record w.caller.ports { database = c.ports.database; node = c.ports.node };
-  }
-
 -- the transaction is open, with its changes
 pub record HasRefusedWrite (w : CallerWriting) (number : ℕ) (left : CallerWriting) : Type 0 where
   pub error : WriteError
@@ -145,16 +127,6 @@ WrittenComesTo w was is number (Reading r) = ⊥
 abbrev pub CommitWriteComesTo : ℕ → ℕ → Site → ℕ → Site → Type 0
 CommitWriteComesTo was is (Writing w) number new = WrittenComesTo w was is number new
 CommitWriteComesTo was is old number new = Stays NOT_OPEN old number new × (is ≡ was)
-
--- it is given up; the node and the history stay
-pub record HasAborted (r : CallerReading) (c : CallerValue) : Type 0 where
-  pub functions : numbers_of c.objects ≡ numbers_of r.txn.objects
-  pub history : c.ports.database.history ≡ r.ports.database.history
-  pub row : c.ports.database.events ≡ r.ports.database.events
-  pub node : c.ports.node ≡ r.ports.node
-  pub given_back : AreGivenBack r.txn.core.taken r.ports.cushion c.ports.cushion
-  pub unpinned : IsLetGo (left_pin r.txn.core.pinning) r.ports.database c.ports.database
-  pub renew_after : c.renew_after ≡ r.renew_after
 
 abbrev pub AbortComesTo : Site → ℕ → Site → Type 0
 AbortComesTo (Reading r) number (Resting c) = (number ≡ DONE) × HasAborted r c

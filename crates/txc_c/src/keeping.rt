@@ -1,13 +1,13 @@
 //! What keeps a site small, while no transaction is open.
 ghost use Rattle.std.specs.Prelude.{◌≡◌};
-ghost use Rattle.txc_c.specs.Keeping.{node_number, HasKept, KeepComesTo};
+ghost use Rattle.txc_c.specs.Keeping.{node_number, HasKept};
 
 use crate::opaque::Opaque;
-use crate::site::{Object, Site};
+use crate::site::Object;
 use crate::turning::database_number;
 use std::alloc::Global;
 use txc_caller::Caller;
-use txc_crossing::{ALREADY_OPEN, DONE, NO_MEMORY, REFUSED};
+use txc_crossing::{DONE, NO_MEMORY, REFUSED};
 use txc_shared::NodeError;
 
 /// What a keep did: pins that it retired, the horizon, and entries that the node dropped.
@@ -29,9 +29,9 @@ fn node_number(error: NodeError) -> u32
     }
 }
 
-// Retires pins; the node takes the events, and the database drops the versions that no stamp from the horizon on shows; then
-// the node drops what ends there.
-fn keep(
+/// Retires pins; the node takes the events, and the database drops the versions that no stamp from the horizon on shows; then
+/// the node drops what ends there.
+pub(crate) fn keep(
     alloc: Global,
     caller: &mut Caller<Opaque, Object>,
     now: u64,
@@ -56,18 +56,5 @@ fn keep(
             }
         }
         Err(error) => database_number(error),
-    }
-}
-
-impl Site {
-    /// Retires the pins that are more than `age` milliseconds before `now`, and drops what no transaction can read any more.
-    pub(crate) fn keep(&mut self, alloc: Global, now: u64, age: u64, kept: &mut TxcKept) -> u32
-        ensures { KeepComesTo now age kept.old kept.new self.old result self.new }
-    {
-        match self {
-            Site::Resting(caller) => keep(alloc, caller, now, age, kept),
-            Site::Reading(_) => ALREADY_OPEN,
-            Site::Writing(_) => ALREADY_OPEN,
-        }
     }
 }

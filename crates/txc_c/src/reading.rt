@@ -3,26 +3,26 @@ ghost use Rattle.std.specs.Prelude.{◌≡◌, MatchOption, None, Some, if◌the
 ghost use Rattle.txc_app.specs.declared.ask.Ask.TheVariants as asks;
 ghost use Rattle.txc_crossing.specs.Crossing.{named_call};
 ghost use Rattle.txc_c.specs.Receipts.{query_of};
-ghost use Rattle.txc_c.specs.Asking.{buffer, given_rows, last_answer, rows_found, CallComesTo, FinishComesTo, GiveUpComesTo, LastTold, QueryComesTo, RowTold, SiteAsksNext};
+ghost use Rattle.txc_c.specs.Asking.{buffer, given_rows, last_answer, CallComesTo, FinishComesTo, QueryComesTo, SiteAsksNext};
 
-use crate::receipts::{TxcQuery, TxcRow};
+use crate::receipts::TxcQuery;
 use crate::site::Site;
-use crate::telling::{error_number, given, tell_last, tell_step, tell_written};
+use crate::telling::{error_number, given, tell_step, tell_written};
 use crate::turning::database_number;
 use std::alloc::Global;
 use txc_app::Answer;
-use txc_crossing::{BAD_ARGUMENT, COMPUTE, DONE, MISS, NO_MEMORY, NOT_OPEN, TxcKey, tell};
+use txc_crossing::{BAD_ARGUMENT, COMPUTE, DONE, MISS, NO_MEMORY, NOT_OPEN, TxcKey};
 use txc_rows::Row;
 
-// The number of giving up, by whether a call was open.
-fn open_number(was_open: bool) -> u32
+/// The number of giving up, by whether a call was open.
+pub(crate) fn open_number(was_open: bool) -> u32
     ensures { result ≡ (if was_open then DONE else MISS) }
 {
     if was_open { DONE } else { MISS }
 }
 
-// A row of an answer.
-fn row_in(answer: &Answer, at: usize) -> Option<&Row>
+/// A row of an answer.
+pub(crate) fn row_in(answer: &Answer, at: usize) -> Option<&Row>
     ensures { MatchOption result (slice_get (given_rows (Some answer.now)) at ≡ None)
         (λ row. slice_get (given_rows (Some answer.now)) at ≡ Some row.now) }
 {
@@ -85,38 +85,6 @@ impl Site {
         }
     }
 
-    // What was answered last.
-    fn answer(&self) -> Option<&Answer>
-        ensures { MatchOption result (last_answer self.now ≡ None) (λ answer. last_answer self.now ≡ Some answer.now) }
-    {
-        match self {
-            Site::Reading(txn) => given(txn),
-            Site::Writing(write) => write.answer(),
-            Site::Resting(_) => None,
-        }
-    }
-
-    /// Writes one of the rows that were found last.
-    pub(crate) fn tell_row(
-        &self,
-        at: usize,
-        row: &mut TxcRow,
-        body: &mut [u8],
-        len: &mut usize,
-    ) -> u32
-        ensures { RowTold (slice_get (rows_found self.now) at) result row.old row.new
-            (buffer body.old len.old) (buffer body.new len.new) }
-    {
-        let Some(answer) = self.answer() else {
-            return MISS;
-        };
-        let Some(found) = row_in(answer, at) else {
-            return MISS;
-        };
-        *row = TxcRow::of(found);
-        tell(DONE, found.body(), body, len)
-    }
-
     /// The function that is computed gives a copy of these bytes.
     pub(crate) fn finish(
         &mut self,
@@ -150,25 +118,14 @@ impl Site {
         }
     }
 
-    /// Writes what was answered last once more.
-    pub(crate) fn tell_last(&self, value: &mut [u8], len: &mut usize) -> u32
-        ensures { LastTold (buffer value.old len.old) (buffer value.new len.new) self.now result }
+    /// What was answered last.
+    pub(crate) fn answer(&self) -> Option<&Answer>
+        ensures { MatchOption result (last_answer self.now ≡ None) (λ answer. last_answer self.now ≡ Some answer.now) }
     {
         match self {
-            Site::Reading(txn) => tell_last(txn, value, len),
-            Site::Writing(write) => tell_written(write, value, len),
-            Site::Resting(_) => NOT_OPEN,
-        }
-    }
-
-    /// Gives the open call up.
-    pub(crate) fn give_up(&mut self) -> u32
-        ensures { GiveUpComesTo self.old result self.new }
-    {
-        match self {
-            Site::Reading(txn) => open_number(txn.give_up()),
-            Site::Writing(write) => open_number(write.give_up()),
-            Site::Resting(_) => NOT_OPEN,
+            Site::Reading(txn) => given(txn),
+            Site::Writing(write) => write.answer(),
+            Site::Resting(_) => None,
         }
     }
 }

@@ -1,8 +1,7 @@
 //! Transactions of a site that begin and end.
 ghost use Rattle.std.specs.Prelude.{◌≡◌, is_some, IfSome};
-ghost use Rattle.txc_c.specs.Turning.{database_number, is_site_stamp, write_number, AbortComesTo, BeginComesTo, BeginWriteAtComesTo, BeginWriteComesTo, CommitComesTo, CommitWriteComesTo};
+ghost use Rattle.txc_c.specs.Turning.{database_number, is_site_stamp, write_number, BeginComesTo, BeginWriteAtComesTo, CommitWriteComesTo};
 
-use crate::receipts::TxcReceipt;
 use crate::site::Site;
 use std::alloc::Global;
 use txc_caller::WriteError;
@@ -71,17 +70,6 @@ impl Site {
         }
     }
 
-    /// Begins a transaction that writes over the newest state.
-    pub(crate) fn begin_write(self, alloc: Global) -> (u32, Site)
-        ensures { BeginWriteComesTo self result.0 result.1 }
-    {
-        match self {
-            Site::Resting(caller) => (DONE, Site::Writing(caller.begin_write(alloc))),
-            Site::Reading(txn) => (ALREADY_OPEN, Site::Reading(txn)),
-            Site::Writing(write) => (ALREADY_OPEN, Site::Writing(write)),
-        }
-    }
-
     /// Begins a transaction that writes over the state of that stamp.
     pub(crate) fn begin_write_at(self, alloc: Global, stamp: u32) -> (u32, Site)
         ensures { BeginWriteAtComesTo stamp self result.0 result.1 }
@@ -99,24 +87,6 @@ impl Site {
             },
             Site::Reading(txn) => (ALREADY_OPEN, Site::Reading(txn)),
             Site::Writing(write) => (ALREADY_OPEN, Site::Writing(write)),
-        }
-    }
-
-    /// Ends the transaction that only reads, and writes its receipt.
-    pub(crate) fn commit(self, receipt: &mut TxcReceipt) -> (u32, Site)
-        ensures { CommitComesTo receipt.old receipt.new self result.0 result.1 }
-    {
-        match self {
-            Site::Reading(txn) => match txn.commit() {
-                Ok(done) => {
-                    let (given, caller) = done;
-                    *receipt = TxcReceipt::of(given.pin, given.answers.len());
-                    (DONE, Site::Resting(caller))
-                }
-                Err(txn) => (MID_CALL, Site::Reading(txn)),
-            },
-            Site::Resting(caller) => (NOT_OPEN, Site::Resting(caller)),
-            Site::Writing(write) => (NOT_OPEN, Site::Writing(write)),
         }
     }
 
@@ -138,17 +108,6 @@ impl Site {
             },
             Site::Resting(caller) => (NOT_OPEN, Site::Resting(caller)),
             Site::Reading(txn) => (NOT_OPEN, Site::Reading(txn)),
-        }
-    }
-
-    /// Gives the open transaction up.
-    pub(crate) fn abort(self) -> (u32, Site)
-        ensures { AbortComesTo self result.0 result.1 }
-    {
-        match self {
-            Site::Resting(caller) => (NOT_OPEN, Site::Resting(caller)),
-            Site::Reading(txn) => (DONE, Site::Resting(txn.abort())),
-            Site::Writing(write) => (DONE, Site::Resting(write.abort())),
         }
     }
 }

@@ -13,13 +13,18 @@ ghost use Rattle.txc_c.specs.Life.{close_number};
 ghost use Rattle.txc_c.specs.Turning.{AbortComesTo, BeginComesTo, BeginWriteAtComesTo, BeginWriteComesTo, CommitComesTo, CommitWriteComesTo};
 ghost use Rattle.txc_c.specs.Asking.{buffer, CallComesTo, FinishComesTo, GiveUpComesTo, LastComesTo, PutComesTo, QueryComesTo, RemoveComesTo, RowComesTo};
 
-use crate::keeping::TxcKept;
+use crate::keeping::{TxcKept, keep};
+use crate::reading::{open_number, row_in};
 use crate::receipts::{TxcQuery, TxcReceipt, TxcRow};
 use crate::site::{Site, is_room};
 use crate::site_handle::TxcSite;
 use crate::site_room::SiteRoom;
+use crate::telling::{tell_last, tell_written};
 use std::alloc::Global;
-use txc_crossing::{ALREADY_OPEN, BAD_ARGUMENT, CLOSED, DONE, NO_MEMORY, TxcKey, are_sizes};
+use txc_crossing::{
+    ALREADY_OPEN, BAD_ARGUMENT, CLOSED, DONE, MID_CALL, MISS, NO_MEMORY, NOT_OPEN, TxcKey,
+    are_sizes, tell,
+};
 use txc_shared::NodeSettings;
 
 // Whether a site may be opened so.
@@ -200,7 +205,16 @@ pub extern "C" fn txc_row_at(
     let Some(site) = &room.site else {
         return CLOSED;
     };
-    let number = site.tell_row(at, row, body, len);
+    let number = match site.answer() {
+        Some(answer) => match row_in(answer, at) {
+            Some(found) => {
+                *row = TxcRow::of(found);
+                tell(DONE, found.body(), body, len)
+            }
+            None => MISS,
+        },
+        None => MISS,
+    };
     handle.put_room(room);
     number
 }
@@ -219,10 +233,12 @@ pub extern "C" fn txc_answer(
     let Some(room) = handle.take_room(alloc) else {
         return CLOSED;
     };
-    let Some(site) = &room.site else {
-        return CLOSED;
+    let number = match &room.site {
+        Some(Site::Reading(txn)) => tell_last(txn, value, len),
+        Some(Site::Writing(write)) => tell_written(write, value, len),
+        Some(Site::Resting(_)) => NOT_OPEN,
+        None => CLOSED,
     };
-    let number = site.tell_last(value, len);
     handle.put_room(room);
     number
 }
@@ -259,10 +275,12 @@ pub extern "C" fn txc_give_up(alloc: Global, handle: &mut TxcSite) -> u32
     let Some(mut room) = handle.take_room(alloc) else {
         return CLOSED;
     };
-    let Some(site) = &mut room.site else {
-        return CLOSED;
+    let number = match &mut room.site {
+        Some(Site::Reading(txn)) => open_number(txn.give_up()),
+        Some(Site::Writing(write)) => open_number(write.give_up()),
+        Some(Site::Resting(_)) => NOT_OPEN,
+        None => CLOSED,
     };
-    let number = site.give_up();
     handle.put_room(room);
     number
 }
@@ -276,7 +294,18 @@ pub extern "C" fn txc_commit(alloc: Global, handle: &mut TxcSite, receipt: &mut 
     let Some((site, room)) = handle.take(alloc) else {
         return CLOSED;
     };
-    let (number, site) = site.commit(receipt);
+    let (number, site) = match site {
+        Site::Reading(txn) => match txn.commit() {
+            Ok(done) => {
+                let (given, caller) = done;
+                *receipt = TxcReceipt::of(given.pin, given.answers.len());
+                (DONE, Site::Resting(caller))
+            }
+            Err(txn) => (MID_CALL, Site::Reading(txn)),
+        },
+        Site::Resting(caller) => (NOT_OPEN, Site::Resting(caller)),
+        Site::Writing(write) => (NOT_OPEN, Site::Writing(write)),
+    };
     handle.put(site, room);
     number
 }
@@ -289,7 +318,11 @@ pub extern "C" fn txc_abort(alloc: Global, handle: &mut TxcSite) -> u32
     let Some((site, room)) = handle.take(alloc) else {
         return CLOSED;
     };
-    let (number, site) = site.abort();
+    let (number, site) = match site {
+        Site::Resting(caller) => (NOT_OPEN, Site::Resting(caller)),
+        Site::Reading(txn) => (DONE, Site::Resting(txn.abort())),
+        Site::Writing(write) => (DONE, Site::Resting(write.abort())),
+    };
     handle.put(site, room);
     number
 }
@@ -302,7 +335,11 @@ pub extern "C" fn txc_begin_write(alloc: Global, handle: &mut TxcSite) -> u32
     let Some((site, room)) = handle.take(alloc) else {
         return CLOSED;
     };
-    let (number, site) = site.begin_write(alloc);
+    let (number, site) = match site {
+        Site::Resting(caller) => (DONE, Site::Writing(caller.begin_write(alloc))),
+        Site::Reading(txn) => (ALREADY_OPEN, Site::Reading(txn)),
+        Site::Writing(write) => (ALREADY_OPEN, Site::Writing(write)),
+    };
     handle.put(site, room);
     number
 }
@@ -388,10 +425,12 @@ pub extern "C" fn txc_keep(
     let Some(mut room) = handle.take_room(alloc) else {
         return CLOSED;
     };
-    let Some(site) = &mut room.site else {
-        return CLOSED;
+    let number = match &mut room.site {
+        Some(Site::Resting(caller)) => keep(alloc, caller, now, age, kept),
+        Some(Site::Reading(_)) => ALREADY_OPEN,
+        Some(Site::Writing(_)) => ALREADY_OPEN,
+        None => CLOSED,
     };
-    let number = site.keep(alloc, now, age, kept);
     handle.put_room(room);
     number
 }

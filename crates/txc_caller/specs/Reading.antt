@@ -1,13 +1,15 @@
 -- What callers see of a caller's transaction that only reads.
-use Rattle.std.specs.Prelude.{◌≡◌, ℕ, Option, Some, None}
+use Rattle.std.specs.Prelude.{◌≡◌, ℕ, [], true, Option, Some, None}
 use Rattle.std.specs.Option.{ForSome}
 use Rattle.txc_tags.specs.Keys.{Call}
 use Rattle.txc_app.specs.Eval.{Next}
 use Rattle.txc_app.specs.declared.ask.Ask.{Ask}
-use Rattle.txc_registry.specs.Objects.{Objects}
-use Rattle.txc_txn.specs.Core.{open_call, IsIdle}
-use Rattle.txc_txn.specs.Kept.{TxnValue}
-use Rattle.txc_caller.specs.Ports.{CallerPorts}
+use Rattle.txc_cushion.specs.Cushion.{after_fresh, handed_out}
+use Rattle.txc_ports.specs.declared.bounds.Bounds.{Bounds}
+use Rattle.txc_registry.specs.Objects.{numbers_of, Objects}
+use Rattle.txc_txn.specs.Core.{left_pin, open_call, IsIdle}
+use Rattle.txc_txn.specs.Kept.{IsTxn, TxnValue}
+use Rattle.txc_caller.specs.Ports.{AreGivenBack, CallerPorts, IsLetGo}
 use Rattle.txc_caller.specs.Standing.{asks_next, IsKeptBack, KeepsOn}
 use Rattle.txc_caller.specs.declared.frames.OpenCall.{OpenCall}
 
@@ -52,3 +54,26 @@ pub record KeepsReading (old new : CallerReading) : Type 0 where
 -- the caller at rest after a transaction
 abbrev pub caller_of : CallerReading → CallerValue
 caller_of r = record { ports = r.ports; renew_after = r.renew_after; objects = r.txn.objects }
+
+-- ---- beginnings and ends
+
+-- it has the newest of the pins that its bounds allow, and the present
+pub record IsBegunReading (next : Next) (c : CallerValue) (asked : Bounds) (r : CallerReading) : Type 0 where
+  pub bounds : r.txn.core.bounds ≡ asked
+  pub recorded : r.txn.core.recorded ≡ []
+  pub meant : IsTxn next r.txn
+  pub members : r.txn.core.pins.members ≡ handed_out c.ports.cushion asked.now asked.staleness asked.at_least
+  pub present : r.txn.core.pins.has_present ≡ true
+  pub users : r.ports.cushion ≡ after_fresh c.ports.cushion asked.now asked.staleness asked.at_least
+  pub none : r.doing ≡ None
+  pub caller : caller_of r ≡ record c { ports = record c.ports { cushion = r.ports.cushion } }
+
+-- it is given up, and its pins are given back; the node and the history stay
+pub record HasAborted (r : CallerReading) (c : CallerValue) : Type 0 where
+  pub functions : numbers_of c.objects ≡ numbers_of r.txn.objects
+  pub history : c.ports.database.history ≡ r.ports.database.history
+  pub row : c.ports.database.events ≡ r.ports.database.events
+  pub node : c.ports.node ≡ r.ports.node
+  pub given_back : AreGivenBack r.txn.core.taken r.ports.cushion c.ports.cushion
+  pub unpinned : IsLetGo (left_pin r.txn.core.pinning) r.ports.database c.ports.database
+  pub renew_after : c.renew_after ≡ r.renew_after

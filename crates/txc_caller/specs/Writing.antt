@@ -11,7 +11,8 @@ use Rattle.txc_db.specs.History.{state_at}
 use Rattle.txc_app.specs.declared.ask.Answer.{Answer}
 use Rattle.txc_app.specs.declared.ask.Answer.TheVariants.{Rows, Value}
 use Rattle.txc_call.specs.declared.error.CallError.TheVariants.{CallOrder, ValueTooLong}
-use Rattle.txc_db.specs.Calls.{IsCommitRefused, IsLeft}
+use Rattle.txc_db.specs.Calls.{IsCommittable, IsCommitRefused, IsLeft}
+use Rattle.txc_db.specs.DatabaseValue.{after_commit, newest}
 use Rattle.txc_ports.specs.declared.error.TxnError.{TxnError}
 use Rattle.txc_ports.specs.declared.error.TxnError.TheVariants.{BufferFull, Call, Memory}
 use Rattle.txc_caller.specs.declared.caller_write.TheConstants.{MAX_CHANGES}
@@ -19,6 +20,7 @@ use Rattle.txc_caller.specs.declared.step.CallerError.{CallerError}
 use Rattle.txc_caller.specs.declared.step.CallerError.TheVariants as errors
 use Rattle.txc_caller.specs.declared.step.WriteError.{WriteError}
 use Rattle.txc_caller.specs.declared.step.WriteError.TheVariants as writes
+use Rattle.txc_caller.specs.Ports.{MayHaveTaken}
 use Rattle.txc_caller.specs.Reading.{CallerValue}
 
 -- The caller; the stamp that it reads; the tags of what it has read; and its changes, in order. Then the function that is
@@ -90,7 +92,21 @@ IsWriteFinishRefused bytes old new errors.NoFunction = (old.inner ≡ None) × (
 IsWriteFinishRefused bytes old new (errors.Txn (Call ValueTooLong)) = (MAX_VALUE_LEN < length bytes) × (new ≡ without_calls old)
 IsWriteFinishRefused bytes old new error = ⊥
 
--- of the end: a function is computed; or the database refused
+-- ---- the end
+
+-- no function is computed, and nothing that it read has changed: the changes are committed, and the node may have taken the
+-- events
+pub record HasCommittedWrite (w : CallerWriting) (stamp : ℕ) (c : CallerValue) : Type 0 where
+  pub none : w.inner ≡ None
+  pub could : IsCommittable w.caller.ports.database w.base w.read w.changes
+  pub after : c.ports.database ≡ after_commit w.caller.ports.database w.changes
+  pub stamp_is : stamp ≡ newest c.ports.database
+  pub taken : MayHaveTaken c.ports.database w.caller.ports.node c.ports.node
+  pub same : c ≡ record w.caller {
+    ports = record w.caller.ports { database = c.ports.database; node = c.ports.node };
+  }
+
+-- a function is computed; or the database refused
 abbrev pub IsWriteCommitRefused : CallerWriting → WriteError → Type 0
 IsWriteCommitRefused w writes.MidCall = IsSome w.inner
 IsWriteCommitRefused w (writes.Database error) = IsCommitRefused w.caller.ports.database w.base w.read w.changes error

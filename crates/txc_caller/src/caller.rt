@@ -1,16 +1,15 @@
 //! Who computes his functions himself, at rest.
-ghost use Rattle.std.specs.Prelude.{◌≡◌, ◌≤◌, [], IfErr, IfOk, IfSome, None, OnOk, true, false};
+ghost use Rattle.std.specs.Prelude.{◌≡◌, ◌≤◌, [], IfErr, IfOk, IfSome, OnOk, true, false};
 ghost use Rattle.txc_app.specs.Eval.{Next};
 ghost use Rattle.txc_cushion.specs.Cushion.{after_fresh, handed_out};
 ghost use Rattle.txc_db.specs.Refusals.{IsWant};
 ghost use Rattle.txc_registry.specs.Objects.{AllIdle, Objects};
 ghost use Rattle.txc_shared.specs.Nodes.{start_of};
 ghost use Rattle.txc_txn.specs.Core.{value_of, CoreHolds, IsCore, IsIdle};
-ghost use Rattle.txc_txn.specs.Kept.{IsTxn};
 ghost use Rattle.txc_node.specs.declared.node.TheConstants.{MAX_CAPACITY, MAX_RECENT};
 ghost use Rattle.txc_stream.specs.declared.row.TheConstants.{MAX_CAPACITY as MAX_ROW};
 ghost use Rattle.txc_caller.specs.Ports.{GoesOnByEvents, HasEventRoom, HasNoEventFor, IsBehind, IsNewDatabase};
-ghost use Rattle.txc_caller.specs.Reading.{caller_of};
+ghost use Rattle.txc_caller.specs.Reading.{IsBegunReading};
 
 use crate::caller_txn::CallerTxn;
 use crate::plain_ports::{PlainPorts, give_back};
@@ -138,17 +137,7 @@ impl<A: App, C: Suppliable> Caller<A, C> {
     /// Begins a transaction that only reads, with the newest of the pins that its bounds allow, and the present. Out
     /// of memory, the caller is handed back.
     pub fn begin(self, alloc: Global, bounds: Bounds) -> Result<CallerTxn<A, C>, Caller<A, C>>
-        ensures bounds { IfOk result (λ txn. txn.txn.core.bounds ≡ bounds) }
-        ensures recorded { IfOk result (λ txn. txn.txn.core.recorded ≡ []) }
-        ensures meant { IfOk result (λ txn. IsTxn A.next txn.txn) }
-        ensures members { IfOk result (λ txn. txn.txn.core.pins.members
-            ≡ handed_out self.ports.cushion bounds.now bounds.staleness bounds.at_least) }
-        ensures present { IfOk result (λ txn. txn.txn.core.pins.has_present ≡ true) }
-        ensures users { IfOk result (λ txn. txn.ports.cushion
-            ≡ after_fresh self.ports.cushion bounds.now bounds.staleness bounds.at_least) }
-        ensures none { IfOk result (λ txn. txn.doing ≡ None) }
-        ensures caller { IfOk result (λ txn. caller_of txn
-            ≡ record self { ports = record self.ports { cushion = txn.ports.cushion } }) }
+        ensures begun { IfOk result (IsBegunReading A.next self bounds) }
         ensures handed_back { IfErr result (λ caller. caller
             ≡ record self { ports = record self.ports { cushion = caller.ports.cushion } }) }
     {

@@ -1,12 +1,11 @@
 //! A caller's transaction that only reads.
 ghost use Rattle.std.specs.Prelude.{◌≡◌, ◌≢◌, ◌↔◌, ◌∷◌, [], IfErr, IfOk, IsNone, IsOk, IsSome, IsTrue, MatchOption, None, Ok, Some};
-ghost use Rattle.txc_registry.specs.Objects.{numbers_of, AllIdle};
 ghost use Rattle.txc_txn.specs.Core.{left_pin, receipt_pin, Explains};
 ghost use Rattle.txc_txn.specs.Kept.{IsTxn};
 ghost use Rattle.txc_txn.specs.Sessions.{IsAtLeast};
 ghost use Rattle.txc_caller.specs.Acting.{ask_of, IsComputedOnMiss, IsStepIn, IsStepOf};
 ghost use Rattle.txc_caller.specs.Ports.{AreGivenBack, IsLetGo};
-ghost use Rattle.txc_caller.specs.Reading.{caller_of, top_or, AsksNext, KeepsReading};
+ghost use Rattle.txc_caller.specs.Reading.{caller_of, top_or, AsksNext, HasAborted, KeepsReading};
 
 use crate::act::Act;
 use crate::acting::{act_inside, call_first, end_call};
@@ -212,13 +211,7 @@ impl<A: App, C: Suppliable> CallerTxn<A, C> {
 
     /// Gives the transaction up, in the middle of a call too, and returns the caller. It takes no memory.
     pub fn abort(self) -> Caller<A, C>
-        ensures functions { numbers_of result.objects ≡ numbers_of self.txn.objects }
-        ensures history { result.ports.database.history ≡ self.ports.database.history }
-        ensures row { result.ports.database.events ≡ self.ports.database.events }
-        ensures node { result.ports.node ≡ self.ports.node }
-        ensures given_back { AreGivenBack self.txn.core.taken self.ports.cushion result.ports.cushion }
-        ensures unpinned { IsLetGo (left_pin self.txn.core.pinning) self.ports.database result.ports.database }
-        ensures renew_after { result.renew_after ≡ self.renew_after }
+        ensures { HasAborted self result }
     {
         let CallerTxn {
             mut ports,

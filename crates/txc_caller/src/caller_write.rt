@@ -1,9 +1,8 @@
 //! A caller's transaction that writes.
 ghost use Rattle.std.specs.Prelude.{◌≡◌, ◌≢◌, ◌<◌, ◌≤◌, ◌++◌, ◌∷◌, ◌↔◌, [], IfErr, IfOk, IsOk, IsSome, IsTrue, MatchOption, None, OnErr, OnOk, Some, length, vec_len};
-ghost use Rattle.txc_db.specs.Calls.{IsBase, IsCommittable, IsLeft, IsQueryRefused};
-ghost use Rattle.txc_db.specs.DatabaseValue.{after_commit, newest};
+ghost use Rattle.txc_db.specs.Calls.{IsBase, IsQueryRefused};
+ghost use Rattle.txc_db.specs.DatabaseValue.{newest};
 ghost use Rattle.txc_db.specs.Steps.{IsBaseRefused};
-ghost use Rattle.txc_caller.specs.Ports.{MayHaveTaken};
 ghost use Rattle.txc_caller.specs.Writing.{IsChangeRefused};
 ghost use Rattle.txc_caller.specs.declared.step.WriteError.TheVariants.{Database};
 
@@ -133,7 +132,7 @@ impl<A: App, C: Suppliable> Caller<A, C> {
 }
 
 impl<A: App, C: Suppliable> CallerWrite<A, C> {
-    ghost use Rattle.txc_caller.specs.Writing.{after_call_of, after_query, without_calls, HasGivenValue, IsWriteCallRefused, ChangeLeaves, MayCall, IsWriteFinishRefused, IsWriteLeft, IsWriteCommitRefused};
+    ghost use Rattle.txc_caller.specs.Writing.{after_call_of, after_query, without_calls, HasGivenValue, IsWriteCallRefused, ChangeLeaves, MayCall, IsWriteFinishRefused, HasCommittedWrite, IsWriteLeft, IsWriteCommitRefused};
 
     /// Asks for the rows of the query, which are its [`CallerWrite::answer`] and count as read. It does not see the changes of
     /// its own.
@@ -234,17 +233,7 @@ impl<A: App, C: Suppliable> CallerWrite<A, C> {
         self,
         alloc: Global,
     ) -> Result<(Stamp, Caller<A, C>), (WriteError, CallerWrite<A, C>)>
-        ensures after { IfOk result (λ done. done.1.ports.database
-            ≡ after_commit self.caller.ports.database self.changes) }
-        ensures answer { IfOk result (λ done. done.0 ≡ newest done.1.ports.database) }
-        ensures none { IsOk result → self.inner ≡ None }
-        ensures only_if { IsOk result
-            → IsCommittable self.caller.ports.database self.base self.read self.changes }
-        ensures node { IfOk result (λ done.
-            MayHaveTaken done.1.ports.database self.caller.ports.node done.1.ports.node) }
-        ensures same { IfOk result (λ done. done.1 ≡ record self.caller {
-          ports = record self.caller.ports { database = done.1.ports.database; node = done.1.ports.node };
-        }) }
+        ensures committed { IfOk result (λ done. HasCommittedWrite self done.0 done.1) }
         ensures refused { IfErr result (λ back. IsWriteCommitRefused self back.0) }
         ensures left { IfErr result (λ back. IsWriteLeft self back.0 back.1) }
     {

@@ -1,4 +1,5 @@
-use Rattle.std.proofs.Common.{◌∙◌, refl, sym, subst}
+use Rattle.std.proofs.Common.{ℕ, refl, sym, subst}
+use Rattle.txc_caller.specs.Writing.{HasCommittedWrite}
 use Rattle.txc_c.specs.Turning.{CommitWriteComesTo}
 use Rattle.txc_c.specs.declared.site.Site.{Site}
 use Rattle.txc_c.specs.declared.site.Site.TheVariants.{Resting}
@@ -6,14 +7,5 @@ use Rattle.txc_c.proofs.site.Site.commit_write.Goals as goal
 
 pub returns-in-Ok : goal.returns-in-Ok
 returns-in-Ok c =
-    subst (λ (s : Site). CommitWriteComesTo c.args.stamp.now c.number.result s 0 (Resting c.in-Ok.done.1)) (sym c.in-Writing.is) (
-      refl,
-      record {
-        none = c.in-Ok.ensures.none refl;
-        could = c.in-Ok.ensures.only_if refl;
-        after = c.in-Ok.ensures.after;
-        told = c.number.ensures.answer ∙ c.in-Ok.ensures.answer;
-        taken = c.in-Ok.ensures.node;
-        same = c.in-Ok.ensures.same;
-      },
-    )
+    subst (λ (s : Site). CommitWriteComesTo c.args.stamp.now c.number.result s 0 (Resting c.in-Ok.done.1)) (sym c.in-Writing.is)
+    (refl, subst (λ (stamp : ℕ). HasCommittedWrite c.in-Writing.write stamp c.in-Ok.done.1) (sym c.number.ensures.answer) c.in-Ok.ensures.committed)
