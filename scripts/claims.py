@@ -6,6 +6,7 @@ import subprocess
 from functools import lru_cache
 
 import sources
+import wrong_bodies
 from sources import ROOT
 
 README = ROOT / "README.md"
@@ -74,10 +75,6 @@ def paths():
                 yield document, f"names `{name}`, which is not there"
 
 
-def edits(pattern):
-    return len([*ROOT.glob(f"crates/*/{pattern}/*.edit")])
-
-
 @lru_cache(None)
 def counts():
     """What a document may count, and how many there are in the tree."""
@@ -91,7 +88,7 @@ def counts():
         "functions": len(functions),
         "public functions": len([it for it in functions if it.is_public]),
         "definitions": len(defined),
-        "wrong bodies": edits("must-fail") + edits("more-edits"),
+        "wrong bodies": len(wrong_bodies.read(ROOT)),
         "tests": sum(path.read_text().count("#[test]") for path in [*ROOT.glob("crates/*/src/**/*.rt"), *ROOT.glob("tests/*/src/**/*.rt.in")]),
         "examples": len([it for it in ROOT.glob("examples/**/*.tx?")]),
     }
@@ -307,7 +304,7 @@ def words_of_types():
 @lru_cache(None)
 def words_of_sources():
     """Each word of the sources and of the scripts, and each part of the path of one."""
-    found = [*files(), *ROOT.glob("scripts/*"), *ROOT.glob("bench/**/*.*"), *ROOT.glob("crates/*/*-*/*.edit")]
+    found = [*files(), *ROOT.glob("scripts/*"), *ROOT.glob("bench/**/*.*"), *ROOT.glob("crates/*/wrong-bodies/**/*.edits")]
     return {word for it in found for text in (it.read_text(errors="replace"), it.as_posix()) for word in re.findall(r"\w+", text)}
 
 

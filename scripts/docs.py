@@ -4,10 +4,9 @@
   PROMISE.md, promise/, crates/
                        from the crates' src/ and specs/, and docs/promise.in.md (scripts/promise.py, scripts/pages.py)
   ../README.md         what a page buys and costs, from FIGURES.md, and how long commands take, from docs/gate.tsv
-  WRONG_BODIES.md      its lists, from the crates' edits
+  WRONG_BODIES.md      its lists, from the crates' wrong-bodies/
   ARCHITECTURE.md      the table of proofs that other crates use
   GATE.md              the table of what the gate takes, from docs/gate.tsv
-  FIGURES.md           the table of wrong bodies that were seen refused, from docs/refused.tsv
   EXAMPLES.md          from examples/
   SCRIPTS.md           how its lines are written, from the tables by which they are read (scripts/lines.py); the session of a world has to
                        be that of its script
@@ -15,11 +14,12 @@
   EMBEDDING.md         its code, from tests/txc_first, the shop and the auction
 
 usage: docs.py [--check]      --check writes nothing, and ends with 1 where a file is not what would be written, or where what
-                              the documents claim is not so (scripts/claims.py)
+                              the documents claim is not so (scripts/claims.py); with 2, also without it, where a file of wrong bodies
+                              has a fault (scripts/wrong_bodies.py)
 """
 import re, sys
 
-import claims, lines, pages, promise, refused, run, sources
+import claims, lines, pages, promise, run, sources, wrong_bodies
 from sources import ROOT, crates
 
 LISTS = "## All of them, by crate"
@@ -36,38 +36,25 @@ SESSION = "### A world, line by line"
 MOST_SHOWN = 12
 PROOFS = "| Module | Says | Used by |\n|---|---|---|\n"
 BUYS = "| Pages may be so old | Plain cache: hits | Torn | Cost | This cache: hits | Torn | Cost |\n|---|---|---|---|---|---|---|\n"
-TAKES = "| Crate | Proof | By the clock | Built | `must-fail/` | `edits.txt` |\n|---|---|---|---|---|---|\n"
+TAKES = "| Crate | Proof | By the clock | Built | Wrong bodies |\n|---|---|---|---|---|\n"
 
 
-def named():
-    """The edits beside must-fail/ that the gate tries: those that edits.txt names, as pairs of crate and name."""
-    rows = [line.split("#")[0].partition(":") for line in (ROOT / "edits.txt").read_text().split("\n")]
-    return {(crate.strip(), name) for crate, _, names in rows for name in names.split()}
-
-
-def edits(crate, is_wanted):
-    """The names of those of a crate's edits that are wanted, by the file that each changes first."""
-    found = {}
-    for edit in sorted([*(ROOT / "crates" / crate).glob("must-fail/*.edit"), *(ROOT / "crates" / crate).glob("more-edits/*.edit")]):
-        if is_wanted(edit):
-            file = re.search(r"^file: (\S+)$", edit.read_text(), re.M)[1]
-            found.setdefault(file, []).append(edit.stem)
-    return found
-
-
-def rows(found):
-    return "".join(f"- `{file}`: {', '.join(f'`{it}`' for it in names)}.\n" for file, names in sorted(found.items()))
+def rows(bodies):
+    """A line for each source, with the names of the wrong bodies that are of it."""
+    names = {}
+    for body in bodies:
+        names.setdefault(body.source, []).append(f"`{body.name}`")
+    return "".join(f"- `{source}`: {', '.join(sorted(names[source]))}.\n" for source in sorted(names))
 
 
 def lists():
-    text, in_gate = "", named()
-    for name in crates():
-        is_named = lambda edit: edit.parent.name == "must-fail" or (name, edit.stem) in in_gate
-        gate, beside = edits(name, is_named), edits(name, lambda edit: not is_named(edit))
-        if not gate and not beside:
+    text = ""
+    for crate in crates():
+        bodies = wrong_bodies.read(ROOT, [crate])
+        if not bodies:
             continue
-        count = [sum(map(len, it.values())) for it in (gate, beside)]
-        text += f"\n### `{name}` ({count[0]} in the gate, {count[1]} beside it)\n\n"
+        gate, beside = ([it for it in bodies if it.is_in_gate == is_in_gate] for is_in_gate in (True, False))
+        text += f"\n### `{crate}` ({len(gate)} in the gate, {len(beside)} beside it)\n\n"
         text += rows(gate) + ("\nBeside the gate:\n\n" if gate and beside else "") + rows(beside)
     return text
 
@@ -80,7 +67,7 @@ def in_order(text):
     return "".join([*sections[:at], first, *(it for it in sections[at:] if it != first)]) if first not in sections[:at] else text
 
 
-def wrong_bodies(text):
+def listed(text):
     start, _, after = in_order(text).partition(LISTS)
     return start + LISTS + after.partition("\n### ")[0].rstrip() + "\n" + lists()
 
@@ -190,13 +177,14 @@ def architecture(text):
 def gate(text):
     """Fills the table of what the gate takes, a row a crate, with the whole and what belongs to no crate as its last rows."""
     taken = [line.split("\t") for line in (ROOT / "docs/gate.tsv").read_text().splitlines()]
-    cells = {(crate, kind): (cpu, clock) for crate, kind, cpu, clock in taken}
+    cells = {(crate, kind): (cpu, clock) for crate, kind, cpu, clock, *_ in taken}
     of = lambda crate, kind: cells.get((crate, kind), ("", ""))
     rows = ""
     for crate in crates():
-        rows += f"| `{crate}` | {' | '.join([*of(crate, 'proof'), *(of(crate, it)[0] for it in ('build', 'must-fail', 'named'))])} |\n"
+        tried = sum(int(of(crate, kind)[0] or 0) for kind in ("must-fail", "named"))
+        rows += f"| `{crate}` | {' | '.join([*of(crate, 'proof'), of(crate, 'build')[0], str(tried or '')])} |\n"
     for name, key in (("the tests", ("all", "tests")), ("what belongs to no crate", ("", "other")), ("all", ("", "all"))):
-        rows += f"| {name} | {' | '.join(of(*key))} | | | |\n"
+        rows += f"| {name} | {' | '.join(of(*key))} | | |\n"
     start, _, after = text.partition(TAKES)
     return start + TAKES + rows + re.sub(r"^(?:\|.*\n)*", "", after)
 
@@ -228,21 +216,18 @@ def readme(text):
     return re.sub(r"the gate: \d+ minutes", f"the gate: {int(taken['', 'all'][1]) / 60:.0f} minutes", text)
 
 
-def figures(text):
-    """Fills the table of wrong bodies that were seen refused."""
-    start, _, after = text.partition(refused.TABLE)
-    return start + refused.table() + re.sub(r"^(?:\|.*\n)*", "", after)
-
-
 def written():
     """Each file that is made by script, or has parts that are, beside its text."""
-    made = {"WRONG_BODIES.md": wrong_bodies, "SCRIPTS.md": scripts, "CALLING.md": calling, "EMBEDDING.md": calling, "ARCHITECTURE.md": architecture, "GATE.md": gate, "FIGURES.md": figures}
+    made = {"WRONG_BODIES.md": listed, "SCRIPTS.md": scripts, "CALLING.md": calling, "EMBEDDING.md": calling, "ARCHITECTURE.md": architecture, "GATE.md": gate}
     texts = {ROOT / "docs" / name: make((ROOT / "docs" / name).read_text()) for name, make in made.items()}
     texts[ROOT / "README.md"] = readme((ROOT / "README.md").read_text())
     return {**texts, ROOT / "docs/EXAMPLES.md": examples(), **pages.written(), **promise.written()}
 
 
 def main():
+    if found := wrong_bodies.faults(ROOT):
+        print(*found, sep="\n", file=sys.stderr)
+        sys.exit(2)
     texts, is_check = written(), "--check" in sys.argv[1:]
     for path, text in texts.items():
         if not is_check:
