@@ -106,7 +106,8 @@ def chosen(root: Path, words: Sequence[str]) -> list[WrongBody]:
 
 def named(root: str | Path, crates: Sequence[str]) -> list[str]:
     """Returns the wrong bodies of these crates, or of all, that the gate tries, as CRATE/NAME."""
-    return [it.label for it in chosen(Path(root), crates) if it.is_in_gate]
+    known = wrong_bodies.crates_with_wrong_bodies(Path(root))
+    return [it.label for crate in known if not crates or crate in crates for it in wrong_bodies.read(Path(root), [crate]) if it.is_in_gate]
 
 
 def rounds(root: Path, trials: Iterable[Trial]) -> list[list[Trial]]:
@@ -162,8 +163,8 @@ def apply(trials: Iterable[Trial], folder: str) -> None:
         path.write_text(text, encoding="utf-8")
 
 
-def check(root: Path, trials: list[Trial], seen: str) -> tuple[str, int]:
-    """Checks in a copy of the crate the functions that these trials change. Returns what the prover says, and its exit status."""
+def check(root: Path, trials: list[Trial], seen: str) -> str:
+    """Checks in a copy of the crate the functions that these trials change, and returns what the prover says."""
     crate = trials[0].body.crate
     # cpu.py knows the checks of wrong bodies by the name of this folder
     with tempfile.TemporaryDirectory(prefix="round-") as room:
@@ -174,12 +175,12 @@ def check(root: Path, trials: list[Trial], seen: str) -> tuple[str, int]:
         ends = sorted({it.end for trial in trials for it in trial.functions})
         ran = subprocess.run(["rattle", "check", *check_words(str(root), crate), "--incremental", seen, *(it for end in ends for it in ("--only", end))],
                              cwd=room, stdout=subprocess.PIPE, stderr=subprocess.STDOUT, errors="replace", text=True, check=False)
-        return ran.stdout, ran.returncode
+        return ran.stdout
 
 
 def try_together(root: Path, trials: list[Trial], seen: str) -> None:
     """Gives those of these trials a verdict of which one check says enough."""
-    said, _ = check(root, trials, seen)
+    said = check(root, trials, seen)
     unknown = UNKNOWN.search(said)
     strangers = [trial for trial in trials if unknown and unknown[1] in {it.end for it in trial.functions}]
     if unknown and strangers:
