@@ -37,6 +37,7 @@ import signal
 import subprocess
 import sys
 import tempfile
+import threading
 from collections import defaultdict
 from collections.abc import Iterable, Sequence
 from concurrent.futures import ThreadPoolExecutor
@@ -64,6 +65,8 @@ PROVED = re.compile(r"proved(?:$|,| where )")
 GAVE_UP = re.compile(r"could not tell")
 # What the prover says of a name that it is asked to check, if it has none or several such, before it checks anything.
 UNKNOWN = re.compile(r"(?:has no function|several functions are named) `([^`]*)`.*")
+# Set once the command is to end: no check begins any more.
+IS_OVER = threading.Event()
 
 
 class CannotTry(Exception):
@@ -131,23 +134,6 @@ def rounds(root: Path, trials: Iterable[Trial]) -> list[list[Trial]]:
 # How it is tried.
 
 
-class Folders:
-    """The folders in which the checks of a crate keep what they saw: one for each that runs at the same time."""
-
-    def __init__(self, room: str) -> None:
-        self.room = room
-        self.free: dict[str, queue.LifoQueue[str]] = defaultdict(queue.LifoQueue)
-
-    def take(self, crate: str) -> str:
-        try:
-            return self.free[crate].get_nowait()
-        except queue.Empty:
-            return tempfile.mkdtemp(prefix=f"{crate}-", dir=self.room)
-
-    def give_back(self, crate: str, folder: str) -> None:
-        self.free[crate].put(folder)
-
-
 def apply(trials: Iterable[Trial], folder: str) -> None:
     """Makes the changes of all trials in a copy of their crate, from the end of each file, so that the places before stay where they are."""
     by_file = defaultdict(list)
@@ -166,6 +152,8 @@ def apply(trials: Iterable[Trial], folder: str) -> None:
 def check(root: Path, trials: list[Trial], seen: str) -> str:
     """Checks in a copy of the crate the functions that these trials change, and returns what the prover says."""
     crate = trials[0].body.crate
+    if IS_OVER.is_set():
+        raise CannotTry("the command was stopped")
     # cpu.py knows the checks of wrong bodies by the name of this folder
     with tempfile.TemporaryDirectory(prefix="round-") as room:
         for part in ("src", "specs", "proofs"):
@@ -211,28 +199,38 @@ def judge(trial: Trial, lines: list[str]) -> None:
         trial.end("refused", f"names: {errors[0]}" if by_names else failing[0])
 
 
-def try_all(root: Path, bodies: list[WrongBody]) -> int:
-    """Tries the wrong bodies over the libraries of crates/*/out, prints the verdicts, and returns the exit status."""
-    trials = [Trial(it, it.functions(root)) for it in bodies]
-    by_crate = defaultdict(list)
-    for trial in trials:
-        by_crate[trial.body.crate].append(trial)
-    lists = [it for own in by_crate.values() for it in rounds(root, own)]
-    with tempfile.TemporaryDirectory(prefix="seen-") as room, ThreadPoolExecutor(int(os.environ.get("JOBS") or os.cpu_count() or 1)) as pool:
-        folders = Folders(room)
+def try_crate(root: Path, trials: list[Trial], jobs: int) -> None:
+    """Gives each of these trials of one crate its verdict, and prints it: so many checks at a time, each of which goes on in a folder from
+    what one before it saw."""
+    with tempfile.TemporaryDirectory(prefix="seen-") as room, ThreadPoolExecutor(jobs) as pool:
+        folders: queue.SimpleQueue[str] = queue.SimpleQueue()
+        for _ in range(jobs):
+            folders.put(tempfile.mkdtemp(dir=room))
 
         def run(together: list[Trial]) -> None:
-            crate = together[0].body.crate
-            seen = folders.take(crate)
-            try_together(root, together, seen)
-            folders.give_back(crate, seen)
+            seen = folders.get()
+            try:
+                try_together(root, together, seen)
+            finally:
+                folders.put(seen)
             for trial in together:
                 if trial.verdict:
                     print(f"{trial.body.label}: {trial.verdict}: {trial.said[:MOST_SAID]}", flush=True)
 
-        list(pool.map(run, sorted(lists, key=len, reverse=True)))
+        list(pool.map(run, sorted(rounds(root, trials), key=len, reverse=True)))
         # one whose function waits for that of another was not judged beside it
         list(pool.map(run, [[it] for it in trials if not it.verdict]))
+
+
+def try_all(root: Path, bodies: list[WrongBody]) -> int:
+    """Tries the wrong bodies over the libraries of crates/*/out, prints the verdicts, and returns the exit status."""
+    by_crate = defaultdict(list)
+    for body in bodies:
+        by_crate[body.crate].append(Trial(body, body.functions(root)))
+    jobs = int(os.environ.get("JOBS") or os.cpu_count() or 1)
+    with ThreadPoolExecutor(jobs) as pool:
+        list(pool.map(lambda own: try_crate(root, own, max(1, jobs // len(by_crate))), sorted(by_crate.values(), key=len, reverse=True)))
+    trials = [it for own in by_crate.values() for it in own]
     count = {verdict: sum(it.verdict == verdict for it in trials) for verdict in ("refused", "proved", "bad")}
     print(f"{count['refused']} refused, {count['proved']} proved" + (f", {count['bad']} bad" if count["bad"] else ""))
     return int(count["refused"] != len(trials))
@@ -307,6 +305,12 @@ def main() -> int:
         return 2
 
 
+def stop(number: int, _: object) -> None:
+    IS_OVER.set()
+    sys.exit(128 + number)
+
+
 if __name__ == "__main__":
-    signal.signal(signal.SIGTERM, lambda *_: sys.exit(143))
+    for it in (signal.SIGINT, signal.SIGTERM):
+        signal.signal(it, stop)
     sys.exit(main())
