@@ -8,8 +8,8 @@ usage: [JOBS=N] scripts/edits.py [CRATE | CRATE/NAME]..
        scripts/edits.py --bare [CRATE]..
        scripts/edits.py --check
   JOBS     how many checks run side by side, by default one a core (up to 2.7 GB each)
-  --kept   takes the libraries that `rt ci` (so `make prove`) has left in crates/*/out; without it they are first proved and built where
-           they have changed. What follows takes them too
+  --kept   takes the libraries of crates/*/out as they lie there, as `rt ci` (so `make prove`) has left them, and so does what follows.
+           Without it those below a crate are proved and built anew if one is not there, or is older than its sources
   --named  tries those that are marked `(gate)`, as the gate does
   --since  tries those that are due since a commit: their own text has changed, or the contract or the body of their function, or a
            definition that the contract rests on
@@ -39,7 +39,7 @@ import sys
 import tempfile
 import threading
 from collections import defaultdict
-from collections.abc import Iterable, Sequence
+from collections.abc import Iterable, Iterator, Sequence
 from concurrent.futures import ThreadPoolExecutor
 from dataclasses import dataclass
 from pathlib import Path
@@ -54,6 +54,8 @@ ROOT = Path(__file__).resolve().parent.parent
 MOST_TOGETHER = 24
 # How many characters of what the prover said of a wrong body are printed.
 MOST_SAID = 200
+# How many characters of what was said are printed if a crate is not proved.
+MOST_SAID_OF_A_BUILD = 3000
 # What is said where a proof names what the wrong body took away: that shows little of a contract.
 NAMES = re.compile(r"has no field|\(nearest: |is not in scope|has no `|was not admitted")
 # What is said of a function of which only a callee is not proved.
@@ -239,22 +241,35 @@ def try_all(root: Path, bodies: list[WrongBody]) -> int:
 # The libraries below.
 
 
-def build_libraries(root: Path, crates: Iterable[str]) -> None:
-    """Proves and builds what has changed of these crates and of those below them."""
-    for crate in crates:
-        ran = subprocess.run(["rt", "lib", "--jobs", os.environ.get("JOBS") or str(os.cpu_count())], cwd=root / "crates" / crate,
-                             stdout=subprocess.PIPE, stderr=subprocess.STDOUT, text=True, errors="replace", check=False)
-        if ran.returncode:
-            raise CannotTry(f"{ran.stdout[-3000:]}{crate} is not proved")
+def newest(folder: Path) -> float:
+    """Returns when a file below a folder was changed last, or 0 if it has none."""
+    return max((it.stat().st_mtime for it in folder.rglob("*") if it.is_file()), default=0)
+
+
+def libraries(root: Path, crate: str) -> Iterator[tuple[Path, float]]:
+    """Yields a file of each library that a check of a crate takes, with when its sources were changed last."""
+    below = changed_since.Tree(root).below[crate] - {crate}
+    for it in sorted(below):
+        sources = [newest(root / "crates" / it / part) for part in ("src", "specs", "proofs")]
+        yield root / "crates" / it / "out" / "rlib" / f"{it}.rlib" / "format", max(sources)
 
 
 def look_for_libraries(root: Path, crates: Iterable[str]) -> None:
     """Fails if a library is not there that a check of these crates takes."""
     for crate in crates:
-        words = check_words(str(root), crate)
-        wanted = [Path(words[n + 1].partition("=")[2]) for n, word in enumerate(words) if word == "--extern"]
-        if missing := [it for it in wanted if not it.exists()]:
-            raise CannotTry(f"a check of {crate} takes {missing[0]}, which is not there: `rt ci {crate}` makes it")
+        if missing := next((it for it, _ in libraries(root, crate) if not it.exists()), None):
+            raise CannotTry(f"a check of {crate} takes {missing.parent}, which is not there: `rt ci {crate}` makes it")
+
+
+def build_libraries(root: Path, crates: Iterable[str]) -> None:
+    """Proves and builds the libraries below each of these crates of which one is not there, or is older than its sources."""
+    for crate in crates:
+        if all(it.exists() and changed < it.stat().st_mtime for it, changed in libraries(root, crate)):
+            continue
+        ran = subprocess.run(["rt", "lib", "--jobs", os.environ.get("JOBS") or str(os.cpu_count())], cwd=root / "crates" / crate,
+                             stdout=subprocess.PIPE, stderr=subprocess.STDOUT, text=True, errors="replace", check=False)
+        if ran.returncode:
+            raise CannotTry(f"{ran.stdout[-MOST_SAID_OF_A_BUILD:]}{crate} is not proved")
 
 
 # The command line.
@@ -285,9 +300,10 @@ def run(given: argparse.Namespace) -> int:
         bodies = changed_since.due(ROOT, given.since, bodies)
         print(f"{len(bodies)} wrong bodies are due since {given.since}", file=sys.stderr)
     crates = dict.fromkeys(it.crate for it in bodies)
-    if not (given.kept or given.named or given.since):
+    if given.kept or given.named or given.since:
+        look_for_libraries(ROOT, crates)
+    else:
         build_libraries(ROOT, crates)
-    look_for_libraries(ROOT, crates)
     return try_all(ROOT, bodies)
 
 

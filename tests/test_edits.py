@@ -7,6 +7,7 @@ usage: tests/test_edits.py
 from __future__ import annotations
 
 import io
+import os
 import subprocess
 import sys
 import tempfile
@@ -257,6 +258,34 @@ class Judging(Repository):
         status, last, checks = self.tried(said)
         self.assertEqual((status, last), (1, "3 refused, 0 proved, 1 bad"))
         self.assertEqual(checks[1], ["now_is_zero", "the_first_is_one"])
+
+
+class Libraries(Repository):
+    def setUp(self) -> None:
+        super().setUp()
+        self.write("crates/high/src/lib.rt", "pub fn zero() -> u64 {\n    0\n}\n")
+        self.write("crates/high/wrong-bodies/lib.edits", "== one\nold:     0\nnew:     1\n")
+
+    def commands_of(self, *words: str) -> tuple[int, list[str]]:
+        """Returns what a command line ends with, and the commands that it runs."""
+        ran = mock.Mock(return_value=subprocess.CompletedProcess([], 0, "fn high::zero: not proved\n"))
+        with mock.patch.object(edits.subprocess, "run", ran):
+            status, _, _ = self.command(*words)
+        return status, [" ".join(it.args[0][:2]) for it in ran.call_args_list]
+
+    def test_a_missing_library(self) -> None:
+        self.assertEqual(self.commands_of("high"), (0, ["rt lib", "rattle check"]))
+        self.assertEqual(self.commands_of("--kept", "high"), (2, []))
+
+    def test_a_library_of_now(self) -> None:
+        self.write("crates/low/out/rlib/low.rlib/format", "low\n")
+        self.assertEqual(self.commands_of("high"), (0, ["rattle check"]))
+        self.assertEqual(self.commands_of("--kept", "high"), (0, ["rattle check"]))
+
+    def test_a_library_of_older_sources(self) -> None:
+        self.write("crates/low/out/rlib/low.rlib/format", "low\n")
+        os.utime(self.root / "crates/low/out/rlib/low.rlib/format", (0, 0))
+        self.assertEqual(self.commands_of("high"), (0, ["rt lib", "rattle check"]))
 
 
 class Since(Repository):
