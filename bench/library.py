@@ -55,7 +55,7 @@ def rattle(room, own_name, over, is_proved):
     shutil.copy(f"{ROOT}/HANDLES", room)
     for name in lines:
         # what earlier runs kept of the libraries spares their proofs
-        shutil.copytree(f"{ROOT}/crates/{name}", f"{room}/crates/{name}", ignore=shutil.ignore_patterns("must-fail", "more-edits", *[] if is_proved else ["out"]))
+        shutil.copytree(f"{ROOT}/crates/{name}", f"{room}/crates/{name}", ignore=shutil.ignore_patterns("wrong-bodies", *[] if is_proved else ["out"]))
     if is_proved:
         library.told(["rt", "run", "--", "hit", "1", "0"], own)
         return f"{own}/out/{own_name}"

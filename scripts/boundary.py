@@ -142,7 +142,7 @@ def reference(room):
         it.writelines(lines.values())
     shutil.copy(f"{ROOT}/HANDLES", f"{room}/program")
     for name in lines:
-        shutil.copytree(f"{ROOT}/crates/{name}", f"{room}/program/crates/{name}", ignore=shutil.ignore_patterns("out", "must-fail", "more-edits"))
+        shutil.copytree(f"{ROOT}/crates/{name}", f"{room}/program/crates/{name}", ignore=shutil.ignore_patterns("out", "wrong-bodies"))
     said = unproved.build(f"{room}/program/crates/txcache", f"{room}/txcache", ["--steps", "1"])
     if said:
         sys.exit(f"{said[-3000:]}boundary: `txcache` does not compile")

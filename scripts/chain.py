@@ -6,7 +6,7 @@ usage: scripts/chain.py [--jobs N] [--memory GB] [CORES..]      by default 4 and
            cores are free
 
 It schedules as `rt ci` does: first the task with the longest chain of others behind it, by lines of .rt; the wrong bodies of
-must-fail/ fill what proofs leave free, and the tests and those that edits.txt names fill what is left of the cores, two at once.
+must-fail/ fill what proofs leave free, and the tests and those that scripts/edits.py tries fill what is left of the cores, two at once.
 """
 import argparse
 import os

@@ -5,7 +5,7 @@ usage: scripts/cpu.py [--table FILE] COMMAND..      as `scripts/cpu.py --table d
   FILE     is written with the rows, for docs/GATE.md's table and scripts/chain.py
 
 The kinds: a proof, the tests (compiled and run with no proof), what two compilers make of a program, the wrong bodies of
-must-fail/, and those that edits.txt names. It looks at the processes four times a second, so the last quarter of a second of
+must-fail/, if there are any, and those that scripts/edits.py tries. It looks at the processes four times a second, so the last quarter of a second of
 each is missed. That, and all else that the command ran, stands under `other`. The exit status is the command's.
 """
 

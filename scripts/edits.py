@@ -1,411 +1,311 @@
 #!/usr/bin/env python3
-"""Tries the wrong bodies of crates/*/more-edits: the prover must refuse each.
+"""Tries the wrong bodies of crates/CRATE/wrong-bodies/ (scripts/wrong_bodies.py says what stands there): the prover has to refuse each.
 
-usage: [JOBS=N] scripts/edits.py [CRATE..]
-       [JOBS=N] scripts/edits.py --named [CRATE..]
-       [JOBS=N] scripts/edits.py --kept CRATE[/NAME]..
-  CRATE    tries the wrong bodies of these crates alone
+usage: [JOBS=N] scripts/edits.py [CRATE | CRATE/NAME]..
+       [JOBS=N] scripts/edits.py --kept [CRATE | CRATE/NAME]..
+       [JOBS=N] scripts/edits.py --named [CRATE]..
+       [JOBS=N] scripts/edits.py --since COMMIT [CRATE]..
+       scripts/edits.py --bare [CRATE]..
+       scripts/edits.py --check
   JOBS     how many checks run side by side, by default one a core (up to 2.7 GB each)
-  --named  tries those that edits.txt names, as the gate does, over the libraries that `rt ci` has just left in
-           crates/*/out: of each crate the functions that they change are checked, and nothing else. Without it, it
-           tries all of what is committed, in a temporary folder, over libraries that it builds where it has to
-  --kept   tries all of these crates, or those alone that are named, as --named does, over the same libraries
+  --kept   takes the libraries that `rt ci` (so `make prove`) has left in crates/*/out; without it they are first proved and built where
+           they have changed. What follows takes them too
+  --named  tries those that are marked `(gate)`, as the gate does
+  --since  tries those that are due since a commit: their own text has changed, or the contract or the body of their function, or a
+           definition that the contract rests on
+  --bare   lists the public functions that no wrong body changes, and tries nothing
+  --check  looks at the files alone, and tries nothing
 
-A function's contract is all that the proofs of others know of it, so the wrong bodies of functions of
-which none calls another are tried together, in one check: each is refused if the check says that its own
-function has a goal that is not proved. One of which that is not said is tried again, alone.
+No CRATE means all of them. Each wrong body is applied to a copy of its crate, and of the function that it changes the prover is to say that
+a goal is not proved. A contract is all that the proofs of others know of a function, so wrong bodies of several functions are tried in one
+check; one whose function only waits for another is tried again, alone. The checks of a crate share what they saw of functions that stayed
+the same.
 
-An edit has texts of several lines where a line after `old:` or `new:` begins with none of its words. It may change files of proofs/ beside its file of src/, so that a clause refuses it and not a name or an answer that is gone. One
-that changes no function, but a constant, has a line `function: NAME`: the function that is to refuse it, by its name or the end of it. Of
-a function that the prover does not know by that name the edit is bad, and the others of its check are tried without it.
-
-Of a crate of which it tried all, without --named, it writes how many were refused into docs/refused.tsv. It prints each wrong body that is not
-plainly refused, with --named and --kept each, and last `N refused, M proved`, with
-`, K bad` where some could not be tried. The exit status is 0 only if M and K are 0.
+It prints each wrong body with its verdict, and last `N refused, M proved`, with `, K bad` if some could not be tried. The exit status is 0
+only if M and K are 0. It is 2, and nothing was tried, if there is no such crate, name, commit or library, or if a file of wrong bodies
+has a fault; each is named with its file and line.
 """
 
+from __future__ import annotations
+
+import argparse
 import os
+import queue
 import re
 import shutil
 import signal
 import subprocess
 import sys
 import tempfile
+from collections import defaultdict
+from collections.abc import Iterable, Sequence
 from concurrent.futures import ThreadPoolExecutor
-from itertools import accumulate
+from dataclasses import dataclass
+from pathlib import Path
 
-import refused
+import changed_since
+import wrong_bodies
 from check import check_words
+from wrong_bodies import Function, WrongBody
 
-JOBS = int(os.environ.get("JOBS", os.cpu_count()))
-# A check of many edits still fits the memory and ends in some minutes.
+ROOT = Path(__file__).resolve().parent.parent
+# A check of so many wrong bodies still fits the memory and ends in some minutes.
 MOST_TOGETHER = 24
-# What is said where a proof file names what an edit took away: this shows little of a contract.
+# How many characters of what the prover said of a wrong body are printed.
+MOST_SAID = 200
+# What is said where a proof names what the wrong body took away: that shows little of a contract.
 NAMES = re.compile(r"has no field|\(nearest: |is not in scope|has no `|was not admitted")
 # What is said of a function of which only a callee is not proved.
 WAITS = re.compile(r"not proved; it waits|(?:no proof:|not proved;) it calls `.*`, which (?:is|are) not proved$"
                    r"|no proof: the borrow checker's part in its proof is not made yet: a call of .*, which has no proof")
 # What is said of a function whose goals are all proved, also of one that may wait, or whose callers owe it something.
 PROVED = re.compile(r"proved(?:$|,| where )")
-# What the prover says of a name that it is asked to check, where it has none or several such, before it checks anything.
+# What is said of a function on which the prover gave up.
+GAVE_UP = re.compile(r"could not tell")
+# What the prover says of a name that it is asked to check, if it has none or several such, before it checks anything.
 UNKNOWN = re.compile(r"(?:has no function|several functions are named) `([^`]*)`.*")
 
 
-class Edit:
-    """A wrong body: its crate, its name, the pairs of texts of each file, and the function that it names, if it names one."""
-
-    def __init__(self, crate, path):
-        self.crate, self.path = crate, path
-        self.name = f"{crate}/{os.path.basename(path)}"
-        self.pairs, self.named, self.functions, self.verdict, self.said = [], None, set(), None, ""
-        file, old, new = None, [], None
-        for line in [*open(path, encoding="utf-8").read().rstrip("\n").split("\n"), "file: "]:
-            if line.startswith(("file: ", "function: ", "old: ")) and new is not None:
-                self.pairs.append((file, "\n".join(old), "\n".join(new).removeprefix(" ")))
-                new = None
-            if line.startswith("file: "):
-                file = line[6:].strip()
-            elif line.startswith("function: "):
-                self.named = line[10:].strip()
-            elif line.startswith("old: "):
-                old = [line[5:]]
-            elif line.startswith("new:"):
-                new = [line[4:]]
-            else:
-                (old if new is None else new).append(line)
-
-    def places(self, folder):
-        """Each file that it changes, with where, and the text that comes there; or why it cannot be applied."""
-        found = []
-        for file, old, new in self.pairs:
-            path = f"{folder}/{file}"
-            text = open(path, encoding="utf-8").read() if os.path.exists(path) else ""
-            if text.count(old) != 1:
-                raise ValueError(f"{text.count(old)} places in {file} have the text `{old.strip()}`")
-            found.append((file, text.index(old), len(old), new))
-        if not found:
-            raise ValueError("it changes nothing")
-        return found
-
-    def find_functions(self, folder):
-        """The function that it names, or those that it changes; none where it changes what is no function."""
-        if self.named:
-            self.functions = {rf"{self.crate}::(?:\w+::)*{re.escape(self.named)}"}
-            return
-        for file, old, _ in self.pairs:
-            if not file.startswith("src/"):
-                continue
-            path = f"{folder}/{file}"
-            text = open(path, encoding="utf-8").read() if os.path.exists(path) else ""
-            at = text[: max(text.find(old), 0)].count("\n")
-            inside = [name for first, last, name in functions(self.crate, file, text)
-                      if first <= at and at + old.count("\n") <= last]
-            if not inside:
-                self.functions = set()
-                return
-            self.functions.add(inside[-1])
-
-    def ends(self):
-        """The ends of its functions' names: the prover takes them, where no other ends so."""
-        return {path.rpartition("*")[2].removeprefix(f"{self.crate}::").replace("\\", "") for path in self.functions}
+class CannotTry(Exception):
+    """Nothing can be tried: what was asked for is not there."""
 
 
-def functions(crate, file, text):
-    """The first and the last line and the name of each function of a formatted file."""
-    module = [crate] + [it for it in file.removeprefix("src/").removesuffix(".rt").split("/") if it not in ("lib", "main")]
-    lines, kind, found = text.split("\n"), "", []
-    for at, line in enumerate(lines):
-        if line.startswith("impl"):
-            head = line
-            for more in lines[at + 1:at + 8]:
-                if "{" in head:
-                    break
-                head += " " + more
-            kind = owner(head)
-        elif line.startswith("}"):
-            kind = ""
-        is_fn = re.match(r'( *)(?:pub(?:\([a-z]*\))? )?(?:const )?(?:unsafe )?(?:extern "C" )?fn (\w+)', line)
-        if is_fn and (is_fn[1] == "" or kind and is_fn[1] == "    "):
-            last = next((n for n in range(at, len(lines)) if lines[n] == is_fn[1] + "}"), at)
-            # a method is named by the module of its type, wherever its `impl` stands
-            path = rf"{crate}::(?:\w+::)*{re.escape(kind)}::{is_fn[2]}" if kind else "::".join(module + [is_fn[2]])
-            found.append((at, last, path))
-    return found
+@dataclass
+class Trial:
+    """A wrong body with its functions, and the verdict on it: `refused`, `proved` or `bad`, and none before it is judged."""
+
+    body: WrongBody
+    functions: list[Function]
+    verdict: str = ""
+    said: str = ""
+
+    def end(self, verdict: str, said: str) -> None:
+        self.verdict, self.said = verdict, said
+
+    def said_of(self, lines: Iterable[str]) -> list[str]:
+        """Returns what a check says of its functions."""
+        names = [re.compile(rf"fn {it.pattern}(?:<.*>)?: (.*)") for it in self.functions]
+        return [found[1] for line in lines for name in names if (found := name.match(line))]
 
 
-def owner(head):
-    """The name that the prover gives to an impl: its type's and its trait's, each with its type arguments."""
-    head, own = re.split(r"\{|\bwhere\b", head)[0][4:].strip(), []
-    if head.startswith("<"):
-        depths = list(accumulate((c == "<") - (c == ">") for c in head))
-        end = depths.index(0) + 1
-        own, head = re.findall(r"[<,] *(\w+)", head[:end]), head[end:]
-    trait, _, kind = head.partition(" for ")
-    if not kind:
-        return "+".join(it for it in joined(trait, own) if it)
-    return "".join(joined(kind, own) + joined(trait, own))
+# What is tried.
 
 
-def joined(path, own):
-    """The last word of a path, and its type arguments joined, without the type parameters `own`."""
-    path, _, arguments = path.strip().partition("<")
-    words = [it for it in re.findall(r"\(\)|&|\[|(?<!')\b\w+", arguments) if it not in {"std", "crate", *own}]
-    signs = {"()": "Unit", "&": "Ref", "[": "Slice"}
-    return [path.split("::")[-1].strip(), "".join(signs.get(it, it[0].upper() + it[1:]) for it in words)]
+def chosen(root: Path, words: Sequence[str]) -> list[WrongBody]:
+    """Returns the wrong bodies of the crates among the words, and those that are said as CRATE/NAME; with no word, all."""
+    known = wrong_bodies.crates_with_wrong_bodies(root)
+    crates = list(dict.fromkeys(it.partition("/")[0] for it in words))
+    if missing := [it for it in crates if it not in known]:
+        raise CannotTry(f"no wrong body is of {', '.join(missing)}")
+    found = wrong_bodies.read(root, crates)
+    wanted = set(words)
+    if missing := wanted - {*crates} - {it.label for it in found}:
+        raise CannotTry(f"there is no wrong body {', '.join(sorted(missing))}")
+    return [it for it in found if not words or it.crate in wanted or it.label in wanted]
 
 
-def rounds(root, edits):
-    """Lists of edits of functions of which none calls another, as far as their texts say. Of one that does a check says only that it
-    waits."""
-    made, below = [], callees(root, edits[0].crate) if edits else {}
-    reach = [edit.functions.union(*(below.get(it, set()) for it in edit.functions)) for edit in edits]
-    for edit, under in zip(edits, reach):
-        fits = [it for it in made if edit.functions and len(it) < MOST_TOGETHER
-                and all(other.functions and not other.functions & under and not edit.functions & more for other, more in it)]
-        if fits:
-            fits[0].append((edit, under))
-        else:
-            made.append([(edit, under)])
-    return [[edit for edit, _ in it] for it in made]
+def named(root: str | Path, crates: Sequence[str]) -> list[str]:
+    """Returns the wrong bodies of these crates, or of all, that the gate tries, as CRATE/NAME."""
+    return [it.label for it in chosen(Path(root), crates) if it.is_in_gate]
 
 
-def callees(root, crate):
-    """What each function of the crate calls, and what that calls, by their texts."""
-    texts = {}
-    for folder, _, files in os.walk(f"{root}/crates/{crate}/src"):
-        for name in sorted(files):
-            path = os.path.join(folder, name)
-            text = open(path, encoding="utf-8").read()
-            lines = text.split("\n")
-            for first, last, function in functions(crate, os.path.relpath(path, f"{root}/crates/{crate}"), text):
-                texts[function] = "\n".join(lines[first + 1:last])
-    parts = {it: it.replace("\\", "").split("::")[-2:] for it in texts}
-    found = {}
-    for function, text in texts.items():
-        found[function] = set()
-        for is_method, kind, name in re.findall(r"(?:(\.)|\b(\w+)(?:::<[^()]*>)?::)?\b(\w+)(?:::<[^()]*>)?\(", text):
-            for other, (owner_of, last) in parts.items():
-                if last == name and (is_method or not kind or kind == "Self" or owner_of.startswith(kind)):
-                    found[function].add(other)
-    for middle in found:
-        for function in found:
-            if middle in found[function]:
-                found[function] |= found[middle]
-    return found
+def rounds(root: Path, trials: Iterable[Trial]) -> list[list[Trial]]:
+    """Returns lists of trials of one crate of which no two change one function. What changes more than functions stands alone."""
+    made: list[list[Trial]] = []
+    open_rounds: list[list[Trial]] = []
+    for trial in trials:
+        if not trial.body.is_within_functions(root):
+            made.append([trial])
+            continue
+        ends = {it.end for it in trial.functions}
+        fits = (it for it in open_rounds if len(it) < MOST_TOGETHER and not any(ends & {f.end for f in other.functions} for other in it))
+        taken = next(fits, None)
+        if taken is None:
+            taken = []
+            open_rounds.append(taken)
+        taken.append(trial)
+    return made + open_rounds
 
 
-def try_together(base, edits):
-    """Checks the crate with all these edits, and gives each its verdict."""
-    crate = edits[0].crate
-    with tempfile.TemporaryDirectory(prefix="round-", dir=os.path.dirname(base), ignore_cleanup_errors=True) as room:
-        subprocess.run(["cp", "-al", base, f"{room}/all"], check=True)
-        folder = f"{room}/all/crates/{crate}"
-        shutil.rmtree(folder)
-        subprocess.run(["cp", "-a", f"{base}/crates/{crate}", folder], check=True)
-        applied = apply(edits, folder)
-        if not applied:
-            return
-        ran = subprocess.run(["rt", "check", "--jobs", "1"], cwd=folder, stdout=subprocess.PIPE,
-                             stderr=subprocess.STDOUT, errors="replace", text=True)
-    lines = ran.stdout.split("\n")
-    if "logic=not-proved" not in lines and len(applied) > 1:
-        return
-    for edit in applied:
-        judge(edit, lines, ran.returncode, len(applied) == 1)
+# How it is tried.
 
 
-def try_named(root, edits):
-    """Checks in a copy of the crate the functions that these edits change, and gives each edit its verdict."""
-    crate = edits[0].crate
+class Folders:
+    """The folders in which the checks of a crate keep what they saw: one for each that runs at the same time."""
+
+    def __init__(self, room: str) -> None:
+        self.room = room
+        self.free: dict[str, queue.LifoQueue[str]] = defaultdict(queue.LifoQueue)
+
+    def take(self, crate: str) -> str:
+        try:
+            return self.free[crate].get_nowait()
+        except queue.Empty:
+            return tempfile.mkdtemp(prefix=f"{crate}-", dir=self.room)
+
+    def give_back(self, crate: str, folder: str) -> None:
+        self.free[crate].put(folder)
+
+
+def apply(trials: Iterable[Trial], folder: str) -> None:
+    """Makes the changes of all trials in a copy of their crate, from the end of each file, so that the places before stay where they are."""
+    by_file = defaultdict(list)
+    for trial in trials:
+        for change in trial.body.changes:
+            by_file[change.file].append(change)
+    for file, changes in by_file.items():
+        path = Path(folder, file)
+        text = path.read_text(encoding="utf-8")
+        places = sorted(((text.index(it.old), it) for it in changes), key=lambda it: it[0], reverse=True)
+        for at, change in places:
+            text = text[:at] + change.new + text[at + len(change.old):]
+        path.write_text(text, encoding="utf-8")
+
+
+def check(root: Path, trials: list[Trial], seen: str) -> tuple[str, int]:
+    """Checks in a copy of the crate the functions that these trials change. Returns what the prover says, and its exit status."""
+    crate = trials[0].body.crate
+    # cpu.py knows the checks of wrong bodies by the name of this folder
     with tempfile.TemporaryDirectory(prefix="round-") as room:
         for part in ("src", "specs", "proofs"):
-            if os.path.isdir(f"{root}/crates/{crate}/{part}"):
-                shutil.copytree(f"{root}/crates/{crate}/{part}", f"{room}/{part}")
-        applied = apply(edits, room)
-        if not applied:
-            return
-        ends = sorted({end for edit in applied for end in edit.ends()})
-        ran = subprocess.run(["rattle", "check", *check_words(root, crate), *(it for end in ends for it in ("--only", end))],
-                             cwd=room, stdout=subprocess.PIPE, stderr=subprocess.STDOUT, errors="replace", text=True)
-    lines = ran.stdout.split("\n")
-    unknown = UNKNOWN.search(ran.stdout)
-    if unknown:
-        for edit in applied:
-            if unknown[1] in edit.ends():
-                edit.verdict, edit.said = "bad", unknown[0]
-        return try_named(root, [edit for edit in applied if not edit.verdict])
-    for edit in applied:
-        judge(edit, lines, ran.returncode, False)
-        if not edit.verdict and len(applied) == 1:
-            own = said_of(edit, lines)
-            edit.verdict = "proved" if own and all(map(PROVED.match, own)) else "bad"
-            edit.said = " | ".join(own or [it for it in lines if it][-3:])
+            if (root / "crates" / crate / part).is_dir():
+                shutil.copytree(root / "crates" / crate / part, Path(room, part))
+        apply(trials, room)
+        ends = sorted({it.end for trial in trials for it in trial.functions})
+        ran = subprocess.run(["rattle", "check", *check_words(str(root), crate), "--incremental", seen, *(it for end in ends for it in ("--only", end))],
+                             cwd=room, stdout=subprocess.PIPE, stderr=subprocess.STDOUT, errors="replace", text=True, check=False)
+        return ran.stdout, ran.returncode
 
 
-def named(root, crates):
-    """The wrong bodies that edits.txt names, as CRATE/NAME."""
-    found = []
-    for line in open(f"{root}/edits.txt", encoding="utf-8"):
-        crate, colon, names = line.partition("#")[0].partition(":")
-        if colon and (not crates or crate in crates):
-            found += [f"{crate}/{it}" for it in names.split()]
-    return found
+def try_together(root: Path, trials: list[Trial], seen: str) -> None:
+    """Gives those of these trials a verdict of which one check says enough."""
+    said, _ = check(root, trials, seen)
+    unknown = UNKNOWN.search(said)
+    strangers = [trial for trial in trials if unknown and unknown[1] in {it.end for it in trial.functions}]
+    if unknown and strangers:
+        for trial in strangers:
+            trial.end("bad", unknown[0])
+        if left := [trial for trial in trials if not trial.verdict]:
+            try_together(root, left, seen)
+        return
+    lines = said.split("\n")
+    for trial in trials:
+        judge(trial, lines)
+        if not trial.verdict and len(trials) == 1:
+            own = trial.said_of(lines)
+            trial.end("proved" if own and all(map(PROVED.match, own)) else "bad", " | ".join(own or [it for it in lines if it][-3:]))
 
 
-def kept(root, words):
-    """All wrong bodies of the crates that stand alone among the words, and those said as CRATE/NAME."""
-    found = []
-    for word in words:
-        folder = f"{root}/crates/{word}/more-edits"
-        found += [word] if "/" in word else [f"{word}/{it.removesuffix('.edit')}" for it in sorted(os.listdir(folder)) if it.endswith(".edit")]
-    return found
-
-
-def edits_of(root, words):
-    """The wrong bodies that are said as CRATE/NAME, with their functions."""
-    edits = [Edit(crate, f"{root}/crates/{crate}/more-edits/{name}.edit") for crate, _, name in (it.partition("/") for it in words)]
-    for edit in edits:
-        edit.find_functions(f"{root}/crates/{edit.crate}")
-        if not edit.functions:
-            edit.verdict, edit.said = "bad", "it changes no function, and names none"
-    return edits
-
-
-def try_over_kept(root, words):
-    """Tries the wrong bodies that are said as CRATE/NAME over the libraries of crates/*/out."""
-    edits = edits_of(root, words)
-    lists = [it for crate in dict.fromkeys(edit.crate for edit in edits)
-             for it in rounds(root, [edit for edit in edits if edit.crate == crate and not edit.verdict])]
-    def tried(together):
-        try_named(root, together)
-        for edit in together:
-            if edit.verdict:
-                print(f"{edit.name}: {edit.verdict}: {edit.said[:200]}", flush=True)
-
-    for edit in edits:
-        if edit.verdict:
-            print(f"{edit.name}: {edit.verdict}: {edit.said}")
-    with ThreadPoolExecutor(JOBS) as pool:
-        list(pool.map(tried, sorted(lists, key=len, reverse=True)))
-        # one that calls another one's function was not judged beside it
-        list(pool.map(tried, [[edit] for edit in edits if not edit.verdict]))
-    return told(edits)
-
-
-def apply(edits, folder):
-    """Makes the changes of all edits, and returns those that could be applied."""
-    applied, places = [], []
-    for edit in edits:
-        try:
-            places += edit.places(folder)
-            applied.append(edit)
-        except ValueError as error:
-            edit.verdict, edit.said = "bad", str(error)
-    # from the end of each file, so that the places before stay where they are
-    for file, at, length, new in sorted(places, reverse=True):
-        with open(f"{folder}/{file}", encoding="utf-8") as it:
-            text = it.read()
-        with open(f"{folder}/{file}", "w", encoding="utf-8") as out:
-            out.write(text[:at] + new + text[at + length:])
-    return applied
-
-
-def said_of(edit, lines):
-    """What the check says of each of the edit's functions."""
-    found = []
-    for path in edit.functions:
-        name = re.compile(rf"fn {path}(?:<.*>)?: (.*)")
-        found += [it[1] for it in map(name.match, lines) if it]
-    return found
-
-
-def judge(edit, lines, status, is_alone):
-    own = said_of(edit, lines)
-    failing = [it for it in own if not PROVED.match(it) and not WAITS.match(it)]
-    unjudged = [it for it in failing if "the borrow checker does not cover" in it]
-    if unjudged:
-        edit.verdict, edit.said = "bad", unjudged[0]
+def judge(trial: Trial, lines: list[str]) -> None:
+    """Gives a trial its verdict if the check says of its own functions why they are not proved."""
+    own = trial.said_of(lines)
+    failing = [it for it in own if not any(kind.match(it) for kind in (PROVED, WAITS, GAVE_UP))]
+    uncovered = [it for it in failing if "the borrow checker does not cover" in it]
+    if uncovered:
+        trial.end("bad", uncovered[0])
     elif failing:
-        edit.verdict, edit.said = "refused", failing[0]
-        proofs = [it for it in lines if any(re.search(f"proofs/{proof_folder(path)}/", it) for path in edit.functions)]
-        errors = [it for it in proofs if ": error" in it]
-        if errors and all(NAMES.search(it) for it in errors) and not any("it is not proved that" in it for it in own):
-            edit.said = "names: " + errors[0]
-    elif is_alone and status == 1 and "logic=not-proved" in lines:
-        errors = [it for it in lines if ": error" in it or it.startswith("note: src/")]
-        edit.verdict, edit.said = "refused", "elsewhere: " + (errors[0] if errors else "")
-    elif is_alone and status == 0:
-        edit.verdict = "proved"
-    elif is_alone:
-        edit.verdict, edit.said = "bad", " | ".join(it for it in lines if it)[:400]
+        folders = [re.compile(f"proofs/{it.proof_folder}/") for it in trial.functions]
+        errors = [it for it in lines if ": error" in it and any(folder.search(it) for folder in folders)]
+        by_names = errors and all(map(NAMES.search, errors)) and not any("it is not proved that" in it for it in own)
+        trial.end("refused", f"names: {errors[0]}" if by_names else failing[0])
 
 
-def proof_folder(path):
-    """A pattern of the folder of the function's proof."""
-    return path.partition("::")[2].replace("::", "/")
+def try_all(root: Path, bodies: list[WrongBody]) -> int:
+    """Tries the wrong bodies over the libraries of crates/*/out, prints the verdicts, and returns the exit status."""
+    trials = [Trial(it, it.functions(root)) for it in bodies]
+    by_crate = defaultdict(list)
+    for trial in trials:
+        by_crate[trial.body.crate].append(trial)
+    lists = [it for own in by_crate.values() for it in rounds(root, own)]
+    with tempfile.TemporaryDirectory(prefix="seen-") as room, ThreadPoolExecutor(int(os.environ.get("JOBS") or os.cpu_count() or 1)) as pool:
+        folders = Folders(room)
+
+        def run(together: list[Trial]) -> None:
+            crate = together[0].body.crate
+            seen = folders.take(crate)
+            try_together(root, together, seen)
+            folders.give_back(crate, seen)
+            for trial in together:
+                if trial.verdict:
+                    print(f"{trial.body.label}: {trial.verdict}: {trial.said[:MOST_SAID]}", flush=True)
+
+        list(pool.map(run, sorted(lists, key=len, reverse=True)))
+        # one whose function waits for that of another was not judged beside it
+        list(pool.map(run, [[it] for it in trials if not it.verdict]))
+    count = {verdict: sum(it.verdict == verdict for it in trials) for verdict in ("refused", "proved", "bad")}
+    print(f"{count['refused']} refused, {count['proved']} proved" + (f", {count['bad']} bad" if count["bad"] else ""))
+    return int(count["refused"] != len(trials))
 
 
-def main():
-    os.chdir(f"{os.path.dirname(os.path.abspath(__file__))}/..")
-    words = [it for it in sys.argv[1:] if it not in ("--named", "--kept")]
-    if "--named" in sys.argv[1:]:
-        sys.exit(try_over_kept(os.getcwd(), named(os.getcwd(), words)))
-    if "--kept" in sys.argv[1:]:
-        sys.exit(try_over_kept(os.getcwd(), kept(os.getcwd(), words)))
-    room = tempfile.mkdtemp(prefix="edits-")
-    try:
-        sys.exit(try_all(room, sys.argv[1:]))
-    finally:
-        shutil.rmtree(room, ignore_errors=True)
+# The libraries below.
 
 
-def try_all(room, crates):
-    base = f"{room}/base"
-    subprocess.run(["git", "clone", "--quiet", ".", base], check=True)
-    crates = crates or sorted(it for it in os.listdir(f"{base}/crates") if os.path.isdir(f"{base}/crates/{it}/more-edits"))
-    for kept in os.listdir("crates"):
-        if os.path.isdir(f"crates/{kept}/out"):
-            subprocess.run(["cp", "-a", f"crates/{kept}/out", f"{base}/crates/{kept}/out"], check=True)
-    edits = []
+def build_libraries(root: Path, crates: Iterable[str]) -> None:
+    """Proves and builds what has changed of these crates and of those below them."""
     for crate in crates:
-        folder = f"{base}/crates/{crate}"
-        if not os.path.isdir(f"{folder}/more-edits"):
-            print(f"edits.py: {crate} has no more-edits/", file=sys.stderr)
-            return 2
-        ran = subprocess.run(["rt", "lib", "--jobs", str(JOBS)], cwd=folder, stdout=subprocess.PIPE, stderr=subprocess.STDOUT, text=True)
+        ran = subprocess.run(["rt", "lib", "--jobs", os.environ.get("JOBS") or str(os.cpu_count())], cwd=root / "crates" / crate,
+                             stdout=subprocess.PIPE, stderr=subprocess.STDOUT, text=True, errors="replace", check=False)
         if ran.returncode:
-            print(ran.stdout[-3000:] + f"edits.py: {crate} is not proved", file=sys.stderr)
-            return 2
-        names = sorted(os.listdir(f"{folder}/more-edits"))
-        edits += [Edit(crate, f"{folder}/more-edits/{it}") for it in names if it.endswith(".edit")]
-    for edit in edits:
-        edit.find_functions(f"{base}/crates/{edit.crate}")
-    try_lists(base, [it for crate in crates for it in rounds(base, [edit for edit in edits if edit.crate == crate])])
-    try_lists(base, [[it] for it in edits if not it.verdict])
-    for edit in edits:
-        if edit.verdict != "refused" or edit.said.startswith(("names: ", "elsewhere: ")):
-            print(f"{edit.name}: {edit.verdict}: {edit.said[:300]}")
-    return told(edits)
+            raise CannotTry(f"{ran.stdout[-3000:]}{crate} is not proved")
 
 
-def told(edits):
-    """Prints what the edits came to, and returns the exit status."""
-    count = lambda verdict: sum(it.verdict == verdict for it in edits)
-    bad = len(edits) - count("refused") - count("proved")
-    for crate in dict.fromkeys(it.crate for it in edits):
-        own = [it for it in edits if it.crate == crate]
-        if len(own) == len(refused.bodies(crate, "more-edits")):
-            refused.note(crate, sum(it.verdict == "refused" for it in own))
-    print(f"{count('refused')} refused, {count('proved')} proved" + (f", {bad} bad" if bad else ""))
-    return int(count("refused") != len(edits))
+def look_for_libraries(root: Path, crates: Iterable[str]) -> None:
+    """Fails if a library is not there that a check of these crates takes."""
+    for crate in crates:
+        words = check_words(str(root), crate)
+        wanted = [Path(words[n + 1].partition("=")[2]) for n, word in enumerate(words) if word == "--extern"]
+        if missing := [it for it in wanted if not it.exists()]:
+            raise CannotTry(f"a check of {crate} takes {missing[0]}, which is not there: `rt ci {crate}` makes it")
 
 
-def try_lists(base, lists):
-    with ThreadPoolExecutor(JOBS) as pool:
-        for _ in pool.map(lambda it: try_together(base, it), sorted(lists, key=len, reverse=True)):
-            pass
+# The command line.
+
+
+def print_bare(root: Path, words: Sequence[str]) -> int:
+    found, count = [], 0
+    for crate in words or sorted(it.name for it in (root / "crates").iterdir() if (it / "src").is_dir()):
+        if not (root / "crates" / crate / "src").is_dir():
+            raise CannotTry(f"there is no crate {crate}")
+        own, public = wrong_bodies.bare(root, crate)
+        found, count = found + own, count + public
+    print("".join(f"{it}\n" for it in found) + f"{len(found)} of {count} public functions have no wrong body")
+    return 0
+
+
+def run(given: argparse.Namespace) -> int:
+    if given.check:
+        if found := wrong_bodies.faults(ROOT):
+            raise wrong_bodies.BadFiles(found)
+        return 0
+    if given.bare:
+        return print_bare(ROOT, given.words)
+    bodies = chosen(ROOT, given.words)
+    if given.named:
+        bodies = [it for it in bodies if it.is_in_gate]
+    if given.since:
+        bodies = changed_since.due(ROOT, given.since, bodies)
+        print(f"{len(bodies)} wrong bodies are due since {given.since}", file=sys.stderr)
+    crates = dict.fromkeys(it.crate for it in bodies)
+    if not (given.kept or given.named or given.since):
+        build_libraries(ROOT, crates)
+    look_for_libraries(ROOT, crates)
+    return try_all(ROOT, bodies)
+
+
+def main() -> int:
+    words = argparse.ArgumentParser(usage=__doc__.partition("usage: ")[2].partition("\n  JOBS")[0])
+    how = words.add_mutually_exclusive_group()
+    for flag in ("--kept", "--named", "--bare", "--check"):
+        how.add_argument(flag, action="store_true")
+    how.add_argument("--since", metavar="COMMIT")
+    words.add_argument("words", nargs="*")
+    try:
+        return run(words.parse_args())
+    except (CannotTry, wrong_bodies.BadFiles, changed_since.NoSuchCommit) as error:
+        print(error, file=sys.stderr)
+        return 2
 
 
 if __name__ == "__main__":
     signal.signal(signal.SIGTERM, lambda *_: sys.exit(143))
-    main()
+    sys.exit(main())

@@ -74,7 +74,7 @@ def exported(room):
         it.writelines(line.replace(" staticlib:", ":") for line in lines.values())
     shutil.copy(f"{ROOT}/HANDLES", room)
     for name in lines:
-        shutil.copytree(f"{ROOT}/crates/{name}", f"{room}/crates/{name}", ignore=shutil.ignore_patterns("out", "must-fail", "more-edits"))
+        shutil.copytree(f"{ROOT}/crates/{name}", f"{room}/crates/{name}", ignore=shutil.ignore_patterns("out", "wrong-bodies"))
     source = f"{room}/crates/{CRATE}/src"
     with open(f"{source}/lib.rt", "a", encoding="utf-8") as it:
         it.write(caller())

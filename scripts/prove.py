@@ -1,8 +1,7 @@
 #!/usr/bin/env python3
-"""The gate: what scripts make of the tree is what is committed; `rt ci` proves every crate from nothing, tries the wrong bodies
-of must-fail/, and runs each program as two compilers make it; the tests run, with no proof (scripts/test.py); the wrong bodies
-that edits.txt names are tried over the libraries that `rt ci` made; and the program prints for each of examples/ what stands
-beside it.
+"""The gate: what scripts make of the tree is what is committed; `rt ci` proves every crate from nothing, and runs each program
+as two compilers make it; the tests run, with no proof (scripts/test.py); the wrong bodies that are marked `(gate)` are tried over
+the libraries that `rt ci` made; and the program prints for each of examples/ what stands beside it.
 
 usage: scripts/prove.py
 

@@ -94,7 +94,7 @@ def build(of="txcache", made="txcache", to=PROGRAM, finish=lambda room: None):
             it.writelines(lines.values())
         shutil.copy(f"{ROOT}/HANDLES", room)
         for name in lines:
-            shutil.copytree(f"{ROOT}/crates/{name}", f"{room}/crates/{name}", ignore=shutil.ignore_patterns("out", "must-fail", "more-edits"))
+            shutil.copytree(f"{ROOT}/crates/{name}", f"{room}/crates/{name}", ignore=shutil.ignore_patterns("out", "wrong-bodies"))
         jobs = os.environ.get("RT_JOBS", str(os.cpu_count()))
         ran = subprocess.Popen(["rt", "ci"], cwd=room, env={**os.environ, "RT_JOBS": jobs}, stdout=subprocess.PIPE,
                                stderr=subprocess.STDOUT, text=True, errors="replace")

@@ -38,7 +38,7 @@ def named_tests(crate):
 
 def copy(room):
     """Makes the copy in a folder that is there."""
-    shutil.copytree(f"{ROOT}/crates", f"{room}/crates", ignore=shutil.ignore_patterns("out", "must-fail", "more-edits"))
+    shutil.copytree(f"{ROOT}/crates", f"{room}/crates", ignore=shutil.ignore_patterns("out", "wrong-bodies"))
     shutil.copy(f"{ROOT}/HANDLES", room)
     shutil.copy(f"{ROOT}/crates.txt", room)
     with open(f"{room}/crates.txt", "a", encoding="utf-8") as it:
