@@ -8,7 +8,7 @@
 # make refusals [TEST=NAME]: every allocation of the tests and of the program, refused in its turn.
 # make soak: 3,000,000 lookups through one node that stores no records, and 3,000,000 commits from C through one site that stores no
 #   events, each in a process of a fixed size.
-# make docs: the parts of the documents and of the tests that are made by script.
+# make docs: the parts of the documents and of the tests that are made by script, and the pages of crates, in docs/out/.
 SCRIPT ?= examples/1_page.txc
 MODE ?=
 

@@ -1,5 +1,5 @@
 #!/usr/bin/env python3
-"""What one call through a client takes, in mode batch with one worker: instructions by callgrind, and blocks by the allocator of
+"""Counts what one call through a client takes, in mode batch with one worker: instructions by callgrind, and blocks by the allocator of
 scripts/refuse.c.
 
 usage: bench/calls.py PROGRAM [--jobs N] [--top N]      PROGRAM: txcache as `rt run` built it in crates/txcache

@@ -1,5 +1,5 @@
 #!/usr/bin/env python3
-"""The longest of 10,000 calls of each kind of the database, each timed alone by the processor time of the process.
+"""Finds the longest of 10,000 calls of each kind of the database, each timed alone by the processor time of the process.
 
 usage: bench/longest.py [--beside COMMIT] [ROWS]      by default 100000 rows
 

@@ -1,5 +1,5 @@
 #!/usr/bin/env python3
-"""Where the instructions of a line of mode world go: of hits, misses, nested calls, single steps, pages between writers and
+"""Counts where the instructions of a line of mode world go: of hits, misses, nested calls, single steps, pages between writers and
 the keeper's lines.
 
 usage: bench/world.py PROGRAM [--times N] [--top N] [KIND..]      PROGRAM: txcache as `rt run` built it in crates/txcache

@@ -26,12 +26,7 @@ BESIDE = 2
 def seconds():
     """The seconds of one core, by crate and kind."""
     rows = [line.split("\t") for line in (ROOT / "docs/gate.tsv").read_text().splitlines() if line]
-    return {(crate, kind): int(cpu) for crate, kind, cpu, _ in rows}
-
-
-def uses():
-    rows = [line.split("#")[0].partition(":") for line in (ROOT / "crates.txt").read_text().split("\n")]
-    return {name.split()[0]: below.split() for name, colon, below in rows if colon}
+    return {(crate, kind): int(cpu) for crate, kind, cpu, *_ in rows}
 
 
 def lines(crate, ending):
@@ -64,9 +59,9 @@ class Gate:
 
     def __init__(self, cores, jobs, memory):
         self.cores, self.fixed, self.memory = cores, jobs, 0.85 * memory
-        taken, used = seconds(), uses()
+        taken, used = seconds(), sources.used()
         self.tasks = {}
-        for crate in sources.crates():
+        for crate in sources.lowest_first():
             waits = [(it, "proof") for it in used[crate] if it in used]
             wanted = need(crate, used)
             self.tasks[crate, "proof"] = (waits, taken.get((crate, "proof"), 0) + taken.get((crate, "build"), 0), wanted)

@@ -1,22 +1,23 @@
-"""Whether what the documents claim is so: that what they link to exists, that their counts are those of the tree, and that the help,
-the settings, the sessions and the toolchain that they show are those of the sources, of examples/ and of this machine."""
+"""Checks what the documents claim: that what they link to exists, that their counts are those of the tree, that each crate uses
+those of its own layer and below alone, and that the help, the settings, the sessions and the toolchain that they show are those of the
+sources, of examples/ and of this machine."""
 import re
 import shutil
 import subprocess
 from functools import lru_cache
+from pathlib import Path
+from typing import Iterator
 
+import pages
 import sources
 import wrong_bodies
 from sources import ROOT
 
 README = ROOT / "README.md"
-# How many words a document may have: what has a letter or a digit, so that no sign of a definition and no bar of a table is one.
-MOST_WORDS = {"README.md": 1_400, "docs/PROMISE.md": 3_000, "docs/GATE.md": 900, "docs/DECISIONS.md": 6_000, "docs/promise.in.md": 2_635}
-# Those that are written by hand, and how many words they may have together.
-BY_HAND = ["README.md", *(f"docs/{it}.md" for it in ("ARCHITECTURE", "SCRIPTS", "DECISIONS", "GATE", "CALLING", "EMBEDDING", "BINDINGS", "FIGURES"))]
-MOST_BY_HAND = 26_000
-# How many words all pages of crates may have together.
-MOST_OF_CRATES = 108_172
+# Those that are written by hand.
+BY_HAND = ["README.md", "CONTRIBUTING.md", *(f"docs/{it}.md" for it in ("ARCHITECTURE", "SCRIPTS", "DECISIONS", "GATE", "CALLING", "EMBEDDING", "BINDINGS", "FIGURES"))]
+# How many words CHANGELOG may have of a landing.
+MOST_WORDS_OF_A_LANDING = 80
 # How many words a sentence may have: of a document that is written by hand, and of a source's comment.
 MOST_WORDS_OF_A_SENTENCE = 30
 MOST_WORDS_OF_A_COMMENT = 40
@@ -24,14 +25,28 @@ MOST_WORDS_OF_A_COMMENT = 40
 NOT_PLAIN = re.compile(r"\b(?:told|purse|foreign record|by a name|comes? to|came to)\b", re.I)
 # How many lines of code the service may have with which EMBEDDING begins, without blank ones and comments.
 MOST_LINES_OF_FIRST = 120
+# Where a crate uses one of a layer above its own, until that is mended.
+WAYS_UP = {("txc_txn", "txc_functions")}
+# A word in capitals stands for any name, in a path that a document names.
+ANY_NAME = r"(?<![A-Za-z_])[A-Z]{2,}(?![A-Za-z_]|\.md\b)"
 # The commands of scripts, with which a line of a session begins.
 COMMANDS = set("put remove pin pins ro rw session call ask write step finish commit abort advance tidy counts insert lookup event sweep".split())
 
 
-def documents():
-    """The documents of the repository, but for the template of one, and for one that is to take another's place."""
-    found = [README, ROOT / "CHANGELOG.md", *sorted((ROOT / "docs").glob("*.md")), *sorted((ROOT / "docs/crates").glob("*.md")), *sorted((ROOT / "docs/promise").glob("*.md"))]
+def committed() -> list[Path]:
+    """The documents that git keeps, but for the template of one, and for one that is to take another's place."""
+    found = [README, ROOT / "CONTRIBUTING.md", ROOT / "CHANGELOG.md", *sorted((ROOT / "docs").glob("*.md")), *sorted((ROOT / "docs/promise").glob("*.md"))]
     return [it for it in found if it.is_file() and not it.name.endswith((".in.md", ".proposed.md"))]
+
+
+def made() -> list[Path]:
+    """The pages of docs/out/."""
+    return sorted(pages.OUT.rglob("*.md"))
+
+
+def documents() -> list[Path]:
+    """All of which links are checked."""
+    return [*committed(), *sorted((ROOT / "bindings").glob("*/README.md")), *made()]
 
 
 @lru_cache(None)
@@ -49,28 +64,44 @@ def anchors(path):
     return found
 
 
+def link_fault(document: Path, said: str, target: str) -> str | None:
+    """What is wrong with a link of a document, if anything is. Of one whose text is a name in backticks the file has to have that name."""
+    path, _, place = target.partition("#")
+    file = (document.parent / path).resolve() if path else document
+    if not file.exists():
+        return f"links to {path}, which is not there"
+    if pages.OUT in file.parents and pages.OUT not in document.parents:
+        return f"links to {path}, which git does not keep"
+    if place and file.suffix == ".md" and place not in anchors(file):
+        return f"links to {target}, and there is no such place"
+    if file.suffix in (".rt", ".antt") and re.fullmatch(r"\w+(?:::\w+)*", said):
+        if said not in file.parts and not re.search(rf"\b{said.split('::')[-1]}\b", file.read_text()):
+            return f"links to {path}, which has no `{said}`"
+    return None
+
+
+def links_of(document: Path) -> Iterator[tuple[Path, str]]:
+    """What is wrong with the links of a document."""
+    text = re.sub(r"(\[`[^`\n]*`\])|`[^`\n]*`", lambda it: it[1] or "", prose(document))
+    for said, target in re.findall(r"(?:\[`([^`\]]+)`)?\]\(([^)\s]+)\)", text):
+        fault = None if re.match(r"\w+:", target) else link_fault(document, said, target)
+        if fault:
+            yield document, fault
+
+
 def links():
     for document in documents():
-        text = re.sub(r"(?<!\[)`[^`\n]*`(?!\])", "", prose(document))
-        for target in re.findall(r"\]\(([^)\s]+)\)", text):
-            path, _, place = target.partition("#")
-            if re.match(r"\w+:", target):
-                continue
-            file = (document.parent / path).resolve() if path else document
-            if not file.exists():
-                yield document, f"links to {path}, which is not there"
-            elif place and file.suffix == ".md" and place not in anchors(file):
-                yield document, f"links to {target}, and there is no such place"
+        yield from links_of(document)
 
 
 def paths():
     """The paths that documents name in backticks; README has links in their place."""
-    for document in documents():
-        if document == README or document.parent.name in ("crates", "promise"):
+    for document in committed():
+        if document == README or document.parent.name == "promise":
             continue
         for name in re.findall(r"`((?:docs|crates|tests|scripts|examples|bench)/[^`\s]*)`", prose(document)):
-            # a word in capitals stands for any name; what is built is there only once it is built
-            pattern = re.sub(r"(?<![A-Za-z_])[A-Z]{2,}(?![A-Za-z_.])|\{[^}]*\}", "*", name.rstrip("/"))
+            # what is built is there only once it is built
+            pattern = re.sub(rf"{ANY_NAME}|\{{[^}}]*\}}", "*", name.rstrip("/"))
             if "out" not in pattern.split("/") and not any(ROOT.glob(pattern)):
                 yield document, f"names `{name}`, which is not there"
 
@@ -84,7 +115,7 @@ def counts():
     defined = {word for path in specs for word in sources.spec_file(path.parts[-3], path.stem).values() if word.crate == path.parts[-3]}
     return {
         "crates": len(names),
-        "library crates": len([it for it in names if it != "txcache"]),
+        "library crates": len([it for it in names if it not in sources.programs()]),
         "functions": len(functions),
         "public functions": len([it for it in functions if it.is_public]),
         "definitions": len(defined),
@@ -107,23 +138,20 @@ def count_words(text):
     return len(re.findall(r"\S*\w\S*", text))
 
 
-def words():
-    """No document has more words than it may have."""
-    for name, most in MOST_WORDS.items():
-        count = count_words((ROOT / name).read_text())
-        if count > most:
-            yield ROOT / name, f"has {count:,} words, and may have {most:,}"
-    count = sum(count_words((ROOT / name).read_text()) for name in BY_HAND)
-    if count > MOST_BY_HAND:
-        yield ROOT / "docs", f"has {count:,} words that are written by hand, and may have {MOST_BY_HAND:,}"
-    count = sum(count_words(it.read_text()) for it in (ROOT / "docs/crates").glob("*.md"))
-    if count > MOST_OF_CRATES:
-        yield ROOT / "docs/crates", f"has {count:,} words, and may have {MOST_OF_CRATES:,}"
+def landings():
+    """CHANGELOG has few words of each landing: what a user notices of it."""
+    document = ROOT / "CHANGELOG.md"
+    for entry in re.split(r"(?m)^## ", document.read_text())[1:]:
+        head, _, said = entry.partition("\n")
+        if count_words(said) > MOST_WORDS_OF_A_LANDING:
+            yield document, f"has {count_words(said)} words of the landing {head}, and may have {MOST_WORDS_OF_A_LANDING}"
 
 
 def sentences(path):
     """The sentences of a document, those in cells of tables too, each word of code as one word."""
-    text = re.sub(r"^(?:    .*|#.*|<!--.*|@.*)$", "", prose(path).replace("**", ""), flags=re.M)
+    # what is made of comments has sentences of theirs
+    text = re.sub(r"^<!-- made: (.*) -->$.*?^<!-- end: \1 -->$", "", prose(path).replace("**", ""), flags=re.M | re.S)
+    text = re.sub(r"^(?:    .*|#.*|<!--.*|@.*)$", "", text, flags=re.M)
     text = re.sub(r"^ *\|(.*)$", lambda it: it[1].replace("|", "\n\n"), re.sub(r"`[^`\n]*`", "x", text), flags=re.M)
     for block in re.split(r"\n\s*\n|\n\s*(?=- |\d+\. )", text):
         # names in a list that a script makes are no sentence
@@ -133,8 +161,8 @@ def sentences(path):
 def long_sentences():
     """No sentence of a document that is written by hand, or of a comment, is too long."""
     template = ROOT / "docs/promise.in.md"
-    for document in [*documents(), template]:
-        if document.parent.name in ("crates", "promise") or document.name == "PROMISE.md":
+    for document in [*committed(), template]:
+        if document.parent.name == "promise" or document.name == "PROMISE.md":
             continue
         for sentence in sentences(document):
             if len(sentence.split()) > MOST_WORDS_OF_A_SENTENCE:
@@ -161,32 +189,27 @@ def comments(path):
         yield from re.split(r"(?<=[.?!:])\s+(?=[A-Z`(\[])", " ".join(block.split()))
 
 
-def uses(*files):
-    """The libraries that each crate of these lists uses."""
-    lines = [line.split("#")[0] for it in files for line in (ROOT / it).read_text().split("\n")]
-    return {line.split(":")[0].split()[0]: line.split(":")[1].split() for line in lines if ":" in line}
-
-
-def crate_tables():
-    """Each crate has a row in ARCHITECTURE, which names some of the libraries that it uses and no other."""
-    document = ROOT / "docs/ARCHITECTURE.md"
-    rows = dict(re.findall(r"^\| `(tx\w+|auction|shop)` \|[^|]*\|([^|]*)\|$", document.read_text(), re.M))
-    used = uses("crates.txt", "tests/crates.txt.in")
-    for crate in used.keys() - rows.keys():
-        yield document, f"has no row for {crate}"
-    for crate in rows.keys() - used.keys():
-        yield document, f"has a row for {crate}, which is no crate"
-    for crate in rows.keys() & used.keys():
-        for other in re.findall(r"`(\w+)`", rows[crate]):
-            if other not in used[crate]:
-                yield document, f"says that {crate} stands on {other}, which it does not use"
+def layered():
+    """Each crate is in a layer, says what it does, and uses those of its own layer and of those below alone."""
+    file = ROOT / "crates.txt"
+    at = {crate: n for n, layer in enumerate(sources.layers()) for crate in layer.crates}
+    ways = {(crate, it) for crate, below in sources.used().items() for it in below if at.get(it, 0) > at.get(crate, 0)}
+    for crate in sources.crates():
+        if crate not in at:
+            yield file, f"has {crate} in no layer"
+        if not sources.purpose(crate):
+            yield sources.root_file(crate), "does not begin with what the crate does"
+    for crate, it in sorted(ways - WAYS_UP):
+        yield file, f"has {crate}, which uses {it} of a layer above"
+    for crate, it in sorted(WAYS_UP - ways):
+        yield ROOT / "scripts/claims.py", f"lists the way up from {crate} to {it}, which is mended"
 
 
 def promised():
     """Each library that other crates use has a row in PROMISE."""
     document = ROOT / "docs/promise.in.md"
     rows = re.findall(r"^\| (`txc_.*?) \|", document.read_text(), re.M)
-    used = {it for below in uses("crates.txt").values() for it in below}
+    used = {it for below in sources.used().values() for it in below}
     for crate in sources.crates():
         if crate in used and not any(f"`{crate}`" in it for it in rows):
             yield document, f"has no row for {crate} in its table of crates"
@@ -255,8 +278,8 @@ def quoted():
 def commands():
     """Each `make` command that a document shows has its target, and the script that it names is there."""
     targets = {it for line in re.findall(r"^([a-z -]+):", (ROOT / "Makefile").read_text(), re.M) for it in line.split()}
-    for document in documents():
-        text = document.read_text() if document.parent.name != "crates" else ""
+    for document in committed():
+        text = document.read_text()
         for target in re.findall(r"(?:^    |`)make ([\w-]+)", text, re.M):
             if target not in targets:
                 yield document, f"shows `make {target}`, which the Makefile doesn't have"
@@ -311,11 +334,13 @@ def words_of_sources():
 def names():
     """Each file, each function of a type and each name of several words that a document has in backticks is there."""
     types, places = words_of_types(), [f"/{it.as_posix()}" for it in files()]
-    for name in ("ARCHITECTURE", "BINDINGS", "CALLING", "DECISIONS", "EMBEDDING", "FIGURES", "GATE", "WRONG_BODIES"):
-        document = ROOT / f"docs/{name}.md"
+    for name in ("../CONTRIBUTING", "ARCHITECTURE", "BINDINGS", "CALLING", "DECISIONS", "EMBEDDING", "FIGURES", "GATE", "WRONG_BODIES"):
+        document = (ROOT / f"docs/{name}.md").resolve()
         for said in re.findall(r"`([^`\n]+)`", prose(document)):
             of_type = re.fullmatch(r"([A-Z]\w*)::\{?(\w+(?:, \w+)*)\}?", said)
             wanted = re.findall(r"\b[a-z]\w+", of_type[2]) if of_type else []
+            if re.search(ANY_NAME, said):
+                continue
             if re.fullmatch(r"[\w/]+\.(rt|antt)(\.in)?", said) and not any(it.endswith(f"/{said}") for it in places):
                 yield document, f"names the file `{said}`, which is not there"
             elif wanted and not {*wanted} <= types.get(of_type[1], set()):
@@ -380,7 +405,7 @@ def meanings():
 def faults():
     """What the documents claim that is not so, each as a line of text."""
     found = []
-    checks = (links, paths, counted, words, long_sentences, plain_words, crate_tables, promised, help_shown, settings, sessions, quoted, commands, toolchain, version, names,
+    checks = (links, paths, counted, landings, long_sentences, plain_words, layered, promised, help_shown, settings, sessions, quoted, commands, toolchain, version, names,
               calls, decided, measured, first, meanings)
     for check in checks:
         found += [f"{document.relative_to(ROOT)} {said}" for document, said in check()]

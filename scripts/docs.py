@@ -1,34 +1,45 @@
 #!/usr/bin/env python3
-"""Writes the parts of docs/ that are made by script:
+"""Makes what scripts make of the documents, and checks what the documents claim.
 
-  PROMISE.md, promise/, crates/
-                       from the crates' src/ and specs/, and docs/promise.in.md (scripts/promise.py, scripts/pages.py)
+In docs/out/, which git does not keep:
+
+  crates/              a page of each crate, from its src/ and specs/ (scripts/pages.py)
+  WRONG_BODIES.md      the lists of all wrong bodies, by crate
+  EXAMPLES.md          examples/, with the replies beside the lines
+
+In files that git keeps:
+
+  PROMISE.md, promise/ from the crates' src/ and specs/, and docs/promise.in.md (scripts/promise.py)
   ../README.md         what a page buys and costs, from FIGURES.md, and how long commands take, from docs/gate.tsv
-  WRONG_BODIES.md      its lists, from the crates' wrong-bodies/
-  ARCHITECTURE.md      the table of proofs that other crates use
+  ../CONTRIBUTING.md   the tables of scripts/ and bench/, from the first sentence of each file
+  ARCHITECTURE.md      the tables of crates, from crates.txt and the first sentence of each crate; the table of proofs that other crates use
   GATE.md              the table of what the gate takes, from docs/gate.tsv
-  EXAMPLES.md          from examples/
   SCRIPTS.md           how its lines are written, from the tables by which they are read (scripts/lines.py); the session of a world has to
                        be that of its script
   CALLING.md           its code, from the tests
   EMBEDDING.md         its code, from tests/txc_first, the shop and the auction
 
-usage: docs.py [--check]      --check writes nothing, and ends with 1 where a file is not what would be written, or where what
-                              the documents claim is not so (scripts/claims.py); with 2, also without it, where a file of wrong bodies
+usage: docs.py [--check]      --check writes docs/out/ alone, and ends with 1 if a file is not what would be written, or if what
+                              the documents claim is not so (scripts/claims.py). With 2, also without it, if a file of wrong bodies
                               has a fault (scripts/wrong_bodies.py)
 """
-import re, sys
+import re, shutil, sys
+from pathlib import Path
 
 import claims, lines, pages, promise, run, sources, wrong_bodies
 from sources import ROOT, crates
 
-LISTS = "## All of them, by crate"
-FIRST, SECOND = "## What no clause can refuse", "## The ones that break a cache"
+LISTS = """# All wrong bodies, by crate
+
+<!-- Made by `make docs` from crates/CRATE/wrong-bodies/PATH.edits, each of src/PATH.rt. -->
+
+[WRONG_BODIES.md](../WRONG_BODIES.md) says how they are tried, and which of them break a cache. Each name says what the body does.
+"""
 EXAMPLES = """# The examples, with the replies beside their lines
 
 <!-- Made by `make docs` from examples/. -->
 
-The scripts of `examples/`, to be read in order; [SCRIPTS.md](SCRIPTS.md) says what their lines mean. `make try SCRIPT=examples/NAME.txc` prints
+The scripts of `examples/`, to be read in order; [SCRIPTS.md](../SCRIPTS.md) says what their lines mean. `make try SCRIPT=examples/NAME.txc` prints
 one with its replies. Those of mode world end in `.txw`; where a file beside one ends in `.settings`, these are its settings.
 """
 SESSION = "### A world, line by line"
@@ -39,37 +50,33 @@ BUYS = "| Pages may be so old | Plain cache: hits | Torn | Cost | This cache: hi
 TAKES = "| Crate | Proof | By the clock | Built | Wrong bodies |\n|---|---|---|---|---|\n"
 
 
-def rows(bodies):
-    """A line for each source, with the names of the wrong bodies that are of it."""
-    names = {}
-    for body in bodies:
-        names.setdefault(body.source, []).append(f"`{body.name}`")
-    return "".join(f"- `{source}`: {', '.join(sorted(names[source]))}.\n" for source in sorted(names))
+def fill(text: str, name: str, made: str) -> str:
+    """Puts what is made between the two comments of this name."""
+    begin, end = f"<!-- made: {name} -->\n", f"<!-- end: {name} -->\n"
+    if text.count(begin) != 1 or text.count(end) != 1:
+        raise LookupError(f"not exactly one pair of comments `{begin.strip()}` and `{end.strip()}`")
+    before, _, rest = text.partition(begin)
+    return f"{before}{begin}\n{made.strip()}\n\n{end}{rest.partition(end)[2]}"
 
 
-def lists():
-    text = ""
+def listed(names: list[str]) -> str:
+    return ", ".join(f"`{it}`" for it in names)
+
+
+def lists_of_wrong_bodies() -> str:
+    """The lists of all wrong bodies: of each crate those that the gate tries, and then the others, by the file that each changes."""
+    text = LISTS
     for crate in crates():
-        bodies = wrong_bodies.read(ROOT, [crate])
-        if not bodies:
+        found = wrong_bodies.read(ROOT, [crate])
+        sections = [[it for it in found if it.is_in_gate], [it for it in found if not it.is_in_gate]]
+        if not found:
             continue
-        gate, beside = ([it for it in bodies if it.is_in_gate == is_in_gate] for is_in_gate in (True, False))
-        text += f"\n### `{crate}` ({len(gate)} in the gate, {len(beside)} beside it)\n\n"
-        text += rows(gate) + ("\nBeside the gate:\n\n" if gate and beside else "") + rows(beside)
+        text += f"\n## `{crate}` ({len(sections[0])} in the gate, {len(sections[1])} beside it)\n"
+        for head, bodies in zip(("In the gate", "Beside it"), sections):
+            files = dict.fromkeys(it.source for it in bodies)
+            rows = "".join(f"- `{file}`: {listed([it.name for it in bodies if it.source == file])}.\n" for file in files)
+            text += f"\n{head}:\n\n{rows}" if rows else ""
     return text
-
-
-def in_order(text):
-    """With what no clause can refuse before what clauses refuse: a reader wants to know it first."""
-    sections = re.split(r"(?m)^(?=## )", text)
-    first = next(it for it in sections if it.startswith(FIRST))
-    at = next(n for n, it in enumerate(sections) if it.startswith(SECOND))
-    return "".join([*sections[:at], first, *(it for it in sections[at:] if it != first)]) if first not in sections[:at] else text
-
-
-def listed(text):
-    start, _, after = in_order(text).partition(LISTS)
-    return start + LISTS + after.partition("\n### ")[0].rstrip() + "\n" + lists()
 
 
 def beside(script, output):
@@ -166,12 +173,49 @@ def says(crate, module):
     return said if len(said.split()) <= claims.MOST_WORDS_OF_A_SENTENCE else said.partition(": ")[0]
 
 
+def crate_table(head: str, names: list[str]) -> str:
+    """A row of each crate: what it does, and the libraries that it uses, but for what its other libraries bring."""
+    lists, text = sources.used("crates.txt", "tests/crates.txt.in"), f"| {head} | Does | Stands on |\n|---|---|---|\n"
+    for crate in names:
+        own = [it for it in lists[crate] if it not in sources.brought(lists[crate], lists)]
+        text += f"| `{crate}` | {sources.purpose(crate)} | {listed(own) or 'std alone'} |\n"
+    return text
+
+
+def crate_tables() -> str:
+    """The crates by layer, and then those of tests/."""
+    found = [f"{it.name.capitalize()}: {it.says}\n\n{crate_table(it.name.capitalize(), it.crates)}" for it in sources.layers()]
+    return "\n".join([*found, crate_table("Tests", list(sources.used("tests/crates.txt.in")))])
+
+
 def architecture(text):
+    text = fill(text, "crates", crate_tables())
     start, _, after = text.partition(PROOFS)
     rows = ""
     for (crate, module), users in sorted(used_proofs().items()):
         rows += f"| `{crate}`: `proofs/{module.replace('.', '/')}.antt` | {says(crate, module)} | {', '.join(f'`{it}`' for it in sorted(users))} |\n"
     return start + PROOFS + rows + re.sub(r"^(?:\|.*\n)*", "", after)
+
+
+def first_sentence(file: Path) -> str:
+    """The first sentence of the comment or the docstring that heads a file; of a long one what stands before its colon or semicolon."""
+    text = re.sub(r"\A#!.*\n", "", file.read_text())
+    head = re.match(r'"""(.*?)"""|/\*(.*?)\*/|((?:#.*\n)+)', text, re.S)
+    if not head:
+        raise LookupError(f"{file.relative_to(ROOT)} has no comment that says what it does")
+    said = re.sub(r"(?m)^(?:#| \*) ?", "", next(it for it in head.groups() if it))
+    said = " ".join(said.strip().split("\n\n")[0].split())
+    said = re.split(r"[.:] (?=[A-Z`])", said)[0].rstrip(".:")
+    return said if len(said.split()) <= claims.MOST_WORDS_OF_A_SENTENCE else re.split(r"[:;] ", said)[0]
+
+
+def contributing(text):
+    """Fills the tables of scripts/ and bench/."""
+    for folder in ("scripts", "bench"):
+        files = sorted(it for it in (ROOT / folder).iterdir() if it.suffix in (".py", ".sh", ".c"))
+        rows = "".join(f"| `{it.name}` | {first_sentence(it)} |\n" for it in files)
+        text = fill(text, folder, f"| File of `{folder}/` | Does |\n|---|---|\n{rows}")
+    return text
 
 
 def gate(text):
@@ -216,26 +260,34 @@ def readme(text):
     return re.sub(r"the gate: \d+ minutes", f"the gate: {int(taken['', 'all'][1]) / 60:.0f} minutes", text)
 
 
-def written():
-    """Each file that is made by script, or has parts that are, beside its text."""
-    made = {"WRONG_BODIES.md": listed, "SCRIPTS.md": scripts, "CALLING.md": calling, "EMBEDDING.md": calling, "ARCHITECTURE.md": architecture, "GATE.md": gate}
-    texts = {ROOT / "docs" / name: make((ROOT / "docs" / name).read_text()) for name, make in made.items()}
-    texts[ROOT / "README.md"] = readme((ROOT / "README.md").read_text())
-    return {**texts, ROOT / "docs/EXAMPLES.md": examples(), **pages.written(), **promise.written()}
+def written() -> dict[Path, str]:
+    """Each file of git that is made by script, or has parts that are, beside its text."""
+    made = {"docs/SCRIPTS.md": scripts, "docs/CALLING.md": calling, "docs/EMBEDDING.md": calling, "docs/ARCHITECTURE.md": architecture,
+            "docs/GATE.md": gate, "README.md": readme, "CONTRIBUTING.md": contributing}
+    return {**{ROOT / name: make((ROOT / name).read_text()) for name, make in made.items()}, **promise.written()}
+
+
+def make_pages():
+    """Makes docs/out/ anew."""
+    shutil.rmtree(pages.OUT, ignore_errors=True)
+    for path, text in {**pages.written(), pages.OUT / "WRONG_BODIES.md": lists_of_wrong_bodies(), pages.OUT / "EXAMPLES.md": examples()}.items():
+        path.parent.mkdir(parents=True, exist_ok=True)
+        path.write_text(text)
 
 
 def main():
-    if found := wrong_bodies.faults(ROOT):
-        print(*found, sep="\n", file=sys.stderr)
+    is_check = "--check" in sys.argv[1:]
+    if faults := wrong_bodies.faults(ROOT):
+        print(*faults, sep="\n", file=sys.stderr)
         sys.exit(2)
-    texts, is_check = written(), "--check" in sys.argv[1:]
+    make_pages()
+    texts = written()
     for path, text in texts.items():
         if not is_check:
-            path.parent.mkdir(exist_ok=True)
             path.write_text(text)
         elif not path.is_file() or path.read_text() != text:
             sys.exit(f"{path.relative_to(ROOT)} is not what scripts/docs.py writes: run `make docs`")
-    for path in sorted({*pages.FOLDER.glob("*.md"), *promise.FOLDER.glob("*.md")} - set(texts)):
+    for path in sorted({*promise.FOLDER.glob("*.md")} - set(texts)):
         if is_check:
             sys.exit(f"{path.relative_to(ROOT)} is made no more: run `make docs`")
         path.unlink()
@@ -244,4 +296,5 @@ def main():
     sys.exit(int(is_check and bool(found)))
 
 
-main()
+if __name__ == "__main__":
+    main()

@@ -1,4 +1,4 @@
-"""What crosses to C, by the sources: the exports of crates/txc_c, and the structs and numbers of the crates that it is a thin layer over;
+"""Lists what crosses to C, by the sources: the exports of crates/txc_c, and the structs and numbers of the crates that it is a thin layer over;
 and the same by the header."""
 
 import glob

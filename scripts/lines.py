@@ -1,4 +1,4 @@
-"""The lines of scripts in docs/SCRIPTS.md. How a line is written is made of the tables by which lines are read: in a table of lines the
+"""Makes the forms of lines in docs/SCRIPTS.md. How a line is written is made of the tables by which lines are read: in a table of lines the
 first cell of each row, and the rows of QUERY and CHANGE. The other cells are written by hand.
 
 In the tables of worlds what a word is called stands beside its kind. In that of nodes it heads the comment above the row.

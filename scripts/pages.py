@@ -1,11 +1,13 @@
-"""The pages of docs/crates/: of each crate what it hands out, with its contracts, and the words of contracts that it defines."""
+"""Makes the pages of docs/out/crates/: of each crate what it hands out, with its contracts, and the words of contracts that it defines."""
 import re
 from functools import lru_cache
 
 import sources
 from sources import ROOT
 
-FOLDER = ROOT / "docs/crates"
+# What is made, and not kept in git.
+OUT = ROOT / "docs/out"
+FOLDER = OUT / "crates"
 HEAD = "\n[How to read it](README.md#a-page).\n"
 
 
@@ -24,7 +26,7 @@ def homes():
 def link(word, here):
     """A link to a word from the page of a crate."""
     if word in homes():
-        return f"[`{word.name}`](../{homes()[word]}#{word.crate}.{word.anchor})"
+        return f"[`{word.name}`](../../{homes()[word]}#{word.crate}.{word.anchor})"
     page = "" if word.crate == here else f"{word.crate}.md"
     return f"[`{word.name}`]({page}#{word.anchor})"
 
@@ -129,30 +131,21 @@ def page(crate):
     return text.rstrip() + "\n"
 
 
-# Which pages a reader wants who does so, in the order in which to read them. What no list names, who changes the library reads.
-READERS = {
-    "write a service": "txc_site txc_visits txc_pages txc_ledger txc_keeper txc_definition txc_app txc_rows txc_tags txc_stamp txc_client txc_rw txc_txn txc_ports",
-    "use the cache or the database alone": "txc_node txc_db txc_carry txc_validity txc_stream",
-    "ask what holds in every interleaving": "txc_world txc_shared txc_cushion",
-    "run scripts and jobs": "txc_work txc_modes txc_settings txc_run txc_play txc_batch txc_script txc_words txc_arguments",
-}
-
-
 def index(names):
+    """The index of the pages, by layer."""
     text = ("# The crates\n\nA page for each crate that hands something out: its public types and calls with their contracts, and the words of"
-            "\ncontracts that it defines.\n"
+            "\ncontracts that it defines. They stand by layer: a crate uses those of its own layer and those before it.\n"
             "\n## A page\n\nIt is made by `make docs` from the crate's `src/` and `specs/`. At the end of a section stand its words, each a link to its"
-            "\ndefinition. What is no link is of Rattle's own library: [how a clause is read](../promise/signs.md). The words that the crate defines stand"
-            "\nlast, by file, as they stand there; those that a promise is made of stand with it alone.\n")
-    left = [it for it in names if it not in " ".join(READERS.values()).split()]
-    for reader, wanted in [*((reader, crates.split()) for reader, crates in READERS.items()), ("change the library", left)]:
-        rows = "".join(f"| [`{it}`]({it}.md) | {sources.purpose(it)} |\n" for it in wanted if it in names)
-        text += f"\n## You {reader}\n\n| Crate | Is |\n|---|---|\n" + rows
+            "\ndefinition. What is no link is of Rattle's own library: [how a clause is read](../../promise/signs.md). The words that the crate defines"
+            "\nstand last, by file, as they stand there; those that a promise is made of stand with it alone.\n")
+    for layer in sources.layers():
+        rows = "".join(f"| [`{it}`]({it}.md) | {sources.purpose(it)} |\n" for it in layer.crates if it in names)
+        text += f"\n## {layer.name.capitalize()}\n\n{layer.says[0].upper()}{layer.says[1:]}\n\n| Crate | Is |\n|---|---|\n{rows}" if rows else ""
     return text
 
 
 def written():
-    """Each file of docs/crates/, with what it says."""
+    """Each file of docs/out/crates/, with what it says."""
     pages = {crate: page(crate) for crate in sources.documented()}
     made = {FOLDER / f"{crate}.md": text for crate, text in pages.items() if text}
     made[FOLDER / "README.md"] = index([crate for crate, text in pages.items() if text])

@@ -1,9 +1,9 @@
-"""docs/PROMISE.md and docs/promise/: the promises with the clauses that claim them and their definitions down to the ground. The
+"""Makes docs/PROMISE.md and docs/promise/: the promises with the clauses that claim them and their definitions down to the ground. The
 sentences stand in docs/promise.in.md. Each name in them has to exist. Lines of it stand for what is made:
 
   @clauses CRATE CALL NAME..   clauses of a public call, all of them where none is named
   @types CRATE/FILE/NAME..     types that clauses name, shown with no definition below them
-  @elsewhere CRATE/FILE/NAME.. types that the meaning of the clauses does not depend on, shown on the pages of their crates alone
+  @elsewhere CRATE/FILE/NAME.. types that the meaning of the clauses does not depend on, which no page shows
   @definitions                 the definitions of the clauses above it that no page has shown yet, and an index of all of them
   @signs                       the signs and words that the page uses, or on their own page all of them
   @page NAME TITLE             begins docs/promise/NAME.md
@@ -36,6 +36,13 @@ def word_of(key):
     """A type or a definition that is said as CRATE/FILE/NAME."""
     crate, file, name = key.split("/")
     return sources.rust_item(crate, name, f"{file}.rt") or sources.spec_file(crate, file)[name]
+
+
+def source_of(it):
+    """The file of a crate, of a call or of a word, as a path below docs/."""
+    if isinstance(it, str):
+        return os.path.relpath(sources.root_file(it), ROOT / "docs")
+    return f"../{it.place}" if isinstance(it, sources.Word) else f"../crates/{it.crate}/src/{it.file}"
 
 
 def seen_fields(words):
@@ -74,8 +81,8 @@ class Page:
         self.roots += [it for it in call.words(wanted or None) if it not in self.roots]
         self.texts.append((path, call.text(wanted or None), call.scope))
         rest = len(call.clauses) - len(wanted) if wanted else 0
-        more = f"; {rest} more {'clauses stand' if rest > 1 else 'clause stands'} on its page" if rest else ""
-        link = self.link(f"`{path}`", f"crates/{crate}.md", pages.anchor_of(call))
+        more = f"; {rest} more {'clauses stand' if rest > 1 else 'clause stands'} there" if rest else ""
+        link = self.link(f"`{path}`", source_of(call))
         return f"{link}, of `{crate}`{more}:\n\n" + pages.fenced(call.text(wanted or None), "rust").rstrip("\n") + "\n"
 
     def show_types(self, keys):
@@ -114,7 +121,7 @@ class Page:
         codes = ["\n".join([*(f"/// {line}".rstrip() for line in it.said.split("\n") if it.said), it.shown]) if it.is_rust else it.code
                  for it in words]
         kind = "rust" if words[0].is_rust else "text"
-        return f"{places}{self.link(f'`{words[0].place}`', f'../{words[0].place}')}\n\n" + pages.fenced("\n\n".join(codes), kind)
+        return f"{places}{self.link(f'`{words[0].place}`', source_of(words[0]))}\n\n" + pages.fenced("\n\n".join(codes), kind)
 
     def library_names(self):
         """The names of Rattle's library that the page uses, each beside what uses it."""
@@ -186,7 +193,6 @@ class Names:
     """The names that the sentences may have, with what each is a link to."""
 
     def __init__(self, book):
-        self.pages = {crate for crate in sources.documented() if pages.page(crate)}
         self.signs = {name for page in book.pages for _, name in page.library_names()}
         self.shown, self.kinds, self.calls, self.clauses = {}, {}, {}, set()
         for word in book.places:
@@ -207,14 +213,14 @@ class Names:
         if SIGNS.search(said) or said in self.signs or (not crates and said in self.clauses):
             return f"`{said}`"
         if said in sources.crates():
-            return here.link(f"`{said}`", f"crates/{said}.md") if said in self.pages else f"`{said}`"
+            return here.link(f"`{said}`", source_of(said))
         if not crates and len(self.shown.get(said, [])) == 1:
             return here.named(self.shown[said][0])
         own_first = lambda them: sorted(them, key=lambda it: it.crate not in crates)
         for kind in own_first(self.kinds.get(said, [])):
-            return here.link(f"`{said}`", f"crates/{kind.crate}.md", kind.anchor)
+            return here.link(f"`{said}`", source_of(kind))
         for call in own_first(self.calls.get(said, [])):
-            return here.link(f"`{said}`", f"crates/{call.crate}.md", pages.anchor_of(call))
+            return here.link(f"`{said}`", source_of(call))
         for path in ROOT.glob("tests/*/src/**/*.rt.in"):
             if f"fn {said}(" in path.read_text():
                 return here.link(f"`{said}`", f"../{path.relative_to(ROOT)}")

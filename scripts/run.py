@@ -48,18 +48,21 @@ def main():
 
 def crates(of="txcache"):
     """A crate and those below it, the lowest first, each with its line of crates.txt: by default the program's."""
-    lines = {}
+    lines, found = {}, {}
     with open(f"{ROOT}/crates.txt", encoding="utf-8") as it:
         for line in it:
             name, colon, below = line.partition("#")[0].partition(":")
             if colon:
                 lines[name.split()[0]] = line
-    needed, left = set(), [of]
-    while left:
-        name = left.pop()
-        needed.add(name)
-        left += [it for it in lines[name].partition(":")[2].split() if it in lines]
-    return {name: line for name, line in lines.items() if name in needed}
+
+    def add(name):
+        for below in lines[name].partition(":")[2].split():
+            if below in lines and below not in found:
+                add(below)
+        found[name] = lines[name]
+
+    add(of)
+    return found
 
 
 def minutes(of="txcache"):
@@ -67,7 +70,7 @@ def minutes(of="txcache"):
     with open(f"{ROOT}/docs/gate.tsv", encoding="utf-8") as it:
         taken = [line.rstrip("\n").split("\t") for line in it]
     needed = crates(of)
-    return round(sum(int(cpu) for crate, kind, cpu, _ in taken if crate in needed and kind in ("proof", "build")) / 60)
+    return round(sum(int(cpu) for crate, kind, cpu, *_ in taken if crate in needed and kind in ("proof", "build")) / 60)
 
 
 def is_fresh(made_file=PROGRAM, of="txcache"):

@@ -1,4 +1,4 @@
-"""What the commands know of a script of TxCache: its mode by its name, its settings, and which replies stand beside which lines."""
+"""Reads of a script of TxCache: its mode by its name, its settings, and which replies stand beside which lines."""
 
 import glob
 import os

@@ -1,5 +1,5 @@
 #!/usr/bin/env python3
-"""Whether a node whose history is not stored answers its three-millionth lookup as its first, in a process of a fixed size. `make soak`
+"""Checks that a node whose history is not stored answers its three-millionth lookup as its first, in a process of a fixed size. `make soak`
 runs it, beside the gate.
 
 usage: soak.py [LOOKUPS]      LOOKUPS: how many the node must have counted at least, by default 3,000,000

@@ -1,5 +1,5 @@
 #!/usr/bin/env python3
-"""Whether a program in C commits three million times through one site of the library that stores no events, with no page torn and no
+"""Checks that a program in C commits three million times through one site of the library that stores no events, with no page torn and no
 update lost, in a process that does not grow. `make soak` runs it, beside the gate.
 
 usage: soak_library.py [--proved] [COMMITS]

@@ -1,5 +1,5 @@
 #!/usr/bin/env python3
-"""Whether a site goes through ten million events in generations: with no page torn and no bid lost, in a process that does not grow, and
+"""Checks that a site goes through ten million events in generations: with no page torn and no bid lost, in a process that does not grow, and
 with nodes that stay warm. Beside the gate.
 
 usage: soak_site.py [THREADS [EVENTS [GENERATIONS [BIDS [SECONDS [stored]]]]]]

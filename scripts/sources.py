@@ -1,6 +1,7 @@
-"""What the documents take from the sources: the definitions of specs/, and the types, constants and functions of src/, each
+"""Reads crates.txt, and the sources for the documents: the definitions of specs/, and the types, constants and functions of src/, each
 with its comment, its text, and the words that its text uses, followed through the `use` lines of its file."""
 import pathlib, re
+from dataclasses import dataclass
 from functools import lru_cache
 
 ROOT = pathlib.Path(__file__).resolve().parent.parent
@@ -10,23 +11,85 @@ TYPE = re.compile(r"( *)pub(?:\([^)]*\))? (struct|enum|trait|type|const|static) 
 FN = re.compile(r'( *)(pub(?:\([^)]*\))? )?(?:const )?(?:unsafe )?(?:extern "C" )?fn (\w+)')
 RUST_USE = re.compile(r"^(?:pub )?use ((?:\w+::)+)(?:(\w+)|\{([^}]*)\});$", re.M)
 MODEL = re.compile(r"^impl.*? Model for (\w+)")
+# The comment of crates.txt that heads a layer.
+LAYER = re.compile(r"# Layer ([a-z ]+): (.+)")
 # Words of the language and of no crate, which a text uses without a definition.
 NOT_WORDS = {"record", "data", "pub", "abbrev", "unfoldable", "where", "let", "in", "if", "then", "else", "use", "Type"}
 
 
-def crates():
+@dataclass(frozen=True)
+class Layer:
+    """A layer of crates.txt: its name, what its crates have in common, and their names."""
+
+    name: str
+    says: str
+    crates: list[str]
+
+
+@lru_cache(None)
+def layers() -> tuple[Layer, ...]:
+    """The layers of crates.txt, the lowest first. What stands before the first of them is in none."""
+    found: list[Layer] = []
+    for line in (ROOT / "crates.txt").read_text().split("\n"):
+        head, row = LAYER.fullmatch(line), line.partition("#")[0]
+        if head:
+            found.append(Layer(head[1], head[2], []))
+        elif ":" in row and found:
+            found[-1].crates.append(row.split(":")[0].split()[0])
+    return tuple(found)
+
+
+@lru_cache(None)
+def used(*files: str) -> dict[str, list[str]]:
+    """The libraries that each crate of these lists uses: by default of crates.txt, in its order."""
+    rows = [line.partition("#")[0] for it in files or ("crates.txt",) for line in (ROOT / it).read_text().split("\n")]
+    return {row.split(":")[0].split()[0]: row.split(":")[1].split() for row in rows if ":" in row}
+
+
+def crates() -> list[str]:
     """The crates' names, in the order of crates.txt."""
-    rows = [line.split("#")[0] for line in (ROOT / "crates.txt").read_text().split("\n")]
-    return [row.split(":")[0].split()[0] for row in rows if ":" in row]
+    return list(used())
 
 
-# Those that only call the others.
-USES = {"txc_uses", "txc_thread_uses", "txc_supply_uses"}
+def lowest_first() -> list[str]:
+    """The crates' names, each after those that it uses."""
+    below = {crate: len(brought([crate], used())) for crate in crates()}
+    return sorted(below, key=below.__getitem__)
 
 
-def documented():
-    """Those that have a page in docs/."""
-    return [it for it in crates() if it not in USES]
+def brought(libraries: list[str], lists: dict[str, list[str]]) -> set[str]:
+    """What the crates among these libraries use, and what is below that."""
+    found: set[str] = set()
+    left = [other for it in libraries for other in lists.get(it, [])]
+    while left:
+        it = left.pop()
+        if it not in found:
+            found.add(it)
+            left += lists.get(it, [])
+    return found
+
+
+def root_file(crate: str) -> pathlib.Path:
+    """The root of a crate's source, which says what the crate does: a library's lib.rt, a program's main.rt; of one of tests/ too."""
+    folders = (ROOT / "crates" / crate / "src", ROOT / "tests" / crate / "src")
+    files = [folder / f"{name}.rt{ending}" for folder, ending in zip(folders, ("", ".in")) for name in ("lib", "main")]
+    return next(it for it in files if it.is_file())
+
+
+def programs() -> set[str]:
+    """The crates that are programs."""
+    return {it for it in crates() if root_file(it).stem == "main"}
+
+
+def uses() -> set[str]:
+    """The crates that only call the others: the libraries of the last layer that no crate uses."""
+    below = {it for libraries in used("crates.txt", "tests/crates.txt.in").values() for it in libraries}
+    return {*layers()[-1].crates} - below - programs()
+
+
+def documented() -> list[str]:
+    """Those that have a page."""
+    return [it for it in crates() if it not in uses()]
 
 
 class Word:
@@ -509,9 +572,7 @@ def public_api(crate):
     return types, calls
 
 
-def purpose(crate):
-    """The first sentence of the crate's documentation."""
-    folder = ROOT / "crates" / crate / "src"
-    root = next(it for it in (folder / "lib.rt", folder / "main.rt") if it.exists())
-    head = re.match(r"((?://! .*\n)+)", root.read_text())[1]
-    return " ".join(line[4:] for line in head.strip().split("\n")).split(". ")[0].rstrip(".") + "."
+def purpose(crate: str) -> str:
+    """The first sentence of the crate's documentation; empty where it has none."""
+    head = re.match(r"((?://! .*\n)+)", root_file(crate).read_text())
+    return " ".join(line[4:] for line in head[1].strip().split("\n")).split(". ")[0].rstrip(".") + "." if head else ""

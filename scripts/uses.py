@@ -12,9 +12,9 @@ usage: uses.py [--all]      --all lists all that the crates of uses do not call
 import re, sys
 from functools import lru_cache
 
-from sources import USES, crates, impls, public_api, rust_item, source_files
+from sources import crates, impls, programs, public_api, rust_item, source_files, uses
 
-PROGRAMS = {"txcache", "auction", "shop"}
+USES, PROGRAMS = uses(), programs()
 CALL = re.compile(r"(?:(\w+)(?:::<[^()]*?>)?::|(\.)|(?<![\w:]))(\w+)(?:::<[^()]*?>)?\(")
 TYPE = re.compile(r"\b[A-Z]\w*")
 

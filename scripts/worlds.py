@@ -1,4 +1,4 @@
-"""Random scripts of mode world that a site can say, and what `txcache` replies to them: for scripts/boundary.py.
+"""Makes random scripts of mode world that a site can say, and what `txcache` replies to them: for scripts/boundary.py.
 
 A site has one transaction and one node, so the lines are those of actor 0 and of a keeper, who changes something meanwhile only right after
 `rw 0` (bindings/c/README.md has the list). bindings/c/tests/play_site.c plays a script and prints each line with its reply, a sweep after each
