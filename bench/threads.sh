@@ -4,9 +4,10 @@
 # turn, in one run, as before a change and after it. Compiled so, a thread that waits for a lock does not pause between its first
 # tries, as it does in a proved program.
 #
-# usage: bench/threads.sh [--kinds KIND..] [--counts NUMBER..] [--nodes NUMBER] [--events NUMBER] [--most NUMBER] [--runs NUMBER] [--milliseconds NUMBER] [--figures] [PROGRAM..]
+# usage: bench/threads.sh [--kinds KIND..] [--counts NUMBER..] [--nodes NUMBER] [--events NUMBER] [--most NUMBER] [--runs NUMBER] [--milliseconds NUMBER]
+#        [--items NUMBER] [--stale MILLISECONDS] [--every MILLISECONDS] [--compute MICROSECONDS] [--figures] [PROGRAM..]
 #
-# It prints tables in markdown, in five minutes where nothing else is said. bench/threads_bench/times.py says what the columns mean.
+# It prints tables in markdown, in ten minutes where nothing else is said. bench/threads_bench/times.py says what the columns mean.
 set -euo pipefail
 cd "$(dirname "$0")/.."
 PYTHONPATH=scripts exec python3 bench/threads_bench/times.py "$@"

@@ -1,9 +1,9 @@
 """Times the program of bench/threads_bench, which `bench/threads.sh` names: pages a second of threads and of processes.
 
 A process of N threads may use the processors from 0 to N - 1; of N processes, of one thread each, every one has one of these to itself,
-and a database of its own. All visitors begin at the same moment, when their sites are there and each page was read once, and are counted
-for so many milliseconds. The two run in turn, so many times (seven), and the programs in turn too. A table for each kind of work
-(`src/main.rt` says what each is); its columns:
+and a database of its own. All visitors go by the system's clock, and each site keeps itself by it. They begin at the same moment, when
+their sites are there and each page was read once, and are counted for so many milliseconds. The two run in turn, so many times (seven), and
+the programs in turn too. A table for each kind of work (`src/main.rt` says what each is); its columns:
 
   pages/s    the greatest of the runs, and the median of them
   of one     how many times the greatest with one thread that is
@@ -36,8 +36,21 @@ KINDS = {
     "bids 10": "two calls, and a bid after each tenth page",
     "bids 1": "two calls, and a bid after each page",
 }
-# For less than how many milliseconds pins are kept in the table of docs/FIGURES.md.
-KEPT = 50
+# The rows of docs/FIGURES.md: what differs from a shop of 8 items whose pages are 100 ms old at most and whose site is kept each 2 ms.
+SHOPS = [
+    ("hits", {"most": 50}),
+    ("hits", {}),
+    ("nested", {}),
+    ("misses", {}),
+    ("bids 10", {}),
+    ("bids 10", {"items": 256}),
+    ("bids 10", {"items": 256, "stale": 1000, "every": 100}),
+    ("bids 10", {"items": 256, "compute": 50}),
+    ("bids 10", {"items": 256, "compute": 200}),
+    ("bids 1", {}),
+    ("bids 1", {"items": 256}),
+    ("bids 1", {"items": 256, "stale": 1000, "every": 100}),
+]
 # Milliseconds until a site is there.
 AHEAD = 800
 SAID = re.compile(r"(\d+) pages, (\d+) torn, (\d+) refused, (\d+) bids, (-?\d+) lost, (\d+) conflicts\n")
@@ -65,7 +78,8 @@ class Run:
         """So many visitors, on threads of one process or in a process each."""
         start = int(time.time() * 1000) + AHEAD
         places = [range(count)] if threads else [[at] for at in range(count)]
-        words = [*kind.split(), str(count if threads else 1), str(start), str(given.milliseconds), str(given.nodes), str(given.events), str(given.most)]
+        words = [*kind.split(), str(count if threads else 1), str(start), str(given.milliseconds), str(given.nodes), str(given.events), str(given.most),
+                 str(given.items), str(given.stale), str(given.every), str(given.compute)]
         begun = [subprocess.Popen([program, *words], stdout=subprocess.PIPE, text=True,
                                   preexec_fn=lambda place=place: os.sched_setaffinity(0, place)) for place in places]
         self.pages = self.sleeps = self.switches = self.conflicts = 0
@@ -97,7 +111,7 @@ def all_runs(given, kind, count):
 
 
 def table(given, kind):
-    print(f"\n{kind}, {given.nodes} nodes, {given.milliseconds} ms, best and median of {given.runs}; load {os.getloadavg()[0]:.1f}\n")
+    print(f"\n{kind}, {shop_text(given)}, {given.nodes} nodes, {given.milliseconds} ms, best and median of {given.runs}; load {os.getloadavg()[0]:.1f}\n")
     named = len(given.programs) > 1
     print(f"|{' Program |' * named} At once | Threads, pages/s | of one | Sleeps | Switches | Processes, pages/s | of one | of both |")
     print("|---" * (8 + named) + "|", flush=True)
@@ -114,17 +128,30 @@ def table(given, kind):
                   f" | {other:,.0f} ({other_middle:,.0f}) | {other / other_one:.2f} | {best / other:.2f} |", flush=True)
 
 
+def shop_text(given):
+    """The words of a row of docs/FIGURES.md for its shop."""
+    words = [f"{given.items} items"]
+    if given.stale != 100:
+        words.append(f"pages of {given.stale} ms, kept each {given.every}")
+    if given.compute:
+        words.append(f"functions of {given.compute} µs")
+    if given.most:
+        words.append(f"pins kept for {given.most} ms")
+    return "; ".join(words)
+
+
 def figures(given):
-    """The greatest of each kind, of the first program, as docs/FIGURES.md has them: without pins that are kept, and with them."""
-    print(f"Measured on {time.strftime('%Y-%m-%d')} by `bench/threads.sh --figures`, on {os.cpu_count()} cores at 2.5 GHz, load {os.getloadavg()[0]:.0f}, "
-          f"not proved; pages a second, the best of {given.runs}.\n")
+    """The greatest of each row, of the first program, as docs/FIGURES.md has them."""
+    print(f"Measured on {time.strftime('%Y-%m-%d')} by `bench/threads.sh --figures`, on {os.cpu_count()} cores, load {os.getloadavg()[0]:.0f}, "
+          f"not proved; pages a second, the best of {given.runs} of {given.milliseconds} ms.\n")
     heads = [f"{what}: {it}" if at == 0 else f"{it}" for what in ("Threads", "Processes") for at, it in enumerate(given.counts)]
-    print(f"| Pages of | {' | '.join(heads)} |\n{'|---' * (1 + len(heads))}|", flush=True)
-    for given.most, how in ((0, ""), (KEPT, f"; pins kept for {KEPT} ms")):
-        for kind in given.kinds:
-            runs = [all_runs(given, kind, count) for count in given.counts]
-            best = [speed(it[given.programs[0], threads], given)[0] for threads in (True, False) for it in runs]
-            print(f"| {KINDS.get(kind, kind)}{how} |{''.join(f' {it:,.0f} |' for it in best)}", flush=True)
+    print(f"| Pages of | Shop | {' | '.join(heads)} |\n{'|---' * (2 + len(heads))}|", flush=True)
+    for kind, shop in SHOPS:
+        if kind in given.kinds:
+            row = argparse.Namespace(**{**vars(given), **shop})
+            runs = [all_runs(row, kind, count) for count in given.counts]
+            best = [speed(it[given.programs[0], threads], row)[0] for threads in (True, False) for it in runs]
+            print(f"| {KINDS.get(kind, kind)} | {shop_text(row)} |{''.join(f' {it:,.0f} |' for it in best)}", flush=True)
 
 
 def main():
@@ -135,7 +162,11 @@ def main():
     words.add_argument("--events", type=int, default=0)
     words.add_argument("--most", type=int, default=0)
     words.add_argument("--runs", type=int, default=7)
-    words.add_argument("--milliseconds", type=int, default=500)
+    words.add_argument("--milliseconds", type=int, default=1000)
+    words.add_argument("--items", type=int, default=8)
+    words.add_argument("--stale", type=int, default=100)
+    words.add_argument("--every", type=int, default=2)
+    words.add_argument("--compute", type=int, default=0)
     words.add_argument("--figures", action="store_true")
     words.add_argument("programs", nargs="*", metavar="PROGRAM")
     given = words.parse_args()
