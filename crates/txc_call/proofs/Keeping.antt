@@ -1,11 +1,12 @@
 -- What comes of a reply keeps the frames and what holds of them.
-use Rattle.std.proofs.Common.{◌≡◌, ◌⊎◌, inl, inr, ⊎_elim, ℕ, ◌+◌, ◌<◌, ◌≤◌, nat_le, Bool, true, false, cond, List, [], ◌∷◌, ◌++◌, length, Option, Some, None, IsSome, Ok, Err, sym, refl, ap, subst, ◌∙◌, arith}
+use Rattle.std.proofs.Common.{◌≡◌, ◌≢◌, ◌⊎◌, inl, inr, ⊎_elim, ℕ, ◌+◌, ◌<◌, ◌≤◌, nat_le, Bool, true, false, cond, List, [], ◌∷◌, ◌++◌, length, Option, Some, None, IsSome, Ok, Err, sym, refl, ap, subst, ◌∙◌, arith}
 use Rattle.std.specs.Prelude.{is_some}
 use Rattle.std.proofs.lemmas.Bool.Decides.{nat_tests}
 use Rattle.txc_stamp.specs.Interval.{Interval}
 use Rattle.txc_tags.specs.declared.tag.Tag.{Tag}
 use Rattle.txc_tags.specs.Keys.{Call}
 use Rattle.txc_rows.specs.declared.query.Query.{Query}
+use Rattle.txc_rows.specs.States.{State}
 use Rattle.txc_db.specs.History.{History}
 use Rattle.txc_node.specs.declared.value.TheConstants.{MAX_VALUE_LEN}
 use Rattle.txc_app.specs.declared.app.TheConstants.{MAX_ASKS}
@@ -14,13 +15,15 @@ use Rattle.txc_app.specs.declared.ask.Ask.TheVariants as asks
 use Rattle.txc_app.specs.declared.ask.Answer.{Answer}
 use Rattle.txc_app.specs.declared.ask.Answer.TheVariants as answers
 use Rattle.txc_app.specs.Eval.{Next}
-use Rattle.txc_app.specs.Claims.{RowsHold, ValueHolds}
+use Rattle.txc_app.specs.Answering.{IsRight, queries_of}
+use Rattle.txc_app.specs.Claims.{HoldsOver, RowsHold, ValueHolds}
 use Rattle.txc_app.specs.Laws.{RightAnswersGiveTheValue}
 use Rattle.txc_registry.specs.Activity.{Activity, idle}
 use Rattle.txc_registry.specs.Objects.{Objects, activity_of, with_activity}
 use Rattle.txc_call.specs.declared.error.CallError.{CallError}
 use Rattle.txc_call.specs.declared.error.CallError.TheVariants as errors
 use Rattle.txc_call.specs.declared.frame.Frame.{Frame}
+use Rattle.txc_call.specs.declared.need.HeldAnswer.{HeldAnswer}
 use Rattle.txc_call.specs.declared.need.Need.{Need}
 use Rattle.txc_call.specs.declared.need.Need.TheVariants as needs
 use Rattle.txc_call.specs.declared.need.Outcome.{Outcome}
@@ -28,14 +31,16 @@ use Rattle.txc_validity.specs.declared.answer.Found.{Found}
 use Rattle.txc_call.specs.declared.reply.Reply.{Reply}
 use Rattle.txc_call.specs.declared.reply.Reply.TheVariants as replies
 use Rattle.txc_call.specs.Reaches.{InReach}
-use Rattle.txc_call.specs.Frames.{answers_in, begun_frame, given, AnswerHolds, AreFew, AreUnreached, FramesHold, InAll, IsOpen, IsRising}
-use Rattle.txc_call.specs.Needs.{reply_reach, InNeed, IsUnreached, IsWaiting, NeedFits, NeedHolds, ReplyHolds}
+use Rattle.txc_call.specs.Frames.{answers_in, begun_frame, given, AnswerHolds, AreFew, AreUnreached, FrameAsks, FramesHold, InAll, IsOpen, IsRising}
+use Rattle.txc_call.specs.Needs.{reply_reach, HeldAnswerHolds, InNeed, IsUnreached, IsWaiting, NeedFits, NeedHolds, ReplyFits, ReplyHolds}
 use Rattle.txc_call.specs.Calling.{Calling, CallHolds, CallIsUnreached, InCall, IsCalling}
-use Rattle.txc_call.specs.Turns.{Standing, UnlessRefused, count_refusal, call_refusal, value_refusal, ask_refusal, entry_of_frame, outcome_of, unreached, Onward, DoneTransition, AllowedTransition, AskTransition, AfterAsk, AfterMiss, AfterReply, AfterRows, AfterValue, next_ask, with_answer, with_begun}
+use Rattle.txc_call.specs.Running.{value_need, stays_held, need_after, due_ask, objects_after, with_resumed, AfterRan, AfterOneAsk, FunctionExists, StepKeeps}
+use Rattle.txc_call.specs.Turns.{Standing, UnlessRefused, count_refusal, call_refusal, needing, rows_held, value_held, value_refusal, ask_refusal, entry_of_frame, outcome_of, unreached, Onward, DoneTransition, AllowedTransition, AskTransition, AfterAsk, AfterMiss, AfterReply, AfterRows, AfterValue, next_ask, with_answer, with_begun}
 use Rattle.txc_call.specs.Laws.{at_start, CallsComeToTheirValues, InsertionsAreTrue, IsLed, IsLedBy, IsLedFrom}
 use Rattle.txc_call.proofs.Claims.{meets_at}
 use Rattle.txc_call.proofs.Answering.{rows_answer, value_answers}
 use Rattle.txc_call.proofs.Transitions.{few_by}
+use Rattle.txc_call.proofs.OneAsk.{asks_there}
 use Rattle.txc_call.proofs.OpenFrames.{closed, free_below, hold_closed, hold_opened, hold_resumed, in_given, opened, resumed, unreached_given}
 
 -- ---- refusals that did not come
@@ -56,6 +61,17 @@ short_by_test : (bytes : List ℕ) (b : Bool) → nat_le (length bytes) MAX_VALU
 short_by_test bytes true is h = grind (arith, nat_tests)
 short_by_test bytes false is h = let no : Some errors.ValueTooLong ≡ None = rw is at h in absurd (cc)
 
+-- ---- a held answer
+
+module _ (next : Next) (L : History) (os : Objects) (frame : Frame) (outer : List Frame) (ask : Ask) (x : HeldAnswer) (asked : FrameAsks next os ask frame) where
+  hand_holds : AnswerHolds next L frame.key.function ask x.answer x.reach x.tags → HeldAnswerHolds next L os (frame ∷ outer) x
+  hand_holds h =
+      subst (λ (o : Option Ask). HoldsOver L (λ (s : State). IsRight next frame.key.function s o x.answer) (λ (s : State). queries_of next s o) x.reach x.tags) (sym asked.asks) h
+
+  hand_right : HeldAnswerHolds next L os (frame ∷ outer) x → AnswerHolds next L frame.key.function ask x.answer x.reach x.tags
+  hand_right h =
+      subst (λ (o : Option Ask). HoldsOver L (λ (s : State). IsRight next frame.key.function s o x.answer) (λ (s : State). queries_of next s o) x.reach x.tags) asked.asks h
+
 -- ---- what is kept
 
 -- where H holds in a history, all answers are right there; a stamp of W lies in all reaches; and where U holds there is no reach
@@ -75,7 +91,7 @@ module _ (next : Next) (top : Call) (law : RightAnswersGiveTheValue) (s : Standi
     no_reach = λ x. k.no_reach (u x);
   }
 
-  -- what is kept where this is at hand, over a reach, beside these frames
+  -- what is kept if this is held, over a reach, beside these frames
   abbrev KeepsBeside : (History → Type 0) → Option Interval → List Frame → Objects → Type 0
   KeepsBeside H reach frames os =
       Keeps next top (λ L. H L × FramesHold next L os frames) (λ t. InReach t reach × InAll t frames) ((reach ≡ None) × AreUnreached frames) s
@@ -192,6 +208,118 @@ module _ (next : Next) (top : Call) (law : RightAnswersGiveTheValue) (s : Standi
       three.2)
       leads
 
+  -- a value is held for the frames
+  pub held_keeps : (frames : List Frame) (asked : ℕ) (o : Outcome) (os : Objects) → IsWaiting next os top (asks.Call o.key) frames → IsRising o.key.function frames
+      → Ok s ≡ needing frames asked (value_need frames o) os → KeepsValue frames o os
+  held_keeps [] asked o os waits up leads =
+      let e : s ≡ record { frames = []; asked = asked; need = Some (needs.Value o); objects = os } = cc in
+      subst (λ (st : Standing). Keeps next top (λ L. ValueHolds next L o.key o.value o.reach o.tags × FramesHold next L os []) (λ t. InReach t o.reach × InAll t []) ((o.reach ≡ None) × AreUnreached []) st) (sym e) record {
+        fits = (waits, refl);
+        holds = λ L two. two;
+        within = λ t two. two;
+        no_reach = λ two. two;
+      }
+  held_keeps (frame ∷ outer) asked o os waits up leads =
+      let e : s ≡ record { frames = frame ∷ outer; asked = asked; need = Some (needs.Resume (value_held o)); objects = os } = cc in
+      subst (λ (st : Standing). Keeps next top (λ L. ValueHolds next L o.key o.value o.reach o.tags × FramesHold next L os (frame ∷ outer)) (λ t. InReach t o.reach × InAll t (frame ∷ outer)) ((o.reach ≡ None) × AreUnreached (frame ∷ outer)) st) (sym e) record {
+        fits = ((asks.Call o.key, waits, tt), λ none. let no : frame ∷ outer ≡ [] = none in absurd (cc));
+        holds = λ L two. (
+          hand_holds next L os frame outer (asks.Call o.key) (value_held o) waits.open_frames.stack.0
+              (value_answers next L frame.key.function o.key o.value o.reach o.tags up.0 two.0),
+          two.1,
+        );
+        within = λ t two. two;
+        no_reach = λ two. two;
+      }
+
+  -- the rows that were found are held for the innermost frame
+  found_keeps : (frames : List Frame) (asked : ℕ) (q : Query) (found : Found) (os : Objects) → IsWaiting next os top (asks.Query q) frames → frames ≢ []
+      → Ok s ≡ needing frames asked (needs.Resume (rows_held found)) os
+      → KeepsBeside (λ L. RowsHold L q found.rows.items (Some found.reach) found.tags) (Some found.reach) frames os
+  found_keeps [] asked q found os waits some leads = absurd (some refl)
+  found_keeps (frame ∷ outer) asked q found os waits some leads =
+      let e : s ≡ record { frames = frame ∷ outer; asked = asked; need = Some (needs.Resume (rows_held found)); objects = os } = cc in
+      subst (λ (st : Standing). Keeps next top (λ L. RowsHold L q found.rows.items (Some found.reach) found.tags × FramesHold next L os (frame ∷ outer)) (λ t. InReach t (Some found.reach) × InAll t (frame ∷ outer)) ((Some found.reach ≡ None) × AreUnreached (frame ∷ outer)) st) (sym e) record {
+        fits = ((asks.Query q, waits, tt), some);
+        holds = λ L two. (
+          hand_holds next L os frame outer (asks.Query q) (rows_held found) waits.open_frames.stack.0
+              (rows_answer next L frame.key.function q found.rows.items (Some found.reach) found.tags two.0),
+          two.1,
+        );
+        within = λ t two. two;
+        no_reach = λ two. two;
+      }
+
+  -- one ask of the innermost frame, before any other function continues
+  told_keeps : (outer : List Frame) (asked : ℕ) (frame : Frame) (ask : Ask) (os : Objects) → AreFew outer → IsOpen next os top ask (frame ∷ outer) → FunctionExists os ask
+      → AfterOneAsk outer asked frame ask os (Ok s) → KeepsFrames (frame ∷ outer) os
+  told_keeps outer asked frame ask os few h there leads =
+      ask_keeps outer asked frame ask os (stays_held outer asked frame (Ok s)) few h
+      (λ bytes leads' none h'. held_keeps outer (asked + 1) (unreached frame bytes) (with_activity os frame.key.function idle)
+      (record { open_frames = h'; few = few }) h.rising leads')
+      (asks_there outer asked frame os s ask there leads)
+
+  begin_keeps : (frames : List Frame) (asked : ℕ) (k : Call) (ask : Ask) (os : Objects)
+      → IsWaiting next os top (asks.Call k) frames → IsRising k.function frames → IsSome (activity_of os k.function)
+      → next k.function k.args [] ≡ Some ask → FunctionExists (with_begun os k) ask
+      → AfterOneAsk frames asked (begun_frame k) ask (with_begun os k) (Ok s) → KeepsFrames frames os
+  begin_keeps frames asked k ask os waits up there asked_first all_there leads =
+      let free = free_below k.function frames os up waits.open_frames.free there in
+      keeps_from
+      (λ L. FramesHold next L (with_begun os k) (begun_frame k ∷ frames)) (λ L. FramesHold next L os frames)
+      (λ t. InAll t (begun_frame k ∷ frames)) (λ t. InAll t frames)
+      (AreUnreached (begun_frame k ∷ frames)) (AreUnreached frames)
+      (λ L hold. hold_opened next L os k frames up free hold)
+      (λ t inside. (tt, inside))
+      (λ none. (refl, none))
+      (told_keeps frames asked (begun_frame k) ask (with_begun os k) waits.few
+      (opened next os top k ask frames waits.open_frames up free asked_first) all_there leads)
+
+  resume_keeps : (outer : List Frame) (asked : ℕ) (frame : Frame) (wanted ask : Ask) (x : HeldAnswer) (os : Objects)
+      → IsWaiting next os top wanted (frame ∷ outer) → (t : ℕ) → InReach t x.reach → InAll t (frame ∷ outer)
+      → next_ask next os frame x.answer ≡ Some ask → FunctionExists (with_answer os frame.key.function x.answer) ask
+      → AfterOneAsk outer asked (given frame x.reach x.tags) ask (with_answer os frame.key.function x.answer) (Ok s)
+      → KeepsBeside (λ L. HeldAnswerHolds next L os (frame ∷ outer) x) x.reach (frame ∷ outer) os
+  resume_keeps outer asked frame wanted ask x os waits t here all asked_next all_there leads =
+      let after : Frame = given frame x.reach x.tags in
+      let os' : Objects = with_answer os frame.key.function x.answer in
+      given_keeps outer asked frame wanted ask x.answer x.reach x.tags os (stays_held outer asked after (Ok s))
+      (λ L. HeldAnswerHolds next L os (frame ∷ outer) x) (λ L. hand_right next L os frame outer wanted x waits.open_frames.stack.0)
+      waits t here all asked_next
+      (λ bytes leads' none h'. held_keeps outer (asked + 1) (unreached after bytes) (with_activity os' frame.key.function idle)
+      (record { open_frames = h'; few = waits.few.1 }) waits.open_frames.rising leads')
+      (asks_there outer asked after os' s ask all_there leads)
+
+  -- the needed function's ask
+  abbrev KeepsRun : List Frame → Objects → Need → Type 0
+  KeepsRun frames os need = Keeps next top (λ L. NeedHolds next L os (Some need) frames) (λ t. InNeed t (Some need) frames) (IsUnreached (Some need) frames) s
+
+  pub ran_keeps : (frames : List Frame) (asked : ℕ) (os : Objects) (need : Need) (ask : Ask)
+      → NeedFits next os top (Some need) frames → (t : ℕ) → InNeed t (Some need) frames → due_ask next os frames need ≡ Some ask
+      → FunctionExists (with_resumed os frames need) ask → AfterRan frames asked os need ask (Ok s) → KeepsRun frames os need
+  ran_keeps frames asked os (needs.Begin k) ask fits t all asks_now there leads =
+      ⊎_elim
+      (λ no. let no' : Ok s ≡ Err no.0 = no.1 in absurd (cc))
+      (λ (after : AfterOneAsk frames asked (begun_frame k) ask (with_begun os k) (Ok s)).
+      keeps_from
+      (λ L. FramesHold next L os frames) (λ L. NeedHolds next L os (Some (needs.Begin k)) frames)
+      (λ t. InAll t frames) (λ t. InNeed t (Some (needs.Begin k)) frames)
+      (AreUnreached frames) (IsUnreached (Some (needs.Begin k)) frames)
+      (λ L hold. hold) (λ t two. two.1) (λ two. two.1)
+      (begin_keeps frames asked k ask os fits.0 fits.1 fits.2 asks_now there after))
+      leads
+  ran_keeps [] asked os (needs.Resume x) ask fits t all asks_now there leads = absurd (fits.1 refl)
+  ran_keeps (frame ∷ outer) asked os (needs.Resume x) ask fits t all asks_now there leads =
+      ⊎_elim
+      (λ no. let no' : Ok s ≡ Err no.0 = no.1 in absurd (cc))
+      (λ (after : AfterOneAsk outer asked (given frame x.reach x.tags) ask (with_answer os frame.key.function x.answer) (Ok s)).
+      resume_keeps outer asked frame fits.0.0 ask x os fits.0.1 t all.0 all.1 asks_now there after)
+      leads
+  ran_keeps frames asked os (needs.Lookup k) ask fits t all asks_now there leads = absurd (cc)
+  ran_keeps frames asked os (needs.Query q) ask fits t all asks_now there leads = absurd (cc)
+  ran_keeps frames asked os (needs.Insert e) ask fits t all asks_now there leads = absurd (cc)
+  ran_keeps frames asked os (needs.Value o) ask fits t all asks_now there leads = absurd (cc)
+
   -- what comes of what the innermost frame asks
   after_ask_keeps : (outer : List Frame) (asked : ℕ) (frame : Frame) (ask : Ask) (os : Objects) → AreFew outer → IsOpen next os top ask (frame ∷ outer) → (t : ℕ) → InAll t outer
       → AfterAsk next outer asked frame ask os (Ok s) → KeepsFrames (frame ∷ outer) os
@@ -288,6 +416,69 @@ module _ (next : Next) (top : Call) (law : RightAnswersGiveTheValue) (s : Standi
   reply_keeps frames asked os (needs.Value o) (replies.Hit hit) fits t here all leads = absurd leads
   reply_keeps frames asked os (needs.Value o) (replies.Found found) fits t here all leads = absurd leads
   reply_keeps frames asked os (needs.Value o) replies.Inserted fits t here all leads = absurd leads
+  reply_keeps frames asked os (needs.Begin k) replies.Miss fits t here all leads = absurd leads
+  reply_keeps frames asked os (needs.Begin k) (replies.Hit hit) fits t here all leads = absurd leads
+  reply_keeps frames asked os (needs.Begin k) (replies.Found found) fits t here all leads = absurd leads
+  reply_keeps frames asked os (needs.Begin k) replies.Inserted fits t here all leads = absurd leads
+  reply_keeps frames asked os (needs.Resume x) replies.Miss fits t here all leads = absurd leads
+  reply_keeps frames asked os (needs.Resume x) (replies.Hit hit) fits t here all leads = absurd leads
+  reply_keeps frames asked os (needs.Resume x) (replies.Found found) fits t here all leads = absurd leads
+  reply_keeps frames asked os (needs.Resume x) replies.Inserted fits t here all leads = absurd leads
+
+  -- a reply, before any function continues
+  pub replied_keeps : (frames : List Frame) (asked : ℕ) (os : Objects) (need : Need) (reply : Reply)
+      → NeedFits next os top (Some need) frames → ReplyFits need reply
+      → Ok s ≡ needing frames asked (need_after frames need reply) os → KeepsReply frames os need reply
+  replied_keeps frames asked os (needs.Lookup k) replies.Miss fits ok leads =
+      let e : s ≡ record { frames = frames; asked = asked; need = Some (needs.Begin k); objects = os } = cc in
+      subst (λ (st : Standing). Keeps next top (λ L. ReplyHolds next L (needs.Lookup k) replies.Miss × NeedHolds next L os (Some (needs.Lookup k)) frames)
+      (λ t. InReach t (reply_reach replies.Miss) × InNeed t (Some (needs.Lookup k)) frames) ((reply_reach replies.Miss ≡ None) × IsUnreached (Some (needs.Lookup k)) frames) st) (sym e) record {
+        fits = fits;
+        holds = λ L two. two.1;
+        within = λ t two. two.1;
+        no_reach = λ two. two.1;
+      }
+  replied_keeps frames asked os (needs.Lookup k) (replies.Hit hit) fits ok leads =
+      keeps_from
+      (λ L. ValueHolds next L k hit.value (Some hit.reach) hit.tags × FramesHold next L os frames) (λ L. ReplyHolds next L (needs.Lookup k) (replies.Hit hit) × NeedHolds next L os (Some (needs.Lookup k)) frames)
+      (λ t. InReach t (Some hit.reach) × InAll t frames) (λ t. InReach t (Some hit.reach) × InNeed t (Some (needs.Lookup k)) frames)
+      ((Some hit.reach ≡ None) × AreUnreached frames) ((Some hit.reach ≡ None) × IsUnreached (Some (needs.Lookup k)) frames)
+      (λ L two. two) (λ t two. (two.0, two.1.1)) (λ two. (two.0, two.1.1))
+      (held_keeps frames asked (outcome_of k hit.value hit.reach hit.tags) os fits.0 fits.1 leads)
+  replied_keeps frames asked os (needs.Query q) (replies.Found found) fits ok leads =
+      keeps_from
+      (λ L. RowsHold L q found.rows.items (Some found.reach) found.tags × FramesHold next L os frames) (λ L. ReplyHolds next L (needs.Query q) (replies.Found found) × NeedHolds next L os (Some (needs.Query q)) frames)
+      (λ t. InReach t (Some found.reach) × InAll t frames) (λ t. InReach t (Some found.reach) × InNeed t (Some (needs.Query q)) frames)
+      ((Some found.reach ≡ None) × AreUnreached frames) ((Some found.reach ≡ None) × IsUnreached (Some (needs.Query q)) frames)
+      (λ L two. two) (λ t two. (two.0, two.1.1)) (λ two. (two.0, two.1.1))
+      (found_keeps frames asked q found os fits.0 fits.1 leads)
+  replied_keeps frames asked os (needs.Insert e) replies.Inserted fits ok leads =
+      keeps_from
+      (λ L. ValueHolds next L e.key e.value (Some e.reach) e.tags × FramesHold next L os frames) (λ L. ReplyHolds next L (needs.Insert e) replies.Inserted × NeedHolds next L os (Some (needs.Insert e)) frames)
+      (λ t. InReach t (Some e.reach) × InAll t frames) (λ t. InReach t None × InNeed t (Some (needs.Insert e)) frames)
+      ((Some e.reach ≡ None) × AreUnreached frames) ((None ≡ None) × IsUnreached (Some (needs.Insert e)) frames)
+      (λ L two. two.1) (λ t two. two.1) (λ two. two.1)
+      (held_keeps frames asked (outcome_of e.key e.value e.reach e.tags) os fits.0 fits.1 leads)
+  replied_keeps frames asked os (needs.Lookup k) (replies.Found found) fits ok leads = absurd ok
+  replied_keeps frames asked os (needs.Lookup k) replies.Inserted fits ok leads = absurd ok
+  replied_keeps frames asked os (needs.Query q) replies.Miss fits ok leads = absurd ok
+  replied_keeps frames asked os (needs.Query q) (replies.Hit hit) fits ok leads = absurd ok
+  replied_keeps frames asked os (needs.Query q) replies.Inserted fits ok leads = absurd ok
+  replied_keeps frames asked os (needs.Insert e) replies.Miss fits ok leads = absurd ok
+  replied_keeps frames asked os (needs.Insert e) (replies.Hit hit) fits ok leads = absurd ok
+  replied_keeps frames asked os (needs.Insert e) (replies.Found found) fits ok leads = absurd ok
+  replied_keeps frames asked os (needs.Value o) replies.Miss fits ok leads = absurd ok
+  replied_keeps frames asked os (needs.Value o) (replies.Hit hit) fits ok leads = absurd ok
+  replied_keeps frames asked os (needs.Value o) (replies.Found found) fits ok leads = absurd ok
+  replied_keeps frames asked os (needs.Value o) replies.Inserted fits ok leads = absurd ok
+  replied_keeps frames asked os (needs.Begin k) replies.Miss fits ok leads = absurd ok
+  replied_keeps frames asked os (needs.Begin k) (replies.Hit hit) fits ok leads = absurd ok
+  replied_keeps frames asked os (needs.Begin k) (replies.Found found) fits ok leads = absurd ok
+  replied_keeps frames asked os (needs.Begin k) replies.Inserted fits ok leads = absurd ok
+  replied_keeps frames asked os (needs.Resume x) replies.Miss fits ok leads = absurd ok
+  replied_keeps frames asked os (needs.Resume x) (replies.Hit hit) fits ok leads = absurd ok
+  replied_keeps frames asked os (needs.Resume x) (replies.Found found) fits ok leads = absurd ok
+  replied_keeps frames asked os (needs.Resume x) replies.Inserted fits ok leads = absurd ok
 
 -- what a call keeps
 pub record KeepsCall (next : Next) (os : Objects) (c : Calling) (reply : Reply) (s : Standing) : Type 0 where
@@ -318,6 +509,40 @@ pub machine_keeps : (next : Next) → RightAnswersGiveTheValue → (seen c : Cal
 machine_keeps next law seen c os need reply s same is calling common leads =
     call_keeps next law c os need reply s (subst (λ (v : Calling). v.need ≡ Some need) same is) calling common.0 common.1 common.2
     (subst (λ (v : Calling). AfterReply next v.frames v.asked os need reply (Ok s)) same leads)
+
+-- what an ask by hand keeps
+pub step_ran_keeps : (next : Next) → RightAnswersGiveTheValue → (seen c new : Calling) (os : Objects) (need : Need) (ask : Ask) → seen ≡ c → seen.need ≡ Some need → IsCalling next os c
+    → ((t : ℕ) × InCall t c) → due_ask next os c.frames need ≡ Some ask → FunctionExists (with_resumed os c.frames need) ask
+    → new.top ≡ c.top → AfterRan seen.frames seen.asked os need ask (Ok (record { frames = new.frames; asked = new.asked; need = new.need; objects = objects_after os c.frames need ask }))
+    → StepKeeps next os c (objects_after os c.frames need ask) new
+step_ran_keeps next law seen c new os need ask same is calling common asks_now there top leads =
+    let is' : c.need ≡ Some need = subst (λ (v : Calling). v.need ≡ Some need) same is in
+    let s : Standing = record { frames = new.frames; asked = new.asked; need = new.need; objects = objects_after os c.frames need ask } in
+    let kept = ran_keeps next c.top law s c.frames c.asked os need ask
+    (subst (λ (n : Option Need). NeedFits next os c.top n c.frames) is' calling) common.0 (subst (λ (n : Option Need). InNeed common.0 n c.frames) is' common.1) asks_now there
+    (subst (λ (v : Calling). AfterRan v.frames v.asked os need ask (Ok s)) same leads) in
+    record {
+      fits = subst (λ (k : Call). NeedFits next (objects_after os c.frames need ask) k new.need new.frames) (sym top) kept.fits;
+      holds = λ L hold. kept.holds L (subst (λ (n : Option Need). NeedHolds next L os n c.frames) is' hold);
+      within = λ t all. kept.within t (subst (λ (n : Option Need). InNeed t n c.frames) is' all);
+      no_reach = λ none. kept.no_reach (subst (λ (n : Option Need). IsUnreached n c.frames) is' none);
+    }
+
+-- what a reply keeps that is only taken
+pub step_replied_keeps : (next : Next) → RightAnswersGiveTheValue → (c : Calling) (os : Objects) (need : Need) (reply : Reply) → c.need ≡ Some need → IsCalling next os c → ReplyFits need reply
+    → KeepsCall next os c reply (record { frames = c.frames; asked = c.asked; need = Some (need_after c.frames need reply); objects = os })
+step_replied_keeps next law c os need reply is calling ok =
+    let s : Standing = record { frames = c.frames; asked = c.asked; need = Some (need_after c.frames need reply); objects = os } in
+    let kept = replied_keeps next c.top law s c.frames c.asked os need reply (subst (λ (n : Option Need). NeedFits next os c.top n c.frames) is calling) ok refl in
+    record {
+      fits = kept.fits;
+      holds = λ L n is_n right hold.
+          let two : Some n ≡ Some need = sym is_n ∙ is in
+          let same : n ≡ need = cc in
+          kept.holds L (subst (λ (m : Need). ReplyHolds next L m reply) same right, subst (λ (o : Option Need). NeedHolds next L os o c.frames) is hold);
+      within = λ t' here' all''. kept.within t' (here', subst (λ (n : Option Need). InNeed t' n c.frames) is all'');
+      no_reach = λ none none'. kept.no_reach (none, subst (λ (n : Option Need). IsUnreached n c.frames) is none');
+    }
 
 -- ---- over all replies
 
@@ -455,3 +680,11 @@ module _ (next : Next) (s : Standing) where
   reply_counts frames asked os (needs.Value o) (replies.Hit hit) leads = absurd leads
   reply_counts frames asked os (needs.Value o) (replies.Found found) leads = absurd leads
   reply_counts frames asked os (needs.Value o) replies.Inserted leads = absurd leads
+  reply_counts frames asked os (needs.Begin k) replies.Miss leads = absurd leads
+  reply_counts frames asked os (needs.Begin k) (replies.Hit hit) leads = absurd leads
+  reply_counts frames asked os (needs.Begin k) (replies.Found found) leads = absurd leads
+  reply_counts frames asked os (needs.Begin k) replies.Inserted leads = absurd leads
+  reply_counts frames asked os (needs.Resume x) replies.Miss leads = absurd leads
+  reply_counts frames asked os (needs.Resume x) (replies.Hit hit) leads = absurd leads
+  reply_counts frames asked os (needs.Resume x) (replies.Found found) leads = absurd leads
+  reply_counts frames asked os (needs.Resume x) replies.Inserted leads = absurd leads

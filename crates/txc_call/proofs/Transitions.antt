@@ -20,10 +20,13 @@ use Rattle.txc_registry.specs.Objects.{Objects, with_activity}
 use Rattle.txc_call.specs.declared.error.CallError.{CallError}
 use Rattle.txc_call.specs.declared.error.CallError.TheVariants as errors
 use Rattle.txc_call.specs.declared.frame.Frame.{Frame}
+use Rattle.txc_call.specs.declared.need.HeldAnswer.{HeldAnswer}
 use Rattle.txc_call.specs.declared.need.Need.{Need}
+use Rattle.txc_call.specs.declared.need.Need.TheVariants as needs
 use Rattle.txc_call.specs.declared.need.Outcome.{Outcome}
 use Rattle.txc_call.specs.Frames.{given, AreFew}
-use Rattle.txc_call.specs.Turns.{Turn, Onward, count_refusal, value_refusal, ask_refusal, error_of, next_ask, turn_of, unreached, with_answer, AfterAsk, AfterRows, AfterValue, AllowedTransition, AskTransition, DoneTransition, IsBeginRefusal, IsOutOfMemory, UnlessRefused}
+use Rattle.txc_call.specs.Running.{AfterNeed}
+use Rattle.txc_call.specs.Turns.{value_held, Turn, Onward, count_refusal, value_refusal, ask_refusal, error_of, next_ask, turn_of, unreached, with_answer, AfterAsk, AfterRows, AfterValue, AllowedTransition, AskTransition, DoneTransition, IsBeginRefusal, IsOutOfMemory, UnlessRefused}
 
 -- ---- refusals
 
@@ -122,6 +125,26 @@ module _ (next : Next) (asked : ℕ) where
         (becomes frame outer refl ∙ ap (λ (rs : List RowValue). with_answer objects frame.key.function (answers.Rows rs)) is)
         (leads (given frame (Some found.reach) found.tags) outer (stack frame outer refl)),
   )
+
+  -- a held answer that reaches a frame
+  pub held_onward : (frames frames' : List Frame) (x : HeldAnswer) (ask : Ask) (objects objects' : Objects) (turn : Turn) → frames ≢ []
+      → ((frame : Frame) (outer : List Frame) → frames ≡ frame ∷ outer → frames' ≡ given frame x.reach x.tags ∷ outer)
+      → ((frame : Frame) (outer : List Frame) → frames ≡ frame ∷ outer → objects' ≡ with_answer objects frame.key.function x.answer)
+      → ((frame : Frame) (outer : List Frame) → frames ≡ frame ∷ outer → next_ask next objects frame x.answer ≡ Some ask)
+      → ((frame : Frame) (outer : List Frame) → frames' ≡ frame ∷ outer → AfterAsk next outer asked frame ask objects' turn)
+      → AfterNeed next frames asked objects (needs.Resume x) turn
+  held_onward [] frames' x ask objects objects' turn some stack becomes asks leads = absurd (some refl)
+  held_onward (frame ∷ outer) frames' x ask objects objects' turn some stack becomes asks leads = inr (
+    ask,
+    asks frame outer refl,
+    subst (λ (os : Objects). AfterAsk next outer asked (given frame x.reach x.tags) ask os turn) (becomes frame outer refl) (leads (given frame x.reach x.tags) outer (stack frame outer refl)),
+  )
+
+  -- the effect of a held value is that of the value
+  pub value_of_held : (frames : List Frame) (o : Outcome) (objects : Objects) (turn : Turn) → frames ≢ []
+      → AfterNeed next frames asked objects (needs.Resume (value_held o)) turn → AfterValue next frames asked o objects turn
+  value_of_held [] o objects turn some leads = absurd (some refl)
+  value_of_held (frame ∷ outer) o objects turn some leads = leads
 
   -- a value that finds no memory
   pub value_out : (frames : List Frame) (o : Outcome) (objects : Objects) (error : CallError) → frames ≢ [] → IsOutOfMemory error

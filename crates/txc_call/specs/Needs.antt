@@ -1,20 +1,23 @@
 -- What a call needs, and what that is answered.
-use Rattle.std.specs.Prelude.{◌≡◌, ◌≢◌, ℕ, List, [], Option, Some, None, IsSome}
+use Rattle.std.specs.Prelude.{◌≡◌, ◌≢◌, ℕ, List, [], ◌∷◌, Option, Some, None, IsSome}
 use Rattle.txc_stamp.specs.Interval.{Interval}
 use Rattle.txc_tags.specs.Keys.{Call}
 use Rattle.txc_db.specs.History.{History}
 use Rattle.txc_app.specs.declared.ask.Ask.{Ask}
 use Rattle.txc_app.specs.declared.ask.Ask.TheVariants as asks
 use Rattle.txc_app.specs.Eval.{Next}
-use Rattle.txc_app.specs.Claims.{RowsHold, ValueHolds, IsTrueIn}
+use Rattle.txc_app.specs.Answering.{IsRight, queries_of}
+use Rattle.txc_app.specs.Claims.{HoldsOver, RowsHold, ValueHolds, IsTrueIn}
+use Rattle.txc_registry.specs.Activity.{WantsAnswer}
 use Rattle.txc_registry.specs.Objects.{Objects, activity_of, AllIdle}
 use Rattle.txc_call.specs.declared.frame.Frame.{Frame}
+use Rattle.txc_call.specs.declared.need.HeldAnswer.{HeldAnswer}
 use Rattle.txc_call.specs.declared.need.Need.{Need}
 use Rattle.txc_call.specs.declared.need.Need.TheVariants as needs
 use Rattle.txc_call.specs.declared.reply.Reply.{Reply}
 use Rattle.txc_call.specs.declared.reply.Reply.TheVariants as replies
 use Rattle.txc_call.specs.Reaches.{InReach}
-use Rattle.txc_call.specs.Frames.{AreFew, AreUnreached, FramesHold, InAll, IsOpen, IsRising}
+use Rattle.txc_call.specs.Frames.{answers_in, AreFew, AreUnreached, FramesHold, InAll, IsOpen, IsRising}
 
 -- ---- needs
 
@@ -36,8 +39,21 @@ NeedFits next objects top (Some (needs.Insert e)) frames =
     IsWaiting next objects top (asks.Call e.key) frames × IsRising e.key.function frames
 NeedFits next objects top (Some (needs.Value o)) frames =
     IsWaiting next objects top (asks.Call o.key) frames × (frames ≡ [])
+NeedFits next objects top (Some (needs.Begin k)) frames =
+    IsWaiting next objects top (asks.Call k) frames × IsRising k.function frames
+    × IsSome (activity_of objects k.function)
+NeedFits next objects top (Some (needs.Resume x)) frames =
+    ((ask : Ask) × IsWaiting next objects top ask frames × WantsAnswer (Some ask)) × (frames ≢ [])
 
--- all answers so far are right, and so is the value at hand
+-- the held answer is right for what the innermost frame asked
+abbrev pub HeldAnswerHolds : Next → History → Objects → List Frame → HeldAnswer → Type 0
+HeldAnswerHolds next L objects [] x = ⊥
+HeldAnswerHolds next L objects (frame ∷ frames) x = HoldsOver L
+    (λ s. IsRight next frame.key.function s (next frame.key.function frame.key.args (answers_in objects frame.key.function)) x.answer)
+    (λ s. queries_of next s (next frame.key.function frame.key.args (answers_in objects frame.key.function)))
+    x.reach x.tags
+
+-- all answers so far are right, and so is a held value or answer
 abbrev pub NeedHolds : Next → History → Objects → Option Need → List Frame → Type 0
 NeedHolds next L objects None frames = FramesHold next L objects frames
 NeedHolds next L objects (Some (needs.Lookup k)) frames = FramesHold next L objects frames
@@ -46,20 +62,25 @@ NeedHolds next L objects (Some (needs.Insert e)) frames =
     IsTrueIn next L e × FramesHold next L objects frames
 NeedHolds next L objects (Some (needs.Value o)) frames =
     ValueHolds next L o.key o.value o.reach o.tags × FramesHold next L objects frames
+NeedHolds next L objects (Some (needs.Begin k)) frames = FramesHold next L objects frames
+NeedHolds next L objects (Some (needs.Resume x)) frames =
+    HeldAnswerHolds next L objects frames x × FramesHold next L objects frames
 
--- the reach of the value at hand; without one everywhere
+-- the reach of a held value or answer; without one everywhere
 abbrev pub reach_of : Option Need → Option Interval
 reach_of None = None
 reach_of (Some (needs.Lookup k)) = None
 reach_of (Some (needs.Query q)) = None
 reach_of (Some (needs.Insert e)) = Some e.reach
 reach_of (Some (needs.Value o)) = o.reach
+reach_of (Some (needs.Begin k)) = None
+reach_of (Some (needs.Resume x)) = x.reach
 
--- the stamp lies in the reach of each frame and of the value at hand
+-- the stamp lies in the reach of each frame and of a held value or answer
 abbrev pub InNeed : ℕ → Option Need → List Frame → Type 0
 InNeed t need frames = InReach t (reach_of need) × InAll t frames
 
--- neither a frame nor the value at hand has a reach
+-- neither a frame nor a held value or answer has a reach
 abbrev pub IsUnreached : Option Need → List Frame → Type 0
 IsUnreached need frames = (reach_of need ≡ None) × AreUnreached frames
 

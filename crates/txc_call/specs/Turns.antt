@@ -21,6 +21,7 @@ use Rattle.txc_call.specs.declared.error.CallError.{CallError}
 use Rattle.txc_call.specs.declared.error.CallError.TheVariants as errors
 use Rattle.txc_call.specs.declared.frame.Frame.{Frame}
 use Rattle.txc_call.specs.declared.frames.TheConstants.{MAX_CALL_ASKS}
+use Rattle.txc_call.specs.declared.need.HeldAnswer.{HeldAnswer}
 use Rattle.txc_call.specs.declared.need.Need.{Need}
 use Rattle.txc_call.specs.declared.need.Need.TheVariants as needs
 use Rattle.txc_call.specs.declared.need.Outcome.{Outcome}
@@ -135,12 +136,6 @@ with_answer objects f x = with_activity objects f (running (answered (activation
 -- the outcome of a frame that is done without a reach
 abbrev pub unreached : Frame → List ℕ → Outcome
 unreached frame bytes = record { key = frame.key; value = bytes; reach = None; tags = frame.tags }
-
--- an answer, where it holds, and what it depends on
-pub record HeldAnswer : Type 0 where
-  pub answer : Answer
-  pub reach : Option Interval
-  pub tags : List Tag
 
 -- the answer of a call's value
 abbrev pub value_held : Outcome → HeldAnswer

@@ -1,5 +1,5 @@
 ghost use Rattle.std.specs.Prelude.{◌≡◌, ◌≢◌, ◌+◌, ◌<◌, ◌≤◌, List, [], ◌∷◌};
-ghost use Rattle.std.specs.Prelude.{IfErr, IfOk, IsSome, OnErr, OnOk, Some};
+ghost use Rattle.std.specs.Prelude.{IfErr, IfOk, IsSome, MatchOption, OnErr, OnOk, Some};
 ghost use Rattle.std.specs.Result.{result_err};
 ghost use Rattle.txc_app.specs.declared.app.TheConstants.{MAX_ASKS};
 ghost use Rattle.txc_app.specs.declared.ask.Ask.{Ask};
@@ -66,6 +66,35 @@ impl Frames {
         Ok(())
     }
 
+    /// Returns the call of the innermost frame.
+    pub(crate) fn computing(&self) -> Option<&Key>
+        ensures { MatchOption result (self.now.stack ≡ [])
+            (λ key. (frame : Frame) × (outer : List Frame) × (self.now.stack ≡ frame ∷ outer) × (key.now ≡ frame.key)) }
+    {
+        let frame = self.stack.top()?;
+        Some(&frame.key)
+    }
+
+    /// Opens a frame for the function of a call, which was answered nothing yet.
+    pub(crate) fn enter(&mut self, alloc: Global, key: Key) -> Result<(), CallError>
+        ensures after { OnOk result (self.new.stack ≡ begun_frame key ∷ self.old.stack) }
+        ensures refused { IfErr result (λ error. error ≡ CallError.Memory) }
+        ensures same_stack { OnErr result (self.new.stack ≡ self.old.stack) }
+        ensures same_top { self.new.top ≡ self.old.top }
+        ensures same_count { self.new.asked ≡ self.old.asked }
+    {
+        let frame = Frame {
+            key,
+            answers: 0,
+            reach: None,
+            tags: TagSet::new(alloc),
+        };
+        let Ok(()) = self.stack.push(frame) else {
+            return Err(CallError::Memory);
+        };
+        Ok(())
+    }
+
     /// Begins the function of a call that no node has, and opens a frame for it.
     #[tactic(auto, using(txc_registry::proofs::Offered::numbers_stay))]
     pub(crate) fn begin<A: App, C: Cacheable>(
@@ -93,13 +122,7 @@ impl Frames {
             Ok(ask) => ask,
             Err(fault) => return Err(error_of(function, fault)),
         };
-        let frame = Frame {
-            key,
-            answers: 0,
-            reach: None,
-            tags: TagSet::new(alloc),
-        };
-        let Ok(()) = self.stack.push(frame) else {
+        let Ok(()) = self.enter(alloc, key) else {
             registry.release(function);
             return Err(CallError::Memory);
         };
@@ -146,23 +169,13 @@ impl Frames {
         }
     }
 
-    /// The innermost frame is done: its object is released.
-    #[tactic(auto, using(txc_registry::proofs::Offered::numbers_stay))]
-    pub(crate) fn close<A: App, C: Cacheable>(&mut self, registry: &mut Registry<A, C>) -> Frame
-        requires open { (ask : Ask) × IsOpen A.next registry.old self.old.top ask self.old.stack }
-        requires some { self.old.stack ≢ [] }
-        ensures answer { self.old.stack ≡ result ∷ self.new.stack }
-        ensures objects { registry.new ≡ with_activity registry.old result.key.function idle }
-        ensures open { IsOpen A.next registry.new self.new.top (Ask.Call result.key) self.new.stack }
+    /// Closes every frame. For a call whose functions no registry runs.
+    pub(crate) fn clear(&mut self)
+        ensures after { self.new.stack ≡ [] }
         ensures same_top { self.new.top ≡ self.old.top }
         ensures same_count { self.new.asked ≡ self.old.asked }
-        ensures functions { numbers_of registry.new ≡ numbers_of registry.old }
     {
-        let Some(frame) = self.stack.pop() else {
-            unreachable!()
-        };
-        registry.release(frame.key.function());
-        frame
+        self.stack.clear();
     }
 
     /// Releases the object of every open frame, the innermost first.

@@ -1,37 +1,41 @@
-ghost use Rattle.std.specs.Prelude.{◌≡◌, ◌≢◌, ◌≤◌, ℕ, [], MatchOption, IfErr, OnErr, OnOk};
+ghost use Rattle.std.specs.Prelude.{◌≡◌, ◌≢◌, ◌≤◌, ℕ, [], MatchOption, IfErr, IfOk, OnErr, OnOk};
 ghost use Rattle.std.specs.Prelude.{IsNone, IsSome, None, Some};
-ghost use Rattle.txc_rows.specs.declared.query.Query.{Query};
 ghost use Rattle.txc_call.specs.declared.need.Need.{Need};
 ghost use Rattle.txc_db.specs.History.{History};
-ghost use Rattle.txc_app.specs.declared.ask.Ask.TheVariants as asks;
-ghost use Rattle.txc_registry.specs.Objects.{activity_of, numbers_of, AllIdle};
+ghost use Rattle.txc_app.specs.Eval.{Next};
+ghost use Rattle.txc_registry.specs.Objects.{activity_of, numbers_of, AllIdle, Objects};
 ghost use Rattle.txc_call.specs.declared.frames.TheConstants.{MAX_CALL_ASKS};
 ghost use Rattle.txc_call.specs.Reaches.{InReach};
-ghost use Rattle.txc_call.specs.Frames.{released, InAll, IsRising};
-ghost use Rattle.txc_call.specs.Needs.{reply_reach, InNeed, IsWaiting, NeedFits, ReplyFits, ReplyHolds};
+ghost use Rattle.txc_call.specs.Frames.{released};
+ghost use Rattle.txc_call.specs.Needs.{reply_reach, InNeed, NeedFits, ReplyFits, ReplyHolds};
 ghost use Rattle.txc_call.specs.Calling.{started, turn_after, CallHolds, CallIsUnreached};
 ghost use Rattle.txc_call.specs.Calling.{GoesOn, InCall, IsAtRest, IsCalling};
 ghost use Rattle.txc_call.specs.declared.need.Outcome.{Outcome};
-ghost use Rattle.txc_call.specs.Turns.{turn_of, AfterMiss, AfterReply, AfterRows, AfterValue};
+ghost use Rattle.txc_app.specs.declared.ask.Ask.{Ask};
+ghost use Rattle.txc_call.specs.Running.{computing, need_after, due_ask, objects_after, with_resumed, AfterRan, NeedsFunction, FunctionExists, StepKeeps};
+ghost use Rattle.txc_call.specs.Turns.{turn_of, AfterReply};
 
 use crate::error::CallError;
 use crate::frames::Frames;
-use crate::need::{Need, Outcome};
+use crate::need::{HeldAnswer, Need, Outcome};
+use crate::pump::run;
 use crate::reply::Reply;
-use crate::settling::settle;
+use crate::settling::{need_after, settle};
 use crate::stack::Stack;
 use std::alloc::Global;
 use std::marker::Model;
 use std::mem;
 use txc_app::laws::right_answers_give_the_value;
-use txc_app::{Answer, App, Rows};
-use txc_node::{Entry, Shown};
+use txc_app::{App, Ask};
 use txc_registry::{Cacheable, Registry};
 use txc_tags::Key;
-use txc_validity::Found;
 
-/// Runs calls, one after another, over a registry that is lent to each step. Whoever runs it answers what the
-/// call needs.
+/// Runs calls, one after another. Its caller replies to each need of the call, until the call has its value.
+///
+/// A need can be a function, which is to begin, or to continue after an answer. If each step is lent a registry
+/// ([`CallMachine::start`], [`CallMachine::reply`], [`CallMachine::cancel`]), that runs the functions at once. A
+/// caller that runs functions itself takes each reply by [`CallMachine::take`], and hands in the function's next ask
+/// by [`CallMachine::ran`].
 #[derive(Drop)]
 pub struct CallMachine {
     frames: Frames,
@@ -51,74 +55,8 @@ impl Model for CallMachine {
     } };
 }
 
-// The value of a call is the next answer of the innermost frame, or what the whole call gives.
-fn deliver<A: App, C: Cacheable>(
-    frames: &mut Frames,
-    registry: &mut Registry<A, C>,
-    outcome: Outcome,
-) -> Result<Need, CallError>
-    requires waiting { IsWaiting A.next registry.old frames.old.top (asks.Call outcome.key) frames.old.stack }
-    requires common { (t : ℕ) × InReach t outcome.reach × InAll t frames.old.stack }
-    ensures answer { AfterValue A.next frames.old.stack frames.old.asked outcome registry.old
-        (turn_of result frames.new.stack frames.new.asked registry.new) }
-    ensures released { OnErr result (AllIdle (released frames.new.stack registry.new)) }
-    ensures same_top { frames.new.top ≡ frames.old.top }
-    ensures functions { numbers_of registry.new ≡ numbers_of registry.old }
-{
-    if frames.stack.is_empty() {
-        return Ok(Need::Value(outcome));
-    }
-    let Outcome {
-        key: _,
-        value,
-        reach,
-        tags,
-    } = outcome;
-    let ask = frames.resume(registry, Answer::Value(value), reach, &tags)?;
-    settle(frames, registry, ask)
-}
-
-// No node has the call: its function begins.
-fn miss<A: App, C: Cacheable>(
-    frames: &mut Frames,
-    registry: &mut Registry<A, C>,
-    alloc: Global,
-    key: Key,
-) -> Result<Need, CallError>
-    requires { NeedFits A.next registry.old frames.old.top (Some (Need.Lookup key)) frames.old.stack }
-    ensures answer { AfterMiss A.next frames.old.stack frames.old.asked key registry.old
-        (turn_of result frames.new.stack frames.new.asked registry.new) }
-    ensures released { OnErr result (AllIdle (released frames.new.stack registry.new)) }
-    ensures same_top { frames.new.top ≡ frames.old.top }
-    ensures functions { numbers_of registry.new ≡ numbers_of registry.old }
-{
-    let ask = frames.begin(registry, alloc, key)?;
-    settle(frames, registry, ask)
-}
-
-// What was found is the next answer of the innermost frame.
-fn find<A: App, C: Cacheable>(
-    frames: &mut Frames,
-    registry: &mut Registry<A, C>,
-    found: Found,
-) -> Result<Need, CallError>
-    requires fits { (query : Query)
-        × NeedFits A.next registry.old frames.old.top (Some (Need.Query query)) frames.old.stack }
-    requires common { (t : ℕ) × InReach t (Some found.reach) × InAll t frames.old.stack }
-    ensures answer { AfterRows A.next frames.old.stack frames.old.asked found registry.old
-        (turn_of result frames.new.stack frames.new.asked registry.new) }
-    ensures released { OnErr result (AllIdle (released frames.new.stack registry.new)) }
-    ensures same_top { frames.new.top ≡ frames.old.top }
-    ensures functions { numbers_of registry.new ≡ numbers_of registry.old }
-{
-    let Found { rows, reach, tags } = found;
-    let rows = Answer::Rows(Rows::new(rows));
-    let ask = frames.resume(registry, rows, Some(reach), &tags)?;
-    settle(frames, registry, ask)
-}
-
-// What is needed after a reply to this need.
-fn take<A: App, C: Cacheable>(
+// Returns the next need after a reply to this one. The registry runs every function that is needed on the way.
+fn advance<A: App, C: Cacheable>(
     frames: &mut Frames,
     registry: &mut Registry<A, C>,
     alloc: Global,
@@ -130,36 +68,41 @@ fn take<A: App, C: Cacheable>(
     requires common { (t : ℕ) × InReach t (reply_reach reply) × InNeed t (Some need) frames.old.stack }
     ensures answer { AfterReply A.next frames.old.stack frames.old.asked registry.old need reply
         (turn_of result frames.new.stack frames.new.asked registry.new) }
+    ensures settled { IfOk result (λ next. ¬ (NeedsFunction (Some next))) }
     ensures released { OnErr result (AllIdle (released frames.new.stack registry.new)) }
     ensures same_top { frames.new.top ≡ frames.old.top }
     ensures functions { numbers_of registry.new ≡ numbers_of registry.old }
 {
-    match (need, reply) {
-        (Need::Lookup(key), Reply::Miss) => miss(frames, registry, alloc, key),
-        (Need::Lookup(key), Reply::Hit(Shown { reach, value, tags })) => {
-            let outcome = Outcome {
-                key,
-                value,
-                reach: Some(reach),
-                tags,
-            };
-            deliver(frames, registry, outcome)
+    right_answers_give_the_value();
+    let next = need_after(frames, need, reply);
+    run(frames, registry, alloc, next)
+}
+
+// Returns the next need after the needed function asked this.
+fn after_ask(frames: &mut Frames, alloc: Global, need: Need, ask: Ask) -> Result<Need, CallError>
+    requires runs { NeedsFunction (Some need) }
+    requires fits { (next : Next) × (objects : Objects)
+        × NeedFits next objects frames.old.top (Some need) frames.old.stack }
+    requires common { (t : ℕ) × InNeed t (Some need) frames.old.stack }
+    ensures answer { (objects : Objects) → AfterRan frames.old.stack frames.old.asked objects need ask
+        (turn_of result frames.new.stack frames.new.asked (objects_after objects frames.old.stack need ask)) }
+    ensures same_top { frames.new.top ≡ frames.old.top }
+{
+    match need {
+        Need::Begin(key) => {
+            frames.enter(alloc, key)?;
+            settle(frames, ask)
         }
-        (Need::Query(_), Reply::Found(found)) => find(frames, registry, found),
-        (Need::Insert(entry), Reply::Inserted) => {
-            let Entry {
-                key,
-                value,
+        Need::Resume(held) => {
+            let HeldAnswer {
+                answer: _,
                 reach,
                 tags,
-            } = entry;
-            let outcome = Outcome {
-                key,
-                value,
-                reach: Some(reach),
-                tags,
+            } = held;
+            let Ok(()) = frames.stack.give(reach, &tags) else {
+                return Err(CallError::Memory);
             };
-            deliver(frames, registry, outcome)
+            settle(frames, ask)
         }
         _ => unreachable!(),
     }
@@ -170,6 +113,7 @@ impl CallMachine {
     pub fn new(alloc: Global) -> CallMachine
         ensures frames { result.frames ≡ [] }
         ensures need { result.need ≡ None }
+        ensures asked { result.asked ≡ 0 }
     {
         let Ok(top) = Key::new(0, &[]) else {
             unreachable!()
@@ -210,10 +154,20 @@ impl CallMachine {
         if !registry.has(function) {
             return Err(CallError::NoFunction(function));
         }
+        self.start_by_hand(key);
+        Ok(())
+    }
+
+    /// Starts a call as [`CallMachine::start`] does, for a caller that runs functions itself and has each of them.
+    pub fn start_by_hand(&mut self, key: Key)
+        requires { self.old.frames ≡ [] }
+        ensures after { self.new ≡ started key }
+        ensures fits { (next : Next) (objects : Objects) → IsAtRest objects self.old
+            → FunctionExists objects (Ask.Call key) → IsCalling next objects self.new }
+    {
         self.frames.asked = 0;
         self.frames.top = key.copy();
         self.need = Some(Need::Lookup(key));
-        Ok(())
     }
 
     /// What the call needs; none where no call is open.
@@ -221,6 +175,18 @@ impl CallMachine {
         ensures { MatchOption result (self.now.need ≡ None) (λ need. self.now.need ≡ Some need.now) }
     {
         self.need.as_ref()
+    }
+
+    /// Returns the call whose function is to begin or to continue; none if the call needs no function.
+    pub fn computing(&self) -> Option<&Key>
+        ensures { MatchOption result (computing self.now.frames self.now.need ≡ None)
+            (λ key. computing self.now.frames self.now.need ≡ Some key.now) }
+    {
+        match &self.need {
+            Some(Need::Begin(key)) => Some(key),
+            Some(Need::Resume(_)) => self.frames.computing(),
+            _ => None,
+        }
     }
 
     /// Goes on with the reply to what the call needs. What the reply hands in must hold together with what
@@ -248,6 +214,7 @@ impl CallMachine {
             → InCall t self.new) }
         ensures unreached { OnOk result (reply_reach reply ≡ None → CallIsUnreached self.old
             → CallIsUnreached self.new) }
+        ensures settled { OnOk result (¬ (NeedsFunction self.new.need)) }
         ensures counted { OnOk result (GoesOn self.old.asked self.new) }
         ensures same_top { self.new.top ≡ self.old.top }
         ensures functions { numbers_of registry.new ≡ numbers_of registry.old }
@@ -256,7 +223,7 @@ impl CallMachine {
         let Some(need) = mem::replace(&mut self.need, None) else {
             unreachable!()
         };
-        match take(&mut self.frames, registry, alloc, need, reply) {
+        match advance(&mut self.frames, registry, alloc, need, reply) {
             Ok(next) => {
                 self.need = Some(next);
                 Ok(())
@@ -266,6 +233,68 @@ impl CallMachine {
                 Err(error)
             }
         }
+    }
+
+    /// Takes the reply to what the call needs, and runs no function. If one is to begin or to continue, the call
+    /// needs that next, and [`CallMachine::ran`] takes what it asks.
+    pub fn take(&mut self, reply: Reply)
+        requires reply { (need : Need) × (self.old.need ≡ Some need) × ReplyFits need reply }
+        ensures after { (need : Need) → self.old.need ≡ Some need
+            → self.new ≡ record self.old { need = Some (need_after self.old.frames need reply) } }
+        ensures fits { (next : Next) (objects : Objects) → IsCalling next objects self.old
+            → IsCalling next objects self.new }
+        ensures holds { (next : Next) (objects : Objects) (L : History) (need : Need) → self.old.need ≡ Some need
+            → IsCalling next objects self.old → ReplyHolds next L need reply → CallHolds next L objects self.old
+            → CallHolds next L objects self.new }
+        ensures within { (t : ℕ) → InReach t (reply_reach reply) → InCall t self.old → InCall t self.new }
+        ensures unreached { reply_reach reply ≡ None → CallIsUnreached self.old → CallIsUnreached self.new }
+    {
+        right_answers_give_the_value();
+        let Some(need) = mem::replace(&mut self.need, None) else {
+            unreachable!()
+        };
+        self.need = Some(need_after(&self.frames, need, reply));
+    }
+
+    /// Takes the ask of the function that the call needs, before any other function continues. If the ask is not
+    /// allowed, or an allocation fails, every frame is closed.
+    pub fn ran(&mut self, alloc: Global, ask: Ask) -> Result<(), CallError>
+        requires runs { NeedsFunction self.old.need }
+        requires fits { (next : Next) × (objects : Objects) × IsCalling next objects self.old }
+        requires common { (t : ℕ) × InCall t self.old }
+        ensures answer { (objects : Objects) (need : Need) → self.old.need ≡ Some need
+            → AfterRan self.old.frames self.old.asked objects need ask
+            (turn_after result self.new (objects_after objects self.old.frames need ask)) }
+        ensures keeps { OnOk result ((next : Next) (objects : Objects) (need : Need) → self.old.need ≡ Some need
+            → IsCalling next objects self.old → due_ask next objects self.old.frames need ≡ Some ask
+            → FunctionExists (with_resumed objects self.old.frames need) ask
+            → StepKeeps next objects self.old (objects_after objects self.old.frames need ask) self.new) }
+        ensures open { OnOk result (IsSome self.new.need) }
+        ensures rest { OnErr result ((self.new.need ≡ None) × (self.new.frames ≡ [])) }
+        ensures same_top { self.new.top ≡ self.old.top }
+    {
+        right_answers_give_the_value();
+        let Some(need) = mem::replace(&mut self.need, None) else {
+            unreachable!()
+        };
+        match after_ask(&mut self.frames, alloc, need, ask) {
+            Ok(next) => {
+                self.need = Some(next);
+                Ok(())
+            }
+            Err(error) => {
+                self.frames.clear();
+                Err(error)
+            }
+        }
+    }
+
+    /// Gives the call up: every frame is closed. For a call whose functions no registry runs.
+    pub fn give_up(&mut self)
+        ensures after { self.new ≡ record self.old { frames = []; need = None } }
+    {
+        self.need = None;
+        self.frames.clear();
     }
 
     /// Takes what a call that is done gave. The machine is then without a call; where the call is not

@@ -1,3 +1,4 @@
+use txc_app::Answer;
 use txc_node::{Entry, Value};
 use txc_rows::Query;
 use txc_stamp::Reach;
@@ -16,6 +17,17 @@ pub struct Outcome {
     pub tags: TagSet,
 }
 
+/// An answer that the innermost function has not seen yet, and what it depends on.
+#[derive(Debug, Drop)]
+pub struct HeldAnswer {
+    /// The answer.
+    pub answer: Answer,
+    /// Where it holds. None is everywhere.
+    pub reach: Option<Reach>,
+    /// What it depends on.
+    pub tags: TagSet,
+}
+
 /// What a call needs before it goes on.
 #[derive(Debug, Drop)]
 pub enum Need {
@@ -27,4 +39,8 @@ pub enum Need {
     Insert(Entry),
     /// Nothing: the call is done.
     Value(Outcome),
+    /// The first ask of the call's function, which is to begin.
+    Begin(Key),
+    /// The next ask of the innermost function, which is to continue with this answer.
+    Resume(HeldAnswer),
 }

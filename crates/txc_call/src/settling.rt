@@ -1,29 +1,27 @@
-//! From what is asked to what is needed next.
-ghost use Rattle.std.specs.Prelude.{◌≡◌, ◌≢◌, List, [], ◌∷◌, drop, OnErr};
+//! The next need after a reply or an ask.
+ghost use Rattle.std.specs.Prelude.{◌≡◌, ◌≢◌, List, [], ◌∷◌, OnErr};
 ghost use Rattle.std.specs.Result.{result_err};
-ghost use Rattle.txc_registry.specs.Objects.{numbers_of, AllIdle};
+ghost use Rattle.txc_registry.specs.Objects.{Objects};
 ghost use Rattle.txc_call.specs.declared.frame.Frame.{Frame};
-ghost use Rattle.txc_call.specs.Frames.{released, AreFew, IsOpen};
-ghost use Rattle.txc_call.specs.Turns.{call_refusal, turn_of, AfterAsk};
+ghost use Rattle.txc_call.specs.Needs.{ReplyFits};
+ghost use Rattle.txc_call.specs.Running.{value_need, is_done, need_after, order_refusal, with_ask, AfterOneAsk};
+ghost use Rattle.txc_call.specs.Turns.{turn_of};
 
 use crate::error::CallError;
 use crate::frame::Frame;
 use crate::frames::Frames;
-use crate::need::{Need, Outcome};
-use txc_app::{Answer, App, Ask};
-use txc_node::{Entry, Value};
-use txc_registry::{Cacheable, Registry};
+use crate::need::{HeldAnswer, Need, Outcome};
+use crate::reply::Reply;
+use txc_app::{Answer, Ask, Rows};
+use txc_node::{Entry, Shown, Value};
 use txc_tags::Key;
+use txc_validity::Found;
 
-// Whether the innermost frame may make the call.
-fn check_call<A: App, C: Cacheable>(
-    frames: &Frames,
-    registry: &Registry<A, C>,
-    key: &Key,
-) -> Result<(), CallError>
+// Fails if the innermost frame may not make the call, whether or not its function exists.
+fn check_order(frames: &Frames, key: &Key) -> Result<(), CallError>
     requires { frames.now.stack ≢ [] }
     ensures { (frame : Frame) (rest : List Frame) → frames.now.stack ≡ frame ∷ rest
-        → result_err result ≡ call_refusal registry.now frame.key.function key.now }
+        → result_err result ≡ order_refusal frame.key.function key.now }
 {
     let Some(frame) = frames.stack.top() else {
         unreachable!()
@@ -33,64 +31,129 @@ fn check_call<A: App, C: Cacheable>(
     if function >= caller {
         return Err(CallError::CallOrder(caller, function));
     }
-    if !registry.has(function) {
-        return Err(CallError::NoFunction(function));
-    }
     Ok(())
 }
 
-/// What is needed after the innermost frame asked this. A frame that is done is closed: where it has a reach,
-/// its value is inserted first, else the frame around it is given the value at once.
-pub(crate) fn settle<A: App, C: Cacheable>(
-    frames: &mut Frames,
-    registry: &mut Registry<A, C>,
-    ask: Ask,
-) -> Result<Need, CallError>
-    requires open { IsOpen A.next registry.old frames.old.top ask frames.old.stack }
-    requires some { frames.old.stack ≢ [] }
-    requires few { AreFew (drop 1 frames.old.stack) }
-    ensures answer { (frame : Frame) (rest : List Frame) → frames.old.stack ≡ frame ∷ rest
-        → AfterAsk A.next rest frames.old.asked frame ask registry.old
-        (turn_of result frames.new.stack frames.new.asked registry.new) }
-    ensures released { OnErr result (AllIdle (released frames.new.stack registry.new)) }
+/// Returns `true` for a function's last ask.
+pub(crate) fn is_done(ask: &Ask) -> bool
+    ensures { result ≡ is_done ask.now }
+{
+    match ask {
+        Ask::Query(_) => false,
+        Ask::Call(_) => false,
+        Ask::Done(_) => true,
+    }
+}
+
+// Returns the need for which a value is held: it is the next answer of the innermost frame, or, without a frame, the call's value.
+fn value_need(frames: &Frames, outcome: Outcome) -> Need
+    ensures { result ≡ value_need frames.now.stack outcome }
+{
+    match frames.stack.top() {
+        None => Need::Value(outcome),
+        Some(_) => {
+            let Outcome {
+                key: _,
+                value,
+                reach,
+                tags,
+            } = outcome;
+            Need::Resume(HeldAnswer {
+                answer: Answer::Value(value),
+                reach,
+                tags,
+            })
+        }
+    }
+}
+
+/// Returns the need after a reply, before any function continues.
+pub(crate) fn need_after(frames: &Frames, need: Need, reply: Reply) -> Need
+    requires { ReplyFits need reply }
+    ensures { result ≡ need_after frames.now.stack need reply }
+{
+    match (need, reply) {
+        (Need::Lookup(key), Reply::Miss) => Need::Begin(key),
+        (Need::Lookup(key), Reply::Hit(Shown { reach, value, tags })) => {
+            let outcome = Outcome {
+                key,
+                value,
+                reach: Some(reach),
+                tags,
+            };
+            value_need(frames, outcome)
+        }
+        (Need::Query(_), Reply::Found(Found { rows, reach, tags })) => Need::Resume(HeldAnswer {
+            answer: Answer::Rows(Rows::new(rows)),
+            reach: Some(reach),
+            tags,
+        }),
+        (Need::Insert(entry), Reply::Inserted) => {
+            let Entry {
+                key,
+                value,
+                reach,
+                tags,
+            } = entry;
+            let outcome = Outcome {
+                key,
+                value,
+                reach: Some(reach),
+                tags,
+            };
+            value_need(frames, outcome)
+        }
+        _ => unreachable!(),
+    }
+}
+
+/// Returns the need after the innermost frame asked this, before any other function continues. A frame that is done
+/// is closed; if it has a reach, its value is inserted first.
+pub(crate) fn settle(frames: &mut Frames, ask: Ask) -> Result<Need, CallError>
+    requires { frames.old.stack ≢ [] }
+    ensures answer { (frame : Frame) (rest : List Frame) (objects : Objects) → frames.old.stack ≡ frame ∷ rest
+        → AfterOneAsk rest frames.old.asked frame ask objects
+        (turn_of result frames.new.stack frames.new.asked (with_ask objects frame.key.function ask)) }
+    ensures same_stack { OnErr result (frames.new.stack ≡ frames.old.stack) }
     ensures same_top { frames.new.top ≡ frames.old.top }
-    ensures functions { numbers_of registry.new ≡ numbers_of registry.old }
 {
     frames.count()?;
     match ask {
         Ask::Query(query) => Ok(Need::Query(query)),
         Ask::Call(key) => {
-            check_call(frames, registry, &key)?;
+            check_order(frames, &key)?;
             Ok(Need::Lookup(key))
         }
         Ask::Done(bytes) => {
             let Some(value) = Value::new(bytes.into_vec()) else {
                 return Err(CallError::ValueTooLong);
             };
+            let Some(frame) = frames.stack.pop() else {
+                unreachable!()
+            };
             let Frame {
                 key,
                 answers: _,
                 reach,
                 tags,
-            } = frames.close(registry);
-            if let Some(reach) = reach {
-                return Ok(Need::Insert(Entry {
+            } = frame;
+            match reach {
+                Some(reach) => Ok(Need::Insert(Entry {
                     key,
                     value,
                     reach,
                     tags,
-                }));
+                })),
+                None => Ok(value_need(
+                    frames,
+                    Outcome {
+                        key,
+                        value,
+                        reach: None,
+                        tags,
+                    },
+                )),
             }
-            if frames.stack.is_empty() {
-                return Ok(Need::Value(Outcome {
-                    key,
-                    value,
-                    reach: None,
-                    tags,
-                }));
-            }
-            let next = frames.resume(registry, Answer::Value(value), None, &tags)?;
-            settle(frames, registry, next)
         }
     }
 }

@@ -1,4 +1,4 @@
-ghost use Rattle.std.specs.Prelude.{◌≡◌, ◌↔◌, ◌<◌, List, [], ◌∷◌, IsTrue, MatchOption, OnOk, OnErr};
+ghost use Rattle.std.specs.Prelude.{◌≡◌, ◌<◌, List, [], ◌∷◌, MatchOption, OnOk, OnErr};
 ghost use Rattle.txc_app.specs.declared.app.TheConstants.{MAX_ASKS};
 ghost use Rattle.txc_call.specs.declared.frame.Frame.{Frame};
 ghost use Rattle.txc_call.specs.Reaches.{meet, ReachesMeet};
@@ -64,6 +64,13 @@ impl Stack {
         self.frames.pop()
     }
 
+    /// Closes every frame.
+    pub(crate) fn clear(&mut self)
+        ensures { self.new ≡ [] }
+    {
+        self.frames.clear();
+    }
+
     /// The innermost frame.
     pub(crate) fn top(&self) -> Option<&Frame>
         ensures { MatchOption result
@@ -71,12 +78,6 @@ impl Stack {
             (λ frame. (rest : List Frame) × (self.now ≡ frame.now ∷ rest)) }
     {
         self.frames.last()
-    }
-
-    pub(crate) fn is_empty(&self) -> bool
-        ensures { IsTrue result ↔ (self.now ≡ []) }
-    {
-        self.frames.is_empty()
     }
 
     /// The innermost frame is given one answer more.

@@ -17,6 +17,8 @@ left (Some (needs.Value o)) asked = 0
 left (Some (needs.Lookup k)) asked = suc (MAX_CALL_ASKS - asked)
 left (Some (needs.Query q)) asked = suc (MAX_CALL_ASKS - asked)
 left (Some (needs.Insert e)) asked = suc (MAX_CALL_ASKS - asked)
+left (Some (needs.Begin k)) asked = suc (MAX_CALL_ASKS - asked)
+left (Some (needs.Resume x)) asked = suc (MAX_CALL_ASKS - asked)
 left None asked = suc (MAX_CALL_ASKS - asked)
 
 left_most : (need : Option Need) (asked : ℕ) → left need asked ≤ suc (MAX_CALL_ASKS - asked)
@@ -24,6 +26,8 @@ left_most (Some (needs.Value o)) asked = omega arith
 left_most (Some (needs.Lookup k)) asked = omega arith
 left_most (Some (needs.Query q)) asked = omega arith
 left_most (Some (needs.Insert e)) asked = omega arith
+left_most (Some (needs.Begin k)) asked = omega arith
+left_most (Some (needs.Resume x)) asked = omega arith
 left_most None asked = omega arith
 
 -- a need that has a reply is no value
@@ -53,6 +57,8 @@ counted_first c = go c.need refl
     go (Some (needs.Lookup k)) is = inr (λ done. subst (λ (n : Option Need). IsDone n) is done, omega arith)
     go (Some (needs.Query q)) is = inr (λ done. subst (λ (n : Option Need). IsDone n) is done, omega arith)
     go (Some (needs.Insert e)) is = inr (λ done. subst (λ (n : Option Need). IsDone n) is done, omega arith)
+    go (Some (needs.Begin k)) is = inr (λ done. subst (λ (n : Option Need). IsDone n) is done, omega arith)
+    go (Some (needs.Resume x)) is = inr (λ done. subst (λ (n : Option Need). IsDone n) is done, omega arith)
     go (Some (needs.Value o)) is = inl (subst (λ (n : Option Need). IsDone n) (sym is) tt)
 
 -- a need that has a reply is no value
@@ -60,6 +66,8 @@ undone : (need : Need) (reply : Reply) → ReplyFits need reply → ¬ (IsDone (
 undone (needs.Lookup k) reply fits done = done
 undone (needs.Query q) reply fits done = done
 undone (needs.Insert e) reply fits done = done
+undone (needs.Begin k) reply fits done = done
+undone (needs.Resume x) reply fits done = done
 undone (needs.Value o) replies.Miss fits done = fits
 undone (needs.Value o) (replies.Hit hit) fits done = fits
 undone (needs.Value o) (replies.Found found) fits done = fits

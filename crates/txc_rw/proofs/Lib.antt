@@ -6,3 +6,4 @@ pub mod Reached
 mod Turns
 mod Resting
 mod Running
+mod ByHand

@@ -22,7 +22,7 @@ use Rattle.txc_rw.specs.Txn.{IsRwResting, RwTxnValue}
 use Rattle.txc_rw.proofs.Holding.{at_rest_holds}
 
 -- at rest, whatever the objects do
-holds_at_rest : (next : Next) (L : History) (os os' : Objects) (c : RwValue) → c.call.frames ≡ [] → c.call.need ≡ None → RwHolds next L os c → RwHolds next L os' c
+pub holds_at_rest : (next : Next) (L : History) (os os' : Objects) (c : RwValue) → c.call.frames ≡ [] → c.call.need ≡ None → RwHolds next L os c → RwHolds next L os' c
 holds_at_rest next L os os' c empty none h = record {
   within = h.within;
   answers = h.answers;

@@ -109,13 +109,15 @@ pub record RwHolds (next : Next) (L : History) (objects : Objects) (c : RwValue)
 
 -- ---- needs
 
--- the call is done, or needs a query
+-- the call is done, or needs a query or a function
 abbrev pub needs_no_node : Option Need → Type 0
 needs_no_node None = Unit {0}
 needs_no_node (Some (needs.Lookup key)) = ⊥
 needs_no_node (Some (needs.Query query)) = Unit {0}
 needs_no_node (Some (needs.Insert entry)) = ⊥
 needs_no_node (Some (needs.Value outcome)) = Unit {0}
+needs_no_node (Some (needs.Begin key)) = Unit {0}
+needs_no_node (Some (needs.Resume answer)) = Unit {0}
 
 -- the call needs this query, or, where it is none, it has its value
 abbrev pub NeedsOnly : Option Query → Option Need → Type 0
@@ -129,6 +131,8 @@ IsDone (Some (needs.Lookup key)) = ⊥
 IsDone (Some (needs.Query query)) = ⊥
 IsDone (Some (needs.Insert entry)) = ⊥
 IsDone (Some (needs.Value outcome)) = Unit {0}
+IsDone (Some (needs.Begin key)) = ⊥
+IsDone (Some (needs.Resume answer)) = ⊥
 
 -- the call has its value now; or it had none before, and asked as often or more
 abbrev pub HasCounted : Calling → Calling → Type 0

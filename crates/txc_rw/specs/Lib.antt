@@ -4,3 +4,4 @@ pub mod Outcomes
 pub mod Txn
 pub mod Laws
 pub mod Transitions
+pub mod ByHand

@@ -61,6 +61,8 @@ query_in (needs.Lookup k) = []
 query_in (needs.Query q) = q ∷ []
 query_in (needs.Insert e) = []
 query_in (needs.Value o) = []
+query_in (needs.Begin k) = []
+query_in (needs.Resume x) = []
 
 -- the queries that were answered
 abbrev pub queries_in : List Step → List Query

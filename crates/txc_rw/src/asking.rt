@@ -7,6 +7,7 @@ ghost use Rattle.txc_registry.specs.Objects.{activity_of, numbers_of, Objects};
 ghost use Rattle.txc_call.specs.declared.error.CallError.TheVariants.{NoFunction};
 ghost use Rattle.txc_call.specs.declared.need.Need.{Need};
 ghost use Rattle.txc_call.specs.declared.need.Outcome.{Outcome};
+ghost use Rattle.txc_call.specs.Running.{NeedsFunction};
 ghost use Rattle.txc_call.specs.Calling.{started, InCall, IsCalling};
 
 use crate::given::Given;
@@ -45,7 +46,7 @@ impl RwCore {
     }
 
     // Keeps the value of the call, which has one, and returns a copy of it.
-    fn keep_value(&mut self, alloc: Global) -> Result<Value, TxnError>
+    pub(crate) fn keep_value(&mut self, alloc: Global) -> Result<Value, TxnError>
         requires done { (o : Outcome) × (self.old.call.need ≡ Some (Need.Value o)) }
         requires none { self.old.reading ≡ None }
         ensures fits { (next : Next) (objects : Objects) → IsCalling next objects self.old.call
@@ -87,6 +88,7 @@ impl RwCore {
     ) -> Turn<Query, Value>
         requires calling { IsCalling A.next registry.old self.old.call }
         requires some { IsSome self.old.call.need }
+        requires settled { ¬ (NeedsFunction self.old.call.need) }
         requires at_one { InCall 1 self.old.call }
         requires none { self.old.reading ≡ None }
         ensures fits { IsRw A.next registry.new self.new }

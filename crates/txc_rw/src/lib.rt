@@ -5,6 +5,7 @@
 #![tactic(auto)]
 
 mod asking;
+mod by_hand;
 mod calling;
 mod finding;
 mod given;

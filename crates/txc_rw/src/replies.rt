@@ -38,7 +38,7 @@ fn copy_rows(alloc: Global, rows: &[Row]) -> Result<Vec<Row>, AllocError>
 }
 
 // A call knows the one state that the transaction reads as that of the stamp 1.
-fn at_one(found: Found) -> Found
+pub(crate) fn at_one(found: Found) -> Found
     ensures rows { result.rows ≡ found.rows }
     ensures tags { result.tags ≡ found.tags }
     ensures reach { result.reach ≡ only_one }

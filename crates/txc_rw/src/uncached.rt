@@ -1,11 +1,14 @@
 //! Calls that use no node.
-ghost use Rattle.std.specs.Prelude.{◌≡◌, [], IfOk, IsSome, MatchOption, None, OnErr, OnOk, Some};
+ghost use Rattle.std.specs.Prelude.{◌≡◌, ℕ, [], IfOk, IsSome, MatchOption, None, OnErr, OnOk, Some};
 ghost use Rattle.txc_rows.specs.States.{State};
 ghost use Rattle.txc_db.specs.History.{History};
-ghost use Rattle.txc_registry.specs.Objects.{numbers_of};
+ghost use Rattle.txc_app.specs.Eval.{Next};
+ghost use Rattle.txc_registry.specs.Objects.{numbers_of, Objects};
 ghost use Rattle.txc_call.specs.declared.need.Need.{Need};
 ghost use Rattle.txc_call.specs.Calling.{turn_after, CallHolds, InCall, IsAtRest, IsCalling};
 ghost use Rattle.txc_call.specs.Needs.{reply_reach, ReplyFits};
+ghost use Rattle.txc_call.specs.Running.{NeedsFunction};
+ghost use Rattle.txc_rw.specs.ByHand.{without_node};
 ghost use Rattle.txc_rw.specs.Core.{needs_no_node, HasCounted, NeedsOnly};
 ghost use Rattle.txc_rw.specs.Transitions.{standing_of, IsLedTo};
 
@@ -29,9 +32,28 @@ fn reply_of_no_cache(machine: &CallMachine) -> Option<Reply>
     }
 }
 
+// Takes the reply of a cache that has nothing and keeps nothing, if the call needs a node. No function continues yet.
+pub(crate) fn pass_nodes(machine: &mut CallMachine)
+    requires { IsSome machine.old.need }
+    ensures after { machine.new
+        ≡ record machine.old { need = without_node machine.old.frames machine.old.need } }
+    ensures fits { (next : Next) (objects : Objects) → IsCalling next objects machine.old
+        → IsCalling next objects machine.new }
+    ensures holds { (next : Next) (objects : Objects) (L : History) → IsCalling next objects machine.old
+        → CallHolds next L objects machine.old → CallHolds next L objects machine.new }
+    ensures within { (t : ℕ) → InCall t machine.old → InCall t machine.new }
+    ensures no_node { needs_no_node machine.new.need }
+    ensures some { IsSome machine.new.need }
+{
+    if let Some(reply) = reply_of_no_cache(machine) {
+        machine.take(reply);
+    }
+}
+
 // The query that the call needs; none where it is done.
 fn needed(machine: &CallMachine) -> Option<Query>
     requires some { IsSome machine.now.need }
+    requires settled { ¬ (NeedsFunction machine.now.need) }
     requires no_node { needs_no_node machine.now.need }
     ensures { NeedsOnly result machine.now.need }
 {
@@ -50,6 +72,7 @@ pub(crate) fn go_on_uncached<A: App, C: Cacheable>(
 ) -> Result<Option<Query>, CallError>
     requires fits { IsCalling A.next registry.old machine.old }
     requires some { IsSome machine.old.need }
+    requires settled { ¬ (NeedsFunction machine.old.need) }
     requires at_one { InCall 1 machine.old }
     ensures fits { IsCalling A.next registry.new machine.new }
     ensures needs { IfOk result (λ query. NeedsOnly query machine.new.need) }

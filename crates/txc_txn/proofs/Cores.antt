@@ -20,7 +20,7 @@ use Rattle.txc_call.specs.declared.need.Need.{Need}
 use Rattle.txc_call.specs.declared.need.Need.TheVariants as needs
 use Rattle.txc_call.specs.declared.need.Outcome.{Outcome}
 use Rattle.txc_call.specs.Reaches.{InReach}
-use Rattle.txc_call.specs.Frames.{released, IsStack}
+use Rattle.txc_call.specs.Frames.{released, FramesHold, IsStack}
 use Rattle.txc_call.specs.Needs.{NeedFits, NeedHolds, reach_of}
 use Rattle.txc_call.specs.Calling.{Calling, CallHolds, CallIsUnreached, InCall, IsCalling}
 use Rattle.txc_cushion.specs.declared.pins.Pins.{Pins}
@@ -150,6 +150,55 @@ module _ (next : Next) (objects : Objects) (c : CoreValue) (o : Outcome) (is : c
             (λ present. (refl, (h.meant.unreached present).1));
         coming = h.coming;
       }
+
+-- what a call is done with is dropped
+pub core_dropped : (next : Next) (objects : Objects) (c : CoreValue) (o : Outcome) → c.call.need ≡ Some (needs.Value o) → c.pinning ≡ None → IsCore next objects c
+    → IsCore next objects (record c { call = record c.call { need = None } })
+core_dropped next objects c o is none h =
+    let three = value_fits next objects c.call.top c.call.need c.call.frames o is h.call in
+    record {
+      set = h.set;
+      call = (three.0, three.1);
+      within = All-weaker (λ (p : Pin). InCall p.stamp c.call) (λ (p : Pin). InCall p.stamp (record c.call { need = None })) (λ p inside. (tt, inside.1)) c.pins.members h.within;
+      unreached = λ present. (refl, (h.unreached present).1);
+      pinning = rw none tt;
+      member = λ calling. absurd (calling refl);
+      answered = h.answered;
+      taken = h.taken;
+      nodes = h.nodes;
+    }
+
+-- a call that is no more rests on no object
+pub core_idle : (next : Next) (objects after : Objects) (c : CoreValue) → c.call.need ≡ None → AllIdle after → IsCore next objects c → IsCore next after c
+core_idle next objects after c none idle h = record {
+  set = h.set;
+  call = subst (λ (n : Option Need). NeedFits next after c.call.top n c.call.frames) (sym none) ((subst (λ (n : Option Need). NeedFits next objects c.call.top n c.call.frames) none h.call).0, idle);
+  within = h.within;
+  unreached = h.unreached;
+  pinning = h.pinning;
+  member = h.member;
+  answered = h.answered;
+  taken = h.taken;
+  nodes = h.nodes;
+}
+
+pub holds_idle : (next : Next) (objects after : Objects) (L : History) (c : CoreValue) → c.call.need ≡ None → IsCore next objects c → CoreHolds next L objects c → CoreHolds next L after c
+holds_idle next objects after L c none h holds =
+    let frames : c.call.frames ≡ [] = (subst (λ (n : Option Need). NeedFits next objects c.call.top n c.call.frames) none h.call).0 in
+    let right : NeedHolds next L after c.call.need c.call.frames =
+    subst (λ (n : Option Need). NeedHolds next L after n c.call.frames) (sym none) (subst (λ (fs : List Frame). FramesHold next L after fs) (sym frames) tt) in
+    record {
+      meant = record {
+        set = holds.meant.set;
+        fresh = holds.meant.fresh;
+        consistent = holds.meant.consistent;
+        right = right;
+        within = holds.meant.within;
+        unreached = holds.meant.unreached;
+        everywhere = holds.meant.everywhere;
+      };
+      coming = holds.coming;
+    }
 
 -- ---- a call goes on
 
@@ -288,7 +337,7 @@ still_seen : (c : CoreValue) (seen : FrontValue) (objects : Objects) (new : Core
     → StandsStill (record c { seen = seen }) objects new objects' → StandsStill c objects new objects'
 still_seen c seen objects new objects' h = record { same_call = h.same_call; same_objects = h.same_objects; none = h.none }
 
-pin_seen : (c : CoreValue) (seen : FrontValue) (objects : Objects) (first : Option Call) (new : CoreValue) (objects' : Objects) (turn : PortTurn)
+pub pin_seen : (c : CoreValue) (seen : FrontValue) (objects : Objects) (first : Option Call) (new : CoreValue) (objects' : Objects) (turn : PortTurn)
     → PresentPinTransition first (record c { seen = seen }) objects new objects' turn → PresentPinTransition first c objects new objects' turn
 pin_seen c seen objects None new objects' turn h = (still_seen c seen objects new objects' h.0, h.1)
 pin_seen c seen objects (Some k) new objects' turn h = record {

@@ -5,3 +5,5 @@ pub mod Cores
 pub mod Worked
 pub mod Offered
 pub mod Sessions
+pub mod Held
+mod ByHand

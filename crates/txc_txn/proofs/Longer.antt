@@ -24,7 +24,7 @@ use Rattle.txc_call.specs.declared.reply.Reply.TheVariants as replies
 use Rattle.txc_ports.specs.declared.reply.PortReply.{PortReply}
 use Rattle.txc_ports.specs.declared.reply.PortReply.TheVariants as ports
 use Rattle.txc_txn.specs.Core.{IsRightPortReply}
-use Rattle.txc_app.specs.Answering.{AreRight, queries_for}
+use Rattle.txc_app.specs.Answering.{IsRight, AreRight, queries_of, queries_for}
 use Rattle.txc_ports.specs.declared.bounds.Bounds.{Bounds}
 use Rattle.txc_ports.specs.Answers.{IsFresh}
 
@@ -98,6 +98,13 @@ module _ (stay : StatesStay) (L M : History) (begins : IsPrefix L M) where
     need_later (Some (needs.Query q)) frames h = frames_later frames h
     need_later (Some (needs.Insert e)) frames h = (value_later e.key e.value (Some e.reach) e.tags h.0, frames_later frames h.1)
     need_later (Some (needs.Value o)) frames h = (value_later o.key o.value o.reach o.tags h.0, frames_later frames h.1)
+    need_later (Some (needs.Begin k)) frames h = frames_later frames h
+    need_later (Some (needs.Resume x)) [] h = absurd h.0
+    need_later (Some (needs.Resume x)) (f ∷ frames) h = (
+      claim_later (λ (s : State). IsRight next f.key.function s (next f.key.function f.key.args (answers_in objects f.key.function)) x.answer)
+          (λ (s : State). queries_of next s (next f.key.function f.key.args (answers_in objects f.key.function))) x.reach x.tags h.0,
+      frames_later (f ∷ frames) h.1,
+    )
 
   -- what a reply says
   reply_later : (next : Next) (n : Need) (reply : Reply) → ReplyHolds next L n reply → ReplyHolds next M n reply
@@ -111,6 +118,8 @@ module _ (stay : StatesStay) (L M : History) (begins : IsPrefix L M) where
   reply_later next (needs.Query q) replies.Inserted h = tt
   reply_later next (needs.Insert e) reply h = tt
   reply_later next (needs.Value o) reply h = tt
+  reply_later next (needs.Begin k) reply h = tt
+  reply_later next (needs.Resume x) reply h = tt
 
   pub right_later : (next : Next) (need : Option Need) (reply : PortReply) → IsRightPortReply next L need reply → IsRightPortReply next M need reply
   right_later next need (ports.Pin (Ok pinned)) h = same_moment pinned.stamp pinned.moment h

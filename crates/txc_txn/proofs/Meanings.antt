@@ -233,6 +233,8 @@ frames_hold next L objects (Some (needs.Lookup k)) frames h = h
 frames_hold next L objects (Some (needs.Query q)) frames h = h
 frames_hold next L objects (Some (needs.Insert e)) frames h = h.1
 frames_hold next L objects (Some (needs.Value o)) frames h = h.1
+frames_hold next L objects (Some (needs.Begin k)) frames h = h
+frames_hold next L objects (Some (needs.Resume x)) frames h = h.1
 
 pub open_answers_are_right : OpenAnswersAreRight
 open_answers_are_right next L bounds pins recorded objects call h =

@@ -5,3 +5,4 @@ pub mod Transitions
 pub mod Kept
 pub mod Worked
 pub mod Sessions
+pub mod ByHand

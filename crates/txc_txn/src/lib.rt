@@ -2,6 +2,8 @@
 #![tactic(auto)]
 
 mod answers;
+mod by_hand;
+mod hearing;
 pub mod laws;
 mod pinning;
 mod receipt;

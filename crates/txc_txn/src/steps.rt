@@ -11,6 +11,7 @@ ghost use Rattle.txc_call.specs.declared.need.Need.{Need};
 ghost use Rattle.txc_call.specs.declared.need.Outcome.{Outcome};
 ghost use Rattle.txc_call.specs.Needs.{reply_reach, ReplyFits, ReplyHolds};
 ghost use Rattle.txc_call.specs.Reaches.{InReach};
+ghost use Rattle.txc_call.specs.Running.{NeedsFunction};
 ghost use Rattle.txc_app.specs.Eval.{Next};
 ghost use Rattle.txc_registry.specs.Objects.{numbers_of, Objects};
 ghost use Rattle.txc_ports.specs.Answers.{IsFresh};
@@ -38,7 +39,7 @@ impl TxnCore {
     ghost use Rattle.txc_txn.specs.Transitions.{AsksLookup, AsksPin, BeginTransition, CallTransition, IsBeyond, NeedTransition, StandsStill};
 
     // The least stamp that a pin of the present may have; none beyond the last stamp.
-    fn least_present(&self) -> Option<Stamp>
+    pub(crate) fn least_present(&self) -> Option<Stamp>
         ensures answer { MatchOption result (MOST_STAMP < least_present self.now.bounds self.now.pins.members)
             (λ stamp. stamp ≡ least_present self.now.bounds self.now.pins.members) }
         ensures first { self.now.pins.members ≡ [] → IsSome result }
@@ -115,7 +116,7 @@ impl TxnCore {
     }
 
     // Records the value of the call, which has one, and returns a copy of it.
-    fn record(&mut self, alloc: Global) -> Turn<PortRequest, Value>
+    pub(crate) fn record(&mut self, alloc: Global) -> Turn<PortRequest, Value>
         requires { (o : Outcome) × (self.old.machine.need ≡ Some (Need.Value o)) }
         ensures fits { (next : Next) (objects : Objects) → self.old.pinning ≡ None
             → IsCore next objects (value_of self.old)
@@ -162,6 +163,7 @@ impl TxnCore {
         requires fits { IsCore A.next registry.old (value_of self.old) }
         requires none { self.old.pinning ≡ None }
         requires calling { IsSome self.old.machine.need }
+        requires settled { ¬ (NeedsFunction self.old.machine.need) }
         ensures turned { HasTurned A.next registry.old (value_of self.new) registry.new result }
         ensures holds { (L : History) → CoreHolds A.next L registry.old (value_of self.old)
             → CoreHolds A.next L registry.new (value_of self.new) }
@@ -209,6 +211,8 @@ impl TxnCore {
                 Err(_) => self.give_up(registry, TxnError::Memory),
             },
             Some(Need::Value(_)) => self.record(alloc),
+            Some(Need::Begin(_)) => unreachable!(),
+            Some(Need::Resume(_)) => unreachable!(),
             None => unreachable!(),
         }
     }

@@ -16,6 +16,7 @@ pub loop-reply-preserved : goal.loop-reply-preserved
 loop-reply-preserved g c = record {
   fits = c.reply.ensures.fits;
   some = c.in_ok-reply.ensures.open;
+  settled = c.in_ok-reply.ensures.settled;
   at_one = c.in_ok-reply.ensures.within 1 (subst (λ (r : Option Interval). InReach 1 r) (sym c.in-Some.ensures.3) tt) c.loop-reply.invariant.at_one;
   holds = λ L h.
       c.in_ok-reply.ensures.holds L c.in-Some.ensures.0 c.in-Some.ensures.1
@@ -36,6 +37,7 @@ pub loop-reply-init : goal.loop-reply-init
 loop-reply-init g c = record {
   fits = c.requires.fits;
   some = c.requires.some;
+  settled = c.requires.settled;
   at_one = c.requires.at_one;
   holds = λ L h. h;
   counted = counted_first c.args.machine.now;

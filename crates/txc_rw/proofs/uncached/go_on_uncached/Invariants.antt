@@ -3,6 +3,7 @@ use Rattle.txc_rows.specs.States.{State}
 use Rattle.txc_db.specs.History.{History}
 use Rattle.txc_registry.specs.Objects.{numbers_of}
 use Rattle.txc_call.specs.Calling.{CallHolds, InCall, IsCalling}
+use Rattle.txc_call.specs.Running.{NeedsFunction}
 use Rattle.txc_rw.specs.Core.{HasCounted}
 use Rattle.txc_rw.specs.Transitions.{standing_of, IsLedTo}
 use Rattle.txc_rw.proofs.Counting.{left}
@@ -12,6 +13,7 @@ abbrev pub invariant-loop-reply : goal.invariant-loop-reply
 invariant-loop-reply g l = record {
   fits : IsCalling g.A.App.next l.registry l.machine;
   some : IsSome l.machine.need;
+  settled : ¬ (NeedsFunction l.machine.need);
   at_one : InCall 1 l.machine;
   holds : (L : History) → CallHolds g.A.App.next L l.initial.registry l.initial.machine → CallHolds g.A.App.next L l.registry l.machine;
   counted : HasCounted l.initial.machine l.machine;

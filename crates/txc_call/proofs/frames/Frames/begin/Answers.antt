@@ -1,15 +1,9 @@
-use Rattle.std.proofs.Common.{◌≡◌, List, ◌∷◌, Some, None, ap, ◌∙◌}
-use Rattle.txc_tags.specs.declared.tag.Tag.{Tag}
-use Rattle.txc_tags.specs.Keys.{Call}
+use Rattle.std.proofs.Common.{◌≡◌, Some, ap, ◌∙◌}
 use Rattle.txc_registry.specs.Activity.{begun, idle, running}
 use Rattle.txc_registry.specs.Objects.{Objects, activity_of, with_activity}
 use Rattle.txc_registry.proofs.Offered.{restored}
-use Rattle.txc_call.specs.declared.frame.Frame.{Frame}
 use Rattle.txc_call.proofs.OpenFrames.{free_below, opened_at}
 use Rattle.txc_call.proofs.frames.Frames.begin.Goals as goal
-
-abbrev opening : Call → List Tag → Frame
-opening k tags = record { key = k; answers = 0; reach = None; tags = tags }
 
 pub begin-requires : goal.begin-requires
 begin-requires g c = record {
@@ -27,7 +21,6 @@ pub returns-clause-open : goal.returns-clause-open
 returns-clause-open g c =
     let objects = c.args.registry.now in
     let free = free_below c.args.key.function c.args.self.now.stack objects c.requires.rising c.requires.open.free c.requires.there in
-    opened_at g.A.App.next objects c.begin.new.self c.args.self.now.top c.args.self.now.stack c.push.new.self
+    rw c.enter.ensures.same_top (opened_at g.A.App.next objects c.begin.new.self c.args.self.now.top c.args.self.now.stack c.enter.new.self.stack
     c.args.key c.in-Ok.ask c.function-function.result c.args-2.result.now c.requires.open c.requires.rising free
-    c.function-function.ensures.answer c.args-2.ensures.answer c.in-Ok.ensures.answer c.in-Ok.ensures.after
-    (c.in-Ok-push.ensures.after ∙ ap (λ (tags : List Tag). opening c.args.key tags ∷ c.args.self.now.stack) c.new.ensures)
+    c.function-function.ensures.answer c.args-2.ensures.answer c.in-Ok.ensures.answer c.in-Ok.ensures.after c.in-Ok-enter.ensures.after)

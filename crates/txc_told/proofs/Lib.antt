@@ -1,0 +1,2 @@
+pub mod Idled
+pub mod Numbers

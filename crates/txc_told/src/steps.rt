@@ -1,0 +1,54 @@
+//! The objects after a step that no registry made.
+ghost use Rattle.std.specs.Prelude.{◌≡◌, None, Some};
+ghost use Rattle.txc_registry.specs.Objects.{numbers_of, AllIdle, Objects};
+ghost use Rattle.txc_told.specs.Steps.{idled, objects_after_ask};
+
+use crate::told::{Reads, Told};
+use txc_app::Ask;
+use txc_call::CallMachine;
+
+/// An ask of a function, with the machine that is to take it, and the objects before it.
+#[derive(Drop)]
+pub struct Ran<'a> {
+    pub told: &'a Told,
+    pub machine: &'a CallMachine,
+    pub ask: &'a Ask,
+}
+
+/// Reads off an ask the objects after it.
+pub struct AsRan;
+
+impl<'a> Reads<Ran<'a>> for AsRan {
+    ghost objects = { λ x. objects_after_ask x.told.now.objects x.machine.now x.ask.now };
+}
+
+/// Reads off objects the same ones, of which none runs.
+pub struct AsIdle;
+
+impl Reads<Told> for AsIdle {
+    ghost objects = { λ t. idled t.objects };
+}
+
+impl Told {
+    /// Returns the same objects, of which none runs.
+    pub fn idled(&self) -> Told
+        ensures after { result.objects ≡ idled self.now.objects }
+        ensures idle { AllIdle result.objects }
+        ensures functions { numbers_of result.objects ≡ numbers_of self.now.objects }
+    {
+        Told::of::<Told, AsIdle>(self)
+    }
+
+    /// Returns the objects after the function that the machine needs asked this.
+    pub fn ran(&self, machine: &CallMachine, ask: &Ask) -> Told
+        ensures after { result.objects ≡ objects_after_ask self.now.objects machine.now ask.now }
+        ensures functions { numbers_of result.objects ≡ numbers_of self.now.objects }
+    {
+        let ran = Ran {
+            told: self,
+            machine,
+            ask,
+        };
+        Told::of::<Ran, AsRan>(&ran)
+    }
+}

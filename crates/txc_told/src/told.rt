@@ -1,0 +1,43 @@
+ghost use Rattle.std.specs.Prelude.{◌≡◌};
+ghost use Rattle.txc_registry.specs.Objects.{Objects};
+ghost use base.Fml.{ftrue};
+
+use std::marker::{Model, PhantomData};
+
+/// How objects are read off a value.
+pub trait Reads<X> {
+    ghost objects: { X → Objects };
+}
+
+/// The objects of functions that their caller runs. It has no bytes and owns nothing: a contract alone says which
+/// objects they are.
+pub struct Told {
+    marker: PhantomData<()>,
+    pub ghost objects: { Objects },
+}
+
+impl Model for Told {
+    ghost also_owns = { λ _. ftrue };
+}
+
+impl Told {
+    /// Returns the objects that are read off the value.
+    pub fn of<X, M: Reads<X>>(x: &X) -> Told
+        ensures { result.objects ≡ M.objects x.now }
+    {
+        let _ = x;
+        Told {
+            marker: PhantomData,
+        }
+    }
+}
+
+impl Drop for Told {
+    fn drop(self) {
+        let Self { marker: _ } = self;
+    }
+}
+
+unsafe impl Send for Told {}
+
+unsafe impl Sync for Told {}

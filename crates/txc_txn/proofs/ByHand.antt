@@ -1,0 +1,48 @@
+-- What a core does whose caller runs the functions of its calls.
+use Rattle.std.proofs.Common.{Some, None, Ok, Err}
+use Rattle.txc_db.specs.History.{History}
+use Rattle.txc_db.specs.Seen.{FrontValue}
+use Rattle.txc_registry.specs.Objects.{Objects}
+use Rattle.txc_app.specs.Eval.{Next}
+use Rattle.txc_call.specs.declared.need.Need.{Need}
+use Rattle.txc_call.specs.declared.need.Need.TheVariants as needs
+use Rattle.txc_call.specs.declared.reply.Reply.TheVariants as replies
+use Rattle.txc_call.specs.Needs.{ReplyHolds}
+use Rattle.txc_ports.specs.declared.reply.PortReply.{PortReply}
+use Rattle.txc_ports.specs.declared.reply.PortReply.TheVariants as ports
+use Rattle.txc_txn.specs.Core.{CoreValue, first_call}
+use Rattle.txc_txn.specs.ByHand.{HandTurn, HearTransition}
+use Rattle.txc_txn.proofs.Cores.{pin_seen}
+
+-- what comes of a reply does not depend on what was seen of the history
+pub hear_seen : (c : CoreValue) (seen : FrontValue) (reply : PortReply) (new : CoreValue) (turn : HandTurn)
+    → HearTransition (record c { seen = seen }) reply new turn → HearTransition c reply new turn
+hear_seen c seen (ports.Pin (Ok pinned)) new turn h = h
+hear_seen c seen (ports.Pin (Err error)) new turn h = h
+hear_seen c seen (ports.AddPin pinned (Ok added)) new turn h = λ objects there.
+    let t = h objects there in (t.0, t.1, pin_seen c seen objects (first_call c.pinning) new objects t.0 t.2)
+hear_seen c seen (ports.AddPin pinned (Err error)) new turn h = h
+hear_seen c seen (ports.Unpin unpinned) new turn h = h
+hear_seen c seen (ports.Lookup None) new turn h = h
+hear_seen c seen (ports.Lookup (Some hit)) new turn h = λ k is. record { held = (h k is).held; none = (h k is).none }
+hear_seen c seen (ports.Query (Ok found)) new turn h = h
+hear_seen c seen (ports.Query (Err error)) new turn h = h
+hear_seen c seen (ports.Insert kept) new turn h = h
+
+-- ---- replies that hand in nothing
+
+pub miss_holds : (next : Next) (L : History) (need : Need) → ReplyHolds next L need replies.Miss
+miss_holds next L (needs.Lookup k) = tt
+miss_holds next L (needs.Query q) = tt
+miss_holds next L (needs.Insert e) = tt
+miss_holds next L (needs.Value o) = tt
+miss_holds next L (needs.Begin k) = tt
+miss_holds next L (needs.Resume x) = tt
+
+pub inserted_holds : (next : Next) (L : History) (need : Need) → ReplyHolds next L need replies.Inserted
+inserted_holds next L (needs.Lookup k) = tt
+inserted_holds next L (needs.Query q) = tt
+inserted_holds next L (needs.Insert e) = tt
+inserted_holds next L (needs.Value o) = tt
+inserted_holds next L (needs.Begin k) = tt
+inserted_holds next L (needs.Resume x) = tt

@@ -1,0 +1,17 @@
+use Rattle.std.proofs.Common.{rules}
+use Rattle.txc_txn.proofs.txn_core.TxnCore.hear_add.Goals as goal
+
+pub returns-in-Some-first : goal.returns-in-Some-first
+returns-in-Some-first c = record {
+  fits = search rules;
+  holds = search rules;
+  turn_fits = search rules;
+  leads = search rules;
+  adds = search rules;
+  pins = search rules;
+  taken = search rules;
+  left = search rules;
+  recorded = search rules;
+  goes_on = search rules;
+  same = search rules;
+}
