@@ -1,7 +1,7 @@
 #!/usr/bin/env python3
 """Simulates the gate over the seconds of docs/gate.tsv: how long it takes by the clock, and which crates wait for one another.
 
-usage: scripts/chain.py [--jobs N] [--memory GB] [CORES..]      by default 4 and 2 cores, 21 GB free
+usage: scripts/chain.py [--jobs N] [--memory GB] [CORES..]      by default 4 and 2 cores, 22 GB free
   N        as RT_JOBS=N has it, so many checks at once: by default as many as scripts/prove.py chooses; 0 as `rt` chooses, by memory,
            with more jobs a check where cores are free
 
@@ -131,7 +131,7 @@ class Gate:
 def main():
     words = argparse.ArgumentParser(usage=__doc__.partition("usage: ")[2].partition("\n")[0])
     words.add_argument("--jobs", type=int)
-    words.add_argument("--memory", type=int, default=21)
+    words.add_argument("--memory", type=int, default=22)
     words.add_argument("cores", nargs="*", type=int)
     given = words.parse_args()
     for cores in given.cores or [4, 2]:

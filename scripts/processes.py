@@ -70,6 +70,6 @@ def cores() -> int:
 
 
 def free() -> float:
-    """The memory of the machine that is free or can be freed, in GB."""
+    """The memory of the machine that is free or can be freed, in GB of 2**30 bytes."""
     found = re.search(r"^MemAvailable:\s+(\d+) kB", pathlib.Path("/proc/meminfo").read_text(encoding="utf-8"), re.M)
-    return int(found[1]) / 1e6
+    return int(found[1]) / 2**20

@@ -21,7 +21,7 @@ case "$1 $2" in
 "ci ")
     passed=0 failed=0
     for crate in low high; do
-        if [ "$crate" = "$KILLED" ]; then failed=1; echo "rt: $crate: the check was killed, most likely for memory"
+        if [ "$crate" = "$KILLED" ]; then failed=1; printf 'rt: the check was killed, most likely for memory: once more\nrt: %s NOT PROVED\n' "$crate"
         elif [ "$crate" != "$LACKS" ]; then passed=$((passed + 1)); echo "rt: $crate proved"
         fi
     done
@@ -144,8 +144,7 @@ class Gate(unittest.TestCase):
         self.assert_fails(self.gate(), "10 passed, 1 failed", "(?m)^FAILED: other is not proved$")
 
     def test_a_check_is_killed_for_memory(self) -> None:
-        """One failure is `rt`'s own, and the crate has no proof."""
-        self.assert_fails(self.gate(KILLED="high"), "9 passed, 2 failed", "most likely for memory")
+        self.assert_fails(self.gate(KILLED="high"), "9 passed, 1 failed", "most likely for memory")
 
     def test_the_library_plays_otherwise(self) -> None:
         self.write("repository/scripts/boundary.py", f"{STUB}echo 'FAILED: 200 scripts'; echo '2 passed, 1 failed'; exit 1\n")
