@@ -2,7 +2,8 @@
 contract or body, or a definition by which the contract means something else. Comments count for nothing.
 
 A definition is one of specs/, a constant of src/, or the model of a type; the contract names it, or a definition does that the contract
-names. Names are compared, and no imports: of two definitions with one name, in the crate or below it, both count.
+names. A name of specs/ is looked up in the modules that its file takes in; that of a constant or a type in its crate and all below it, so
+of two with one name both count.
 """
 
 from __future__ import annotations
@@ -14,11 +15,12 @@ import subprocess
 import tarfile
 import tempfile
 from collections import defaultdict
+from dataclasses import dataclass
 from functools import cached_property
 from pathlib import Path
 
 import wrong_bodies
-from wrong_bodies import Function, WrongBody
+from wrong_bodies import Function, WrongBody, text_of
 
 # A text or a character in quotes, which may hold what looks like a comment; or a comment.
 QUOTED_OR_COMMENT = re.compile(r"""("(?:\\.|[^"\\])*"|'(?:\\.|[^'\\])')|//[^\n]*""")
@@ -26,6 +28,9 @@ NAME = re.compile(r"[^\W\d]\w*")
 SPEC_ITEM = re.compile(r"(?:(?:abbrev|unfoldable|pub|record|data)\b ?)+([^\s:{(]+)")
 CONSTANT = re.compile(r"^ *(?:pub(?:\([^)]*\))? )?(?:const|static) (\w+):", re.M)
 MODEL = re.compile(r"^impl.*? Model for (\w+)", re.M)
+# A module of specs/, as a file that takes it in names it; and one that it hands on.
+MODULE = re.compile(r"\bRattle\.(\w+)\.specs\.(\w+)")
+HANDED_ON = re.compile(r"^pub use Rattle\.(\w+)\.specs\.(\w+)", re.M)
 
 
 class NoSuchCommit(Exception):
@@ -44,15 +49,36 @@ def spec_without_comments(text: str) -> str:
     return "\n".join(line for line in lines if line)
 
 
+@dataclass(frozen=True)
+class Definition:
+    """A definition of specs/, a constant, or the model of a type, which has the type's name; `path` is that of its file below the root."""
+
+    path: Path
+    name: str
+    text: str
+
+    @property
+    def crate(self) -> str:
+        return self.path.parts[1]
+
+    @property
+    def module(self) -> tuple[str, str] | None:
+        """Its crate and its module, if it is of specs/."""
+        return (self.crate, self.path.parts[3].removesuffix(".antt")) if self.path.parts[2] == "specs" else None
+
+
 class Tree:
     """The sources of one state of the repository."""
 
     def __init__(self, root: Path) -> None:
         self.root = root
+        self.functions: dict[str, list[tuple[Path, Function]]] = {}
+        self.modules: dict[Path, set[tuple[str, str]]] = {}
+        self.named: dict[Definition, set[Definition]] = {}
 
     @cached_property
     def below(self) -> dict[str, set[str]]:
-        """Each crate beside those that it uses, and those that they use, and itself."""
+        """Each crate beside those that it uses, those that they use, and itself."""
         found: dict[str, set[str]] = {}
         rows = [line.partition("#")[0].partition(":") for line in (self.root / "crates.txt").read_text(encoding="utf-8").split("\n")]
         used = {head.split()[0]: names.split() for head, colon, names in rows if colon}
@@ -67,47 +93,69 @@ class Tree:
         return found
 
     @cached_property
-    def definitions(self) -> dict[str, list[tuple[str, str]]]:
-        """The definitions by name: of each its crate and its text."""
+    def definitions(self) -> dict[str, list[Definition]]:
+        """The definitions by name."""
         found = defaultdict(list)
-        for path in sorted(self.root.glob("crates/*/specs/**/*.antt")):
-            for name, text in spec_items(path.read_text(encoding="utf-8")):
-                found[name].append((path.relative_to(self.root).parts[1], text))
-        for path in sorted(self.root.glob("crates/*/src/**/*.rt")):
-            for name, text in source_items(path.read_text(encoding="utf-8")):
-                found[name].append((path.relative_to(self.root).parts[1], text))
+        for pattern, items in (("crates/*/specs/**/*.antt", spec_items), ("crates/*/src/**/*.rt", source_items)):
+            for path in sorted(self.root.glob(pattern)):
+                for name, text in items(text_of(path) or ""):
+                    found[name].append(Definition(path.relative_to(self.root), name, text))
         return dict(found)
 
-    def meaning(self, crate: str, text: str) -> list[str]:
-        """Returns the definitions that a text of a crate rests on."""
-        below, seen, left = self.below.get(crate, {crate}), set(), [text]
-        while left:
-            for name in NAME.findall(left.pop()):
-                for owner, own in self.definitions.get(name, []):
-                    if owner in below and (name, own) not in seen:
-                        seen.add((name, own))
-                        left.append(own)
-        return sorted(f"{name}: {own}" for name, own in seen)
+    def taken_in(self, path: Path) -> set[tuple[str, str]]:
+        """Returns the modules of specs/ whose names a file may use: its own, those that it takes in, and what these hand on."""
+        if path not in self.modules:
+            found = {*MODULE.findall(text_of(self.root / path) or "")}
+            if path.parts[2] == "specs":
+                found.add((path.parts[1], path.parts[3].removesuffix(".antt")))
+            left = [*found]
+            while left:
+                crate, module = left.pop()
+                handed_on = {*HANDED_ON.findall(text_of(self.root / "crates" / crate / "specs" / f"{module}.antt") or "")} - found
+                found |= handed_on
+                left += handed_on
+            self.modules[path] = found
+        return self.modules[path]
 
-    def functions_of(self, body: WrongBody) -> list[tuple[str, Function]]:
+    def names(self, path: Path, text: str) -> set[Definition]:
+        """Returns the definitions that a text of a file names."""
+        modules, below = self.taken_in(path), self.below.get(path.parts[1], {path.parts[1]})
+        known = (it for name in {*NAME.findall(text)} for it in self.definitions.get(name, []))
+        return {it for it in known if (it.module in modules if it.module else it.crate in below)}
+
+    def meaning(self, path: Path, text: str) -> list[str]:
+        """Returns the texts of the definitions that a text of a file rests on."""
+        found: set[Definition] = set()
+        left = self.names(path, text)
+        while left:
+            it = left.pop()
+            found.add(it)
+            if it not in self.named:
+                self.named[it] = self.names(it.path, it.text)
+            left |= self.named[it] - found
+        return sorted(f"{it.name}: {it.text}" for it in found)
+
+    def functions_in(self, crate: str) -> list[tuple[Path, Function]]:
+        """Returns the functions of a crate, each with its file."""
+        if crate not in self.functions:
+            paths = [it.relative_to(self.root) for it in sorted((self.root / "crates" / crate).glob("src/**/*.rt"))]
+            self.functions[crate] = [(path, it) for path in paths
+                                     for it in wrong_bodies.functions(self.root, crate, str(path.relative_to("crates", crate)))]
+        return self.functions[crate]
+
+    def functions_of(self, body: WrongBody) -> list[tuple[Path, Function]]:
         """Returns the functions of a wrong body, each with its file."""
         wanted = [re.compile(it.pattern) for it in body.functions(self.root)]
-        crate = self.root / "crates" / body.crate
-        found = []
-        for path in sorted(crate.glob("src/**/*.rt")):
-            file = str(path.relative_to(crate))
-            found += [(file, it) for it in wrong_bodies.functions(self.root, body.crate, file)
-                      if any(pattern.fullmatch(f"{body.crate}::{it.end}") for pattern in wanted)]
-        return found
+        return [(path, it) for path, it in self.functions_in(body.crate) if any(pattern.fullmatch(f"{body.crate}::{it.end}") for pattern in wanted)]
 
     def print_of(self, body: WrongBody) -> str:
         """Returns a sum that differs if the wrong body is due again."""
         kept = hashlib.sha256(repr((body.named, [(it.file, it.old, it.new) for it in body.changes])).encode())
-        for file, function in self.functions_of(body):
-            lines = (wrong_bodies.text_of(self.root / "crates" / body.crate / file) or "").split("\n")
+        for path, function in self.functions_of(body):
+            lines = (text_of(self.root / path) or "").split("\n")
             contract = without_comments("\n".join([function.head, *lines[function.first:function.body]]))
             code = without_comments("\n".join(lines[function.body:function.last + 1]))
-            kept.update("\0".join([contract, code, *self.meaning(body.crate, contract)]).encode())
+            kept.update("\0".join([contract, code, *self.meaning(path, contract)]).encode())
         return kept.hexdigest()
 
 
@@ -135,7 +183,8 @@ def due(root: Path, commit: str, bodies: list[WrongBody]) -> list[WrongBody]:
         raise NoSuchCommit(f"{commit}: {ran.stderr.decode(errors='replace').strip()}")
     with tempfile.TemporaryDirectory(prefix="since-") as room:
         with tarfile.open(fileobj=io.BytesIO(ran.stdout)) as kept:
-            kept.extractall(room, filter="data")
+            # no proof counts
+            kept.extractall(room, [it for it in kept if "/proofs/" not in it.name], filter="data")
         before, now = Tree(Path(room)), Tree(root)
         crates = sorted({it.crate for it in bodies})
         prints = {it.label: before.print_of(it) for crate in crates for it in wrong_bodies.read_crate(before.root, crate)[0]}

@@ -8,8 +8,8 @@ usage: [JOBS=N] scripts/edits.py [CRATE | CRATE/NAME]..
        scripts/edits.py --bare [CRATE]..
        scripts/edits.py --check
   JOBS     how many checks run side by side, by default one a core (up to 2.7 GB each)
-  --kept   takes the libraries that `rt ci` (so `make prove`) has left in crates/*/out; without it they are first proved and built where
-           they have changed. What follows takes them too
+  --kept   takes the libraries of crates/*/out as they lie there, as `rt ci` (so `make prove`) has left them, and so does what follows.
+           Without it those below a crate are proved and built anew if one is not there, or is older than its sources
   --named  tries those that are marked `(gate)`, as the gate does
   --since  tries those that are due since a commit: their own text has changed, or the contract or the body of their function, or a
            definition that the contract rests on
@@ -37,8 +37,9 @@ import signal
 import subprocess
 import sys
 import tempfile
+import threading
 from collections import defaultdict
-from collections.abc import Iterable, Sequence
+from collections.abc import Iterable, Iterator, Sequence
 from concurrent.futures import ThreadPoolExecutor
 from dataclasses import dataclass
 from pathlib import Path
@@ -53,6 +54,8 @@ ROOT = Path(__file__).resolve().parent.parent
 MOST_TOGETHER = 24
 # How many characters of what the prover said of a wrong body are printed.
 MOST_SAID = 200
+# How many characters of what was said are printed if a crate is not proved.
+MOST_SAID_OF_A_BUILD = 3000
 # What is said where a proof names what the wrong body took away: that shows little of a contract.
 NAMES = re.compile(r"has no field|\(nearest: |is not in scope|has no `|was not admitted")
 # What is said of a function of which only a callee is not proved.
@@ -64,6 +67,8 @@ PROVED = re.compile(r"proved(?:$|,| where )")
 GAVE_UP = re.compile(r"could not tell")
 # What the prover says of a name that it is asked to check, if it has none or several such, before it checks anything.
 UNKNOWN = re.compile(r"(?:has no function|several functions are named) `([^`]*)`.*")
+# Set once the command is to end: no check begins any more.
+IS_OVER = threading.Event()
 
 
 class CannotTry(Exception):
@@ -106,7 +111,8 @@ def chosen(root: Path, words: Sequence[str]) -> list[WrongBody]:
 
 def named(root: str | Path, crates: Sequence[str]) -> list[str]:
     """Returns the wrong bodies of these crates, or of all, that the gate tries, as CRATE/NAME."""
-    return [it.label for it in chosen(Path(root), crates) if it.is_in_gate]
+    known = wrong_bodies.crates_with_wrong_bodies(Path(root))
+    return [it.label for crate in known if not crates or crate in crates for it in wrong_bodies.read(Path(root), [crate]) if it.is_in_gate]
 
 
 def rounds(root: Path, trials: Iterable[Trial]) -> list[list[Trial]]:
@@ -130,23 +136,6 @@ def rounds(root: Path, trials: Iterable[Trial]) -> list[list[Trial]]:
 # How it is tried.
 
 
-class Folders:
-    """The folders in which the checks of a crate keep what they saw: one for each that runs at the same time."""
-
-    def __init__(self, room: str) -> None:
-        self.room = room
-        self.free: dict[str, queue.LifoQueue[str]] = defaultdict(queue.LifoQueue)
-
-    def take(self, crate: str) -> str:
-        try:
-            return self.free[crate].get_nowait()
-        except queue.Empty:
-            return tempfile.mkdtemp(prefix=f"{crate}-", dir=self.room)
-
-    def give_back(self, crate: str, folder: str) -> None:
-        self.free[crate].put(folder)
-
-
 def apply(trials: Iterable[Trial], folder: str) -> None:
     """Makes the changes of all trials in a copy of their crate, from the end of each file, so that the places before stay where they are."""
     by_file = defaultdict(list)
@@ -162,9 +151,11 @@ def apply(trials: Iterable[Trial], folder: str) -> None:
         path.write_text(text, encoding="utf-8")
 
 
-def check(root: Path, trials: list[Trial], seen: str) -> tuple[str, int]:
-    """Checks in a copy of the crate the functions that these trials change. Returns what the prover says, and its exit status."""
+def check(root: Path, trials: list[Trial], seen: str) -> str:
+    """Checks in a copy of the crate the functions that these trials change, and returns what the prover says."""
     crate = trials[0].body.crate
+    if IS_OVER.is_set():
+        raise CannotTry("the command was stopped")
     # cpu.py knows the checks of wrong bodies by the name of this folder
     with tempfile.TemporaryDirectory(prefix="round-") as room:
         for part in ("src", "specs", "proofs"):
@@ -174,12 +165,12 @@ def check(root: Path, trials: list[Trial], seen: str) -> tuple[str, int]:
         ends = sorted({it.end for trial in trials for it in trial.functions})
         ran = subprocess.run(["rattle", "check", *check_words(str(root), crate), "--incremental", seen, *(it for end in ends for it in ("--only", end))],
                              cwd=room, stdout=subprocess.PIPE, stderr=subprocess.STDOUT, errors="replace", text=True, check=False)
-        return ran.stdout, ran.returncode
+        return ran.stdout
 
 
 def try_together(root: Path, trials: list[Trial], seen: str) -> None:
     """Gives those of these trials a verdict of which one check says enough."""
-    said, _ = check(root, trials, seen)
+    said = check(root, trials, seen)
     unknown = UNKNOWN.search(said)
     strangers = [trial for trial in trials if unknown and unknown[1] in {it.end for it in trial.functions}]
     if unknown and strangers:
@@ -210,28 +201,38 @@ def judge(trial: Trial, lines: list[str]) -> None:
         trial.end("refused", f"names: {errors[0]}" if by_names else failing[0])
 
 
-def try_all(root: Path, bodies: list[WrongBody]) -> int:
-    """Tries the wrong bodies over the libraries of crates/*/out, prints the verdicts, and returns the exit status."""
-    trials = [Trial(it, it.functions(root)) for it in bodies]
-    by_crate = defaultdict(list)
-    for trial in trials:
-        by_crate[trial.body.crate].append(trial)
-    lists = [it for own in by_crate.values() for it in rounds(root, own)]
-    with tempfile.TemporaryDirectory(prefix="seen-") as room, ThreadPoolExecutor(int(os.environ.get("JOBS") or os.cpu_count() or 1)) as pool:
-        folders = Folders(room)
+def try_crate(root: Path, trials: list[Trial], jobs: int) -> None:
+    """Gives each of these trials of one crate its verdict, and prints it: so many checks at a time, each of which goes on in a folder from
+    what one before it saw."""
+    with tempfile.TemporaryDirectory(prefix="seen-") as room, ThreadPoolExecutor(jobs) as pool:
+        folders: queue.SimpleQueue[str] = queue.SimpleQueue()
+        for _ in range(jobs):
+            folders.put(tempfile.mkdtemp(dir=room))
 
         def run(together: list[Trial]) -> None:
-            crate = together[0].body.crate
-            seen = folders.take(crate)
-            try_together(root, together, seen)
-            folders.give_back(crate, seen)
+            seen = folders.get()
+            try:
+                try_together(root, together, seen)
+            finally:
+                folders.put(seen)
             for trial in together:
                 if trial.verdict:
                     print(f"{trial.body.label}: {trial.verdict}: {trial.said[:MOST_SAID]}", flush=True)
 
-        list(pool.map(run, sorted(lists, key=len, reverse=True)))
+        list(pool.map(run, sorted(rounds(root, trials), key=len, reverse=True)))
         # one whose function waits for that of another was not judged beside it
         list(pool.map(run, [[it] for it in trials if not it.verdict]))
+
+
+def try_all(root: Path, bodies: list[WrongBody]) -> int:
+    """Tries the wrong bodies over the libraries of crates/*/out, prints the verdicts, and returns the exit status."""
+    by_crate = defaultdict(list)
+    for body in bodies:
+        by_crate[body.crate].append(Trial(body, body.functions(root)))
+    jobs = int(os.environ.get("JOBS") or os.cpu_count() or 1)
+    with ThreadPoolExecutor(jobs) as pool:
+        list(pool.map(lambda own: try_crate(root, own, max(1, jobs // len(by_crate))), sorted(by_crate.values(), key=len, reverse=True)))
+    trials = [it for own in by_crate.values() for it in own]
     count = {verdict: sum(it.verdict == verdict for it in trials) for verdict in ("refused", "proved", "bad")}
     print(f"{count['refused']} refused, {count['proved']} proved" + (f", {count['bad']} bad" if count["bad"] else ""))
     return int(count["refused"] != len(trials))
@@ -240,22 +241,35 @@ def try_all(root: Path, bodies: list[WrongBody]) -> int:
 # The libraries below.
 
 
-def build_libraries(root: Path, crates: Iterable[str]) -> None:
-    """Proves and builds what has changed of these crates and of those below them."""
-    for crate in crates:
-        ran = subprocess.run(["rt", "lib", "--jobs", os.environ.get("JOBS") or str(os.cpu_count())], cwd=root / "crates" / crate,
-                             stdout=subprocess.PIPE, stderr=subprocess.STDOUT, text=True, errors="replace", check=False)
-        if ran.returncode:
-            raise CannotTry(f"{ran.stdout[-3000:]}{crate} is not proved")
+def newest(folder: Path) -> float:
+    """Returns when a file below a folder was changed last, or 0 if it has none."""
+    return max((it.stat().st_mtime for it in folder.rglob("*") if it.is_file()), default=0)
+
+
+def libraries(root: Path, crate: str) -> Iterator[tuple[Path, float]]:
+    """Yields a file of each library that a check of a crate takes, with when its sources were changed last."""
+    below = changed_since.Tree(root).below[crate] - {crate}
+    for it in sorted(below):
+        sources = [newest(root / "crates" / it / part) for part in ("src", "specs", "proofs")]
+        yield root / "crates" / it / "out" / "rlib" / f"{it}.rlib" / "format", max(sources)
 
 
 def look_for_libraries(root: Path, crates: Iterable[str]) -> None:
     """Fails if a library is not there that a check of these crates takes."""
     for crate in crates:
-        words = check_words(str(root), crate)
-        wanted = [Path(words[n + 1].partition("=")[2]) for n, word in enumerate(words) if word == "--extern"]
-        if missing := [it for it in wanted if not it.exists()]:
-            raise CannotTry(f"a check of {crate} takes {missing[0]}, which is not there: `rt ci {crate}` makes it")
+        if missing := next((it for it, _ in libraries(root, crate) if not it.exists()), None):
+            raise CannotTry(f"a check of {crate} takes {missing.parent}, which is not there: `rt ci {crate}` makes it")
+
+
+def build_libraries(root: Path, crates: Iterable[str]) -> None:
+    """Proves and builds the libraries below each of these crates of which one is not there, or is older than its sources."""
+    for crate in crates:
+        if all(it.exists() and changed < it.stat().st_mtime for it, changed in libraries(root, crate)):
+            continue
+        ran = subprocess.run(["rt", "lib", "--jobs", os.environ.get("JOBS") or str(os.cpu_count())], cwd=root / "crates" / crate,
+                             stdout=subprocess.PIPE, stderr=subprocess.STDOUT, text=True, errors="replace", check=False)
+        if ran.returncode:
+            raise CannotTry(f"{ran.stdout[-MOST_SAID_OF_A_BUILD:]}{crate} is not proved")
 
 
 # The command line.
@@ -286,9 +300,10 @@ def run(given: argparse.Namespace) -> int:
         bodies = changed_since.due(ROOT, given.since, bodies)
         print(f"{len(bodies)} wrong bodies are due since {given.since}", file=sys.stderr)
     crates = dict.fromkeys(it.crate for it in bodies)
-    if not (given.kept or given.named or given.since):
+    if given.kept or given.named or given.since:
+        look_for_libraries(ROOT, crates)
+    else:
         build_libraries(ROOT, crates)
-    look_for_libraries(ROOT, crates)
     return try_all(ROOT, bodies)
 
 
@@ -306,6 +321,12 @@ def main() -> int:
         return 2
 
 
+def stop(number: int, _: object) -> None:
+    IS_OVER.set()
+    sys.exit(128 + number)
+
+
 if __name__ == "__main__":
-    signal.signal(signal.SIGTERM, lambda *_: sys.exit(143))
+    for it in (signal.SIGINT, signal.SIGTERM):
+        signal.signal(it, stop)
     sys.exit(main())

@@ -145,13 +145,18 @@ def functions(root: Path, crate: str, file: str) -> list[Function]:
         fn = FN.match(line)
         if not fn or not (fn[1] == "" or head and fn[1] == "    "):
             continue
-        last = next((n for n in range(at, len(lines)) if lines[n] == fn[1] + "}"), at)
-        body = next((n for n in range(at, last) if lines[n] == fn[1] + "{" or lines[n].endswith(" {") and n == at), at)
+        last = at if line.endswith("}") else next((n for n in range(at, len(lines)) if lines[n] == fn[1] + "}"), at)
+        body = next((n for n in range(at, last) if begins_body(lines[n], fn[1], n == at)), at)
         names = [owner(head), fn[3]] if head else [*module, fn[3]]
         # a method is named by the module of its type, wherever its `impl` stands
         pattern = rf"{crate}::(?:\w+::)*{re.escape(names[0])}::{fn[3]}" if head else "::".join([crate, *names])
         found.append(Function(pattern, "::".join(names), at, body, last, head, fn[2] == "pub" and " for " not in head))
     return found
+
+
+def begins_body(line: str, indent: str, is_first: bool) -> bool:
+    """Returns whether the body of a function with this indent begins at a line."""
+    return line == indent + "{" or line.endswith(" {") and (is_first or line.startswith(indent + ")"))
 
 
 def head_of(lines: list[str], at: int) -> str:

@@ -7,6 +7,7 @@ usage: tests/test_edits.py
 from __future__ import annotations
 
 import io
+import os
 import subprocess
 import sys
 import tempfile
@@ -221,6 +222,70 @@ class Judging(Repository):
         self.assertEqual(self.verdict("fn low::Count::go: proved"), "")
         self.assertEqual(self.verdict("fn low::Count::go: could not tell"), "")
         self.assertEqual(self.verdict("fn low::Count::go: no proof: the borrow checker does not cover it"), "bad")
+
+    def tried(self, said: dict[str, str]) -> tuple[int, str, list[list[str]]]:
+        """Returns what a trial ends with, where a check says this of each wrong body; its last line; and what was checked together."""
+        checks = []
+
+        def check(_: Path, trials: list[edits.Trial], __: str) -> str:
+            checks.append([it.body.name for it in trials])
+            return "\n".join(said.get(it.body.name, "") for it in trials)
+
+        with mock.patch.object(edits, "check", check), mock.patch.object(edits, "look_for_libraries"), mock.patch.dict("os.environ", JOBS="1"):
+            status, out, _ = self.command("--kept", "low")
+        return status, out.rstrip("\n").split("\n")[-1], checks
+
+    def test_all_are_refused(self) -> None:
+        said = {"a_step_is_two": "fn low::Count::go: not proved", "now_is_zero": "fn low::Count::now: not proved",
+                "the_greatest_is_less": "fn low::Count::go: not proved", "the_first_is_one": "fn low::first: not proved"}
+        status, last, checks = self.tried(said)
+        self.assertEqual((status, last), (0, "4 refused, 0 proved"))
+        self.assertEqual(checks, [["a_step_is_two", "now_is_zero", "the_first_is_one"], ["the_greatest_is_less"]])
+
+    def test_one_is_proved(self) -> None:
+        said = {"a_step_is_two": "fn low::Count::go: proved", "now_is_zero": "fn low::Count::now: not proved",
+                "the_greatest_is_less": "fn low::Count::go: not proved", "the_first_is_one": "fn low::first: not proved; it waits for another"}
+        status, last, checks = self.tried(said)
+        self.assertEqual((status, last), (1, "2 refused, 1 proved, 1 bad"))
+        self.assertEqual(checks[2:], [["a_step_is_two"], ["the_first_is_one"]])
+
+    def test_a_check_is_killed(self) -> None:
+        self.assertEqual(self.tried({})[:2], (1, "0 refused, 0 proved, 4 bad"))
+
+    def test_the_prover_does_not_know_a_function(self) -> None:
+        said = {"a_step_is_two": "error: the crate has no function `Count::go`", "now_is_zero": "fn low::Count::now: not proved",
+                "the_greatest_is_less": "fn low::Count::go: not proved", "the_first_is_one": "fn low::first: not proved"}
+        status, last, checks = self.tried(said)
+        self.assertEqual((status, last), (1, "3 refused, 0 proved, 1 bad"))
+        self.assertEqual(checks[1], ["now_is_zero", "the_first_is_one"])
+
+
+class Libraries(Repository):
+    def setUp(self) -> None:
+        super().setUp()
+        self.write("crates/high/src/lib.rt", "pub fn zero() -> u64 {\n    0\n}\n")
+        self.write("crates/high/wrong-bodies/lib.edits", "== one\nold:     0\nnew:     1\n")
+
+    def commands_of(self, *words: str) -> tuple[int, list[str]]:
+        """Returns what a command line ends with, and the commands that it runs."""
+        ran = mock.Mock(return_value=subprocess.CompletedProcess([], 0, "fn high::zero: not proved\n"))
+        with mock.patch.object(edits.subprocess, "run", ran):
+            status, _, _ = self.command(*words)
+        return status, [" ".join(it.args[0][:2]) for it in ran.call_args_list]
+
+    def test_a_missing_library(self) -> None:
+        self.assertEqual(self.commands_of("high"), (0, ["rt lib", "rattle check"]))
+        self.assertEqual(self.commands_of("--kept", "high"), (2, []))
+
+    def test_a_library_of_now(self) -> None:
+        self.write("crates/low/out/rlib/low.rlib/format", "low\n")
+        self.assertEqual(self.commands_of("high"), (0, ["rattle check"]))
+        self.assertEqual(self.commands_of("--kept", "high"), (0, ["rattle check"]))
+
+    def test_a_library_of_older_sources(self) -> None:
+        self.write("crates/low/out/rlib/low.rlib/format", "low\n")
+        os.utime(self.root / "crates/low/out/rlib/low.rlib/format", (0, 0))
+        self.assertEqual(self.commands_of("high"), (0, ["rt lib", "rattle check"]))
 
 
 class Since(Repository):
