@@ -271,4 +271,5 @@ def main():
     sys.exit(int(is_check and bool(found)))
 
 
-main()
+if __name__ == "__main__":
+    main()
