@@ -58,19 +58,25 @@ class Table(unittest.TestCase):
             self.assertEqual(cpu.read(f"{room}/gate.tsv"), [cpu.Row("txc_node", "proof", 250, 280)])
 
 
+def weight(pid: int) -> str:
+    """The weight of a process's session, or the least where the kernel has none."""
+    group = pathlib.Path(f"/proc/{pid}/autogroup")
+    return group.read_text(encoding="utf-8").rstrip().rpartition(" ")[2] if group.exists() else "19"
+
+
 class Processes(unittest.TestCase):
-    def test_a_session_below_is_found(self) -> None:
+    def test_a_session_below_is_lowered_and_the_own_is_not(self) -> None:
+        own, end = weight(os.getpid()), time.monotonic() + 60
         with subprocess.Popen(["sh", "-c", "setsid sleep 60 & echo $!; wait"], stdout=subprocess.PIPE, text=True) as ran:
             below = int(ran.stdout.readline())
             self.assertEqual({*processes.below([ran.pid])}, {ran.pid, below})
-            group, end = pathlib.Path(f"/proc/{below}/autogroup"), time.monotonic() + 60
-            # the kernel takes some changes in a second, and no more
-            while group.exists() and not group.read_text(encoding="utf-8").endswith(" nice 19\n") and time.monotonic() < end:
+            # it has the own session at first, and the kernel takes some changes in a second, and no more
+            while (weight(below) != "19" or os.getsid(below) == os.getsid(0)) and time.monotonic() < end:
                 processes.lower(below)
                 time.sleep(0.1)
-            text = group.read_text(encoding="utf-8") if group.exists() else " nice 19\n"
+            found = weight(below)
             os.kill(below, 9)
-        self.assertRegex(text, r" nice 19\n$")
+        self.assertEqual((found, weight(os.getpid())), ("19", own))
 
     def test_a_process_that_has_ended_is_let_be(self) -> None:
         with subprocess.Popen(["true"]) as ran:
