@@ -297,8 +297,8 @@ def main():
     words = argparse.ArgumentParser(usage=__doc__.partition("usage: ")[2].partition("\n")[0])
     for flag in ("--all", "--proved"):
         words.add_argument(flag, action="store_true")
-    for word in ("--library", "--rows"):
-        words.add_argument(word, default="")
+    words.add_argument("--library", type=os.path.abspath)
+    words.add_argument("--rows", default="")
     words.add_argument("count", nargs="?", type=int)
     given, trial = words.parse_args(), Trial()
     unlike = list(exports.differences())

@@ -13,11 +13,13 @@ PASSED = ROOT / "tests/test-all.passed"
 
 
 def tree() -> str:
-    """The hash of the layer: of the names and the contents of its files that git has or would take."""
+    """The hash of the layer: of the names and the contents of its files that git has or would take. Without git it has none."""
     folders = ["bindings", *(f"crates/{it}" for it in CRATES)]
     words = ["git", "ls-files", "--cached", "--others", "--exclude-standard", "--deduplicate", "-z", "--", *folders]
-    names = subprocess.run(words, cwd=ROOT, capture_output=True, check=True).stdout.split(b"\0")
-    found = hashlib.sha256()
+    ran = subprocess.run(words, cwd=ROOT, capture_output=True, check=False)
+    if ran.returncode:
+        return ""
+    names, found = ran.stdout.split(b"\0"), hashlib.sha256()
     for name in sorted(filter(None, names)):
         path = ROOT / os.fsdecode(name)
         if path.is_file():
@@ -27,7 +29,7 @@ def tree() -> str:
 
 def has_passed() -> bool:
     """Whether `make test-all` has passed over the layer as it is."""
-    return PASSED.is_file() and PASSED.read_text(encoding="utf-8").strip() == tree()
+    return PASSED.is_file() and PASSED.read_text(encoding="utf-8").strip() == tree() != ""
 
 
 def note_passed() -> None:

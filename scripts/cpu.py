@@ -130,7 +130,7 @@ class Watcher:
             rows.append(Row(*of, sum(it.ticks for it in own) / TICKS, last - first, max(it.peak for it in own) >> 10, first - self.begun))
         whole, clock = used() - self.used, time.time() - self.begun
         other = Row("", "other", whole - sum(it.cpu for it in rows), 0)
-        return [*rows, other, Row("", "all", whole, clock), Row("", "stolen", stolen() - self.stolen, clock)]
+        return [*rows, other, Row("", "all", whole, clock), Row("", "stolen", stolen() - self.stolen, 0)]
 
 
 def tag(rows: list[Row]) -> float | None:

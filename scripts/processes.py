@@ -54,11 +54,12 @@ def peak(pid: int) -> int:
 
 
 def lower(pid: int) -> None:
-    """Gives the session of a process the least weight that there is, if it has not: between sessions the kernel counts this one alone, and no
-    `nice`. It does nothing where the kernel has no such groups, where the process has ended, or where the kernel wants to be asked again."""
+    """Gives the session of a process the least weight that there is, if it is not the caller's own: between sessions the kernel counts this
+    weight alone, and no `nice`. It does nothing where the kernel has no such groups, where the process has ended, or where the kernel wants
+    to be asked again."""
     try:
         group = pathlib.Path(f"/proc/{pid}/autogroup")
-        if not group.read_text(encoding="utf-8").rstrip().endswith(" nice 19"):
+        if os.getsid(pid) != os.getsid(0) and not group.read_text(encoding="utf-8").rstrip().endswith(" nice 19"):
             group.write_text("19", encoding="utf-8")
     except OSError:
         pass

@@ -107,8 +107,10 @@ class Beside:
             self.passed += passed
             self.failed += sum(bad)
             count = passed + sum(bad)
-            if count == 0 if command.expected is None else count != command.expected:
-                self.fail(f"{command.name()}: {count} of {command.expected or 'some'} were tried")
+            if command.expected is None and not count:
+                self.fail(f"{command.name()}: its last line counts nothing")
+            elif command.expected not in (None, count):
+                self.fail(f"{command.name()}: {count} of {command.expected} were tried")
             elif status and not sum(bad):
                 self.fail(f"{command.name()}: ended with status {status}")
 

@@ -14,6 +14,8 @@ ROOT = pathlib.Path(__file__).resolve().parent.parent
 REAL = ("prove.py", "cpu.py", "processes.py", "run.py", "script_files.py", "test.py", "with_tests.py", "unproved.py", "callers.py", "check.py", "ci.py",
         "edits.py", "wrong_bodies.py", "changed_since.py", "sources.py")
 STUB = "#!/bin/sh\n"
+# A run takes a second of one core, and has the least weight in the gate.
+TIME = 1_800
 # Says that each crate is proved, but for those that are named in LACKS, and ends as KILLED says.
 RT = r"""#!/bin/sh
 case "$1 $2" in
@@ -84,7 +86,7 @@ class Gate(unittest.TestCase):
     def gate(self, script: str = "prove.py", **env: str) -> tuple[str, str, int]:
         """All that the gate said, its last line, and its status."""
         ran = subprocess.run([f"scripts/{script}"], cwd=self.root, env={**self.env, **env}, stdout=subprocess.PIPE, stderr=subprocess.STDOUT, text=True,
-                             timeout=100, check=False)
+                             timeout=TIME, check=False)
         return ran.stdout, ran.stdout.rstrip().rpartition("\n")[2], ran.returncode
 
     def assert_fails(self, ended: tuple[str, str, int], last: str, said: str) -> None:
