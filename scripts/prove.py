@@ -28,6 +28,7 @@ import sys
 import tempfile
 import threading
 import time
+import traceback
 
 import cpu
 import processes
@@ -195,7 +196,13 @@ def main() -> None:
             print("0 passed, 1 failed")
             sys.exit(1)
     with tempfile.TemporaryDirectory(prefix="gate-") as room, cpu.Watcher(os.getpid()) as watcher:
-        beside = gate(room)
+        try:
+            beside = gate(room)
+        except Exception:
+            # a file of wrong bodies that does not fit its source, say: nothing can be told of the rest
+            traceback.print_exc()
+            print("0 passed, 1 failed")
+            sys.exit(1)
     rows = watcher.rows()
     if table:
         cpu.write(rows, table)

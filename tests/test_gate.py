@@ -12,7 +12,9 @@ import unittest
 ROOT = pathlib.Path(__file__).resolve().parent.parent
 # The scripts of the gate that run as they are.
 REAL = ("prove.py", "cpu.py", "processes.py", "run.py", "script_files.py", "test.py", "with_tests.py", "unproved.py", "callers.py", "check.py", "ci.py",
-        "edits.py", "refused.py", "sources.py")
+        "edits.py", "refused.py", "sources.py", "wrong_bodies.py", "changed_since.py")
+# Whether wrong bodies stand in files of wrong-bodies/, and not one by one in more-edits/, by the names of edits.txt.
+IN_FILES = (ROOT / "scripts/wrong_bodies.py").exists()
 STUB = "#!/bin/sh\n"
 # A run takes a second of one core, and has the least weight in the gate.
 TIME = 1_800
@@ -44,7 +46,6 @@ RATTLE = r"""#!/bin/sh
 echo "fn low::one: ${VERDICT:-not proved: it is not proved that the answer is one}"
 [ "$VERDICT" = proved ]
 """
-EDIT = "file: src/lib.rt\nold: {}\nnew: 2\n"
 
 
 class Gate(unittest.TestCase):
@@ -54,20 +55,19 @@ class Gate(unittest.TestCase):
         self.room = pathlib.Path(tempfile.mkdtemp(prefix="gate-tests-"))
         self.addCleanup(shutil.rmtree, self.room)
         self.root, kit = self.room / "repository", self.room / "kit"
-        for name in REAL:
+        for name in filter(lambda it: (ROOT / "scripts" / it).exists(), REAL):
             self.write(f"repository/scripts/{name}", (ROOT / "scripts" / name).read_text(encoding="utf-8"))
         for name in ("docs.py", "examples.py", "library.py", "run_examples.sh"):
             self.write(f"repository/scripts/{name}", STUB)
         self.write("repository/scripts/boundary.py", f"{STUB}echo '3 passed, 0 failed'\n")
         self.write("repository/Makefile", "prove:\n\t@scripts/prove.py\ntest-all:\n\t@echo '5 passed, 0 failed'\n")
         self.write("repository/crates.txt", "low:\nhigh: low\n")
-        self.write("repository/edits.txt", "low: answers_two\n")
         self.write("repository/HANDLES", "")
         for name in ("gate.tsv", "refused.tsv"):
             self.write(f"repository/docs/{name}", "")
         for crate in ("low", "high"):
             self.write(f"repository/crates/{crate}/src/lib.rt", "pub fn one() -> u8 {\n    1\n}\n")
-        self.write("repository/crates/low/more-edits/answers_two.edit", EDIT.format("1"))
+        self.write_body("1")
         self.write("repository/tests/crates.txt.in", "txc_tests: low\n")
         self.write("repository/tests/txc_tests/src/lib.rt.in", "#[cfg(test)]\nmod first;\n#[cfg(test)]\nmod second;\n")
         self.write("repository/tests/txc_tests/src/first.rt.in", "//! First.\n\nfn main() {}\n\n#[test]\nfn one() {}\n")
@@ -83,6 +83,14 @@ class Gate(unittest.TestCase):
         path.parent.mkdir(parents=True, exist_ok=True)
         path.write_text(text, encoding="utf-8")
         path.chmod(0o755)
+
+    def write_body(self, old: str) -> None:
+        """Has one wrong body, of the crate low, that changes a line of its function."""
+        if IN_FILES:
+            self.write("repository/crates/low/wrong-bodies/lib.edits", f"== answers_two (gate)\nold:     {old}\nnew:     2\n")
+        else:
+            self.write("repository/edits.txt", "low: answers_two\n")
+            self.write("repository/crates/low/more-edits/answers_two.edit", f"file: src/lib.rt\nold:     {old}\nnew:     2\n")
 
     def gate(self, script: str = "prove.py", **env: str) -> tuple[str, str, int]:
         """All that the gate said, its last line, and its status."""
@@ -124,13 +132,18 @@ class Gate(unittest.TestCase):
         self.assert_fails(self.gate(VERDICT="proved"), "9 passed, 1 failed", "edits.py low: 0 refused, 1 proved")
 
     def test_a_wrong_body_does_not_apply(self) -> None:
-        self.write("repository/crates/low/more-edits/answers_two.edit", EDIT.format("3"))
-        self.assert_fails(self.gate(), "9 passed, 1 failed", "edits.py low: 0 refused, 0 proved, 1 bad")
+        self.write_body("3")
+        if IN_FILES:
+            self.assert_fails(self.gate(), "0 passed, 1 failed", "has to stand once in src/lib.rt, and stands there 0 times")
+        else:
+            self.assert_fails(self.gate(), "9 passed, 1 failed", "edits.py low: 0 refused, 0 proved, 1 bad")
 
+    @unittest.skipIf(IN_FILES, "what is marked there is there")
     def test_a_wrong_body_is_not_there(self) -> None:
         self.write("repository/edits.txt", "low: answers_two answers_three\n")
         self.assert_fails(self.gate(), "9 passed, 1 failed", "FAILED: edits.py low: 0 of 2 were tried")
 
+    @unittest.skipIf(IN_FILES, "each file stands in its crate")
     def test_a_wrong_body_is_of_no_crate(self) -> None:
         self.write("repository/edits.txt", "low: answers_two\nlowest: answers_two\n")
         self.assert_fails(self.gate(), "10 passed, 1 failed", "FAILED: lowest: its 1 wrong bodies of edits.txt were not tried")
