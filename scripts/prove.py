@@ -28,6 +28,7 @@ import sys
 import tempfile
 import threading
 import time
+import traceback
 
 import cpu
 import processes
@@ -190,12 +191,18 @@ def main() -> None:
     table = os.path.abspath(sys.argv[2]) if sys.argv[1:2] == ["--table"] else None
     os.chdir(f"{os.path.dirname(os.path.abspath(__file__))}/..")
     signal.signal(signal.SIGTERM, lambda *_: sys.exit(143))
-    for words in (["scripts/docs.py", "--check"], ["scripts/examples.py", "--check"]):
+    for words in (["scripts/edits.py", "--check"], ["scripts/docs.py", "--check"], ["scripts/examples.py", "--check"]):
         if subprocess.run(words, check=False).returncode:
             print("0 passed, 1 failed")
             sys.exit(1)
     with tempfile.TemporaryDirectory(prefix="gate-") as room, cpu.Watcher(os.getpid()) as watcher:
-        beside = gate(room)
+        try:
+            beside = gate(room)
+        except Exception:
+            # nothing can be told of the rest
+            traceback.print_exc()
+            print("0 passed, 1 failed")
+            sys.exit(1)
     rows = watcher.rows()
     if table:
         cpu.write(rows, table)

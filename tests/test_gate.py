@@ -54,7 +54,7 @@ class Gate(unittest.TestCase):
         self.room = pathlib.Path(tempfile.mkdtemp(prefix="gate-tests-"))
         self.addCleanup(shutil.rmtree, self.room)
         self.root, kit = self.room / "repository", self.room / "kit"
-        for name in REAL:
+        for name in filter(lambda it: (ROOT / "scripts" / it).exists(), REAL):
             self.write(f"repository/scripts/{name}", (ROOT / "scripts" / name).read_text(encoding="utf-8"))
         for name in ("docs.py", "examples.py", "library.py", "run_examples.sh"):
             self.write(f"repository/scripts/{name}", STUB)
@@ -124,9 +124,7 @@ class Gate(unittest.TestCase):
 
     def test_a_wrong_body_does_not_apply(self) -> None:
         self.write("repository/crates/low/wrong-bodies/lib.edits", EDIT.format("3"))
-        said, _, status = self.gate()
-        self.assertEqual(status, 1, said)
-        self.assertIn("crates/low/wrong-bodies/lib.edits:2: ", said)
+        self.assert_fails(self.gate(), "0 passed, 1 failed", "has to stand once in src/lib.rt, and stands there 0 times")
 
     def test_a_check_of_a_wrong_body_is_killed(self) -> None:
         self.assert_fails(self.gate(VERDICT="killed"), "9 passed, 1 failed", "edits.py low: 0 refused, 0 proved, 1 bad")
