@@ -1,6 +1,7 @@
 # make try SCRIPT=FILE [MODE=report] [SETTINGS=TEXT]: the replies to a script, or to several, from a fresh clone in minutes; nothing is proved.
 # make run SCRIPT=FILE [MODE=report] [SETTINGS=TEXT]: the same by the proved program, which is proved and built where it has to be.
 # make test: the tests, with no proof.
+# make test-all: the same, and the library for callers by each compiler of C, under sanitizers, with ten times as many random scripts.
 # make prove: the gate: every proof, every test, and the wrong bodies that break a cache.
 # make library: the library for callers in C, proved and built where it has to be; it says where it lies.
 # make try-library: the same with no proof, in some four minutes of one core.
@@ -19,13 +20,16 @@ ifneq ($(UNKNOWN),)
 $(error there is no $(firstword $(UNKNOWN))=: the words are SCRIPT=, MODE=, SETTINGS=, CRATE= and TEST=)
 endif
 
-.PHONY: try run test prove library try-library edits refusals soak docs
+.PHONY: try run test test-all prove library try-library edits refusals soak docs
 
 try run:
 	@scripts/$@.py $(if $(MODE),--mode "$(MODE)") $(if $(SETTINGS),--settings "$(SETTINGS)") "$(SCRIPT)"
 
 test:
 	@scripts/test.py
+
+test-all:
+	@scripts/test.py --all
 
 prove:
 	@scripts/prove.py

@@ -1,20 +1,23 @@
 #!/usr/bin/env python3
 """Tries the library for callers in C, and its header, from outside: scripts/test.py runs it, with no proof.
 
-usage: scripts/boundary.py [--proved] [--rows FOLDER] [COUNT]
+usage: scripts/boundary.py [--all] [--proved | --library FOLDER] [--rows FOLDER] [COUNT]
+  --all      by each compiler of C that the machine has, and not by the first one alone; and once more under the sanitizers of addresses,
+             leaks and undefined behaviour, where the library is not given
   --proved   of the proved library, by `make library`; else of one that is compiled for it with no proof
-  FOLDER     plays also NAME.in of it for each NAME.mode that is node or report, whose replies are NAME.out
-  COUNT      how many random scripts of a node are played, and how many of a site (scripts/worlds.py), by default 2000
-  SEED       (of the environment) what they are made of, by default 1
+  --library  of the one that scripts/library.py has made in this folder
+  --rows     plays also NAME.in of this folder for each NAME.mode that is node or report, whose replies are NAME.out
+  COUNT      how many random scripts of a node are played, and how many of a site (scripts/worlds.py), by default 200, with --all 2000
+  SEED       (of the environment) what they are made of, by default the hash of the committed tree: it is printed
   TXCACHE    (of the environment) the program that they are compared with; else the proved one, where it stands, and else one that is
              compiled for it with no proof
 
-Of each compiler of C that the machine has: the header's sizes, places and numbers are those of the sources; the examples, and the
-random scripts, are answered byte for byte as `txcache` does; the same with every allocation refused in its turn; odd uses;
-all of that once more under the sanitizers of addresses, leaks and undefined behaviour. Then the tests of the bindings for Rust and
-Python. The last line is `N passed, M failed`; what the machine lacks is skipped by its name.
+The header's sizes, places and numbers are those of the sources; the examples, and the random scripts, are answered byte for byte as
+`txcache` does; the same with every allocation refused in its turn; odd uses. Then the tests of the bindings for Rust and Python. The
+last line is `N passed, M failed`; what the machine lacks is skipped by its name.
 """
 
+import argparse
 import glob
 import os
 import random
@@ -34,6 +37,15 @@ ROOT = os.path.dirname(os.path.dirname(os.path.abspath(__file__)))
 C = f"{ROOT}/bindings/c"
 SANITIZERS = ["-fsanitize=address,undefined", "-fno-sanitize-recover=all", "-g", "-O1"]
 WARNINGS = ["-std=c11", "-Wall", "-Wextra", "-Werror"]
+COMPILERS = ("gcc", "clang")
+# How many random scripts of each kind are played, by default and with --all.
+SCRIPTS, ALL_SCRIPTS = 200, 2000
+
+
+def seed():
+    """What the random scripts are made of."""
+    tree = subprocess.run(["git", "rev-parse", "HEAD^{tree}"], cwd=ROOT, capture_output=True, text=True, check=False).stdout.strip()
+    return os.environ.get("SEED") or tree or "1"
 
 
 class Trial:
@@ -160,15 +172,19 @@ def replies(program, capacity, recent, mode, file):
 # ---- C
 
 
-def libraries(is_proved, room):
-    """The library's archive, and the one for the sanitizers: compiled with no proof, the library itself is under that of addresses too."""
-    if is_proved:
-        return [library.library(False, f"{room}/library")[0]] * 2
+def libraries(given, room):
+    """The library's archive; and with --all, where it is compiled here, one for the sanitizers, which is under that of addresses too."""
+    if given.library:
+        return [f"{given.library}/lib{library.CRATE}.a"]
+    if given.proved:
+        return [library.library(False, f"{room}/library")[0]]
     os.makedirs(f"{room}/compiled")
     text = library.exported(f"{room}/compiled")
-    plain = library.object_of(text, f"{room}/plain.o")
-    watched = library.object_of(text, f"{room}/watched.o", ["-O1", "-fsanitize=address"])
-    return [library.make([plain], f"{room}/library")[0], library.make([watched], f"{room}/watched", is_shared=False)[0]]
+    archives = [library.make([library.object_of(text, f"{room}/plain.o")], f"{room}/library")[0]]
+    if given.all:
+        watched = library.object_of(text, f"{room}/watched.o", ["-O1", "-fsanitize=address"])
+        archives.append(library.make([watched], f"{room}/watched", is_shared=False)[0])
+    return archives
 
 
 def try_worlds(trial, what, room, said_before, program, played):
@@ -184,22 +200,36 @@ def try_worlds(trial, what, room, said_before, program, played):
                ran.stderr + "\n".join(other[:3]))
 
 
+def build_c(trial, room, compiler, name, flags, archive):
+    """Builds each program in C over the archive, and returns whether all were built."""
+    for file in ("tests/play.c", "tests/play_site.c", "tests/odd.c", "tests/odd_site.c", "example.c", "page.c"):
+        wrap = ["-Wl,--wrap=malloc", "-Wl,--wrap=realloc"] if file in ("tests/play.c", "tests/odd_site.c") else []
+        words = [compiler, *WARNINGS, *flags, "-I", C, f"{C}/{file}", archive, *wrap, "-o", f"{room}/{os.path.basename(file)[:-2]}"]
+        if trial.ran(f"{compiler}: {file}{name}", words).returncode:
+            return False
+    return True
+
+
+def try_refusals(trial, room, name, played):
+    """Plays the shorter ones of these, each as often as it allocates, with one allocation refused."""
+    with open(f"{room}/refused", "w", encoding="utf-8") as it:
+        it.writelines(f"{capacity} {recent} {mode} {file}\n" for capacity, recent, mode, file, _ in played if os.path.getsize(file) < 20_000)
+    ran = subprocess.run([f"{room}/play", "--refuse", f"{room}/refused"], stdout=subprocess.PIPE, stderr=subprocess.STDOUT, text=True)
+    total = sum(map(int, re.findall(r": (\d+) allocations refused$", ran.stdout, re.M)))
+    trial.note(f"{name}: {total} allocations, each refused in its turn", not ran.returncode and total > 0, ran.stdout)
+
+
 def try_c(trial, room, compiler, archives, played, wanted, of_sites):
-    """All that is tried of the library by a compiler, once plain and once under the sanitizers, each over an archive. Of sites it is what
-    `try_worlds` plays."""
+    """All that is tried of the library by a compiler, plain and, where there is an archive for them, under the sanitizers. Of sites it is
+    what `try_worlds` plays."""
     with open(f"{room}/asserts.c", "w", encoding="utf-8") as it:
         it.write(exports.asserts())
     count = exports.asserts().count("_Static_assert")
     trial.ran(f"{compiler}: {count} sizes, places and numbers of the header", [compiler, *WARNINGS, "-I", C, "-fsyntax-only", f"{room}/asserts.c"])
     with open(f"{room}/list", "w", encoding="utf-8") as it:
         it.writelines(f"{capacity} {recent} {mode} {file}\n" for capacity, recent, mode, file, _ in played)
-    for name, flags, archive in ("", ["-O2"], archives[0]), (" under sanitizers", SANITIZERS, archives[1]):
-        built = True
-        for file in ("tests/play.c", "tests/play_site.c", "tests/odd.c", "tests/odd_site.c", "example.c", "page.c"):
-            wrap = ["-Wl,--wrap=malloc", "-Wl,--wrap=realloc"] if file in ("tests/play.c", "tests/odd_site.c") else []
-            words = [compiler, *WARNINGS, *flags, "-I", C, f"{C}/{file}", archive, *wrap, "-o", f"{room}/{os.path.basename(file)[:-2]}"]
-            built = built and trial.ran(f"{compiler}: {file}{name}", words).returncode == 0
-        if not built:
+    for (name, flags), archive in zip((("", ["-O2"]), (" under sanitizers", SANITIZERS)), archives):
+        if not build_c(trial, room, compiler, name, flags, archive):
             continue
         trial.ran(f"{compiler}{name}", [f"{room}/odd"])
         trial.ran(f"{compiler}{name}", [f"{room}/odd_site"])
@@ -211,13 +241,8 @@ def try_c(trial, room, compiler, archives, played, wanted, of_sites):
         trial.note(f"{compiler}{name}: {len(played)} scripts, {len(other)} with other replies", not ran.returncode and not other,
                    ran.stderr + "".join(f"{it}: {got.get(it)!r}, wanted {wanted[it]!r}\n" for it in other[:3]))
         try_worlds(trial, f"{compiler}{name}", room, *of_sites)
-        # under the sanitizers a tenth of them: each script is played as often as it allocates
-        with open(f"{room}/refused", "w", encoding="utf-8") as it:
-            it.writelines(f"{capacity} {recent} {mode} {file}\n" for capacity, recent, mode, file, _ in played[::10 if name else 1]
-                          if os.path.getsize(file) < 20_000)
-        ran = subprocess.run([f"{room}/play", "--refuse", f"{room}/refused"], stdout=subprocess.PIPE, stderr=subprocess.STDOUT, text=True)
-        total = sum(map(int, re.findall(r": (\d+) allocations refused$", ran.stdout, re.M)))
-        trial.note(f"{compiler}{name}: {total} allocations, each refused in its turn", not ran.returncode and total > 0, ran.stdout)
+        # under the sanitizers a tenth of them
+        try_refusals(trial, room, f"{compiler}{name}", played[::10 if name else 1])
 
 
 def try_bindings(trial, folder):
@@ -240,30 +265,46 @@ def try_bindings(trial, folder):
         print("skipped: Python, since there is no libtxc_c.so")
 
 
+def compilers(is_all):
+    """The compilers of C that the library is tried by; says which are not there."""
+    there = [it for it in COMPILERS if shutil.which(it)]
+    for it in COMPILERS:
+        if it not in there and (is_all or not there):
+            print(f"skipped: {it}, which is not there")
+    return there if is_all else there[:1]
+
+
+def try_all(trial, given, room):
+    """Tries the library and its bindings, with files of its own in the room."""
+    of, count = seed(), given.count or (ALL_SCRIPTS if given.all else SCRIPTS)
+    print(f"seed: {of}")
+    archives = libraries(given, room)
+    played = plays(room, count, of, given.rows)
+    program = reference(room)
+    wanted = {f"{mode} {file}": replies(program, capacity, recent, mode, file) for capacity, recent, mode, file, _ in played}
+    unlike = [f"{mode} {file}" for *_, mode, file, text in played if text is not None and not wanted[f"{mode} {file}"].startswith(text)]
+    trial.note(f"txcache: the {sum(text is not None for *_, text in played)} examples and rows", not unlike, "\n".join(unlike))
+    sites = worlds.plays(room, count, random.Random(of))
+    with open(f"{room}/worlds", "w", encoding="utf-8") as it:
+        it.writelines(f"{events} {capacity} {recent} {renew} {file}\n" for events, capacity, recent, renew, file in sites)
+    of_sites = {}, program, sites
+    for compiler in compilers(given.all):
+        try_c(trial, room, compiler, archives, played, wanted, of_sites)
+    try_bindings(trial, given.library or f"{room}/library")
+
+
 def main():
-    words = sys.argv[1:]
-    rows = words[words.index("--rows") + 1] if "--rows" in words else ""
-    count = next((int(it) for it in words if it.isdigit()), 2000)
-    trial = Trial()
+    words = argparse.ArgumentParser(usage=__doc__.partition("usage: ")[2].partition("\n")[0])
+    for flag in ("--all", "--proved"):
+        words.add_argument(flag, action="store_true")
+    words.add_argument("--library", type=os.path.abspath)
+    words.add_argument("--rows", default="")
+    words.add_argument("count", nargs="?", type=int)
+    given, trial = words.parse_args(), Trial()
     unlike = list(exports.differences())
     trial.note(f"the header: {len(exports.exports())} functions", not unlike, "\n".join(unlike))
     with tempfile.TemporaryDirectory(prefix="boundary-") as room:
-        archives = libraries("--proved" in words, room)
-        played = plays(room, count, int(os.environ.get("SEED", 1)), rows)
-        program = reference(room)
-        wanted = {f"{mode} {file}": replies(program, capacity, recent, mode, file) for capacity, recent, mode, file, _ in played}
-        unlike = [f"{mode} {file}" for *_, mode, file, text in played if text is not None and not wanted[f"{mode} {file}"].startswith(text)]
-        trial.note(f"txcache: the {sum(text is not None for *_, text in played)} examples and rows", not unlike, "\n".join(unlike))
-        sites = worlds.plays(room, count, random.Random(int(os.environ.get("SEED", 1))))
-        with open(f"{room}/worlds", "w", encoding="utf-8") as it:
-            it.writelines(f"{events} {capacity} {recent} {renew} {file}\n" for events, capacity, recent, renew, file in sites)
-        of_sites = {}, program, sites
-        for compiler in ("gcc", "clang"):
-            if shutil.which(compiler):
-                try_c(trial, room, compiler, archives, played, wanted, of_sites)
-            else:
-                print(f"skipped: {compiler}, which is not there")
-        try_bindings(trial, f"{room}/library")
+        try_all(trial, given, room)
     print(f"{trial.passed} passed, {trial.failed} failed")
     sys.exit(int(trial.failed > 0))
 

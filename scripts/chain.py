@@ -1,18 +1,21 @@
 #!/usr/bin/env python3
 """Simulates the gate over the seconds of docs/gate.tsv: how long it takes by the clock, and which crates wait for one another.
 
-usage: scripts/chain.py [--jobs N] [--memory GB] [CORES..]      by default 4 and 2 cores, 23 GB
-  N        one check a core and N at once, as RT_JOBS=N has it; else as `rt` chooses by memory, with more jobs a check where
-           cores are free
+usage: scripts/chain.py [--jobs N] [--memory GB] [CORES..]      by default 4 and 2 cores, 22 GB free
+  N        as RT_JOBS=N has it, so many checks at once: by default as many as scripts/prove.py chooses; 0 as `rt` chooses, by memory,
+           with more jobs a check where cores are free
 
 It schedules as `rt ci` does: first the task with the longest chain of others behind it, by lines of .rt; the wrong bodies of
-must-fail/ fill what proofs leave free, and the tests and those that scripts/edits.py tries fill what is left of the cores, two at once.
+must-fail/, if there are any, fill what proofs leave free, and the tests, the library for callers and those that are marked `(gate)` fill
+what is left of the cores, two at once.
 """
 import argparse
 import os
 import pathlib
 import subprocess
 
+import cpu
+import prove
 import sources
 from sources import ROOT
 
@@ -20,13 +23,11 @@ KIT = pathlib.Path(subprocess.run(["rt", "doc"], capture_output=True, text=True,
 # How much sooner a check ends with so many jobs, measured at txc_tags and txc_world, and how much more memory each takes, as rt has it.
 SOONER = {1: 1, 2: 1.57, 3: 1.9, 4: 2.1}
 MORE = 0.6
-BESIDE = 2
 
 
 def seconds():
     """The seconds of one core, by crate and kind."""
-    rows = [line.split("\t") for line in (ROOT / "docs/gate.tsv").read_text().splitlines() if line]
-    return {(crate, kind): int(cpu) for crate, kind, cpu, *_ in rows}
+    return {(it.crate, it.kind): it.cpu for it in cpu.read(ROOT / "docs/gate.tsv")}
 
 
 def lines(crate, ending):
@@ -58,7 +59,7 @@ class Gate:
     """The tasks of a gate, each with what it waits for, its seconds, its memory and its place in the queue."""
 
     def __init__(self, cores, jobs, memory):
-        self.cores, self.fixed, self.memory = cores, jobs, 0.85 * memory
+        self.cores, self.fixed, self.memory = cores, prove.lanes(cores, memory) if jobs is None else jobs, 0.85 * memory
         taken, used = seconds(), sources.used()
         self.tasks = {}
         for crate in sources.lowest_first():
@@ -71,13 +72,13 @@ class Gate:
         for key in reversed(self.tasks):
             own = lines(key[0], ".rt") if key[1] == "proof" else 0
             self.behind[key] = own + max((self.behind[it] for it in self.behind if key in self.tasks[it][0]), default=0)
-        self.beside = [(("tests", "tests"), [], taken.get(("all", "tests"), 0))]
-        self.beside += [((crate, kind), [(crate, "proof")], cpu) for (crate, kind), cpu in taken.items() if kind == "named"]
+        self.beside = [((it, "tests"), [], taken.get((it, "tests"), 0)) for it in ("all", "bindings")]
+        self.beside += [((crate, kind), [(crate, "proof")], used) for (crate, kind), used in taken.items() if kind == "named"]
 
     def jobs_of(self, key, ready, running):
         """With how many jobs a task begins now, or 0 where it has to wait."""
         room = self.memory - sum(it[2] for it in running.values())
-        idle = self.cores - sum(it[1] for it in running.values())
+        idle = (self.fixed or self.cores) - sum(it[1] for it in running.values())
         wanted = self.tasks[key][2]
         if idle <= 0 or not self.fixed and running and wanted > room:
             return 0
@@ -104,7 +105,7 @@ class Gate:
         while left or running or beside or at_side:
             self.begin(left, running, ended, work)
             for it in [it for it in beside if all(wait in ended for wait in it[1])]:
-                if len(at_side) < (BESIDE if left or running else self.cores):
+                if len(at_side) < (prove.BESIDE if left or running else self.cores):
                     beside.remove(it)
                     at_side[it[0]] = it[2]
             now += 1
@@ -124,8 +125,8 @@ class Gate:
 
 def main():
     words = argparse.ArgumentParser(usage=__doc__.partition("usage: ")[2].partition("\n")[0])
-    words.add_argument("--jobs", type=int, default=0)
-    words.add_argument("--memory", type=int, default=23)
+    words.add_argument("--jobs", type=int)
+    words.add_argument("--memory", type=int, default=22)
     words.add_argument("cores", nargs="*", type=int)
     given = words.parse_args()
     for cores in given.cores or [4, 2]:
@@ -140,4 +141,5 @@ def main():
         print("  the longest chain: " + ", ".join(reversed(chain)))
 
 
-main()
+if __name__ == "__main__":
+    main()

@@ -218,12 +218,12 @@ def promised():
 def help_shown():
     """The help in SCRIPTS is the one that the tests of the command line compare."""
     document = ROOT / "docs/SCRIPTS.md"
-    text = (ROOT / "tests/txc_plain_tests/src/base/command.rt.in").read_text()
+    text = (ROOT / "tests/txc_tests/src/base/command.rt.in").read_text()
     said = re.search(r"^txcache --help = 0 (.*?[^\\])\n", re.sub(r"\\\n", "", text), re.M)[1]
     wanted = [line.rstrip() for line in said.rstrip(";").split(";")]
     shown = re.search(r"^    \$ txcache --help\n((?:    .*\n|\n)+)", document.read_text(), re.M)
     if not shown or [line[4:].rstrip() for line in shown[1].rstrip().split("\n")] != wanted:
-        yield document, "shows another help than the program's (tests/txc_plain_tests/src/base/command.rt.in)"
+        yield document, "shows another help than the program's (tests/txc_tests/src/base/command.rt.in)"
 
 
 def settings():
@@ -379,8 +379,9 @@ def measured():
 
 def first():
     """The service with which EMBEDDING begins is short."""
-    file = ROOT / "tests/txc_first/src/main.rt.in"
-    count = len([it for it in file.read_text().split("\n") if it.strip() and not it.strip().startswith("//")])
+    file = ROOT / "tests/txc_tests/src/first.rt.in"
+    code = file.read_text().partition("\n#[test]")[0]
+    count = len([it for it in code.split("\n") if it.strip() and not it.strip().startswith("//")])
     if count > MOST_LINES_OF_FIRST:
         yield file, f"has {count} lines of code, and may have {MOST_LINES_OF_FIRST}"
     said = re.search(r"(\d+) lines of code", prose(ROOT / "docs/EMBEDDING.md"))

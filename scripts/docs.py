@@ -17,7 +17,7 @@ In files that git keeps:
   SCRIPTS.md           how its lines are written, from the tables by which they are read (scripts/lines.py); the session of a world has to
                        be that of its script
   CALLING.md           its code, from the tests
-  EMBEDDING.md         its code, from tests/txc_first, the shop and the auction
+  EMBEDDING.md         its code, from tests/txc_tests/src/first.rt.in, the shop and the auction
 
 usage: docs.py [--check]      --check writes docs/out/ alone, and ends with 1 if a file is not what would be written, or if what
                               the documents claim is not so (scripts/claims.py). With 2, also without it, if a file of wrong bodies
@@ -26,7 +26,7 @@ usage: docs.py [--check]      --check writes docs/out/ alone, and ends with 1 if
 import re, shutil, sys
 from pathlib import Path
 
-import claims, lines, pages, promise, run, sources, wrong_bodies
+import claims, cpu, lines, pages, promise, run, sources, wrong_bodies
 from sources import ROOT, crates
 
 LISTS = """# All wrong bodies, by crate
@@ -47,7 +47,7 @@ SESSION = "### A world, line by line"
 MOST_SHOWN = 12
 PROOFS = "| Module | Says | Used by |\n|---|---|---|\n"
 BUYS = "| Pages may be so old | Plain cache: hits | Torn | Cost | This cache: hits | Torn | Cost |\n|---|---|---|---|---|---|---|\n"
-TAKES = "| Crate | Proof | By the clock | Built | Wrong bodies |\n|---|---|---|---|---|\n"
+TAKES = "| Crate | Proof | By the clock | Began at minute | Peak, GB | Built | Wrong bodies |\n|---|---|---|---|---|---|---|\n"
 
 
 def fill(text: str, name: str, made: str) -> str:
@@ -220,15 +220,26 @@ def contributing(text):
 
 def gate(text):
     """Fills the table of what the gate takes, a row a crate, with the whole and what belongs to no crate as its last rows."""
-    taken = [line.split("\t") for line in (ROOT / "docs/gate.tsv").read_text().splitlines()]
-    cells = {(crate, kind): (cpu, clock) for crate, kind, cpu, clock, *_ in taken}
-    of = lambda crate, kind: cells.get((crate, kind), ("", ""))
+    taken = cpu.read(ROOT / "docs/gate.tsv")
+    found = {(it.crate, it.kind): it for it in taken}
+
+    def cells(key):
+        """Seconds of one core and by the clock, the minute of the beginning, and the peak."""
+        it = found.get(key)
+        if not it:
+            return ["", "", "", ""]
+        return [f"{it.cpu:.0f}", f"{it.clock:.0f}", "" if it.begun is None else f"{it.begun / 60:.0f}", "" if it.peak is None else f"{it.peak / 1024:.1f}"]
+
     rows = ""
     for crate in crates():
-        tried = sum(int(of(crate, kind)[0] or 0) for kind in ("must-fail", "named"))
-        rows += f"| `{crate}` | {' | '.join([*of(crate, 'proof'), of(crate, 'build')[0], str(tried or '')])} |\n"
-    for name, key in (("the tests", ("all", "tests")), ("what belongs to no crate", ("", "other")), ("all", ("", "all"))):
-        rows += f"| {name} | {' | '.join(of(*key))} | | |\n"
+        tried = sum(int(cells((crate, kind))[0] or 0) for kind in ("must-fail", "named"))
+        rows += f"| `{crate}` | {' | '.join([*cells((crate, 'proof')), cells((crate, 'build'))[0], str(tried or '')])} |\n"
+    last = {"the tests": ("all", "tests"), "the library for callers": ("bindings", "tests"), "what belongs to no crate": ("", "other"), "all": ("", "all"),
+            "stolen by the host": ("", "stolen")}
+    for name, key in last.items():
+        rows += f"| {name} | {' | '.join(cells(key))} | | |\n"
+    whole = found["", "all"]
+    rows += f"| all, in tags | {cpu.in_tags(taken, whole.cpu)} | {cpu.in_tags(taken, whole.clock)} | | | | |\n"
     start, _, after = text.partition(TAKES)
     return start + TAKES + rows + re.sub(r"^(?:\|.*\n)*", "", after)
 
@@ -254,10 +265,11 @@ def readme(text):
     speeds = [[threads[f"{kind}; pins kept for 50 ms"][at] for at in (1, 3)] for kind in ("two hits", "two calls, and a bid after each page")]
     speed = "A site reads {} pages of two hits a second on one thread, and {} on four. With a bid after each page it makes {} and {}.".format(*sum(speeds, []))
     text = start + BUYS + rows + re.sub(r"\A(?:\|.*\n)*\n.*\n", f"\n{speed}\n", after)
-    taken = {tuple(line.split("\t")[:2]): line.split("\t")[2:] for line in (ROOT / "docs/gate.tsv").read_text().splitlines()}
+    taken = cpu.read(ROOT / "docs/gate.tsv")
+    tests = sum(it.cpu for it in taken if it.kind == "tests")
     text = re.sub(r"the proved program: \d+ minutes of one core", f"the proved program: {run.minutes()} minutes of one core", text)
-    text = re.sub(r"unproved: \d+ minutes of one core", f"unproved: {int(taken['all', 'tests'][0]) / 60:.0f} minutes of one core", text)
-    return re.sub(r"the gate: \d+ minutes", f"the gate: {int(taken['', 'all'][1]) / 60:.0f} minutes", text)
+    text = re.sub(r"unproved: \d+ minutes of one core", f"unproved: {tests / 60:.0f} minutes of one core", text)
+    return re.sub(r"the gate: \d+ minutes", f"the gate: {next(it.clock for it in taken if it.kind == 'all') / 60:.0f} minutes", text)
 
 
 def written() -> dict[Path, str]:

@@ -1,6 +1,6 @@
 #!/usr/bin/env python3
 """Writes the examples with what they print as constants of the tests: those of mode node, with their reports, in
-tests/txc_plain_tests/src/run/run/examples.rt.in, and those of mode world in tests/txc_script_tests/src/world/world/examples.rt.in.
+tests/txc_tests/src/run/run/examples.rt.in, and those of mode world in tests/txc_tests/src/world/world/examples.rt.in.
 
 usage: examples.py [--check]      --check writes nothing, and ends with 1 where a file is not what would be written
 """
@@ -77,8 +77,8 @@ def main():
     tests = root / "tests"
     examples = root / "examples"
     written = {
-        tests / "txc_plain_tests/src/run/run/examples.rt.in": of_nodes(examples),
-        tests / "txc_script_tests/src/world/world/examples.rt.in": of_worlds(examples),
+        tests / "txc_tests/src/run/run/examples.rt.in": of_nodes(examples),
+        tests / "txc_tests/src/world/world/examples.rt.in": of_worlds(examples),
     }
     for target, text in written.items():
         if "--check" not in sys.argv[1:]:

@@ -24,16 +24,18 @@ import unproved
 import with_tests
 from script_files import MODES, settings_of
 
-# Tests that count to a large limit: they do not begin anew where memory is refused on the way.
+# Tests that count to a large limit, and those of the first service: they do not begin anew where memory is refused on the way.
 LEFT_OUT = {
-    "txc_client_tests client::clients::refusals::a_client_needs_a_pass_of_each_node",
-    "txc_client_tests client::clients::refusals::clients_are_refused_at_limits",
-    "txc_plain_tests run::run::a_reader_that_never_ends",
-    "txc_script_tests batch::batch::a_reader_that_never_ends",
-    "txc_script_tests world::world::a_reader_that_never_ends",
-    "txc_store_tests db::db::long::an_unstored_history_goes_on_where_a_stored_one_ends",
-    "txc_store_tests db::pins::shared::users_and_pins_have_a_limit",
-    "txc_store_tests txn::shared::locked::passes_have_a_limit",
+    "txc_tests client::clients::refusals::a_client_needs_a_pass_of_each_node",
+    "txc_tests client::clients::refusals::clients_are_refused_at_limits",
+    "txc_tests first::each_guest_finds_20_whole_pages",
+    "txc_tests first::main",
+    "txc_tests run::run::a_reader_that_never_ends",
+    "txc_tests batch::batch::a_reader_that_never_ends",
+    "txc_tests world::world::a_reader_that_never_ends",
+    "txc_tests db::db::long::an_unstored_history_goes_on_where_a_stored_one_ends",
+    "txc_tests db::pins::shared::users_and_pins_have_a_limit",
+    "txc_tests txn::shared::locked::passes_have_a_limit",
 }
 
 # Each allocation of a row of a test is refused, or of a script, where all those runs take at most so many seconds of one

@@ -3,7 +3,7 @@
 # same. It builds the tests with no proof, and proves and builds the program where it has changed.
 #
 # usage: [JOBS=N] [ROOM=FOLDER] scripts/refusals.sh [TEST..]
-#   TEST    tries those alone whose name, as `txc_plain_tests base::tags::sets_are_answered_as_worked`, contains one of these words
+#   TEST    tries those alone whose name, as `txc_tests base::tags::sets_are_answered_as_worked`, contains one of these words
 #   JOBS    how many runs go side by side, by default one a core
 #   ROOM    keeps the built tests there, and takes those that are there: remove it where the sources changed
 #

@@ -8,14 +8,12 @@ import with_tests
 
 # The loops over rows, by crate and file. Each judges a row before the next one begins, and hands it nothing.
 LOOPS = {
-    "txc_client_tests": {
+    "txc_tests": {
         "client/clients/boxes.rt": ["for script in scripts {"],
         "client/clients/quiet.rt": ["for script in SCRIPTS {"],
         "client/clients/refusals.rt": ["for (place, script) in scripts.iter().enumerate() {", "for count in 0..=CALLS.lines().count() {"],
         "client/clients/sessions.rt": ["for (script, receipts) in SCRIPTS {"],
         "client/updates.rt": ["for script in SCRIPTS {"],
-    },
-    "txc_plain_tests": {
         "run/faults.rt": ["for (script, text) in &LINES {", "for (script, word, expected, found) in &WORDS {"],
         "run/run.rt": [
             "for (name, settings, script, replies, end) in rows {",
@@ -24,8 +22,6 @@ LOOPS = {
             "for len in 0..=script.len() {",
             "for (write_fails, len) in (1usize..).zip(0..=output.len()) {",
         ],
-    },
-    "txc_script_tests": {
         "batch/batch.rt": ["for (name, settings, script, replies, status) in &SCRIPTS {"],
         "batch/batch/faults.rt": ["for (script, text) in &FAULTS {"],
         "batch/batch/streams.rt": [
@@ -42,8 +38,6 @@ LOOPS = {
             "for (write_fails, len) in (1usize..).zip(0..=replies.len()) {",
             "for (count, end, written, status) in &COMMENTS {",
         ],
-    },
-    "txc_store_tests": {
         "call/functions.rt": ["for lines in 0..=FUNCTIONS.lines().count() {", "for (boxes, wanted) in BOXES {"],
         "db/carries.rt": ["for case in cases {", "for case in &RENEWALS {"],
         "db/db/alone.rt": ["for script in scripts {"],

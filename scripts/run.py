@@ -18,6 +18,7 @@ import sys
 import tempfile
 import time
 
+import cpu
 from script_files import mode_of, refused, say, scripts_of, settings_of
 
 ROOT = f"{os.path.dirname(os.path.abspath(__file__))}/.."
@@ -46,20 +47,26 @@ def main():
     sys.exit(status)
 
 
-def crates(of="txcache"):
-    """A crate and those below it, the lowest first, each with its line of crates.txt: by default the program's."""
-    lines, found = {}, {}
+def lines():
+    """The line of each crate of crates.txt, the lowest first."""
+    found = {}
     with open(f"{ROOT}/crates.txt", encoding="utf-8") as it:
         for line in it:
-            name, colon, below = line.partition("#")[0].partition(":")
+            name, colon, _ = line.partition("#")[0].partition(":")
             if colon:
-                lines[name.split()[0]] = line
+                found[name.split()[0]] = line
+    return found
+
+
+def crates(of="txcache"):
+    """A crate and those below it, the lowest first, each with its line of crates.txt: by default the program's."""
+    all_lines, found = lines(), {}
 
     def add(name):
-        for below in lines[name].partition(":")[2].split():
-            if below in lines and below not in found:
+        for below in all_lines[name].partition(":")[2].split():
+            if below in all_lines and below not in found:
                 add(below)
-        found[name] = lines[name]
+        found[name] = all_lines[name]
 
     add(of)
     return found
@@ -67,10 +74,8 @@ def crates(of="txcache"):
 
 def minutes(of="txcache"):
     """How many minutes of one core a crate and those below it took to prove and to build when the gate was last measured from nothing."""
-    with open(f"{ROOT}/docs/gate.tsv", encoding="utf-8") as it:
-        taken = [line.rstrip("\n").split("\t") for line in it]
     needed = crates(of)
-    return round(sum(int(cpu) for crate, kind, cpu, *_ in taken if crate in needed and kind in ("proof", "build")) / 60)
+    return round(sum(it.cpu for it in cpu.read(f"{ROOT}/docs/gate.tsv") if it.crate in needed and it.kind in ("proof", "build")) / 60)
 
 
 def is_fresh(made_file=PROGRAM, of="txcache"):

@@ -36,7 +36,7 @@ def built(room):
     os.makedirs(copy)
     with_tests.copy(copy)
     shutil.copytree(f"{ROOT}/bench/soak", crate, copy_function=lambda at, to: shutil.copy2(at, to.removesuffix(".in")))
-    shutil.copy(f"{ROOT}/tests/txc_client_tests/src/explained.rt.in", f"{crate}/src/explained.rt")
+    shutil.copy(f"{ROOT}/tests/txc_tests/src/explained.rt.in", f"{crate}/src/explained.rt")
     with open(f"{copy}/crates.txt", "a", encoding="utf-8") as it:
         it.write(f"soak: {' '.join(LIBRARIES.split())}\n")
     said = unproved.build(crate, f"{room}/soak", ["--steps", "1"])

@@ -5,39 +5,53 @@ import glob
 import os
 import re
 import shutil
+import sys
 
 ROOT = os.path.dirname(os.path.dirname(os.path.abspath(__file__)))
 
 
-def lines():
+# The module of the tests that is tried, and not proved: the service that docs/EMBEDDING.md begins with.
+UNPROVED = "txc_tests/src/first"
+
+
+def lines() -> dict[str, str]:
     """The line of each crate of tests/ for crates.txt, those first that others use."""
     with open(f"{ROOT}/tests/crates.txt.in", encoding="utf-8") as it:
         return {line.partition(":")[0]: line for line in it if not line.startswith("#")}
 
 
-def test_crates():
-    """The crates that have tests, the one with most to compile first."""
-    size = lambda crate: sum(os.path.getsize(it) for it in glob.glob(f"{ROOT}/tests/{crate}/src/**/*.rt.in", recursive=True))
-    return sorted((it for it in lines() if it.endswith("_tests")), key=size, reverse=True)
+def test_crates() -> list[str]:
+    """The crates that have tests."""
+    return [it for it in lines() if it.endswith("_tests")]
 
 
-def programs():
-    """The crates that are programs: each is tried, and prints what its file stdout has."""
-    return [it for it in lines() if os.path.exists(f"{ROOT}/tests/{it}/src/main.rt.in")]
-
-
-def named_tests(crate):
-    """The name of each test of a crate, by the text of its files."""
+def named_tests(crate: str) -> list[str]:
+    """The name of each test of a crate, by the text of its files: the `main` of the service is one too."""
     found, folder = [], f"{ROOT}/tests/{crate}/src"
     for file in sorted(glob.glob(f"{folder}/**/*.rt.in", recursive=True)):
         module = os.path.relpath(file, folder).removesuffix(".rt.in").replace("/", "::")
         with open(file, encoding="utf-8") as it:
-            found += [f"{module}::{name}" for name in re.findall(r"^#\[test\]\nfn (\w+)", it.read(), re.M)]
+            found += [f"{module}::{name}" for name in re.findall(r"^(?:#\[test\]\nfn |fn (?=main\())(\w+)", it.read(), re.M)]
     return found
 
 
-def copy(room):
-    """Makes the copy in a folder that is there."""
+def named_in_python() -> list[str]:
+    """The name of each test of the scripts, by the text of their files."""
+    found = []
+    for file in sorted(glob.glob(f"{ROOT}/tests/test_*.py")):
+        with open(file, encoding="utf-8") as it:
+            found += [f"{os.path.basename(file)[:-3]}.{name}" for name in re.findall(r"^    def (test_\w+)", it.read(), re.M)]
+    return found
+
+
+def count() -> int:
+    """How many tests there are, but for those of the library for callers."""
+    return len(named_in_python()) + sum(len(named_tests(it)) for it in test_crates())
+
+
+def copy(room: str, has_main: bool = False) -> None:
+    """Makes the copy in a folder that is there. In it the `main` of the service is a test, but where it is to be left as it is: a runtime has
+    threads in the `main` of a crate and in tests alone."""
     shutil.copytree(f"{ROOT}/crates", f"{room}/crates", ignore=shutil.ignore_patterns("out", "wrong-bodies"))
     shutil.copy(f"{ROOT}/HANDLES", room)
     shutil.copy(f"{ROOT}/crates.txt", room)
@@ -46,3 +60,22 @@ def copy(room):
     for crate in lines():
         named = lambda at, to: shutil.copy2(at, to.removesuffix(".in"))
         shutil.copytree(f"{ROOT}/tests/{crate}", f"{room}/crates/{crate}", copy_function=named, dirs_exist_ok=True)
+    if not has_main:
+        replace(f"{room}/crates/{UNPROVED}.rt", "\nfn main(", "\n#[test]\nfn main(")
+
+
+def replace(file: str, old: str, new: str) -> None:
+    """Replaces a text in a file that has it."""
+    with open(file, encoding="utf-8") as it:
+        text = it.read()
+    if old not in text:
+        sys.exit(f"{file} has no {old!r}")
+    with open(file, "w", encoding="utf-8") as it:
+        it.write(text.replace(old, new))
+
+
+def leave_out_unproved(room: str) -> None:
+    """Takes the module that is not proved out of the copy."""
+    os.remove(f"{room}/crates/{UNPROVED}.rt")
+    folder, _, module = UNPROVED.rpartition("/")
+    replace(f"{room}/crates/{folder}/lib.rt", f"#[cfg(test)]\nmod {module};\n", "")
