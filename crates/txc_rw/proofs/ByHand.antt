@@ -1,5 +1,5 @@
 -- What a transaction keeps whose caller runs the functions of its calls.
-use Rattle.std.proofs.Common.{◌≡◌, ◌≢◌, ◌⊎◌, inl, inr, ℕ, List, [], ◌∷◌, ◌++◌, take, Option, Some, None, IsSome, refl, sym, ap, subst, ◌∙◌}
+use Rattle.std.proofs.Common.{◌≡◌, ◌≢◌, inl, inr, ℕ, List, [], ◌∷◌, ◌++◌, take, Option, Some, None, IsSome, refl, sym, ap, subst, ◌∙◌}
 use Rattle.txc_stamp.specs.Interval.{Interval}
 use Rattle.std.specs.Prelude.{Result, Ok, Err}
 use Rattle.txc_tags.specs.declared.tag.Tag.{Tag}

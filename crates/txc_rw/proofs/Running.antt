@@ -21,7 +21,7 @@ use Rattle.txc_call.specs.Calling.{Calling}
 use Rattle.txc_call.specs.Turns.{Turn as CallTurn, AfterReply}
 use Rattle.txc_ports.specs.declared.error.TxnError.{TxnError}
 use Rattle.txc_ports.specs.declared.turn.Turn.TheVariants.{Ask, Ended}
-use Rattle.txc_ports.specs.Refusals.{refused_call, refused_request}
+use Rattle.txc_ports.specs.Refusals.{refused_request}
 use Rattle.txc_rw.specs.declared.given.Given.TheVariants as given
 use Rattle.txc_rw.specs.Core.{QueryTurn, RwValue, queried_after}
 use Rattle.txc_rw.specs.Transitions.{query_in, queries_in, standing_of, RwCallTransition, EndsCall, IsLedAt, IsLedTo, IsQueryRefusedAt, IsQueryLeft, IsQueryRefusal, IsUncachedRun, IsStepAt, IsUncached, RowsTransition, RwStandingTransition, Step}

@@ -8,7 +8,7 @@ use Rattle.txc_tags.specs.Tags.{set_of, with_tag}
 use Rattle.txc_rows.specs.declared.query.Query.{Query}
 use Rattle.txc_rows.specs.declared.query.Change.{Change}
 use Rattle.txc_rows.specs.RowTags.{query_tag}
-use Rattle.txc_rows.specs.States.{RowValue, answer}
+use Rattle.txc_rows.specs.States.{answer}
 use Rattle.txc_validity.specs.declared.answer.Found.{Found}
 use Rattle.txc_db.specs.declared.error.DbError.{DbError}
 use Rattle.txc_db.specs.History.{History, state_at}

@@ -2,7 +2,6 @@
 use Rattle.std.proofs.Common.{Some, None, Ok, Err}
 use Rattle.txc_db.specs.History.{History}
 use Rattle.txc_db.specs.Seen.{FrontValue}
-use Rattle.txc_registry.specs.Objects.{Objects}
 use Rattle.txc_app.specs.Eval.{Next}
 use Rattle.txc_call.specs.declared.need.Need.{Need}
 use Rattle.txc_call.specs.declared.need.Need.TheVariants as needs

@@ -18,7 +18,7 @@ use Rattle.txc_call.specs.declared.need.Need.TheVariants as needs
 use Rattle.txc_call.specs.Frames.{answers_in}
 use Rattle.txc_call.specs.Reaches.{InReach}
 use Rattle.txc_call.specs.Calling.{InCall}
-use Rattle.txc_call.specs.Needs.{HeldAnswerHolds, InNeed, NeedHolds}
+use Rattle.txc_call.specs.Needs.{InNeed, NeedHolds}
 use Rattle.txc_txn.specs.Core.{CoreValue, CoreHolds}
 
 holds_at : (L : History) (right : State → Type 0) (rests : State → List Query) (reach : Option Interval) (tags : List Tag) (t : ℕ)

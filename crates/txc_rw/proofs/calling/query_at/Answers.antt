@@ -1,4 +1,4 @@
-use Rattle.std.proofs.Common.{◌≡◌, ℕ, Some, ap, sym, subst, ◌∙◌}
+use Rattle.std.proofs.Common.{ℕ, Some, ap, sym, subst, ◌∙◌}
 use Rattle.std.specs.Prelude.{IfErr, IfOk}
 use Rattle.txc_db.specs.Calls.{IsQueryRefused}
 use Rattle.txc_db.specs.Shared.{MayRefuse}

@@ -2,7 +2,6 @@ use Rattle.std.proofs.Common.{◌≡◌, List, [], ◌∷◌, ◌++◌, Option, 
 use Rattle.txc_rows.specs.declared.query.Query.{Query}
 use Rattle.txc_rows.specs.States.{RowValue}
 use Rattle.txc_rw.specs.declared.given.Given.TheVariants as given
-use Rattle.txc_rw.specs.declared.reading.Reading.{Reading}
 use Rattle.txc_rw.specs.Core.{query_of_reading, IsRightReply, RwHolds, RwValue}
 use Rattle.txc_rw.proofs.Holding.{kept_more, rows_dropped, rows_kept, rows_lead, rows_led_for, rows_refused}
 use Rattle.txc_rw.proofs.rw_core.RwCore.answer.Goals as goal

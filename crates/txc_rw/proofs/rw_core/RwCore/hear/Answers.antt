@@ -1,4 +1,4 @@
-use Rattle.std.proofs.Common.{◌≡◌, inr, [], ◌∷◌, Option, Some, None, Ok, sym, ap, subst, ◌∙◌, arith}
+use Rattle.std.proofs.Common.{◌≡◌, inr, Option, Some, None, Ok, sym, ap, subst, ◌∙◌, arith}
 use Rattle.std.specs.Prelude.{Result}
 use Rattle.txc_stamp.specs.Interval.{Interval, Holds}
 use Rattle.txc_rows.specs.declared.query.Query.{Query}

@@ -4,7 +4,7 @@ use Rattle.std.specs.declared.alloc.Global.{Global}
 use Rattle.txc_rows.specs.States.{RowValue}
 use Rattle.txc_db.specs.History.{History}
 use Rattle.txc_rw.specs.declared.given.Given.TheVariants as given
-use Rattle.txc_rw.specs.Core.{RwHolds, RwValue}
+use Rattle.txc_rw.specs.Core.{RwValue}
 use Rattle.txc_rw.specs.Txn.{RwTxnValue}
 use Rattle.txc_rows.specs.States.{answer}
 use Rattle.txc_db.specs.History.{state_at}

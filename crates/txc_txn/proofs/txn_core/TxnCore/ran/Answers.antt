@@ -1,9 +1,8 @@
-use Rattle.std.proofs.Common.{◌≡◌, Option, Some, None, Ok, Err, refl, ap, subst, ◌∙◌, rules}
+use Rattle.std.proofs.Common.{◌≡◌, Some, None, Err, refl, ap, subst, ◌∙◌}
 use Rattle.txc_tags.specs.Keys.{Call}
 use Rattle.txc_ports.specs.declared.turn.Turn.TheVariants.{Ended}
-use Rattle.txc_txn.specs.ByHand.{standing_of, recorded_by_hand, HandAskTransition}
-use Rattle.txc_call.specs.declared.need.Need.{Need}
-use Rattle.txc_txn.specs.Core.{value_of, IsCore}
+use Rattle.txc_txn.specs.ByHand.{standing_of, recorded_by_hand}
+use Rattle.txc_txn.specs.Core.{value_of}
 use Rattle.txc_call.specs.Running.{objects_after}
 use Rattle.txc_txn.proofs.Cores.{common, core_went_on, holds_went_on}
 use Rattle.txc_txn.proofs.txn_core.TxnCore.ran.Goals as goal

@@ -1,5 +1,4 @@
 use Rattle.std.proofs.Common.{◌≡◌, [], refl, rules}
-use Rattle.txc_registry.specs.Objects.{Objects}
 use Rattle.txc_txn.specs.Core.{value_of}
 use Rattle.txc_txn.specs.Transitions.{StartTransition}
 use Rattle.txc_txn.proofs.txn_core.TxnCore.start_by_hand.Goals as goal

@@ -1,8 +1,5 @@
 use Rattle.std.proofs.Common.{◌≡◌, Some, refl, ap, subst, ◌∙◌}
 use Rattle.txc_tags.specs.Keys.{Call}
-use Rattle.txc_db.specs.History.{History}
-use Rattle.txc_app.specs.Eval.{Next}
-use Rattle.txc_registry.specs.Objects.{Objects}
 use Rattle.txc_call.specs.Calling.{Calling}
 use Rattle.txc_call.specs.Needs.{reply_reach}
 use Rattle.txc_txn.specs.Core.{value_of}
