@@ -245,6 +245,27 @@ class Shape(Case):
         self.assertFalse(done.is_alive())
         self.assertIn("were changed", self.look())
 
+    def test_each_part_of_the_fingerprint(self):
+        self.follow(tables_text=ITEMS + "; CREATE POLICY q ON items USING (id > 5)")
+        for text in ("ALTER TABLE items RENAME COLUMN v TO w", "ALTER POLICY q ON items USING (id > 6)"):
+            self.held.close()
+            self.assertIn("were changed", self.changed(text), text)
+
+    def test_the_lock_comes_before_the_snapshot(self):
+        """A TRUNCATE is of no moment: had the snapshot been taken while its lock was waited for, the table would be empty in it."""
+        self.follow(lock_timeout=5.0)
+        self.ask("INSERT INTO items (id) VALUES (1)")
+        self.held.close()
+        other, found = self.link(), []
+        other.ask("BEGIN; TRUNCATE items; INSERT INTO items (id) VALUES (2)")
+        look = threading.Thread(target=lambda: found.append(self.s.look(self.mark)))
+        look.start()
+        time.sleep(0.5)
+        other.ask("COMMIT")
+        look.join()
+        self.addCleanup(found[0].snapshot.close)
+        self.assertEqual([it["id"] for it in db_of(found[0].snapshot).rows("items")], [2])
+
     def test_a_new_lookup_of_another_service_keeps_those_of_the_first(self):
         self.follow({"items": ["id"]})
         first = self.s
@@ -544,6 +565,15 @@ class Faults(Case):
         self.ask("TRUNCATE items")
         self.assertRaises(SnapshotLost, self.db().rows, "items")
         self.assertRaises(SnapshotLost, self.db().sql, "SELECT * FROM items")
+
+    def test_a_holder_that_dies_while_a_query_runs(self):
+        self.follow()
+        self.assertEqual(self.held.rows_and_tables("SELECT count(*) AS it FROM items", ())[1], {"public.items:"})
+        (pid,), = self.held._link.ask("SELECT pg_backend_pid()")
+        ending = threading.Timer(0.2, self.ask, ("SELECT pg_terminate_backend(%s)", pid))
+        ending.start()
+        self.assertRaises(SnapshotLost, self.held.rows_and_tables, "SELECT count(*) AS it, pg_sleep(0.6) FROM items", ())
+        ending.join()
 
     def test_a_reader_that_joined_keeps_truncate_away_by_its_own_locks(self):
         self.follow()
