@@ -64,8 +64,11 @@ module _ (D : Snapshots) (k : ℕ) (s : State) (covered : ReadsAreCovered D) (fe
   abbrev rows : Rows
   rows q = answer q s
 
+  abbrev shown : Tag → Answer
+  shown t = answers.Rows (rows (ById t.table t.id))
+
   abbrev versions : List Tag → List Answer
-  versions tags = map (λ t. answers.Rows (rows (ById t.table t.id))) tags
+  versions tags = map shown tags
 
   versions_are : (tags : List Tag) → versions tags ≡ map (λ t. answers.Rows (version_rows t (last_noted D t k))) tags
   versions_are [] = refl
@@ -79,18 +82,18 @@ module _ (D : Snapshots) (k : ℕ) (s : State) (covered : ReadsAreCovered D) (fe
       → ask_for D (Some (read r)) (versions (D.tags_of r) ++ more) go_on ≡ go_on (D.find k r) more
   ready r more go_on =
       let tags = D.tags_of r in
-      let long : length (versions tags) ≡ length tags = length-map tags _ in
-      let none : drop (length (versions tags ++ more)) tags ≡ [] = drop_all _ tags (let both = length-append (versions tags) more in omega (arith, both, long)) in
-      let front : take (length tags) (versions tags ++ more) ≡ versions tags = take_first _ (versions tags) more (sym long) in
-      let back : drop (length tags) (versions tags ++ more) ≡ more = drop_first _ (versions tags) more (sym long) in
+      let long : length (versions tags) ≡ length tags = length-map tags shown in
+      let none : drop (length (versions tags ++ more)) tags ≡ [] = drop_all (length (versions tags ++ more)) tags (let both = length-append (versions tags) more in omega (arith, both, long)) in
+      let front : take (length tags) (versions tags ++ more) ≡ versions tags = take_first (length tags) (versions tags) more (sym long) in
+      let back : drop (length tags) (versions tags ++ more) ≡ more = drop_first (length tags) (versions tags) more (sym long) in
       rw (none, front, back) (ap (λ bytes. go_on bytes more) (read_is r))
 
   -- the next version is asked
   next_tag : (r : Read) (before : List Tag) (t : Tag) (after : List Tag) (go_on : List ℕ → List Answer → Option Ask) → before ++ t ∷ after ≡ D.tags_of r
       → ask_for D (Some (read r)) (versions before) go_on ≡ Some (asks.Query (ById t.table t.id))
   next_tag r before t after go_on is =
-      let long : length (versions before) ≡ length before = length-map before _ in
-      let left : drop (length (versions before)) (D.tags_of r) ≡ t ∷ after = ap (drop (length (versions before))) (sym is) ∙ drop_first _ before (t ∷ after) long in
+      let long : length (versions before) ≡ length before = length-map before shown in
+      let left : drop (length (versions before)) (D.tags_of r) ≡ t ∷ after = ap (drop (length (versions before))) (sym is) ∙ drop_first (length (versions before)) before (t ∷ after) long in
       rw left refl
 
   module _ (acts : List (List ℕ) → Option OwnAct) (says : List Answer → Option Ask) (c : Calls) (u : Results)
@@ -115,10 +118,10 @@ module _ (D : Snapshots) (k : ℕ) (s : State) (covered : ReadsAreCovered D) (fe
     reads r go_on used v at [] before m is h = (m, subst (λ (tags : List Tag). Gives m (used ++ versions tags) v) (sym (append-nil before) ∙ is) h)
     reads r go_on used v at (t ∷ after) before zero is h = absurd (nothing_left says rows c (used ++ versions before) v h)
     reads r go_on used v at (t ∷ after) before (suc m) is h =
-        let asked = at (versions before) ∙ next_tag r before t after go_on is in
+        let asked : says (used ++ versions before) ≡ Some (asks.Query (ById t.table t.id)) = at (versions before) ∙ next_tag r before t after go_on is in
         let one = after_this says rows c m (used ++ versions before) v (Some (asks.Query (ById t.table t.id))) asked h in
-        let more : (used ++ versions before) ++ answers.Rows (rows (ById t.table t.id)) ∷ [] ≡ used ++ versions (before ++ t ∷ []) =
-            append_assoc used (versions before) _ ∙ ap (λ as. used ++ as) (sym (map-append _ before (t ∷ []))) in
+        let more : (used ++ versions before) ++ shown t ∷ [] ≡ used ++ versions (before ++ t ∷ []) =
+            append_assoc used (versions before) (shown t ∷ []) ∙ ap (λ as. used ++ as) (sym (map-append shown before (t ∷ []))) in
         reads r go_on used v at after (before ++ t ∷ []) m (append_assoc before (t ∷ []) after ∙ is) (subst (λ (as : List Answer). Gives m as v) more one)
 
     -- what is to be shown of the rest of a computation that may act n times
@@ -135,14 +138,14 @@ module _ (D : Snapshots) (k : ℕ) (s : State) (covered : ReadsAreCovered D) (fe
     act n go (Some (done bytes)) (suc m) results used v at h = ap Some (done_is says rows c m used v bytes (now used (λ more. Some (asks.Done bytes)) at) h)
     act n go (Some (call g)) zero results used v at h = absurd (nothing_left says rows c used v h)
     act n go (Some (call g)) (suc m) results used v at h =
-        let it = called says rows c m used v g (now used _ at) h in
-        let next : Stands (used ++ answers.Value it.0 ∷ []) (goes_on n results it.0) = λ more. ap says (append_assoc used _ more) ∙ at (answers.Value it.0 ∷ more) in
+        let it = called says rows c m used v g (now used (λ more. ask_for D (Some (call g)) more (goes_on n results)) at) h in
+        let next : Stands (used ++ answers.Value it.0 ∷ []) (goes_on n results it.0) = λ more. ap says (append_assoc used (answers.Value it.0 ∷ []) more) ∙ at (answers.Value it.0 ∷ more) in
         ap (option_and_then (λ bytes. computed acts (D.find k) u n (results ++ bytes ∷ []))) (below g it.0 it.1)
         ∙ go m (results ++ it.0 ∷ []) (used ++ answers.Value it.0 ∷ []) v next it.2
     act n go (Some (read r)) m results used v at h =
         let it = reads r (goes_on n results) used v at (D.tags_of r) [] m refl (subst (λ (as : List Answer). Gives m as v) (sym (append-nil used)) h) in
         let next : Stands (used ++ versions (D.tags_of r)) (goes_on n results (D.find k r)) =
-            λ more. ap says (append_assoc used _ more) ∙ (at (versions (D.tags_of r) ++ more) ∙ ready r more (goes_on n results)) in
+            λ more. ap says (append_assoc used (versions (D.tags_of r)) more) ∙ (at (versions (D.tags_of r) ++ more) ∙ ready r more (goes_on n results)) in
         go it.0 (results ++ D.find k r ∷ []) (used ++ versions (D.tags_of r)) v next it.1
 
     computes : (n : ℕ) → ComputesAfter n

@@ -23,15 +23,15 @@ module _ (p q : RowValue → Bool) where
     where
       go : (b : Bool) → q r ≡ b → filter p (filter q rs) ≡ [] → filter p (cond b (r ∷ filter q rs) (filter q rs)) ≡ []
       go false e h = h
-      go true e h = elim (bool_cases (p r)) [ inl yes ↦ not_both (q r) e (apart r yes) | inr no ↦ rw no h ]
+      go true e h = elim (bool_cases (p r)) [ inl passes ↦ not_both (q r) e (apart r passes) | inr fails ↦ rw fails h ]
 
   all_of : ((r : RowValue) → p r ≡ true → q r ≡ true) → (s : State) → filter p (filter q s) ≡ filter p s
   all_of within [] = refl
   all_of within (r ∷ rs) = go (q r) refl (all_of within rs)
     where
       go : (b : Bool) → q r ≡ b → filter p (filter q rs) ≡ filter p rs → filter p (cond b (r ∷ filter q rs) (filter q rs)) ≡ cond (p r) (r ∷ filter p rs) (filter p rs)
-      go true e h = elim (bool_cases (p r)) [ inl yes ↦ rw yes (ap (λ xs. r ∷ xs) h) | inr no ↦ rw no h ]
-      go false e h = elim (bool_cases (p r)) [ inl yes ↦ not_both (q r) (within r yes) e | inr no ↦ rw no h ]
+      go true e h = elim (bool_cases (p r)) [ inl passes ↦ rw passes (ap (λ xs. r ∷ xs) h) | inr fails ↦ rw fails h ]
+      go false e h = elim (bool_cases (p r)) [ inl passes ↦ not_both (q r) (within r passes) e | inr fails ↦ rw fails h ]
 
 -- ---- the rows under a tag after one put
 
@@ -78,10 +78,10 @@ put_here : (t : Tag) (row : RowValue) (s : State) → row.table ≡ t.table → 
 put_here t row s table id =
     let none : place_before row.table row.id t.table t.id ≡ false = ap (λ n. place_before n row.id t.table t.id) table ∙ (ap (λ n. place_before t.table n t.table t.id) id ∙ not_itself t.table t.id) in
     let none_back : place_before t.table t.id row.table row.id ≡ false = ap (λ n. place_before t.table t.id n row.id) table ∙ (ap (λ n. place_before t.table t.id t.table n) id ∙ not_itself t.table t.id) in
-    let yes : is_under t row ≡ true = and_true (row.table == t.table) (row.id == t.id) (eq-eqb row.table t.table table) (eq-eqb row.id t.id id) in
+    let itself : is_under t row ≡ true = and_true (row.table == t.table) (row.id == t.id) (eq-eqb row.table t.table table) (eq-eqb row.id t.id id) in
     let first = none_of (is_under t) (λ r. row_before r row) (λ r h. stands_before t r row h ∙ none_back) s in
     let last = none_of (is_under t) (λ r. row_before row r) (λ r h. stands_after t r row h ∙ none) s in
-    under_put t row s ∙ rw (first, yes) (ap (λ rs. row ∷ rs) last)
+    under_put t row s ∙ rw (first, itself) (ap (λ rs. row ∷ rs) last)
 
 -- a put elsewhere leaves the rows under the tag
 put_elsewhere : (t : Tag) (row : RowValue) (s : State) → (t.table == row.table) && (t.id == row.id) ≡ false → under t (after_change (Put row) s) ≡ under t s

@@ -1,5 +1,5 @@
 -- The worked snapshots.
-use Rattle.std.proofs.Common.{◌≡◌, ◌⊎◌, inl, inr, ℕ, zero, suc, ◌<◌, ◌≤◌, List, [], ◌∷◌, ◌++◌, length, Option, Some, None, Bool, true, false, true≢false, ◌||◌, ◌==◌, refl, sym, ap, subst, ◌∙◌, arith}
+use Rattle.std.proofs.Common.{◌≡◌, ◌⊎◌, inl, inr, ℕ, zero, suc, ◌+◌, ◌^◌, ◌<◌, ◌≤◌, List, [], ◌∷◌, ◌++◌, length, get_or, Option, Some, None, Bool, true, false, true≢false, ◌||◌, ◌==◌, refl, sym, ap, subst, ◌∙◌, arith}
 use borrow.Author.Tests.{eqb-true}
 use Rattle.std.specs.Str.{bytes_eq}
 use Rattle.std.specs.List.{list_any, Contains}
@@ -62,6 +62,9 @@ no_other t e = true≢false (sym e)
 one_commit : (D : Snapshots) (k : ℕ) (t : Tag) → is_noted D k t ≡ true → AreStepCommits D k (puts t k ∷ [])
 one_commit D k t e = (((t, e, refl), tt), tt)
 
+abbrev put : Tag → ℕ → Change
+put t k = Put (version_row t k)
+
 -- the only change, and the second of two
 only : (c d : Change) → c ≡ d → Contains (c ∷ []) d
 only c d e = (0, omega arith, e)
@@ -74,20 +77,20 @@ first_of_two b c d e = (0, omega arith, e)
 
 first_step : PutAll worked_database 1 (puts item 1 ∷ [])
 first_step t noted = elim (one_true (equal_tags t item) false noted) [
-  | inl here ↦ only _ _ (ap (λ (u : Tag). Put (version_row u 1)) (sym (equal_tags_are t item here)))
+  | inl here ↦ only (put item 1) (put t 1) (ap (λ (u : Tag). put u 1) (sym (equal_tags_are t item here)))
   | inr none ↦ absurd (no_other t none)
 ]
 
-is_item : (t : Tag) → equal_tags t item ≡ true → Contains (Put (version_row item 2) ∷ Put (version_row bids 2) ∷ []) (Put (version_row t 2))
-is_item t here = first_of_two _ _ _ (ap (λ (u : Tag). Put (version_row u 2)) (sym (equal_tags_are t item here)))
+is_item : (t : Tag) → equal_tags t item ≡ true → Contains (put item 2 ∷ put bids 2 ∷ []) (put t 2)
+is_item t here = first_of_two (put item 2) (put bids 2) (put t 2) (ap (λ (u : Tag). put u 2) (sym (equal_tags_are t item here)))
 
-is_bids : (t : Tag) → equal_tags t bids ≡ true → Contains (Put (version_row item 2) ∷ Put (version_row bids 2) ∷ []) (Put (version_row t 2))
-is_bids t here = other _ _ _ (ap (λ (u : Tag). Put (version_row u 2)) (sym (equal_tags_are t bids here)))
+is_bids : (t : Tag) → equal_tags t bids ≡ true → Contains (put item 2 ∷ put bids 2 ∷ []) (put t 2)
+is_bids t here = other (put item 2) (put bids 2) (put t 2) (ap (λ (u : Tag). put u 2) (sym (equal_tags_are t bids here)))
 
 second_step : PutAll worked_database 2 (puts item 2 ∷ puts bids 2 ∷ [])
-second_step t noted = elim (one_true (equal_tags t item) _ noted) [
+second_step t noted = elim (one_true (equal_tags t item) (list_any (equal_tags t) (bids ∷ item ∷ [])) noted) [
   | inl here ↦ is_item t here
-  | inr later ↦ elim (one_true (equal_tags t bids) _ later) [
+  | inr later ↦ elim (one_true (equal_tags t bids) (list_any (equal_tags t) (item ∷ [])) later) [
       | inl here ↦ is_bids t here
       | inr last ↦ elim (one_true (equal_tags t item) false last) [ inl here ↦ is_item t here | inr none ↦ absurd (no_other t none) ]
     ]
@@ -171,9 +174,9 @@ torn_cached = refl
 
 pub worked_calls : WorkedValues
 worked_calls = record {
-  first = (first_cached, uncached_is _ 0);
-  second = (with_one worked_database item 1 _ (omega arith) second_cached, uncached_is _ 1);
-  third = (with_two worked_database item bids 2 2 _ (omega arith) (omega arith) third_cached, uncached_is _ 2);
+  first = (first_cached, uncached_is worked_database.steps 0);
+  second = (with_one worked_database item 1 (98 ∷ 112 ∷ []) (omega arith) second_cached, uncached_is worked_database.steps 1);
+  third = (with_two worked_database item bids 2 2 (99 ∷ 113 ∷ []) (omega arith) (omega arith) third_cached, uncached_is worked_database.steps 2);
 }
 
 -- ---- a note that is missing
@@ -183,7 +186,7 @@ missing_first = first_step
 
 missing_second : PutAll missing 2 (puts bids 2 ∷ [])
 missing_second t noted = elim (one_true (equal_tags t bids) false noted) [
-  | inl here ↦ only _ _ (ap (λ (u : Tag). Put (version_row u 2)) (sym (equal_tags_are t bids here)))
+  | inl here ↦ only (put bids 2) (put t 2) (ap (λ (u : Tag). put u 2) (sym (equal_tags_are t bids here)))
   | inr none ↦ absurd (no_other t none)
 ]
 
@@ -195,19 +198,22 @@ missing_pinned : HasFollowed missing missing_history 2
 missing_pinned = pinned (puts item 1 ∷ puts bids 2 ∷ []) 2 2000 missing_followed (omega arith)
 
 missing_value : cached missing missing_table ≡ Some (98 ∷ 113 ∷ [])
-missing_value = with_two missing item bids 1 2 _ (omega arith) (omega arith) missing_cached
+missing_value = with_two missing item bids 1 2 (98 ∷ 113 ∷ []) (omega arith) (omega arith) missing_cached
+
+byte_at : (i : ℕ) {xs ys : List ℕ} → xs ≡ ys → get_or xs i 0 ≡ get_or ys i 0
+byte_at i e = ap (λ l. get_or l i 0) e
 
 -- no snapshot has the price of one beside the bid of another
 not_beside : (k : ℕ) → worked_find k true ++ worked_find k false ≡ 98 ∷ 113 ∷ [] → ⊥
-not_beside zero e = cc e
-not_beside (suc zero) e = cc e
-not_beside (suc (suc k)) e = cc e
+not_beside zero e = let h : 97 ≡ 98 = byte_at 0 e in omega arith
+not_beside (suc zero) e = let h : 112 ≡ 113 = byte_at 1 e in omega arith
+not_beside (suc (suc k)) e = let h : 99 ≡ 98 = byte_at 0 e in omega arith
 
 missing_torn : (k : ℕ) → uncached worked_functions (missing.find k) page ≡ Some (98 ∷ 113 ∷ []) → ⊥
-missing_torn k e = not_beside k (same_Some _ _ (sym (uncached_is _ k) ∙ e))
+missing_torn k e = not_beside k (same_Some _ _ (sym (uncached_is missing.steps k) ∙ e))
 
 missing_needed : ValuesAreUncached missing → ⊥
-missing_needed law = missing_torn 2 (law worked_functions 2 missing_table page _ (omega arith) (followed_table missing missing_followed) missing_value)
+missing_needed law = missing_torn 2 (law worked_functions 2 missing_table page (98 ∷ 113 ∷ []) (omega arith) (followed_table missing missing_followed) missing_value)
 
 missing_numbered : length missing.steps < 2 ^ 64
 missing_numbered = omega arith
@@ -226,10 +232,15 @@ missing_note = record {
 
 -- ---- a pin within a step
 
+abbrev first_byte : List RowValue → ℕ
+first_byte [] = 0
+first_byte (r ∷ rs) = get_or r.body 0 0
+
 different : version_row item 2 ∷ [] ≡ version_row item 1 ∷ [] → ⊥
 different e =
     let written : row_of item 2 ∷ [] ≡ row_of item 1 ∷ [] = ap (λ r. r ∷ []) (sym (row_is item 2 (omega arith))) ∙ (e ∙ ap (λ r. r ∷ []) (row_is item 1 (omega arith))) in
-    cc written
+    let h : 50 ≡ 49 = ap first_byte written in
+    omega arith
 
 torn_none : (k : ℕ) → k ≤ 2 → IsVersionTable worked_database k (state_at torn_history 5) → ⊥
 torn_none zero low table = cc (table item)
@@ -238,14 +249,14 @@ torn_none (suc (suc zero)) low table = cc (table bids)
 torn_none (suc (suc (suc k))) low table = absurd (omega arith)
 
 not_torn : (k : ℕ) → worked_find k true ++ worked_find k false ≡ 99 ∷ 112 ∷ [] → ⊥
-not_torn zero e = cc e
-not_torn (suc zero) e = cc e
-not_torn (suc (suc k)) e = cc e
+not_torn zero e = let h : 97 ≡ 99 = byte_at 0 e in omega arith
+not_torn (suc zero) e = let h : 98 ≡ 99 = byte_at 0 e in omega arith
+not_torn (suc (suc k)) e = let h : 113 ≡ 112 = byte_at 1 e in omega arith
 
 pub pin_within_step : PinWithinStep
 pin_within_step = record {
   none = torn_none;
-  torn = with_one worked_database item 2 _ (omega arith) torn_cached;
-  no_other = λ k e. not_torn k (same_Some _ _ (sym (uncached_is _ k) ∙ e));
+  torn = with_one worked_database item 2 (99 ∷ 112 ∷ []) (omega arith) torn_cached;
+  no_other = λ k e. not_torn k (same_Some _ _ (sym (uncached_is worked_database.steps k) ∙ e));
   follows = λ follows. let it = pins_show worked_database torn_history 5 2000 follows refl in torn_none it.number it.taken it.table;
 }
