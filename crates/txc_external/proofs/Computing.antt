@@ -1,9 +1,9 @@
 -- A computation over the version table of a snapshot, and the same computation with no cache.
-use Rattle.std.proofs.Common.{◌≡◌, inl, inr, ℕ, zero, suc, ◌+◌, ◌<◌, ◌≤◌, List, [], ◌∷◌, ◌++◌, length, length-append, map, map-append, length-map, take, drop, append_assoc, append-nil, Option, Some, None, Bool, true, false, cond, ◌==◌, nat_le, refl, sym, ap, subst, ◌∙◌, arith}
+use Rattle.std.proofs.Common.{◌≡◌, ℕ, zero, suc, ◌≤◌, List, [], ◌∷◌, ◌++◌, length, length-append, map, take, drop, append_assoc, append-nil, Option, Some, None, Bool, true, false, cond, ◌==◌, nat_le, refl, sym, ap, subst, ◌∙◌, arith}
 use borrow.Author.Tests.{eq-eqb}
 use Rattle.std.specs.Option.{option_and_then}
-use Rattle.std.proofs.lemmas.List.{take-append-le, drop-append-le, take_all, drop_all}
-use Rattle.std.proofs.lemmas.Option.{none-some, same_Some, cond_some}
+use Rattle.std.proofs.lemmas.List.{map-append, length-map, take-append-le, drop-append-le, take_all, drop_all}
+use Rattle.std.proofs.lemmas.Option.{none-some, cond_some}
 use Rattle.txc_tags.specs.Keys.{Call}
 use Rattle.txc_rows.specs.declared.query.Query.TheVariants.{ById}
 use Rattle.txc_rows.specs.States.{State, answer}
@@ -13,9 +13,9 @@ use Rattle.txc_app.specs.declared.ask.Ask.{Ask}
 use Rattle.txc_app.specs.declared.ask.Ask.TheVariants as asks
 use Rattle.txc_app.specs.declared.ask.Answer.{Answer}
 use Rattle.txc_app.specs.declared.ask.Answer.TheVariants as answers
-use Rattle.txc_app.specs.Eval.{Rows, Calls, Evaluation, no_value, done_with, after_meeting, after_value, after_ask, activation, called_with, call_below, eval}
+use Rattle.txc_app.specs.Eval.{Rows, Calls, Evaluation, after_value, after_ask, activation, called_with, call_below, eval}
 use Rattle.txc_external.specs.Snapshots.{Read, Tag, Snapshots, last_snapshot, ReadsAreCovered, last_noted, version_rows, IsVersionTable}
-use Rattle.txc_external.specs.Functions.{OwnAct, read, call, done, Functions, Results, after_act, computed, uncached_below, uncached, first_with, tag_or, ask_for, ask_after, over_versions}
+use Rattle.txc_external.specs.Functions.{OwnAct, read, call, done, Functions, Results, after_act, computed, uncached_below, uncached, first_with, ask_for, ask_after, over_versions}
 use Rattle.txc_external.specs.Laws.{AreNumbered, CachedIsUncached}
 use Rattle.txc_external.proofs.Versions.{found_in_each}
 
@@ -72,10 +72,10 @@ module _ (D : Snapshots) (k : ℕ) (s : State) (covered : ReadsAreCovered D) (fe
 
   versions_are : (tags : List Tag) → versions tags ≡ map (λ t. answers.Rows (version_rows t (last_noted D t k))) tags
   versions_are [] = refl
-  versions_are (t ∷ ts) = ap (λ r. answers.Rows r ∷ versions ts) (table t) ∙ ap (λ as. answers.Rows (version_rows t (last_noted D t k)) ∷ as) (versions_are ts)
+  versions_are (t ∷ ts) = ap (λ r. answers.Rows r ∷ versions ts) (table t) ∙ ap (λ xs. answers.Rows (version_rows t (last_noted D t k)) ∷ xs) (versions_are ts)
 
   read_is : (r : Read) → D.find (first_with (versions (D.tags_of r))) r ≡ D.find k r
-  read_is r = ap (λ as. D.find (first_with as) r) (versions_are (D.tags_of r)) ∙ found_in_each D r k covered few taken
+  read_is r = ap (λ xs. D.find (first_with xs) r) (versions_are (D.tags_of r)) ∙ found_in_each D r k covered few taken
 
   -- all versions of a read were answered
   ready : (r : Read) (more : List Answer) (go_on : List ℕ → List Answer → Option Ask)
@@ -121,8 +121,8 @@ module _ (D : Snapshots) (k : ℕ) (s : State) (covered : ReadsAreCovered D) (fe
         let asked : says (used ++ versions before) ≡ Some (asks.Query (ById t.table t.id)) = at (versions before) ∙ next_tag r before t after go_on is in
         let one = after_this says rows c m (used ++ versions before) v (Some (asks.Query (ById t.table t.id))) asked h in
         let more : (used ++ versions before) ++ shown t ∷ [] ≡ used ++ versions (before ++ t ∷ []) =
-            append_assoc used (versions before) (shown t ∷ []) ∙ ap (λ as. used ++ as) (sym (map-append shown before (t ∷ []))) in
-        reads r go_on used v at after (before ++ t ∷ []) m (append_assoc before (t ∷ []) after ∙ is) (subst (λ (as : List Answer). Gives m as v) more one)
+        append_assoc used (versions before) (shown t ∷ []) ∙ ap (λ xs. used ++ xs) (sym (map-append shown before (t ∷ []))) in
+        reads r go_on used v at after (before ++ t ∷ []) m (append_assoc before (t ∷ []) after ∙ is) (subst (λ (xs : List Answer). Gives m xs v) more one)
 
     -- what is to be shown of the rest of a computation that may act n times
     abbrev ComputesAfter : ℕ → Type 0
@@ -143,9 +143,9 @@ module _ (D : Snapshots) (k : ℕ) (s : State) (covered : ReadsAreCovered D) (fe
         ap (option_and_then (λ bytes. computed acts (D.find k) u n (results ++ bytes ∷ []))) (below g it.0 it.1)
         ∙ go m (results ++ it.0 ∷ []) (used ++ answers.Value it.0 ∷ []) v next it.2
     act n go (Some (read r)) m results used v at h =
-        let it = reads r (goes_on n results) used v at (D.tags_of r) [] m refl (subst (λ (as : List Answer). Gives m as v) (sym (append-nil used)) h) in
+        let it = reads r (goes_on n results) used v at (D.tags_of r) [] m refl (subst (λ (xs : List Answer). Gives m xs v) (sym (append-nil used)) h) in
         let next : Stands (used ++ versions (D.tags_of r)) (goes_on n results (D.find k r)) =
-            λ more. ap says (append_assoc used (versions (D.tags_of r)) more) ∙ (at (versions (D.tags_of r) ++ more) ∙ ready r more (goes_on n results)) in
+        λ more. ap says (append_assoc used (versions (D.tags_of r)) more) ∙ (at (versions (D.tags_of r) ++ more) ∙ ready r more (goes_on n results)) in
         go it.0 (results ++ D.find k r ∷ []) (used ++ versions (D.tags_of r)) v next it.1
 
     computes : (n : ℕ) → ComputesAfter n

@@ -1,18 +1,17 @@
 -- The states of a history that follows the snapshots.
-use Rattle.std.proofs.Common.{◌≡◌, ◌⊎◌, inl, inr, ℕ, zero, suc, ◌+◌, ◌-◌, ◌<◌, ◌≤◌, List, [], ◌∷◌, ◌++◌, length, length-append, append-nil, take, fold, slice_get, Option, Some, None, Bool, true, false, cond, refl, sym, ap, subst, ◌∙◌, arith}
+use Rattle.std.proofs.Common.{◌≡◌, ◌⊎◌, inl, inr, ℕ, zero, suc, ◌+◌, ◌-◌, ◌<◌, ◌≤◌, List, [], ◌∷◌, ◌++◌, length, length-append, append-nil, take, fold, slice_get, Some, Bool, true, false, cond, refl, sym, ap, subst, ◌∙◌, arith}
 use Rattle.std.specs.List.{Contains}
 use Rattle.std.proofs.lemmas.List.{take-append-le, take_all}
 use Rattle.std.proofs.lemmas.List.Sums.{fold-append}
 use Rattle.std.proofs.lemmas.Option.{none-some, same_Some}
-use Rattle.txc_tags.proofs.Lists.{bool_cases, IsIn}
-use Rattle.txc_rows.specs.declared.query.Change.{Change}
+use Rattle.txc_tags.proofs.Lists.{IsIn}
 use Rattle.txc_rows.specs.declared.query.Change.TheVariants.{Put}
 use Rattle.txc_rows.specs.States.{State, after_changes}
 use Rattle.txc_db.specs.Facts.{Fact, commit, pin, EventValue}
-use Rattle.txc_db.specs.History.{History, state_after_event, state_at, moment_of, pinned_moment, moment_at, pin_event}
-use Rattle.txc_external.specs.Snapshots.{Tag, Snapshots, last_snapshot, is_noted, last_noted, version_row, version_rows, IsVersionTable}
+use Rattle.txc_db.specs.History.{History, state_after_event, moment_of, pinned_moment, moment_at, pin_event}
+use Rattle.txc_external.specs.Snapshots.{Snapshots, last_snapshot, is_noted, last_noted, version_row, version_rows, IsVersionTable}
 use Rattle.txc_external.specs.Following.{IsStepCommit, AreStepCommits, PutAll, HasFollowed, start, pinned, stepped, FollowsSnapshots}
-use Rattle.txc_external.specs.Laws.{BeginningsFollow, ShowsSnapshot, PinsShowVersionTables}
+use Rattle.txc_external.specs.Laws.{BeginningsFollow, PinsShowVersionTables}
 use Rattle.txc_external.proofs.Puts.{under, changes_of, events_are, all_put, keeps, is_put}
 
 -- the state after all events of a history
@@ -81,7 +80,7 @@ module _ (D : Snapshots) where
   at_end L k moment i (suc j) m h within same e = absurd (none-some m e)
   at_end L k moment i zero m h within same e =
       let whole : take (suc i) (L ++ pin_event moment ∷ []) ≡ L ++ pin_event moment ∷ [] =
-          take_all (suc i) _ (let both = length-append L (pin_event moment ∷ []) in omega (arith, both)) in
+      take_all (suc i) _ (let both = length-append L (pin_event moment ∷ []) in omega (arith, both)) in
       (k, subst (λ (M : History). HasFollowed D M k) (sym whole) h, subst (λ (n : ℕ). n ≤ D.moment k) (same_Some moment m e) within)
 
   shown : {L : History} {k : ℕ} → HasFollowed D L k → (i m : ℕ) → pinned_moment (slice_get L i) ≡ Some m → ShowsUpTo L (suc i) m

@@ -1,14 +1,14 @@
 -- What commits of versions make of the rows under a tag.
-use Rattle.std.proofs.Common.{◌≡◌, ◌⊎◌, inl, inr, ℕ, ◌<◌, List, [], ◌∷◌, ◌++◌, filter, fold, Bool, true, false, cond, ◌&&◌, ◌||◌, ◌==◌, nat_lt, append-nil, refl, sym, ap, subst, ◌∙◌, arith}
+use Rattle.std.proofs.Common.{◌≡◌, ◌⊎◌, inl, inr, ℕ, List, [], ◌∷◌, ◌++◌, filter, fold, Bool, true, false, cond, ◌&&◌, ◌||◌, ◌==◌, nat_lt, append-nil, refl, sym, ap, ◌∙◌, arith}
 use borrow.Author.Tests.{eqb-true, eq-eqb}
 use Rattle.std.specs.List.{AllByRecursion, flat_map}
 use Rattle.std.proofs.lemmas.List.Elements.{filter-append}
 use Rattle.std.proofs.lemmas.Bool.Decides.{nat_tests}
-use Rattle.txc_tags.proofs.Lists.{bool_cases, both_true, and_true, not_both, IsIn, in_either}
+use Rattle.txc_tags.proofs.Lists.{bool_cases, both_true, and_true, not_both, IsIn}
 use Rattle.txc_rows.specs.declared.query.Query.TheVariants.{ById}
 use Rattle.txc_rows.specs.declared.query.Change.{Change}
-use Rattle.txc_rows.specs.declared.query.Change.TheVariants.{Put, Remove}
-use Rattle.txc_rows.specs.States.{RowValue, State, row_before, matches, answer, after_change, after_changes}
+use Rattle.txc_rows.specs.declared.query.Change.TheVariants.{Put}
+use Rattle.txc_rows.specs.States.{RowValue, State, row_before, answer, after_change, after_changes}
 use Rattle.txc_db.specs.Facts.{Fact, commit, pin, EventValue, net_of}
 use Rattle.txc_db.specs.History.{state_after_event}
 use Rattle.txc_external.specs.Snapshots.{Tag, Snapshots, equal_tags, is_noted, version_row}

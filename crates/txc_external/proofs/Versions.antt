@@ -1,11 +1,11 @@
 -- What the versions of the tags of a read decide.
-use Rattle.std.proofs.Common.{◌≡◌, inl, inr, ◌⊎◌, ℕ, zero, suc, max, ◌<◌, ◌≤◌, List, [], ◌∷◌, map, Option, Some, None, Bool, true, false, cond, refl, sym, ap, ◌∙◌, arith}
+use Rattle.std.proofs.Common.{◌≡◌, inl, inr, ◌⊎◌, ℕ, zero, suc, ◌<◌, ◌≤◌, List, [], ◌∷◌, map, Option, Some, None, Bool, true, false, cond, refl, ap, ◌∙◌, arith}
 use Rattle.std.specs.List.{list_any}
 use Rattle.std.specs.Option.{unwrap_or}
 use Rattle.std.proofs.lemmas.Fmt.{decimal_is_IsNumeral}
 use Rattle.txc_app.specs.declared.ask.Answer.{Answer}
 use Rattle.txc_app.specs.declared.ask.Answer.TheVariants as answers
-use Rattle.txc_external.specs.Snapshots.{Tag, Snapshots, last_snapshot, is_noted, is_read_noted, last_noted, version_rows}
+use Rattle.txc_external.specs.Snapshots.{Tag, Snapshots, last_snapshot, is_noted, last_noted, version_rows}
 use Rattle.txc_external.specs.Functions.{noted_in, first_with}
 use Rattle.txc_external.specs.Laws.{AreNumbered, FoundInEachSuchSnapshot}
 

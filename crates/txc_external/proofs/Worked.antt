@@ -1,5 +1,5 @@
 -- The worked snapshots.
-use Rattle.std.proofs.Common.{◌≡◌, ◌⊎◌, inl, inr, ℕ, zero, suc, ◌+◌, ◌^◌, ◌<◌, ◌≤◌, List, [], ◌∷◌, ◌++◌, length, get_or, Option, Some, None, Bool, true, false, true≢false, ◌||◌, ◌==◌, refl, sym, ap, subst, ◌∙◌, arith}
+use Rattle.std.proofs.Common.{◌≡◌, inl, inr, ℕ, zero, suc, ◌+◌, ◌^◌, ◌<◌, ◌≤◌, List, [], ◌∷◌, ◌++◌, length, get_or, Option, Some, Bool, true, false, true≢false, ◌==◌, refl, sym, ap, ◌∙◌, arith}
 use borrow.Author.Tests.{eqb-true}
 use Rattle.std.specs.Str.{bytes_eq}
 use Rattle.std.specs.List.{list_any, Contains}
@@ -9,14 +9,13 @@ use Rattle.txc_tags.proofs.Lists.{both_true, one_true}
 use Rattle.txc_rows.specs.declared.query.Change.{Change}
 use Rattle.txc_rows.specs.declared.query.Change.TheVariants.{Put}
 use Rattle.txc_rows.specs.States.{RowValue, State}
-use Rattle.txc_db.specs.Facts.{EventValue}
-use Rattle.txc_db.specs.History.{History, pin_event, state_at}
+use Rattle.txc_db.specs.History.{pin_event, state_at}
 use Rattle.txc_app.specs.Eval.{activation, call_below, eval}
 use Rattle.txc_external.specs.Snapshots.{Tag, Snapshots, ReadsAreCovered, equal_tags, is_noted, version_row, IsVersionTable}
 use Rattle.txc_external.specs.Functions.{computed, uncached_below, uncached, ask_after, over_versions}
-use Rattle.txc_external.specs.Following.{AreStepCommits, PutAll, HasFollowed, start, pinned, stepped, FollowsSnapshots}
-use Rattle.txc_external.specs.Laws.{ValuesAreUncached, CachedIsUncached}
-use Rattle.txc_external.specs.Worked.{item, bids, price, worked_find, worked_tags, noted, worked_database, worked_functions, page, table_1, table_2, WorkedSnapshots, WorkedValues, puts, worked_history, WorkedFollowing, missing, missing_table, missing_history, MissingNote, torn_history, PinWithinStep}
+use Rattle.txc_external.specs.Following.{AreStepCommits, PutAll, HasFollowed, start, pinned, stepped}
+use Rattle.txc_external.specs.Laws.{ValuesAreUncached}
+use Rattle.txc_external.specs.Worked.{item, bids, price, worked_find, worked_tags, noted, worked_database, worked_functions, page, WorkedSnapshots, WorkedValues, puts, worked_history, WorkedFollowing, missing, missing_table, missing_history, MissingNote, torn_history, PinWithinStep}
 use Rattle.txc_external.proofs.Computing.{cached_is_uncached}
 use Rattle.txc_external.proofs.Following.{followed_table, pins_show}
 
@@ -91,9 +90,9 @@ second_step : PutAll worked_database 2 (puts item 2 ∷ puts bids 2 ∷ [])
 second_step t noted = elim (one_true (equal_tags t item) (list_any (equal_tags t) (bids ∷ item ∷ [])) noted) [
   | inl here ↦ is_item t here
   | inr later ↦ elim (one_true (equal_tags t bids) (list_any (equal_tags t) (item ∷ [])) later) [
-      | inl here ↦ is_bids t here
-      | inr last ↦ elim (one_true (equal_tags t item) false last) [ inl here ↦ is_item t here | inr none ↦ absurd (no_other t none) ]
-    ]
+    | inl here ↦ is_bids t here
+    | inr last ↦ elim (one_true (equal_tags t item) false last) [ inl here ↦ is_item t here | inr none ↦ absurd (no_other t none) ]
+  ]
 ]
 
 at_first : HasFollowed worked_database (pin_event 0 ∷ []) 0
@@ -205,9 +204,9 @@ byte_at i e = ap (λ l. get_or l i 0) e
 
 -- no snapshot has the price of one beside the bid of another
 not_beside : (k : ℕ) → worked_find k true ++ worked_find k false ≡ 98 ∷ 113 ∷ [] → ⊥
-not_beside zero e = let h : 97 ≡ 98 = byte_at 0 e in omega arith
-not_beside (suc zero) e = let h : 112 ≡ 113 = byte_at 1 e in omega arith
-not_beside (suc (suc k)) e = let h : 99 ≡ 98 = byte_at 0 e in omega arith
+not_beside zero e = let h : ◌≡◌ {A = ℕ} 97 98 = byte_at 0 e in omega arith
+not_beside (suc zero) e = let h : ◌≡◌ {A = ℕ} 112 113 = byte_at 1 e in omega arith
+not_beside (suc (suc k)) e = let h : ◌≡◌ {A = ℕ} 99 98 = byte_at 0 e in omega arith
 
 missing_torn : (k : ℕ) → uncached worked_functions (missing.find k) page ≡ Some (98 ∷ 113 ∷ []) → ⊥
 missing_torn k e = not_beside k (same_Some _ _ (sym (uncached_is missing.steps k) ∙ e))
@@ -239,7 +238,7 @@ first_byte (r ∷ rs) = get_or r.body 0 0
 different : version_row item 2 ∷ [] ≡ version_row item 1 ∷ [] → ⊥
 different e =
     let written : row_of item 2 ∷ [] ≡ row_of item 1 ∷ [] = ap (λ r. r ∷ []) (sym (row_is item 2 (omega arith))) ∙ (e ∙ ap (λ r. r ∷ []) (row_is item 1 (omega arith))) in
-    let h : 50 ≡ 49 = ap first_byte written in
+    let h : ◌≡◌ {A = ℕ} 50 49 = ap first_byte written in
     omega arith
 
 torn_none : (k : ℕ) → k ≤ 2 → IsVersionTable worked_database k (state_at torn_history 5) → ⊥
@@ -249,9 +248,9 @@ torn_none (suc (suc zero)) low table = cc (table bids)
 torn_none (suc (suc (suc k))) low table = absurd (omega arith)
 
 not_torn : (k : ℕ) → worked_find k true ++ worked_find k false ≡ 99 ∷ 112 ∷ [] → ⊥
-not_torn zero e = let h : 97 ≡ 99 = byte_at 0 e in omega arith
-not_torn (suc zero) e = let h : 98 ≡ 99 = byte_at 0 e in omega arith
-not_torn (suc (suc k)) e = let h : 113 ≡ 112 = byte_at 1 e in omega arith
+not_torn zero e = let h : ◌≡◌ {A = ℕ} 97 99 = byte_at 0 e in omega arith
+not_torn (suc zero) e = let h : ◌≡◌ {A = ℕ} 98 99 = byte_at 0 e in omega arith
+not_torn (suc (suc k)) e = let h : ◌≡◌ {A = ℕ} 113 112 = byte_at 1 e in omega arith
 
 pub pin_within_step : PinWithinStep
 pin_within_step = record {
