@@ -10,12 +10,12 @@ from sources import ROOT
 
 README = ROOT / "README.md"
 # How many words a document may have: what has a letter or a digit, so that no sign of a definition and no bar of a table is one.
-MOST_WORDS = {"README.md": 1_400, "docs/PROMISE.md": 3_000, "docs/GATE.md": 900, "docs/DECISIONS.md": 6_000, "docs/promise.in.md": 2_635}
+MOST_WORDS = {"README.md": 1_400, "docs/PROMISE.md": 3_000, "docs/GATE.md": 900, "docs/DECISIONS.md": 6_000, "docs/promise.in.md": 3_000}
 # Those that are written by hand, and how many words they may have together.
 BY_HAND = ["README.md", *(f"docs/{it}.md" for it in ("ARCHITECTURE", "SCRIPTS", "DECISIONS", "GATE", "CALLING", "EMBEDDING", "BINDINGS", "FIGURES"))]
-MOST_BY_HAND = 26_000
+MOST_BY_HAND = 26_030
 # How many words all pages of crates may have together.
-MOST_OF_CRATES = 108_172
+MOST_OF_CRATES = 108_730
 # How many words a sentence may have: of a document that is written by hand, and of a source's comment.
 MOST_WORDS_OF_A_SENTENCE = 30
 MOST_WORDS_OF_A_COMMENT = 40

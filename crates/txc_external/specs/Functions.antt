@@ -13,18 +13,18 @@ use Rattle.txc_app.specs.declared.ask.Answer.TheVariants as answers
 use Rattle.txc_app.specs.Eval.{Next}
 use Rattle.txc_external.specs.Snapshots.{Read, Tag, Snapshots}
 
--- what a function of the service does next: it reads, calls, or is done with these bytes
+-- the next act of a function: it reads, calls, or is done with these bytes
 pub data OwnAct : Type 0 where
   read : Read → OwnAct
   call : Call → OwnAct
   done : List ℕ → OwnAct
 
--- a service's functions: what a function does next, by its number, its arguments and the results of its reads and calls
--- so far; none if it rejects the arguments
+-- a service's functions: the next act of a function, by its number, its arguments and the results of its reads and
+-- calls so far; none if it rejects the arguments
 abbrev pub Functions : Type 0
 Functions = ℕ → List ℕ → List (List ℕ) → Option OwnAct
 
--- what calls give
+-- the result of each call, if it has one
 abbrev pub Results : Type 0
 Results = Call → Option (List ℕ)
 
@@ -48,7 +48,7 @@ uncached_below own find (suc f) k = if k.function == f
     then computed (own k.function k.args) find (uncached_below own find f) MAX_ASKS []
     else uncached_below own find f k
 
--- what a call gives if reads find this, with no cache and no versions; a function may call those below its own
+-- the result of a call if reads find this, with no cache and no versions; a function may call those below its own
 abbrev pub uncached : Functions → (Read → List ℕ) → Results
 uncached own find k = uncached_below own find (suc k.function) k
 
@@ -68,9 +68,9 @@ abbrev pub tag_or : List Tag → Option Ask → Option Ask
 tag_or [] other = other
 tag_or (t ∷ ts) other = Some (asks.Query (ById t.table t.id))
 
--- What is asked for an act: for a read the version of each tag that it covers, one after the other. If the answers begin with
--- all of these, its result is what it finds in the first snapshot with them, and the function goes on with the
--- other answers.
+-- The next ask of an act. A read asks for the version of each tag that it covers, one after the other. If the answers begin
+-- with all of these, its result is found in the first snapshot with them, and the function goes on with the other
+-- answers.
 abbrev pub ask_for : Snapshots → Option OwnAct → List Answer → (List ℕ → List Answer → Option Ask) → Option Ask
 ask_for D None given go_on = None
 ask_for D (Some (done bytes)) given go_on = Some (asks.Done bytes)
@@ -81,7 +81,7 @@ ask_for D (Some (read r)) given go_on =
     let tags = D.tags_of r in let versions = take (length tags) given in
     tag_or (drop (length given) tags) (go_on (D.find (first_with versions) r) (drop (length tags) given))
 
--- what a function asks that may act so many times more, after these results and then these answers
+-- the next ask of a function that may act so many times more, after these results and then these answers
 unfoldable pub ask_after : Snapshots → (List (List ℕ) → Option OwnAct) → ℕ → List (List ℕ) → List Answer → Option Ask
 ask_after D acts zero results given = None
 ask_after D acts (suc left) results given =

@@ -18,7 +18,7 @@ abbrev pub FoundInEachSuchSnapshot : Type 0
 FoundInEachSuchSnapshot = (D : Snapshots) (r : Read) (k : ℕ) → ReadsAreCovered D → AreNumbered D → k ≤ last_snapshot D
     → D.find (first_with (map (λ t. answers.Rows (version_rows t (last_noted D t k))) (D.tags_of r))) r ≡ D.find k r
 
--- a value that a call has over the version table of a snapshot is what the call gives that reads this snapshot
+-- a value that a call has over the version table of a snapshot is its result if reads find what this snapshot has,
 -- with no cache
 abbrev pub ValuesAreUncached : Snapshots → Type 0
 ValuesAreUncached D = (own : Functions) (k : ℕ) (s : State) (call : Call) (value : List ℕ)

@@ -2,7 +2,7 @@
 ghost use Rattle.txc_external.specs.Laws.{FoundInEachSuchSnapshot, CachedIsUncached, BeginningsFollow, PinsShowVersionTables};
 ghost use Rattle.txc_external.specs.Worked.{WorkedSnapshots, WorkedValues, WorkedFollowing, MissingNote, PinWithinStep};
 
-/// Returns, for the versions that the tags of a read have in a snapshot, what the read finds in that snapshot.
+/// A read finds the same in all snapshots in which the tags that it covers have the same versions.
 pub fn versions_decide_a_read()
     ensures { FoundInEachSuchSnapshot }
 {}

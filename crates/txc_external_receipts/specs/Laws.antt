@@ -13,8 +13,8 @@ use Rattle.txc_external.specs.Laws.{AreNumbered}
 use Rattle.txc_external.specs.Worked.{missing}
 
 -- The pin shows snapshot k: the history up to the pin has followed the snapshots up to it. Its moment is no older than the bounds
--- allow, and the pin not before the stamp that they ask for. Each answer is what its call gives that reads this
--- snapshot with no cache.
+-- allow, and the pin not before the stamp that they ask for. Each answer is the result of its call if reads find
+-- what this snapshot has, with no cache.
 pub record IsOfSnapshot (D : Snapshots) (own : Functions) (L : History) (bounds : Bounds) (pin : Pin) (answers : List Recorded) (k : ℕ) : Type 0 where
   pub taken : k ≤ last_snapshot D
   pub followed : HasFollowed D (take pin.stamp L) k
