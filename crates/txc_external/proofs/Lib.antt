@@ -1,0 +1,5 @@
+mod Versions
+mod Computing
+mod Puts
+mod Following
+mod Worked

@@ -1,0 +1,20 @@
+//! Laws of receipts over versions. Each is a theorem: it has no code.
+ghost use Rattle.txc_external_receipts.specs.Laws.{ReceiptsShowSnapshots, ReceiptsNeedThePremise};
+
+use txc_external::laws::{cached_is_uncached, pins_show_version_tables, the_premise_is_needed};
+
+/// A receipt that is explained over a history that follows the snapshots has one snapshot, no older than its bounds
+/// allow, in which each of its answers is the uncached value.
+pub fn receipts_show_snapshots()
+    ensures { ReceiptsShowSnapshots }
+{
+    cached_is_uncached();
+    pins_show_version_tables();
+}
+
+/// Without the premise a receipt may have an answer that is the uncached value in no snapshot.
+pub fn receipts_need_the_premise()
+    ensures { ReceiptsNeedThePremise }
+{
+    the_premise_is_needed();
+}
