@@ -154,4 +154,4 @@ pub pins_show : PinsShowVersionTables
 pins_show D L stamp moment follows at =
     let it = shown_at D follows.complete follows.commits follows.number stamp moment follows.followed follows.of_next (ap (λ (M : History). moment_at M stamp) (sym follows.is) ∙ at) in
     let there = subst (λ (M : History). HasFollowed D (take stamp M) it.0) (sym follows.is) it.1 in
-    record { number = it.0; taken = followed_taken D there; followed = there; table = followed_table D there; no_older = it.2 }
+    record { number = it.0; taken = followed_taken D there; followed = there; table = followed_table D there; no_later = it.2 }

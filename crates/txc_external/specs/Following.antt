@@ -27,7 +27,7 @@ PutAll D k events = (t : Tag) → is_noted D k t ≡ true
 
 -- The history has followed the snapshots up to snapshot k. It is empty, and k is 0. Or it goes on with a pin, whose
 -- moment is not after that of snapshot k. Or it goes on with the commits of the next step, which put all of its
--- versions, and no pin stands between them.
+-- versions, and neither a pin nor any other commit stands between them.
 pub data HasFollowed (D : Snapshots) : History → ℕ → Type 0 where
   start : HasFollowed D [] 0
   pinned : (L : History) (k moment : ℕ) → HasFollowed D L k → moment ≤ D.moment k

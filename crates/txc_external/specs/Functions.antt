@@ -20,7 +20,7 @@ pub data OwnAct : Type 0 where
   done : List ℕ → OwnAct
 
 -- a service's functions: the next act of a function, by its number, its arguments and the results of its reads and
--- calls so far; none if it rejects the arguments
+-- calls so far; none if it rejects them
 abbrev pub Functions : Type 0
 Functions = ℕ → List ℕ → List (List ℕ) → Option OwnAct
 
@@ -35,7 +35,7 @@ after_act find calls (Some (done bytes)) rest = Some bytes
 after_act find calls (Some (read r)) rest = rest (find r)
 after_act find calls (Some (call k)) rest = option_and_then rest (calls k)
 
--- a computation that may act so many times more, after these results
+-- a computation that may act so many times more, being done counted, after these results
 unfoldable pub computed : (List (List ℕ) → Option OwnAct) → (Read → List ℕ) → Results → ℕ → List (List ℕ) → Option (List ℕ)
 computed acts find calls zero results = None
 computed acts find calls (suc left) results =
@@ -48,7 +48,7 @@ uncached_below own find (suc f) k = if k.function == f
     then computed (own k.function k.args) find (uncached_below own find f) MAX_ASKS []
     else uncached_below own find f k
 
--- the result of a call if reads find this, with no cache and no versions; a function may call those below its own
+-- the result of a call if reads find this, with no cache and no versions; a function may call those of a lower number
 abbrev pub uncached : Functions → (Read → List ℕ) → Results
 uncached own find k = uncached_below own find (suc k.function) k
 
@@ -57,7 +57,7 @@ abbrev pub noted_in : List RowValue → ℕ
 noted_in [] = 0
 noted_in (row ∷ rows) = digits_value 10 row.body
 
--- the greatest number of these versions: of the first snapshot in which these tags have them
+-- the greatest number of these versions: if a snapshot has all of them, the first such one has this number
 abbrev pub first_with : List Answer → ℕ
 first_with [] = 0
 first_with (answers.Rows rows ∷ given) = max (noted_in rows) (first_with given)
@@ -68,9 +68,9 @@ abbrev pub tag_or : List Tag → Option Ask → Option Ask
 tag_or [] other = other
 tag_or (t ∷ ts) other = Some (asks.Query (ById t.table t.id))
 
--- The next ask of an act. A read asks for the version of each tag that it covers, one after the other. If the answers begin
--- with all of these, its result is found in the first snapshot with them, and the function goes on with the other
--- answers.
+-- The next ask of an act. A read asks for the version of each tag on which it depends, one after the other. Once as many
+-- answers are there, its result is that of the first snapshot with these versions, which any other with them has too
+-- (`FoundInEachSuchSnapshot`), and the function goes on with the other answers.
 abbrev pub ask_for : Snapshots → Option OwnAct → List Answer → (List ℕ → List Answer → Option Ask) → Option Ask
 ask_for D None given go_on = None
 ask_for D (Some (done bytes)) given go_on = Some (asks.Done bytes)

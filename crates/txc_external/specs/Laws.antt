@@ -13,7 +13,7 @@ use Rattle.txc_external.specs.Following.{HasFollowed, FollowsSnapshots}
 abbrev pub AreNumbered : Snapshots → Type 0
 AreNumbered D = last_snapshot D < 2 ^ 64
 
--- a read may be made in any snapshot in which its tags have these versions: it finds the same as in the first of them
+-- a read may be made in any snapshot in which its tags have their versions: it finds the same as in the first of these
 abbrev pub FoundInEachSuchSnapshot : Type 0
 FoundInEachSuchSnapshot = (D : Snapshots) (r : Read) (k : ℕ) → ReadsAreCovered D → AreNumbered D → k ≤ last_snapshot D
     → D.find (first_with (map (λ t. answers.Rows (version_rows t (last_noted D t k))) (D.tags_of r))) r ≡ D.find k r
@@ -25,7 +25,7 @@ ValuesAreUncached D = (own : Functions) (k : ℕ) (s : State) (call : Call) (val
     → k ≤ last_snapshot D → IsVersionTable D k s
     → eval (over_versions D own) call s ≡ Some value → uncached own (D.find k) call ≡ Some value
 
--- that follows from the premise
+-- the premise implies it, if the snapshots are numbered so
 abbrev pub CachedIsUncached : Type 0
 CachedIsUncached = (D : Snapshots) → ReadsAreCovered D → AreNumbered D → ValuesAreUncached D
 
@@ -33,14 +33,14 @@ CachedIsUncached = (D : Snapshots) → ReadsAreCovered D → AreNumbered D → V
 abbrev pub BeginningsFollow : Type 0
 BeginningsFollow = (D : Snapshots) (L : History) (n : ℕ) → FollowsSnapshots D L → FollowsSnapshots D (take n L)
 
--- The pin at this stamp, of this moment, shows a snapshot: the history up to the pin has followed the snapshots up to it, its
--- state there is the snapshot's version table, and the moment is not after the snapshot's.
+-- The pin at this stamp, of this moment, shows a snapshot: the history up to and with the pin has followed the snapshots up
+-- to it. The state there is the snapshot's version table, and the pin's moment is not after the snapshot's.
 pub record ShowsSnapshot (D : Snapshots) (L : History) (stamp moment : ℕ) : Type 0 where
   pub number : ℕ
   pub taken : number ≤ last_snapshot D
   pub followed : HasFollowed D (take stamp L) number
   pub table : IsVersionTable D number (state_at L stamp)
-  pub no_older : moment ≤ D.moment number
+  pub no_later : moment ≤ D.moment number
 
 -- each pin of a history that follows the snapshots shows one
 abbrev pub PinsShowVersionTables : Type 0

@@ -9,14 +9,14 @@ use Rattle.txc_rows.specs.States.{RowValue, State, answer}
 abbrev pub Read : Type 0
 Read = List ℕ
 
--- a tag, by the table and the id of its row in the version table; tags that share a row are one
+-- a tag, by the two numbers of its row in the version table; tags that share a row are one
 pub record Tag : Type 0 where
   pub table : ℕ
   pub id : ℕ
 
--- The snapshots that were taken, by number, the first one 0. It has the tags that were noted in each step from a snapshot
--- to the next one; and the tags that a read covers. It has the bytes that a read finds in a snapshot, and the
--- moment before which a snapshot was not begun.
+-- The snapshots that a service took of its database, by number, the first one 0. Each step from a snapshot to the next one
+-- has the tags that were noted in it. A read has the tags on which it depends, and the bytes that it finds in a snapshot.
+-- A snapshot began at its moment or after it.
 pub record Snapshots : Type 0 where
   pub steps : List (List Tag)
   pub tags_of : Read → List Tag
@@ -40,7 +40,7 @@ equal_tags t u = t.table == u.table && t.id == u.id
 abbrev pub is_noted : Snapshots → ℕ → Tag → Bool
 is_noted D k t = list_any (equal_tags t) (step D k)
 
--- step k noted a tag that the read covers
+-- step k noted a tag on which the read depends
 abbrev pub is_read_noted : Snapshots → ℕ → Read → Bool
 is_read_noted D k r = list_any (is_noted D k) (D.tags_of r)
 
@@ -63,7 +63,7 @@ abbrev pub version_rows : Tag → Option ℕ → List RowValue
 version_rows t None = []
 version_rows t (Some n) = version_row t n ∷ []
 
--- The state is the version table of snapshot k: under each tag it has the number of the last step, k at most, that noted it,
--- and no row if there is none.
+-- The state of the cache's own rows is the version table of snapshot k: under each tag it has the number of the last step,
+-- k at most, that noted it, and no row if there is none.
 abbrev pub IsVersionTable : Snapshots → ℕ → State → Type 0
 IsVersionTable D k s = (t : Tag) → answer (ById t.table t.id) s ≡ version_rows t (last_noted D t k)

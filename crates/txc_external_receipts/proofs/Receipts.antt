@@ -28,13 +28,13 @@ module _ (D : Snapshots) (own : Functions) (values : ValuesAreUncached D) where
   of_pin L bounds pin answers shows h =
       let allowed = h.1.allowed in
       let same : allowed.moment ≡ pin.moment = same_Some _ _ (sym allowed.pinned ∙ h.1.shown) in
-      let fresh = allowed.fresh in let young = shows.no_older in (
+      let fresh = allowed.fresh in let young = shows.no_later in (
         shows.number,
         record {
           taken = shows.taken;
           followed = shows.followed;
           fresh = omega (arith, same, fresh, young);
-          late = allowed.late;
+          at_least = allowed.late;
           uncached = All-from_recursion _ answers (each L pin.stamp pin.moment shows answers (recursion_from_All _ answers h.2));
         },
       )

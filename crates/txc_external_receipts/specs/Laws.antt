@@ -12,17 +12,17 @@ use Rattle.txc_external.specs.Following.{HasFollowed, FollowsSnapshots}
 use Rattle.txc_external.specs.Laws.{AreNumbered}
 use Rattle.txc_external.specs.Worked.{missing}
 
--- The pin shows snapshot k: the history up to the pin has followed the snapshots up to it. Its moment is no older than the bounds
--- allow, and the pin not before the stamp that they ask for. Each answer is the result of its call if reads find
--- what this snapshot has, with no cache.
+-- The receipt is of snapshot k: the history up to and with its pin has followed the snapshots up to k. The moment of the
+-- snapshot is no older than the bounds allow, and the pin not before the stamp that they ask for. Each answer is the
+-- result of its call if reads find what this snapshot has, with no cache.
 pub record IsOfSnapshot (D : Snapshots) (own : Functions) (L : History) (bounds : Bounds) (pin : Pin) (answers : List Recorded) (k : ℕ) : Type 0 where
   pub taken : k ≤ last_snapshot D
   pub followed : HasFollowed D (take pin.stamp L) k
   pub fresh : bounds.now ≤ D.moment k + bounds.staleness
-  pub late : bounds.at_least ≤ pin.stamp
+  pub at_least : bounds.at_least ≤ pin.stamp
   pub uncached : All (λ r. uncached own (D.find k) r.key ≡ Some r.value) answers
 
--- the receipt has no pin and no answer, or its pin shows one snapshot
+-- the receipt has no pin and no answer, or it is of one snapshot
 abbrev pub IsOfOneSnapshot : Snapshots → Functions → History → Bounds → Option Pin → List Recorded → Type 0
 IsOfOneSnapshot D own L bounds None answers = answers ≡ []
 IsOfOneSnapshot D own L bounds (Some pin) answers = (k : ℕ) × IsOfSnapshot D own L bounds pin answers k
@@ -32,10 +32,10 @@ abbrev pub AreOfOneSnapshot : Snapshots → Type 0
 AreOfOneSnapshot D = (own : Functions) (L : History) (bounds : Bounds) (pin : Option Pin) (answers : List Recorded)
     → FollowsSnapshots D L → Explains (over_versions D own) L bounds pin answers → IsOfOneSnapshot D own L bounds pin answers
 
--- that follows from the premise
+-- the premise implies it, if the snapshots are numbered so
 abbrev pub ReceiptsShowSnapshots : Type 0
 ReceiptsShowSnapshots = (D : Snapshots) → ReadsAreCovered D → AreNumbered D → AreOfOneSnapshot D
 
--- where a note is missing, it is false
+-- it is false of the snapshots of the worked example in which a note is missing
 abbrev pub ReceiptsNeedThePremise : Type 0
 ReceiptsNeedThePremise = AreNumbered missing × (AreOfOneSnapshot missing → ⊥)
