@@ -1,2 +1,3 @@
+pub mod Fresh
 pub mod Idled
 pub mod Numbers

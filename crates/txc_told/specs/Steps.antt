@@ -1,5 +1,5 @@
 -- The objects after a step that no registry made.
-use Rattle.std.specs.Prelude.{List, Option, Some, None, map}
+use Rattle.std.specs.Prelude.{ℕ, zero, suc, List, [], ◌∷◌, Option, Some, None, map}
 use Rattle.txc_app.specs.declared.ask.Ask.{Ask}
 use Rattle.txc_registry.specs.Activity.{idle}
 use Rattle.txc_registry.specs.Objects.{Objects}
@@ -16,6 +16,11 @@ objects_after_need objects frames (Some need) ask = objects_after objects frames
 -- .. after the function that the call needs asked this
 abbrev pub objects_after_ask : Objects → Calling → Ask → Objects
 objects_after_ask objects call ask = objects_after_need objects call.frames call.need ask
+
+-- an object for each function below this number, of which none runs
+abbrev pub idle_below : ℕ → Objects
+idle_below zero = []
+idle_below (suc n) = (n, idle) ∷ idle_below n
 
 -- the same objects, of which none runs
 abbrev pub idled : Objects → Objects

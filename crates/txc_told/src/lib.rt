@@ -7,5 +7,5 @@
 mod steps;
 mod told;
 
-pub use steps::{AsIdle, AsRan, Ran};
+pub use steps::{AsIdle, AsNew, AsRan, Ran};
 pub use told::{Reads, Told};

@@ -1,7 +1,8 @@
 //! The objects after a step that no registry made.
-ghost use Rattle.std.specs.Prelude.{◌≡◌, None, Some};
-ghost use Rattle.txc_registry.specs.Objects.{numbers_of, AllIdle, Objects};
-ghost use Rattle.txc_told.specs.Steps.{idled, objects_after_ask};
+ghost use Rattle.std.specs.Prelude.{◌≡◌, ◌≤◌, ◌+◌, ℕ, IsSome};
+ghost use Rattle.txc_tags.specs.declared.key.TheConstants.{LAST_FUNCTION};
+ghost use Rattle.txc_registry.specs.Objects.{activity_of, numbers_of, AllIdle, Objects};
+ghost use Rattle.txc_told.specs.Steps.{idle_below, idled, objects_after_ask};
 
 use crate::told::{Reads, Told};
 use txc_app::Ask;
@@ -29,7 +30,22 @@ impl Reads<Told> for AsIdle {
     ghost objects = { λ t. idled t.objects };
 }
 
+/// Reads off nothing an object for each function, of which none runs.
+pub struct AsNew;
+
+impl Reads<()> for AsNew {
+    ghost objects = { λ _. idle_below (LAST_FUNCTION + 1) };
+}
+
 impl Told {
+    /// Returns an object for each function, of which none runs.
+    pub fn new() -> Told
+        ensures idle { AllIdle result.objects }
+        ensures functions { (f : ℕ) → f ≤ LAST_FUNCTION → IsSome (activity_of result.objects f) }
+    {
+        Told::of::<(), AsNew>(&())
+    }
+
     /// Returns the same objects, of which none runs.
     pub fn idled(&self) -> Told
         ensures after { result.objects ≡ idled self.now.objects }
