@@ -48,9 +48,6 @@ class Told:
     def air(self):
         self.aired += 1
 
-    def sees(self, mark, token):
-        return mark >= token
-
     def close(self):
         pass
 
@@ -147,16 +144,10 @@ class Looks(unittest.TestCase):
         it.look()
         self.assertEqual((self.store.aired, it.numbers, self.open()), (1, [1], [False, True]))
 
-    def test_tokens(self):
-        it = self.follower("the first snapshot", {"a"})
-        self.assertFalse(it.sees(1))
-        it.look()
-        self.assertEqual((it.sees(1), it.sees(2)), (True, False))
-
     def test_what_is_logged(self):
         it = self.follower("the first snapshot", SnapshotRefused("a lock"), SnapshotLost("away"), "another file")
         logging.getLogger("txcache").setLevel(logging.NOTSET)
-        with self.assertLogs("txcache") as logged:
+        with self.assertLogs("txcache", logging.INFO) as logged:
             it.look()
             self.assertRaises(SnapshotRefused, it.look)
             self.assertRaises(SnapshotLost, it.look)

@@ -419,6 +419,7 @@ class Tokens(Case):
         with other._connection.cursor() as cursor:
             token = self.s.token(cursor)
         self.assertRegex(token, r"^[0-9a-f]{16}-[0-9a-f]+$")
+        self.ask("INSERT INTO items (id) VALUES (2)")  # so that the token's number is below that of one that is over
         self.look()
         self.assertFalse(self.s.sees(self.mark, token))
         other.ask("COMMIT")
@@ -613,11 +614,12 @@ class Faults(Case):
         self.follow()
         (pid,), = self.ask("SELECT pg_backend_pid()")
         started = self.ask("SELECT pg_postmaster_start_time()")
+        self.ask("CHECKPOINT")  # so that it recovers soon
         os.kill(pid, 9)
-        for _ in range(50):
+        ended, found = time.monotonic() + 60, None
+        while found is None and time.monotonic() < ended:
             try:
                 found = self.look()
-                break
             except SnapshotLost:
                 time.sleep(0.2)
         self.assertEqual(found, "the server is another, or has begun anew")

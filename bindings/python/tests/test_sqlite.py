@@ -324,6 +324,7 @@ class Command(Case):
         self.assertEqual(run("uninstall", "shop:cache"), (0, ["items: uninstalled"]))
         self.assertEqual(self.ask("SELECT name FROM sqlite_master WHERE name LIKE 'txcache%'"), [])
         self.assertEqual(run("check", "shop")[0], 1)
+        self.assertEqual(run("check", "shop:cache", "--dsn", "dbname=shop"), (1, ["txcache: this store has no connection string, so --dsn names none"]))
 
 
 class History(Case):

@@ -61,7 +61,7 @@ WRONG = [
     Wrong("a file of SQLite that was changed for another", "sqlite.py", "if self._probe is None or self._file != self._identity():", "if self._probe is None:",
           "tests.test_sqlite -k test_another_file"),
     Wrong("the schema of SQLite is not looked at", "sqlite.py", "if mark.shape != last.shape:", "if False:", "tests.test_sqlite -k test_what_changes_the_schema"),
-    Wrong("a key without types", "_keys.py", "self._known.get((kinds, *args))", "self._known.get(args)", "tests.test_keys -k test_exact_types"),
+    Wrong("a key without types", "_keys.py", "kinds = tuple(map(type, args))", "kinds = ()", "tests.test_keys -k test_exact_types"),
     Wrong("a key without types, whole", "_keys.py", "    bool: lambda it: b\"T\" if it else b\"F\",", "    bool: lambda it: b\"i%x;\" % it,", "tests.test_keys -k test_each_value"),
     Wrong("the look that fails forgets where it stood", "_follower.py", "            except SnapshotRefused as error:\n                self.let_go()\n", "            except SnapshotRefused as error:\n                self.forget()\n",
           "tests.test_follower -k test_a_lock_that_is_waited_for"),

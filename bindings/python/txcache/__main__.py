@@ -46,6 +46,8 @@ def main() -> int:
     words = parser.parse_args()
     sys.path.insert(0, os.getcwd())
     store = found(words.cache)
+    if words.dsn and not hasattr(store, "dsn"):
+        raise SystemExit("txcache: this store has no connection string, so --dsn names none")
     if words.dsn:
         store.dsn = words.dsn
     try:

@@ -66,7 +66,7 @@ class Follower:
                 self._mark = None
                 raise
             if found.tags is None:
-                LOG.warning("the cache begins cold: %s", found.reason)
+                LOG.log(logging.INFO if self._mark is None else logging.WARNING, "the cache begins cold: %s", found.reason)
                 self.let_go()
             self._mark = found.mark
             return self._taken(found.snapshot, moment, found.tags, found.reason)
@@ -115,11 +115,6 @@ class Follower:
                     return it.snapshot
             held = ", ".join(str(it.number) for it in self._held) or "none"
         raise SnapshotLost(f"the snapshot {number} is open no more, but {held}")
-
-    def sees(self, token: str) -> bool:
-        """Returns True if the newest snapshot sees the transaction of a token."""
-        with self._looks:
-            return self._mark is not None and self.store.sees(self._mark, token)
 
     @property
     def mark(self) -> Any:

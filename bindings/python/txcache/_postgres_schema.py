@@ -27,7 +27,7 @@ BEGIN
     RETURN (SELECT concat_ws(' ',
         (SELECT sum(hashtextextended(concat(oid, ' ', relfilenode, ' ', xmin), 0)) FROM pg_class WHERE oid = ANY (them)),
         (SELECT sum(hashtextextended(concat(oid, ' ', tgenabled, ' ', xmin), 0)) FROM pg_trigger WHERE tgrelid = ANY (them)),
-        (SELECT sum(hashtextextended(concat(attrelid, ' ', attnum, ' ', xmin), 0)) FROM pg_attribute WHERE attrelid = ANY (them)),
+        (SELECT sum(hashtextextended(concat(attrelid, ' ', attnum, ' ', xmin), 0)) FROM pg_attribute WHERE attrelid = ANY (them) AND attnum > 0),
         (SELECT concat(count(*), ',', sum(hashtextextended(concat(oid, ' ', xmin), 0))) FROM pg_policy WHERE polrelid = ANY (them)),
         (SELECT count(*) FROM pg_class WHERE oid = ANY (them) AND relrowsecurity AND row_security_active(oid)),
         (SELECT concat(count(*), ',', sum(xmin::text::bigint)) FROM pg_inherits WHERE inhparent = ANY (them)),
