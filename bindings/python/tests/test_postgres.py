@@ -639,7 +639,7 @@ class Faults(Case):
         self.assertIn("Index", plan)
         begun = time.monotonic()
         self.assertEqual(self.look(), [])
-        self.assertLess(time.monotonic() - begun, 0.5)
+        self.assertLess(time.monotonic() - begun, 2.0)
 
 
 class History(Case):
