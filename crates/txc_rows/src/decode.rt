@@ -1,6 +1,6 @@
 //! Versions from the rows that the store shows.
 
-ghost use Rattle.std.specs.Prelude.{◌≡◌, ◌≤◌, ◌++◌, IfOk, IfErr, OnOk, Some, map};
+ghost use Rattle.std.specs.Prelude.{◌≡◌, ◌≤◌, ◌+◌, ◌++◌, length, IfOk, IfErr, OnOk, Some, map};
 ghost use Rattle.std.specs.List.{AllByRecursion};
 ghost use Rattle.txc_stamp.specs.declared.stamp.TheConstants.{MOST_STAMP};
 ghost use Rattle.txc_rows.specs.Values.{AreBytes};
@@ -122,6 +122,7 @@ pub(crate) fn add_known(
 ) -> Result<(), StoreError>
     requires { AllByRecursion (IsPlacedRow table) rows.now }
     ensures known { (latest : _) → AreAmong latest known.old.items → AreAmong latest (map placed_from rows.now) → AreAmong latest known.new.items }
+    ensures few { length known.new.items ≤ length known.old.items + length rows.now }
     ensures found { OnOk result (found.new.items ≡ found.old.items ++ map version_of (map placed_from rows.now)) }
     ensures refused { IfErr result (λ e. e ≡ StoreError.Memory) }
 {
