@@ -1,6 +1,6 @@
 -- What is found around a stamp shows there what the states answer.
 use Rattle.std.proofs.Common.{◌≡◌, ◌⊎◌, inl, inr, ℕ, ◌+◌, ◌-◌, ◌<◌, ◌≤◌, List, [], ◌∷◌, ◌++◌, filter, Bool, true, false, true≢false, ◌&&◌, Option, Some, None, nat_le, nat_lt, refl, sym, ap, subst, ◌∙◌, arith}
-use Rattle.std.proofs.lemmas.Bool.Decides.{nat_tests}
+use borrow.Author.Tests.{leb-true, le-leb, ltb-true, ltb-false, lt-ltb}
 use Rattle.std.specs.List.{AllByRecursion, Contains}
 use Rattle.std.specs.List.Sorted.{IsPermutation}
 use Rattle.std.proofs.lemmas.List.Sorted.{IsPermutation-sym, Contains-permutation}
@@ -22,26 +22,19 @@ use Rattle.txc_rows.proofs.Finding.{Meets, meet, pairs_permute, in_order, shown_
 
 seen_of : (s b : ℕ) (x : Option ℕ) (d : ℕ) → x ≡ Some d → nat_le b s && lives_at s x ≡ true → (b ≤ s) × (s < d)
 seen_of s b None d e h = absurd (let f = e in cc)
-seen_of s b (Some x) d e h = let same : x ≡ d = cc in subst (λ n. (b ≤ s) × (s < n)) same (low s b x h, high s b x h)
-  where
-    low : (s b x : ℕ) → nat_le b s && nat_lt s x ≡ true → b ≤ s
-    low s b x h = grind (arith, nat_tests)
-
-    high : (s b x : ℕ) → nat_le b s && nat_lt s x ≡ true → s < x
-    high s b x h = grind (arith, nat_tests)
+seen_of s b (Some x) d e h =
+    let same : x ≡ d = cc in
+    let both = both_true (nat_le b s) (nat_lt s x) h in
+    subst (λ n. (b ≤ s) × (s < n)) same (leb-true b s both.0, ltb-true s x both.1)
 
 of_seen : (s b : ℕ) (x : Option ℕ) (d : ℕ) → x ≡ Some d → b ≤ s → s < d → nat_le b s && lives_at s x ≡ true
 of_seen s b None d e low high = absurd (let f = e in cc)
-of_seen s b (Some x) d e low high = let same : x ≡ d = cc in go s b x low (subst (λ n. s < n) (sym same) high)
-  where
-    go : (s b x : ℕ) → b ≤ s → s < x → nat_le b s && nat_lt s x ≡ true
-    go s b x low high = grind (arith, nat_tests)
+of_seen s b (Some x) d e low high =
+    let same : x ≡ d = cc in
+    and_true (nat_le b s) (nat_lt s x) (le-leb b s low) (lt-ltb s x (subst (λ n. s < n) (sym same) high))
 
 born_by : (s b : ℕ) (x : Option ℕ) → nat_le b s && lives_at s x ≡ true → b ≤ s
-born_by s b x h = low s b (both_true (nat_le b s) (lives_at s x) h).0
-  where
-    low : (s b : ℕ) → nat_le b s ≡ true → b ≤ s
-    low s b h = grind (arith, nat_tests)
+born_by s b x h = leb-true b s (both_true (nat_le b s) (lives_at s x) h).0
 
 same_death : (x : Option ℕ) (d e : ℕ) → x ≡ Some d → x ≡ Some e → d ≡ e
 same_death x d e p q = let two : ◌≡◌ {A = Option ℕ} (Some d) (Some e) = sym p ∙ q in cc
@@ -104,17 +97,11 @@ module _ (q : Query) (t : ℕ) (vs found : List Versioned) (finds : FindsAround 
   abbrev NoneEnds : ℕ → ℕ → Type 0
   NoneEnds first last = (w : Versioned) → IsIn w found → (e : ℕ) → w.died ≡ Some e → first < e → e ≤ last → ⊥
 
-  lt_of : (a b : ℕ) → nat_lt a b ≡ true → a < b
-  lt_of a b e = grind (arith, nat_tests)
-
-  le_of : (a b : ℕ) → nat_lt a b ≡ false → b ≤ a
-  le_of a b e = grind (arith, nat_tests)
-
   upto_it : (a b : ℕ) → (a < b → ⊥) → b ≤ a
-  upto_it a b h = elim (bool_cases (nat_lt a b)) [ inl e ↦ absurd (h (lt_of a b e)) | inr e ↦ le_of a b e ]
+  upto_it a b h = elim (bool_cases (nat_lt a b)) [ inl e ↦ absurd (h (ltb-true a b e)) | inr e ↦ ltb-false a b e ]
 
   before_it : (a b : ℕ) → (b ≤ a → ⊥) → a < b
-  before_it a b h = elim (bool_cases (nat_lt a b)) [ inl e ↦ lt_of a b e | inr e ↦ absurd (h (le_of a b e)) ]
+  before_it a b h = elim (bool_cases (nat_lt a b)) [ inl e ↦ ltb-true a b e | inr e ↦ absurd (h (ltb-false a b e)) ]
 
   -- so none of those that were left out is visible there
   unseen : (first last : ℕ) → first ≤ t → t ≤ last → NoneEnds first last → (v : Versioned) → IsIn v finds.rest → (s : ℕ) → first ≤ s → s ≤ last → is_visible s v ≡ true → ⊥

@@ -1,6 +1,6 @@
 -- Replaced versions by their deaths: those between two stamps, and of them the first and the last.
 use Rattle.std.proofs.Common.{◌≡◌, ◌≢◌, ◌⊎◌, inl, inr, ℕ, ◌+◌, ◌-◌, ◌<◌, ◌≤◌, max, suc, zero, List, [], ◌∷◌, ◌++◌, map, filter, drop, length, option_to_list, Bool, true, false, true≢false, cond, not, ◌&&◌, ◌||◌, nat_le, Option, Some, None, refl, sym, ap, subst, ◌∙◌, append-nil, append_assoc, arith}
-use Rattle.std.proofs.lemmas.Bool.Decides.{nat_tests}
+use borrow.Author.Tests.{leb-true, le-leb, lt-leb, leb-false}
 use Rattle.std.proofs.lemmas.List.{length-map}
 use Rattle.std.specs.List.{slice_get, AllByRecursion, Contains}
 use Rattle.std.specs.Prelude.{MatchOption}
@@ -18,7 +18,7 @@ use Rattle.txc_rows.specs.Holdable.{IsStorable}
 use Rattle.txc_rows.specs.Placed.{version_of, lasts_to, is_left, left_from}
 use Rattle.txc_rows.specs.Indexed.{stamp_of, death_of, dies_between, dead_between, picked, is_within, spot_suits, spots_asked, AreIndexed, DiedFirst, DiedLast}
 use Rattle.txc_rows.specs.Kept.{IsFinding}
-use Rattle.txc_rows.proofs.Members.{IsIn, is_in, all_in, both_true, filtered_both, passing}
+use Rattle.txc_rows.proofs.Members.{IsIn, is_in, all_in, both_true, and_true, filtered_both, passing}
 use Rattle.txc_rows.proofs.IndexLemmas.{Points, death_low, picked_dead, within_point}
 use Rattle.txc_rows.proofs.FindLemmas.{asked}
 
@@ -48,7 +48,7 @@ module _ (first : ℕ) (xs : List Placed) where
   picked_deaths P (s ∷ ss) all each = rw all.0.stands (subst P (sym all.0.death) each.0, picked_deaths P ss all.1 each.1)
 
   module _ (ss : List Spot) (all : AllByRecursion (Points first xs) ss) (s : Spot) (stands : Contains ss s) (x : Placed) (at : slice_get xs (s.number - first) ≡ Some x) where
-    apart : Apart ss s
+    abbrev pub apart : Apart ss s
     apart = take_apart ss s (is_in ss s stands)
 
     points : AllByRecursion (Points first xs) (s ∷ apart.others)
@@ -61,7 +61,7 @@ module _ (first : ℕ) (xs : List Placed) where
         let same : one.version ≡ x = let two : ◌≡◌ {A = Option Placed} (Some one.version) (Some x) = sym one.stands ∙ at in cc in
         subst (λ (y : Placed). death_of y.version ≡ s.death) same one.death
 
-    pub others_there : List Versioned
+    abbrev pub others_there : List Versioned
     others_there = map version_of (picked first xs apart.others)
 
     pub all_there : (vs : List Versioned) → IsPermutation vs (map version_of (picked first xs ss)) → IsPermutation vs (x.version ∷ others_there)
@@ -81,12 +81,13 @@ module _ (first : ℕ) (xs : List Placed) where
 
 -- ---- those that did not die before a stamp
 
-left_grind : (from d : ℕ) → d ≤ MOST_STAMP → nat_le from d ≡ nat_le from d && nat_le d 18446744073709551615
-left_grind from d low = grind (arith, nat_tests)
+and_on : (b c : Bool) → c ≡ true → b ≡ b && c
+and_on true c on = sym on
+and_on false c on = refl
 
 left_is : (from : ℕ) (d : Option ℕ) → d ≢ None → stamp_of d ≤ MOST_STAMP → lasts_to from d ≡ nat_le from (stamp_of d) && nat_le (stamp_of d) 18446744073709551615
 left_is from None alive low = absurd (alive refl)
-left_is from (Some d) alive low = left_grind from d low
+left_is from (Some d) alive low = and_on (nat_le from d) (nat_le d 18446744073709551615) (le-leb d 18446744073709551615 (omega (arith, low)))
 
 module _ (q : Query) (xs : List Placed) (each : AllByRecursion (λ x. IsStorable x.version) xs) (ended : AllByRecursion (λ x. x.version.died ≢ None) xs) where
   abbrev IsEnded : Versioned → Type 0
@@ -107,7 +108,7 @@ module _ (q : Query) (xs : List Placed) (each : AllByRecursion (λ x. IsStorable
       (dead_between q low high xs) (all-filter IsEnded _ (map version_of xs) all_ended) (passing (λ v. dies_between low high v && suits q v) (map version_of xs))
     where
       bounds : (l h d : ℕ) → nat_le l d && nat_le d h ≡ true → (l ≤ d) × (d ≤ h)
-      bounds l h d e = (grind (arith, nat_tests), grind (arith, nat_tests))
+      bounds l h d e = let both = both_true (nat_le l d) (nat_le d h) e in (leb-true l d both.0, leb-true d h both.1)
 
       between : (o : Option ℕ) → o ≢ None → nat_le low (stamp_of o) && nat_le (stamp_of o) high ≡ true → (F : Type 0) → F → (d : ℕ) × (o ≡ Some d) × (low ≤ d) × (d ≤ high) × F
       between None alive passes F f = absurd (alive refl)
@@ -115,33 +116,76 @@ module _ (q : Query) (xs : List Placed) (each : AllByRecursion (λ x. IsStorable
 
   -- ---- those that died after a stamp, and those that died by it
 
+  either : (x y a b : Bool) → x ≡ a → y ≡ b → x || y ≡ a || b
+  either x y a b e f = rw (e, f) refl
+
   parted : (p a b : Versioned → Bool) (vs : List Versioned) → AllByRecursion (λ v. (p v ≡ a v || b v) × (a v && b v ≡ false)) vs → IsPermutation (filter p vs) (filter a vs ++ filter b vs)
   parted p a b [] all = IsPermutation-refl []
   parted p a b (v ∷ vs) all = go (a v) (b v) refl refl (parted p a b vs all.1)
     where
       go : (x y : Bool) → a v ≡ x → b v ≡ y → IsPermutation (filter p vs) (filter a vs ++ filter b vs) → IsPermutation (filter p (v ∷ vs)) (filter a (v ∷ vs) ++ filter b (v ∷ vs))
-      go true true e f on = absurd (true≢false (rw (e, f) at all.0.1))
+      go true true e f on = absurd (true≢false (sym (and_true (a v) (b v) e f) ∙ all.0.1))
       go true false e f on =
-          let here : p v ≡ true = rw (e, f) at all.0.0 in
+          let here : p v ≡ true = all.0.0 ∙ either (a v) (b v) true false e f in
           rw (here, e, f) (IsPermutation-cons v _ _ on)
       go false true e f on =
-          let here : p v ≡ true = rw (e, f) at all.0.0 in
+          let here : p v ≡ true = all.0.0 ∙ either (a v) (b v) false true e f in
           rw (here, e, f) (IsPermutation-trans _ _ _ (IsPermutation-cons v _ _ on) (IsPermutation-sym _ _ (IsPermutation-middle (filter a vs) v (filter b vs))))
       go false false e f on =
-          let here : p v ≡ false = rw (e, f) at all.0.0 in
+          let here : p v ≡ false = all.0.0 ∙ either (a v) (b v) false false e f in
           rw (here, e, f) on
 
-  part_grind : (from at d : ℕ) (s : Bool) → d ≤ MOST_STAMP
-      → ((nat_le from d && nat_le d 18446744073709551615) && s ≡ ((nat_le (max from (at + 1)) d && nat_le d 18446744073709551615) && s) || ((nat_le from d && nat_le d at) && s))
-      × (((nat_le (max from (at + 1)) d && nat_le d 18446744073709551615) && s) && ((nat_le from d && nat_le d at) && s) ≡ false)
-  part_grind from at d true low = (grind (arith, nat_tests), grind (arith, nat_tests))
-  part_grind from at d false low = (grind (arith, nat_tests), grind (arith, nat_tests))
+  greater_of : (a b : ℕ) → (a ≤ max a b) × (b ≤ max a b) × ((max a b ≤ a) ⊎ (max a b ≤ b))
+  greater_of a b = go (nat_le a b) refl
+    where
+      go : (c : Bool) → nat_le a b ≡ c → (a ≤ max a b) × (b ≤ max a b) × ((max a b ≤ a) ⊎ (max a b ≤ b))
+      go true e = let low = leb-true a b e in (omega (arith, low), omega (arith, low), inr (omega (arith, low)))
+      go false e = let low = leb-false a b e in (omega (arith, low), omega (arith, low), inl (omega (arith, low)))
+
+  -- it died at the later of the two bounds or after it, or before it
+  part_of : (from at later d : ℕ) (s : Bool) → d ≤ MOST_STAMP → from ≤ later → at + 1 ≤ later → (later ≤ from) ⊎ (later ≤ at + 1)
+      → ((nat_le from d && nat_le d 18446744073709551615) && s ≡ ((nat_le later d && nat_le d 18446744073709551615) && s) || ((nat_le from d && nat_le d at) && s))
+      × (((nat_le later d && nat_le d 18446744073709551615) && s) && ((nat_le from d && nat_le d at) && s) ≡ false)
+  part_of from at later d s low first next one = go (nat_le later d) refl
+    where
+      most : nat_le d 18446744073709551615 ≡ true
+      most = le-leb d 18446744073709551615 (omega (arith, low))
+
+      off : (b : Bool) → b && false ≡ false
+      off true = refl
+      off false = refl
+
+      alone : (b : Bool) → b ≡ b || false
+      alone true = refl
+      alone false = refl
+
+      go : (c : Bool) → nat_le later d ≡ c
+          → ((nat_le from d && nat_le d 18446744073709551615) && s ≡ ((nat_le later d && nat_le d 18446744073709551615) && s) || ((nat_le from d && nat_le d at) && s))
+          × (((nat_le later d && nat_le d 18446744073709551615) && s) && ((nat_le from d && nat_le d at) && s) ≡ false)
+      go true e =
+          let high = leb-true later d e in
+          let here : nat_le from d ≡ true = le-leb from d (omega (arith, first, high)) in
+          let past : nat_le d at ≡ false = lt-leb d at (omega (arith, next, high)) in
+          rw (e, most, here, past) (alone s, off s)
+      go false e = before (nat_le from d) refl
+        where
+          early : d < later
+          early = leb-false later d e
+
+          before : (f : Bool) → nat_le from d ≡ f
+              → ((nat_le from d && nat_le d 18446744073709551615) && s ≡ ((nat_le later d && nat_le d 18446744073709551615) && s) || ((nat_le from d && nat_le d at) && s))
+              × (((nat_le later d && nat_le d 18446744073709551615) && s) && ((nat_le from d && nat_le d at) && s) ≡ false)
+          before true f =
+              let low = leb-true from d f in
+              let upto : nat_le d at ≡ true = le-leb d at (elim one [ inl is ↦ absurd (omega (arith, is, low, early)) | inr is ↦ omega (arith, is, early) ]) in
+              rw (e, most, f, upto) (refl, refl)
+          before false f = rw (e, most, f) (refl, refl)
 
   pub both_parts : (from at : ℕ) → IsPermutation (asked q from xs) (asked q (max from (at + 1)) xs ++ dead_between q from at xs)
   both_parts from at =
       rw (left_dead from, left_dead (max from (at + 1)))
       (parted _ (λ v. dies_between (max from (at + 1)) 18446744073709551615 v && suits q v) (λ v. dies_between from at v && suits q v) (map version_of xs)
-      (all_weaker IsEnded _ (λ v is. part_grind from at (death_of v) (suits q v) is.1) (map version_of xs) all_ended))
+      (all_weaker IsEnded _ (λ v is. let later = greater_of from (at + 1) in part_of from at (max from (at + 1)) (death_of v) (suits q v) is.1 later.0 later.1 later.2) (map version_of xs) all_ended))
 
 -- ---- what is found at the spots of the versions that are not gone
 
@@ -175,7 +219,7 @@ module _ (first gone : ℕ) (xs : List Placed) (ids groups : List Spot) (low : g
       number_from e t is = go e.number t.number (nat_le e.low t.death && nat_le t.death e.high) is
         where
           go : (n m : ℕ) (b : Bool) → nat_le n m && b ≡ true → n ≤ m
-          go n m b is = grind (arith, nat_tests)
+          go n m b is = leb-true n m (both_true (nat_le n m) b is).0
 
   -- none where there is no spot
   pub none_dead : spots ≡ [] → dead_between q d.low d.high (drop gone xs) ≡ []

@@ -1,7 +1,7 @@
 -- The spots of replaced versions, and what is picked by them.
-use Rattle.std.proofs.Common.{◌≡◌, ◌≢◌, ◌⊎◌, inl, inr, ℕ, ◌+◌, ◌-◌, ◌^◌, ◌<◌, ◌≤◌, zero, suc, get_or, List, [], ◌∷◌, ◌++◌, map, filter, drop, length, length-drop, option_to_list, Bool, true, false, cond, not, ◌&&◌, ◌==◌, nat_le, Some, None, Ok, Err, Result, OnOk, refl, sym, ap, subst, ◌∙◌, append_assoc, append-nil, length-append, arith}
+use Rattle.std.proofs.Common.{◌≡◌, ◌≢◌, ◌⊎◌, inl, inr, ℕ, ◌+◌, ◌-◌, ◌^◌, ◌<◌, ◌≤◌, zero, suc, get_or, List, [], ◌∷◌, ◌++◌, map, filter, drop, length, length-drop, option_to_list, Bool, true, false, cond, not, ◌&&◌, ◌==◌, nat_le, Option, Some, None, Ok, Err, Result, OnOk, refl, sym, ap, subst, ◌∙◌, append_assoc, append-nil, length-append, arith}
 use Rattle.std.proofs.lemmas.Bool.Decides.{nat_tests}
-use borrow.Author.Tests.{leb-true, le-leb, lt-leb}
+use borrow.Author.Tests.{eqb-true, leb-true, le-leb, lt-leb}
 use Rattle.std.specs.declared.cmp.Ordering.{Ordering}
 use Rattle.std.specs.declared.cmp.Ordering.TheVariants.{Less, Equal, Greater}
 use Rattle.std.specs.Ordering.{nat_cmp, ordering_then, is_eq, is_le, is_lt, match_ordering}
@@ -27,7 +27,7 @@ use Rattle.txc_rows.specs.Holdable.{IsStorable}
 use Rattle.txc_stamp.specs.declared.stamp.TheConstants.{MOST_STAMP}
 use Rattle.txc_rows.specs.Placed.{version_of}
 use Rattle.txc_rows.specs.Indexed.{version_id, version_group, stamp_of, death_of, spot_of, spots_from, FitsSpot, AreIndexed, is_from, is_within, is_between, dies_between, spot_suits, spots_asked, picked, dead_between, DeathsRise}
-use Rattle.txc_rows.proofs.Members.{filters_turned, filtered_both, passing}
+use Rattle.txc_rows.proofs.Members.{both_true, filters_turned, filtered_both, passing}
 
 -- ---- one key more or less
 
@@ -72,17 +72,29 @@ module _ {K : Type 0} (test : K → Bool) where
 abbrev pub spot_cmp : Spot → Spot → Ordering
 spot_cmp s t = ordering_then (nat_cmp s.table t.table) (ordering_then (nat_cmp s.key t.key) (ordering_then (nat_cmp s.death t.death) (nat_cmp s.number t.number)))
 
+then_equal : (o p : Ordering) → ordering_then o p ≡ Equal → (o ≡ Equal) × (p ≡ Equal)
+then_equal Less p e = absurd (let f = e in cc)
+then_equal Equal p e = (refl, e)
+then_equal Greater p e = absurd (let f = e in cc)
+
+both_equal : (o p : Ordering) → o ≡ Equal → p ≡ Equal → ordering_then o p ≡ Equal
+both_equal o p e f = rw (e, f) refl
+
+number_equal : (a b : ℕ) → nat_cmp a b ≡ Equal → a ≡ b
+number_equal a b e = grind (arith, nat_tests)
+
+number_itself : (a : ℕ) → nat_cmp a a ≡ Equal
+number_itself a = grind (arith, nat_tests)
+
 pub spot_differs : (s t : Spot) → t.number ≢ s.number → spot_cmp s t ≢ Equal
-spot_differs s t apart = differs s.table s.key s.death s.number t.table t.key t.death t.number apart
-  where
-    differs : (a b k c d e l f : ℕ) → f ≢ c → ordering_then (nat_cmp a d) (ordering_then (nat_cmp b e) (ordering_then (nat_cmp k l) (nat_cmp c f))) ≢ Equal
-    differs a b k c d e l f apart same = grind (arith, nat_tests)
+spot_differs s t apart same =
+    let keys = then_equal (nat_cmp s.table t.table) _ same in
+    let deaths = then_equal (nat_cmp s.key t.key) _ keys.1 in
+    let numbers = then_equal (nat_cmp s.death t.death) _ deaths.1 in
+    apart (sym (number_equal s.number t.number numbers.1))
 
 pub spot_itself : (s : Spot) → spot_cmp s s ≡ Equal
-spot_itself s = itself s.table s.key s.death s.number
-  where
-    itself : (a b k c : ℕ) → ordering_then (nat_cmp a a) (ordering_then (nat_cmp b b) (ordering_then (nat_cmp k k) (nat_cmp c c))) ≡ Equal
-    itself a b k c = grind (arith, nat_tests)
+spot_itself s = both_equal _ _ (number_itself s.table) (both_equal _ _ (number_itself s.key) (both_equal _ _ (number_itself s.death) (number_itself s.number)))
 
 pub all_differ : (s : Spot) (ss : List Spot) → AllByRecursion (λ t. t.number ≢ s.number) ss → AllByRecursion (λ t. spot_cmp s t ≢ Equal) ss
 all_differ s ss all = all_weaker _ (λ t. spot_cmp s t ≢ Equal) (spot_differs s) ss all
@@ -234,16 +246,27 @@ shown_indexed first gone xs ids groups low h = record {
 
 -- ---- spots between two
 
-between_grind : (t a b l h table key death number : ℕ) → l ≤ death → death ≤ h → number < 18446744073709551616
-    → (is_le (ordering_then (nat_cmp t table) (ordering_then (nat_cmp a key) (ordering_then (nat_cmp l death) (nat_cmp 0 number)))) && not (is_lt (ordering_then (nat_cmp t table) (ordering_then (nat_cmp b key) (ordering_then (nat_cmp h death) (nat_cmp 18446744073709551615 number))))))
-    ≡ ((table == t) && (nat_le a key && nat_le key b))
-between_grind t a b l h table key death number low high from = grind (arith, nat_tests)
+inner_low : (l death number : ℕ) → l ≤ death → is_le (ordering_then (nat_cmp l death) (nat_cmp 0 number)) ≡ true
+inner_low l death number low = grind (arith, nat_tests)
+
+inner_high : (h death number : ℕ) → death ≤ h → number < 18446744073709551616 → is_lt (ordering_then (nat_cmp h death) (nat_cmp 18446744073709551615 number)) ≡ false
+inner_high h death number high most = grind (arith, nat_tests)
+
+-- the keys between two, whatever comes after them
+keys_between : (t a b table key : ℕ) (q r : Ordering) → is_le q ≡ true → is_lt r ≡ false
+    → (is_le (ordering_then (nat_cmp t table) (ordering_then (nat_cmp a key) q)) && not (is_lt (ordering_then (nat_cmp t table) (ordering_then (nat_cmp b key) r)))) ≡ ((table == t) && (nat_le a key && nat_le key b))
+keys_between t a b table key Less Less low high = absurd (let f = high in cc)
+keys_between t a b table key Less Equal low high = grind (arith, nat_tests)
+keys_between t a b table key Less Greater low high = grind (arith, nat_tests)
+keys_between t a b table key Equal Less low high = absurd (let f = high in cc)
+keys_between t a b table key Equal Equal low high = grind (arith, nat_tests)
+keys_between t a b table key Equal Greater low high = grind (arith, nat_tests)
+keys_between t a b table key Greater r low high = absurd (let f = low in cc)
 
 within_both : (d : Deaths) (s : Spot) → is_within d s ≡ true → (d.low ≤ s.death) × (s.death ≤ d.high)
-within_both d s e = both d.number s.number d.low d.high s.death e
-  where
-    both : (n m l h k : ℕ) → nat_le n m && (nat_le l k && nat_le k h) ≡ true → (l ≤ k) × (k ≤ h)
-    both n m l h k e = (grind (arith, nat_tests), grind (arith, nat_tests))
+within_both d s e =
+    let both = both_true (nat_le d.low s.death) (nat_le s.death d.high) (both_true (nat_le d.number s.number) (nat_le d.low s.death && nat_le s.death d.high) e).1 in
+    (leb-true d.low s.death both.0, leb-true s.death d.high both.1)
 
 -- those that died between two stamps, of those from a number on
 abbrev pub dies : Deaths → Spot → Bool
@@ -259,11 +282,14 @@ pub between_spots : (t a b : ℕ) (d : Deaths) (ss : List Spot) → AllByRecursi
     → filter (is_within d) (filter (range_contains spot_cmp (Included (record { table = t; key = a; death = d.low; number = 0 })) (Included (record { table = t; key = b; death = d.high; number = 18446744073709551615 }))) ss) ≡ filter (is_between t a b) (filter (is_within d) ss)
 between_spots t a b d ss fit =
     filters_turned (is_within d) _ ss
-    ∙ filter_same _ _ (filter (is_within d) ss) (all_both (λ s. is_within d s ≡ true) FitsSpot _ (λ s within fits. let w = within_both d s within in between_grind t a b d.low d.high s.table s.key s.death s.number w.0 w.1 fits.2) (filter (is_within d) ss) (passing (is_within d) ss) (within_fit d ss fit))
+    ∙ filter_same _ _ (filter (is_within d) ss) (all_both (λ s. is_within d s ≡ true) FitsSpot _ (λ s within fits. let w = within_both d s within in keys_between t a b s.table s.key _ _ (inner_low d.low s.death s.number w.0) (inner_high d.high s.death s.number w.1 fits.2)) (filter (is_within d) ss) (passing (is_within d) ss) (within_fit d ss fit))
 
-none_grind : (t a b l h table key death : ℕ) → (b < a) ⊎ (h < l) → l ≤ death → death ≤ h → ((table == t) && (nat_le a key && nat_le key b)) ≡ false
-none_grind t a b l h table key death (inl low) from to = grind (arith, nat_tests)
-none_grind t a b l h table key death (inr low) from to = absurd (omega (arith, low, from, to))
+none_keys : (t a b table key : ℕ) → b < a → ((table == t) && (nat_le a key && nat_le key b)) ≡ false
+none_keys t a b table key low = grind (arith, nat_tests)
+
+none_in : (t a b l h table key death : ℕ) → (b < a) ⊎ (h < l) → l ≤ death → death ≤ h → ((table == t) && (nat_le a key && nat_le key b)) ≡ false
+none_in t a b l h table key death (inl low) from to = none_keys t a b table key low
+none_in t a b l h table key death (inr low) from to = absurd (omega (arith, low, from, to))
 
 both_off : (b : Bool) → b && not b ≡ false
 both_off true = refl
@@ -272,16 +298,30 @@ both_off false = refl
 pub none_between : (t a b : ℕ) (d : Deaths) (s : Spot) (ss : List Spot) → (b < a) ⊎ (d.high < d.low) → filter (is_within d) (filter (range_contains spot_cmp (Included s) (Excluded s)) ss) ≡ filter (is_between t a b) (filter (is_within d) ss)
 none_between t a b d s ss low =
     filters_turned (is_within d) _ ss
-    ∙ filter_same _ _ (filter (is_within d) ss) (all_weaker (λ x. is_within d x ≡ true) _ (λ x within. let w = within_both d x within in both_off (is_le (spot_cmp s x)) ∙ sym (none_grind t a b d.low d.high x.table x.key x.death low w.0 w.1)) (filter (is_within d) ss) (passing (is_within d) ss))
+    ∙ filter_same _ _ (filter (is_within d) ss) (all_weaker (λ x. is_within d x ≡ true) _ (λ x within. let w = within_both d x within in both_off (is_le (spot_cmp s x)) ∙ sym (none_in t a b d.low d.high x.table x.key x.death low w.0 w.1)) (filter (is_within d) ss) (passing (is_within d) ss))
 
 -- of one key they stand in the order of their deaths
-rise_grind : (t k a b c d e f : ℕ) → ((a == t) && (nat_le k b && nat_le b k)) ≡ true → ((d == t) && (nat_le k e && nat_le e k)) ≡ true → (x y : ℕ) → ordering_then (nat_cmp a d) (ordering_then (nat_cmp b e) (ordering_then (nat_cmp c f) (nat_cmp x y))) ≡ Less → c ≤ f
-rise_grind t k a b c d e f here there x y less = grind (arith, nat_tests)
+same_keys : (t k a b : ℕ) → ((a == t) && (nat_le k b && nat_le b k)) ≡ true → (a ≡ t) × (b ≡ k)
+same_keys t k a b e =
+    let both = both_true (a == t) (nat_le k b && nat_le b k) e in
+    let ends = both_true (nat_le k b) (nat_le b k) both.1 in
+    (eqb-true a t both.0, (let low = leb-true k b ends.0 in let high = leb-true b k ends.1 in omega (arith, low, high)))
+
+less_death : (c f x y : ℕ) → ordering_then (nat_cmp c f) (nat_cmp x y) ≡ Less → c ≤ f
+less_death c f x y less = grind (arith, nat_tests)
+
+rise_of : (t k a b c d e f x y : ℕ) → ((a == t) && (nat_le k b && nat_le b k)) ≡ true → ((d == t) && (nat_le k e && nat_le e k)) ≡ true → ordering_then (nat_cmp a d) (ordering_then (nat_cmp b e) (ordering_then (nat_cmp c f) (nat_cmp x y))) ≡ Less → c ≤ f
+rise_of t k a b c d e f x y here there less =
+    let one = same_keys t k a b here in
+    let two = same_keys t k d e there in
+    let tables : nat_cmp a d ≡ Equal = subst (λ n. nat_cmp a n ≡ Equal) (one.0 ∙ sym two.0) (number_itself a) in
+    let keys : nat_cmp b e ≡ Equal = subst (λ n. nat_cmp b n ≡ Equal) (one.1 ∙ sym two.1) (number_itself b) in
+    less_death c f x y (rw (tables, keys) at less)
 
 pub deaths_rise : (t k : ℕ) (ss : List Spot) → IsStrictlySortedBy spot_cmp ss → AllByRecursion (λ s. is_between t k k s ≡ true) ss → DeathsRise ss
 deaths_rise t k [] sorted all = tt
 deaths_rise t k (s ∷ ss) sorted all = (
-  all_both (λ x. spot_cmp s x ≡ Less) (λ x. is_between t k k x ≡ true) _ (λ x less is. rise_grind t k s.table s.key s.death x.table x.key x.death all.0 is s.number x.number less) ss (sorted_head spot_cmp s ss sorted) all.1,
+  all_both (λ x. spot_cmp s x ≡ Less) (λ x. is_between t k k x ≡ true) _ (λ x less is. rise_of t k s.table s.key s.death x.table x.key x.death s.number x.number all.0 is less) ss (sorted_head spot_cmp s ss sorted) all.1,
   deaths_rise t k ss (sorted_tail spot_cmp s ss sorted) all.1,
 )
 
