@@ -48,7 +48,7 @@ pub(crate) fn settle<A: App, C: Cacheable>(
 ) -> Result<Need, CallError>
     requires open { IsOpen A.next registry.old frames.old.top ask frames.old.stack }
     requires some { frames.old.stack ≢ [] }
-    requires few { AreFew (drop 1 frames.old.stack) }
+    requires few { AreFew A.next.limits.asks (drop 1 frames.old.stack) }
     ensures answer { (frame : Frame) (rest : List Frame) → frames.old.stack ≡ frame ∷ rest
         → AfterAsk A.next rest frames.old.asked frame ask registry.old
         (turn_of result frames.new.stack frames.new.asked registry.new) }
@@ -56,7 +56,7 @@ pub(crate) fn settle<A: App, C: Cacheable>(
     ensures same_top { frames.new.top ≡ frames.old.top }
     ensures functions { numbers_of registry.new ≡ numbers_of registry.old }
 {
-    frames.count()?;
+    frames.count::<A>()?;
     match ask {
         Ask::Query(query) => Ok(Need::Query(query)),
         Ask::Call(key) => {
@@ -64,7 +64,7 @@ pub(crate) fn settle<A: App, C: Cacheable>(
             Ok(Need::Lookup(key))
         }
         Ask::Done(bytes) => {
-            let Some(value) = Value::new(bytes.into_vec()) else {
+            let Some(value) = Value::up_to(A::limits().value, bytes.into_vec()) else {
                 return Err(CallError::ValueTooLong);
             };
             let Frame {

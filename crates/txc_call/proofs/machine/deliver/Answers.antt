@@ -6,11 +6,11 @@ use Rattle.txc_call.proofs.machine.deliver.Goals as goal
 
 pub settle-requires-clause-some : goal.settle-requires-clause-some
 settle-requires-clause-some g c =
-    (given_place c.args.frames.now.stack c.resume.new.self.stack c.args.outcome.reach c.args.outcome.tags (λ none. absurd (true≢false (sym (c.if-is_empty.ensures.1 none)))) c.in_ok-ask.ensures.frame c.requires.waiting.few).1
+    (given_place g.A.App.next.limits.asks c.args.frames.now.stack c.resume.new.self.stack c.args.outcome.reach c.args.outcome.tags (λ none. absurd (true≢false (sym (c.if-is_empty.ensures.1 none)))) c.in_ok-ask.ensures.frame c.requires.waiting.few).1
 
 pub settle-requires-clause-few : goal.settle-requires-clause-few
 settle-requires-clause-few g c =
-    (given_place c.args.frames.now.stack c.resume.new.self.stack c.args.outcome.reach c.args.outcome.tags (λ none. absurd (true≢false (sym (c.if-is_empty.ensures.1 none)))) c.in_ok-ask.ensures.frame c.requires.waiting.few).2
+    (given_place g.A.App.next.limits.asks c.args.frames.now.stack c.resume.new.self.stack c.args.outcome.reach c.args.outcome.tags (λ none. absurd (true≢false (sym (c.if-is_empty.ensures.1 none)))) c.in_ok-ask.ensures.frame c.requires.waiting.few).2
 
 pub returns-clause-answer : goal.returns-clause-answer
 returns-clause-answer g c =

@@ -6,11 +6,11 @@ use Rattle.txc_call.proofs.machine.find.Goals as goal
 
 pub settle-requires-clause-some : goal.settle-requires-clause-some
 settle-requires-clause-some g c =
-    (given_place c.args.frames.now.stack c.resume.new.self.stack (Some c.args.found.reach) c.args.found.tags c.requires.fits.1.1 c.in_ok-ask.ensures.frame c.requires.fits.1.0.few).1
+    (given_place g.A.App.next.limits.asks c.args.frames.now.stack c.resume.new.self.stack (Some c.args.found.reach) c.args.found.tags c.requires.fits.1.1 c.in_ok-ask.ensures.frame c.requires.fits.1.0.few).1
 
 pub settle-requires-clause-few : goal.settle-requires-clause-few
 settle-requires-clause-few g c =
-    (given_place c.args.frames.now.stack c.resume.new.self.stack (Some c.args.found.reach) c.args.found.tags c.requires.fits.1.1 c.in_ok-ask.ensures.frame c.requires.fits.1.0.few).2
+    (given_place g.A.App.next.limits.asks c.args.frames.now.stack c.resume.new.self.stack (Some c.args.found.reach) c.args.found.tags c.requires.fits.1.1 c.in_ok-ask.ensures.frame c.requires.fits.1.0.few).2
 
 pub returns-clause-answer : goal.returns-clause-answer
 returns-clause-answer g c =

@@ -1,7 +1,7 @@
 use Rattle.std.proofs.Common.{◌≡◌, ℕ, ◌+◌, ◌<◌, ◌≤◌, true≢false, None, Err, List, ◌∷◌, length, refl, sym, ap, subst, ◌∙◌, arith}
 use Rattle.std.specs.Prelude.{vec_len}
-use Rattle.txc_node.specs.declared.value.TheConstants.{MAX_VALUE_LEN}
 use Rattle.txc_registry.specs.Objects.{Objects}
+use Rattle.txc_app.specs.declared.app.Limits.{Limits}
 use Rattle.txc_app.specs.declared.ask.Ask.{Ask}
 use Rattle.txc_app.specs.declared.ask.Ask.TheVariants.{Call, Done}
 use Rattle.txc_call.specs.declared.frame.Frame.{Frame}
@@ -20,14 +20,14 @@ returns-in_err-check_call-in-Call-clause-answer g t c = λ frame rest is.
     let refused = c.in_err-check_call-in-Call.ensures frame rest (c.in_ok-count.ensures.same_stack ∙ is) in
     let counted = c.in_ok-count.ensures.refused frame rest is in
     rw (c.in-Call.is, turn_err c.from_residual-in_err-check_call-in-Call.result error c.count.new.self.stack c.count.new.self.asked objects c.from_residual-in_err-check_call-in-Call.ensures.1)
-    (unasked rest asked frame (Call k) objects (λ after bytes. AfterValue next rest (asked + 1) (unreached frame bytes) after (Err error)) error counted refused)
+    (unasked next.limits rest asked frame (Call k) objects (λ after bytes. AfterValue next rest (asked + 1) (unreached frame bytes) after (Err error)) error counted refused)
 
 pub settle-requires : goal.settle-requires
 settle-requires g t c κs within =
     let stack = c.close-key.new.self.stack in
     let popped : c.args.frames.now.stack ≡ c.close-key.result ∷ stack = sym c.in_ok-count.ensures.same_stack ∙ c.close-key.ensures.answer in
     let some = c.if-is_empty.ensures in
-    let place = given_place stack c.resume.new.self.stack None c.close-key.result.tags (λ none. absurd (true≢false (sym (some.1 none)))) c.in_ok-next-in-Done.ensures.frame (few_rest c.args.frames.now.stack stack c.close-key.result popped c.requires.few) in
+    let place = given_place g.A.App.next.limits.asks stack c.resume.new.self.stack None c.close-key.result.tags (λ none. absurd (true≢false (sym (some.1 none)))) c.in_ok-next-in-Done.ensures.frame (few_rest g.A.App.next.limits.asks c.args.frames.now.stack stack c.close-key.result popped c.requires.few) in
     let shorter : length c.resume.new.self.stack < t = omega (arith, place.0, ap (λ (fs : List Frame). length fs) popped, c.decreases) in
     (shorter, (within.0, (within.1, (c.in_ok-next-in-Done.ensures.open, (place.1, place.2)))))
 
@@ -42,11 +42,11 @@ returns-in_ok-next-in-Done-clause-answer g t c = λ frame rest is.
     let popped : frame ∷ rest ≡ done ∷ stack = sym is ∙ sym c.in_ok-count.ensures.same_stack ∙ c.close-key.ensures.answer in
     let is_frame : done ≡ frame = cc in
     let is_rest : stack ≡ rest = cc in
-    let counted : None ≡ count_refusal done.answers asked = rw is_frame (c.in_ok-count.ensures.refused frame rest is) in
+    let counted : None ≡ count_refusal next.limits.asks done.answers asked = rw is_frame (c.in_ok-count.ensures.refused frame rest is) in
     let bytes = c.in-Some.value in
-    let few : vec_len c.into_vec.result ≤ MAX_VALUE_LEN = c.in-Some.ensures.only_if.0 refl in
+    let few : vec_len c.into_vec.result ≤ next.limits.value = subst (λ (n : ℕ). vec_len c.into_vec.result ≤ n) (ap (λ (l : Limits). l.value) c.limits.ensures.answer) (c.in-Some.ensures.only_if.0 refl) in
     let same : length bytes ≡ length c.into_vec.result.items = ap (λ (bs : List ℕ). length bs) c.in-Some.ensures.answer in
-    let short : None ≡ value_refusal bytes = short_by bytes (omega (arith, few, same, c.into_vec.result.ok.0)) in
+    let short : None ≡ value_refusal next.limits.value bytes = short_by next.limits.value bytes (omega (arith, few, same, c.into_vec.result.ok.0)) in
     let is_ask : c.args.ask ≡ Done bytes = c.in-Done.is ∙ ap (λ (bs : List ℕ). Done bs) (sym (c.in-Some.ensures.answer ∙ c.into_vec.ensures)) in
     let count : c.resume.new.self.asked ≡ asked + 1 = c.in_ok-next-in-Done.ensures.same_count ∙ c.close-key.ensures.same_count ∙ c.in_ok-count.ensures.after in
     let onward : (f : Frame) (outer : List Frame) → c.resume.new.self.stack ≡ f ∷ outer → AfterAsk next outer (asked + 1) f c.in_ok-next-in-Done.next c.resume.new.registry turn =
