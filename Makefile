@@ -4,6 +4,7 @@
 # make prove: the gate: every proof, every test, and the wrong bodies that break a cache.
 # make library: the library for callers in C, proved and built where it has to be; it says where it lies.
 # make try-library: the same with no proof, in some four minutes of one core.
+# make wheel: the package for Python, with the library that `make library` left in bindings/out; it says where it lies.
 # make edits [CRATE=NAME]: all wrong bodies, also those that `make prove` leaves out for its time.
 # make refusals [TEST=NAME]: every allocation of the tests and of the program, refused in its turn.
 # make soak: 3,000,000 lookups through one node that stores no records, and 3,000,000 commits from C through one site that stores no
@@ -19,7 +20,7 @@ ifneq ($(UNKNOWN),)
 $(error there is no $(firstword $(UNKNOWN))=: the words are SCRIPT=, MODE=, SETTINGS=, CRATE= and TEST=)
 endif
 
-.PHONY: try run test prove library try-library edits refusals soak docs
+.PHONY: try run test prove library try-library wheel edits refusals soak docs
 
 try run:
 	@scripts/$@.py $(if $(MODE),--mode "$(MODE)") $(if $(SETTINGS),--settings "$(SETTINGS)") "$(SCRIPT)"
@@ -35,6 +36,9 @@ library:
 
 try-library:
 	@scripts/library.py --try
+
+wheel:
+	@bindings/python/build_wheel.py
 
 edits:
 	scripts/edits.py $(CRATE)

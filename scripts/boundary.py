@@ -220,6 +220,13 @@ def try_c(trial, room, compiler, archives, played, wanted, of_sites):
         trial.note(f"{compiler}{name}: {total} allocations, each refused in its turn", not ran.returncode and total > 0, ran.stdout)
 
 
+def python_of_tests():
+    """The Python that runs the tests of its bindings: the first of these that has a driver of PostgreSQL, else this one."""
+    has_driver = "import importlib.util as it, sys; sys.exit(not (it.find_spec('psycopg') or it.find_spec('psycopg2')))"
+    found = [it for it in ("python3", "/usr/bin/python3") if shutil.which(it) and not subprocess.run([it, "-c", has_driver]).returncode]
+    return (found or [sys.executable])[0]
+
+
 def try_bindings(trial, folder):
     """The tests and examples of the bindings, over the library of a folder."""
     where = {**os.environ, "TXC_LIBRARY": folder}
@@ -233,9 +240,11 @@ def try_bindings(trial, folder):
     else:
         print("skipped: Rust, since there is no cargo")
     if os.path.exists(f"{folder}/libtxc_c.so"):
-        trial.ran("Python: tests", [sys.executable, "-m", "unittest", "-q", "tests"], cwd=f"{ROOT}/bindings/python", env=where)
+        python = python_of_tests()
+        ran = trial.ran("Python: tests", [python, "-m", "unittest", "-q"], cwd=f"{ROOT}/bindings/python", env=where)
+        print("".join(f"{it}\n" for it in sorted(set(re.findall(r"^skipped: .*$", ran.stdout, re.M)))), end="")
         for example in ("example.py", "page.py"):
-            trial.ran(f"Python: {example}", [sys.executable, example], cwd=f"{ROOT}/bindings/python", env=where)
+            trial.ran(f"Python: {example}", [python, example], cwd=f"{ROOT}/bindings/python", env=where)
     else:
         print("skipped: Python, since there is no libtxc_c.so")
 

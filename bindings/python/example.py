@@ -1,6 +1,6 @@
 """A page of two cached results that a plain cache would tear: the highest bid, and the list of bids, of one moment."""
 
-from txcache_node import Key, Node, Reach, Tag
+from txcache.node import Key, Node, Reach, Tag
 
 states = [{}]  # a database of one's own: the bids of each item, after each event
 

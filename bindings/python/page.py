@@ -1,6 +1,6 @@
 """A page that would be torn, and is not: the highest bid, which the node has from before, and the list of bids, which it has not."""
 
-from txcache_site import Query, Site, cacheable
+from txcache.site import Query, Site, cacheable
 
 
 @cacheable(0)

@@ -21,7 +21,7 @@ its arguments and what it was answered so far.
 import ctypes as c
 from typing import NamedTuple, Optional
 
-from txcache_node import MAX_VALUE_LEN, Key, Refused, _Handle, _Key, _number, _TXC
+from .node import MAX_VALUE_LEN, Key, Refused, _Handle, _Key, _number, _TXC
 
 LAST_SITE_STAMP = 4_294_967_294
 

@@ -13,8 +13,9 @@ stamps asked for, or with None.
 """
 
 import ctypes as c
-import os
 from typing import NamedTuple, Optional
+
+from . import _library
 
 LAST_FUNCTION = 63
 MAX_ARGS = 4
@@ -78,10 +79,8 @@ class _Counts(c.Structure):
     _fields_ = [(name, c.c_uint64) for name in ("lookups", "hits", "stored", "kept", "evicted")]
 
 
-def _library():
-    """The shared object of the folder that TXC_LIBRARY names, else of bindings/out, where `make library` puts it."""
-    folder = os.environ.get("TXC_LIBRARY") or os.path.join(os.path.dirname(os.path.abspath(__file__)), "../out")
-    found = c.CDLL(os.path.join(folder, "libtxc_c.so"))
+def _declared(found):
+    """The library, with the types of its functions of a node."""
     node, size = c.POINTER(_Handle), c.c_size_t
     parameters = {
         "open": [node, size, size],
@@ -98,7 +97,7 @@ def _library():
     return found
 
 
-_TXC = _library()
+_TXC = _declared(_library.load())
 
 
 def _number(value, most):

@@ -1,0 +1,66 @@
+"""The wheel, and the package as `pip` installs it with no network."""
+
+import glob
+import importlib.util
+import os
+import shutil
+import subprocess
+import sys
+import tempfile
+import unittest
+import zipfile
+
+from . import skipped
+
+PYTHON = os.path.dirname(os.path.dirname(os.path.abspath(__file__)))
+LIBRARY = os.environ.get("TXC_LIBRARY") or os.path.normpath(f"{PYTHON}/../out")
+
+
+def run(words, **how):
+    return subprocess.run(words, stdout=subprocess.PIPE, stderr=subprocess.STDOUT, text=True, **how)
+
+
+class Package(unittest.TestCase):
+    def setUp(self):
+        self.room = tempfile.mkdtemp(prefix="txcache-package-")
+        self.addCleanup(shutil.rmtree, self.room)
+        # no index answers, and the package is not found by chance
+        self.env = {key: it for key, it in os.environ.items() if not key.startswith(("PIP_", "PYTHON", "TXC_"))}
+        self.env.update(PIP_INDEX_URL="http://127.0.0.1:1/simple", PIP_RETRIES="0", PIP_DISABLE_PIP_VERSION_CHECK="1", TXC_LIBRARY=LIBRARY)
+
+    def test_pip_installs_it_into_a_bare_venv_with_no_network(self):
+        if not importlib.util.find_spec("ensurepip"):
+            self.skipTest(skipped("pip", "there is no ensurepip"))
+        made = run([sys.executable, "-m", "venv", f"{self.room}/venv"])
+        self.assertEqual(made.returncode, 0, made.stdout)
+        installed = run([f"{self.room}/venv/bin/pip", "install", "--quiet", PYTHON], env=self.env, cwd=self.room)
+        self.assertEqual(installed.returncode, 0, installed.stdout)
+        del self.env["TXC_LIBRARY"]
+        for example in ("example.py", "page.py"):
+            # a copy, so that the package is the installed one
+            shutil.copy(f"{PYTHON}/{example}", self.room)
+            ran = run([f"{self.room}/venv/bin/python", f"{self.room}/{example}"], env=self.env, cwd=self.room)
+            self.assertEqual(ran.returncode, 0, ran.stdout)
+
+    def test_the_wheel_is_for_this_machine_and_has_the_library(self):
+        made = [run([sys.executable, f"{PYTHON}/build_wheel.py", f"{self.room}/{it}"], env=self.env, cwd=self.room) for it in "ab"]
+        self.assertEqual([it.returncode for it in made], [0, 0], made[0].stdout)
+        first, second = (glob.glob(f"{self.room}/{it}/*.whl")[0] for it in "ab")
+        self.assertEqual(os.path.basename(first), f"txcache-0.1-py3-none-linux_{os.uname().machine}.whl")
+        with open(first, "rb") as one, open(second, "rb") as other:
+            self.assertEqual(one.read(), other.read())
+        with zipfile.ZipFile(first) as wheel:
+            self.assertIn("txcache/libtxc_c.so", wheel.namelist())
+            recorded = {it.split(",")[0] for it in wheel.read("txcache-0.1.dist-info/RECORD").decode().splitlines()}
+            self.assertEqual(recorded, set(wheel.namelist()))
+
+    def test_with_no_library_it_says_what_comes_first(self):
+        self.env["TXC_LIBRARY"] = self.room
+        made = run([sys.executable, f"{PYTHON}/build_wheel.py", self.room], env=self.env)
+        self.assertEqual((made.returncode, "make library first" in made.stdout), (1, True), made.stdout)
+        loaded = run([sys.executable, "-c", "import txcache.node"], env={**self.env, "PYTHONPATH": PYTHON})
+        self.assertIn(f"there is no libtxc_c.so in {self.room}: make library first", loaded.stdout)
+
+
+if __name__ == "__main__":
+    unittest.main()
