@@ -1,0 +1,111 @@
+#!/usr/bin/env python3
+"""Breaks the package in ways that would break a cache, one at a time in a copy, and sees that the test which is named fails.
+
+usage: tests/wrong_bodies.py [WORD..]    at bindings/python; with words those alone whose name has one
+The last line is `N passed, M failed`. It is run by hand: it takes some minutes.
+"""
+
+import os
+import shutil
+import subprocess
+import sys
+import tempfile
+from typing import NamedTuple
+
+PYTHON = os.path.dirname(os.path.dirname(os.path.abspath(__file__)))
+
+
+class Wrong(NamedTuple):
+    """A text of a file, what is put in its place, and the test that is to fail."""
+
+    name: str
+    file: str
+    text: str
+    put: str
+    test: str
+
+
+WRONG = [
+    Wrong("followed from xmax alone", "postgres.py", "running=\",\".join(map(str, last.running))", "running=\"\"",
+          "tests.test_postgres -k test_a_transaction_that_was_open_at_the_last_look_follows_once"),
+    Wrong("a snapshot before its lock", "postgres.py", "READ ONLY; {self.settings}{lock}", "READ ONLY; SELECT 1; {self.settings}{lock}",
+          "tests.test_postgres -k test_the_lock_comes_before_the_snapshot"),
+    Wrong("purge by age", "_postgres_schema.py", "INTO upon FROM txcache.purges p WHERE p.made <= clock_timestamp() - make_interval(secs => age)",
+          "INTO upon FROM (SELECT pg_snapshot_xmax(pg_current_snapshot()) AS below) p", "tests.test_postgres -k test_by_numbers"),
+    Wrong("a purge that says nothing of itself", "_postgres_schema.py", "UPDATE txcache.state SET upto = upon;", "", "tests.test_postgres -k test_by_numbers"),
+    Wrong("a fingerprint without classes", "_postgres_schema.py", "(oid, ' ', relfilenode, ' ', xmin), 0)) FROM pg_class WHERE oid = ANY (them)", "(1), 0)) FROM pg_class WHERE false",
+          "tests.test_postgres -k test_the_fingerprint -k test_each_change_of_a_partition_begins_cold"),
+    Wrong("a fingerprint without triggers", "_postgres_schema.py", "FROM pg_trigger WHERE tgrelid = ANY (them)", "FROM pg_trigger WHERE false",
+          "tests.test_postgres -k test_a_trigger_that_was_off_for_a_while"),
+    Wrong("a fingerprint without functions", "_postgres_schema.py", "FROM pg_proc WHERE oid >= 16384),", "FROM pg_proc WHERE false),", "tests.test_postgres -k test_the_fingerprint"),
+    Wrong("a fingerprint without views", "_postgres_schema.py", "WHERE r.oid >= 16384 AND", "WHERE false AND", "tests.test_postgres -k test_the_fingerprint"),
+    Wrong("a fingerprint without enums", "_postgres_schema.py", "FROM pg_enum WHERE oid >= 16384", "FROM pg_enum WHERE false", "tests.test_postgres -k test_the_fingerprint"),
+    Wrong("a fingerprint without policies", "_postgres_schema.py", "FROM pg_policy WHERE polrelid = ANY (them)", "FROM pg_policy WHERE false",
+          "tests.test_postgres -k test_each_part_of_the_fingerprint"),
+    Wrong("a fingerprint without columns", "_postgres_schema.py", "FROM pg_attribute WHERE attrelid = ANY (them)", "FROM pg_attribute WHERE false",
+          "tests.test_postgres -k test_each_part_of_the_fingerprint"),
+    Wrong("a row that is equal is a row that stays as it was", "_postgres_schema.py", "OLD *= NEW", "OLD IS NOT DISTINCT FROM NEW",
+          "tests.test_postgres -k test_a_row_of_types_with_no_equality"),
+    Wrong("a trigger that a replica does not fire", "_postgres_schema.py", "ENABLE ALWAYS TRIGGER {name}", "ENABLE TRIGGER {name}", "tests.test_postgres -k test_a_replica_and_a_superuser"),
+    Wrong("only the row as it is", "_postgres_schema.py", "coalesce(old_keys, '{{}}') || coalesce(new_keys, '{{}}')", "coalesce(new_keys, old_keys)", "tests.test_postgres -k test_each_kind"),
+    Wrong("a reader that does not ask whether the snapshot stands", "postgres.py", "            snapshot.check()\n        return dicts", "        return dicts",
+          "tests.test_postgres -k test_a_holder_that_dies_while_a_query_runs"),
+    Wrong("a server's start time alone", "postgres.py", "(SELECT min(pid) FROM pg_stat_get_activity(NULL) WHERE datid IS NULL AND usesysid IS NULL)", "''",
+          "tests.test_postgres -k test_a_killed_server_process_begins_cold"),
+    Wrong("a token that its own snapshot sees", "postgres.py", "xact < self.xmax and xact not in self.running", "xact < self.xmax", "tests.test_postgres -k test_a_snapshot_sees_a_token_or_not"),
+    Wrong("a value by its own text", "_layout.py", "if kind is Kind.INTEGER and isinstance(value, int) and not isinstance(value, bool):", "if kind is Kind.INTEGER:",
+          "tests.test_layout -k test_another_type"),
+    Wrong("a uuid by its own text", "_layout.py", "text = str(value if isinstance(value, uuid.UUID) else uuid.UUID(value))", "text = str(value)", "tests.test_layout -k test_one_text"),
+    Wrong("replaced rows of SQLite are not noted", "sqlite.py", "    if in_the_way:\n", "    if False:\n", "tests.test_sqlite -k test_replace -k test_random_histories"),
+    Wrong("a collation of SQLite is not looked at", "sqlite.py", "return count == 3", "return True", "tests.test_sqlite -k test_what_is_refused"),
+    Wrong("a file of SQLite that was changed for another", "sqlite.py", "if self._probe is None or self._file != self._identity():", "if self._probe is None:",
+          "tests.test_sqlite -k test_another_file"),
+    Wrong("the schema of SQLite is not looked at", "sqlite.py", "if mark.shape != last.shape:", "if False:", "tests.test_sqlite -k test_what_changes_the_schema"),
+    Wrong("a key without types", "_keys.py", "kinds = tuple(map(type, args))", "kinds = ()", "tests.test_keys -k test_exact_types"),
+    Wrong("a key without types, whole", "_keys.py", "    bool: lambda it: b\"T\" if it else b\"F\",", "    bool: lambda it: b\"i%x;\" % it,", "tests.test_keys -k test_each_value"),
+    Wrong("the look that fails forgets where it stood", "_follower.py", "            except SnapshotRefused as error:\n                self.let_go()\n", "            except SnapshotRefused as error:\n                self.forget()\n",
+          "tests.test_follower -k test_a_lock_that_is_waited_for"),
+    Wrong("a moment after its snapshot", "_follower.py", "return Step(number, moment,", "return Step(number, self._clock(),", "tests.test_follower -k test_the_moment"),
+    Wrong("a snapshot that is held for ever", "_follower.py", "            self._let_old_go()\n", "", "tests.test_follower -k test_none_is_held"),
+    Wrong("a shared value", "_values.py", "return pickle.loads(data[1:])", "return globals().setdefault('_known', {}).setdefault(data, pickle.loads(data[1:]))",
+          "tests.test_keys -k test_no_two_get_one_object"),
+]
+
+
+def fails(wrong: Wrong, room: str) -> str:
+    """Returns an empty text if the test fails with the wrong body; else what is the matter."""
+    path = f"{room}/txcache/{wrong.file}"
+    with open(path, encoding="utf-8") as file:
+        right = file.read()
+    if right.count(wrong.text) != 1:
+        return f"its text stands {right.count(wrong.text)} times in {wrong.file}"
+    try:
+        with open(path, "w", encoding="utf-8") as file:
+            file.write(right.replace(wrong.text, wrong.put))
+        try:
+            ran = subprocess.run([sys.executable, "-m", "unittest", "-q", *wrong.test.split()], cwd=room, stdout=subprocess.PIPE, stderr=subprocess.STDOUT, text=True, timeout=180)
+        except subprocess.TimeoutExpired:
+            return ""  # it hangs: that is seen
+        return "" if "\nFAILED (" in ran.stdout else f"its test passes: {ran.stdout[-300:]}"
+    finally:
+        with open(path, "w", encoding="utf-8") as file:
+            file.write(right)
+
+
+def main() -> None:
+    chosen = [it for it in WRONG if not sys.argv[1:] or any(word in it.name for word in sys.argv[1:])]
+    failed = 0
+    os.environ.setdefault("TXC_LIBRARY", os.path.normpath(f"{PYTHON}/../out"))
+    with tempfile.TemporaryDirectory(prefix="txcache-wrong-") as room:
+        for folder in ("txcache", "tests"):
+            shutil.copytree(f"{PYTHON}/{folder}", f"{room}/{folder}", ignore=shutil.ignore_patterns("__pycache__"))
+        for it in chosen:
+            said = fails(it, room)
+            failed += bool(said)
+            print(f"FAILED: {it.name}: {said}" if said else f"passed: {it.name}", flush=True)
+    print(f"{len(chosen) - failed} passed, {failed} failed")
+    sys.exit(int(failed > 0))
+
+
+if __name__ == "__main__":
+    main()

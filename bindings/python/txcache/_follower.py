@@ -1,0 +1,139 @@
+"""The snapshots that are open, in their order, and the steps from one to the next."""
+
+import logging
+import threading
+import time
+from dataclasses import dataclass
+from typing import Any, Callable, FrozenSet, List, Optional
+
+from ._store import Snapshot, Store
+from .errors import SnapshotLost, SnapshotRefused
+
+LOG = logging.getLogger("txcache")
+
+
+@dataclass(frozen=True)
+class Step:
+    """What a look found: the snapshot's number, when it was not yet taken, and the tags that it is the first to see changed. Where `cold` says
+    why, nothing is known of what changed, and all that is cached must go."""
+
+    number: int
+    moment: float
+    tags: FrozenSet[str]
+    cold: str
+
+
+@dataclass
+class _Held:
+    number: int
+    snapshot: Snapshot
+    taken: float
+
+
+class Follower:
+    """Looks at a store. A snapshot has the number of its step. One in which nothing has changed has the number of the one before, and takes its place once
+    that is half as old as it may be. None stays open for longer than `hold` seconds."""
+
+    def __init__(self, store: Store, hold: float, clock: Callable[[], float] = time.monotonic):
+        if hold <= 0:
+            raise ValueError(f"hold is {hold} seconds, and is more than 0")
+        self.store, self.hold, self._clock = store, hold, clock
+        self._held: List[_Held] = []
+        self._lock, self._looks = threading.Lock(), threading.Lock()
+        self._mark: Any = None
+        self._number = 0
+
+    def look(self) -> Step:
+        """Takes a new snapshot. Fails with SnapshotRefused, and lets all go so that whoever changes a table goes on; with SnapshotLost if the
+        server is away; with NotInstalled. After each the next look follows on from the last snapshot that was taken."""
+        with self._looks:
+            self._let_old_go()
+            if self.store.wants_air():
+                self.let_go()
+                self.store.air()
+            moment = self._clock()
+            try:
+                found = self.store.look(self._mark, is_wanted=not self._held or self._is_half_old())
+            except SnapshotRefused as error:
+                self.let_go()
+                LOG.warning("no snapshot was taken, and all are let go: %s", error)
+                raise
+            except SnapshotLost as error:
+                LOG.warning("the database did not answer: %s", error)
+                raise
+            except Exception:
+                self.let_go()
+                self._mark = None
+                raise
+            if found.tags is None:
+                LOG.log(logging.INFO if self._mark is None else logging.WARNING, "the cache begins cold: %s", found.reason)
+                self.let_go()
+            self._mark = found.mark
+            return self._taken(found.snapshot, moment, found.tags, found.reason)
+
+    def _taken(self, snapshot: Optional[Snapshot], moment: float, tags: Optional[FrozenSet[str]], reason: str) -> Step:
+        with self._lock:
+            if tags is None or tags or not self._number:
+                self._number += 1
+            number = self._number
+            before = next((it for it in self._held if it.number == number), None)
+            over = before.snapshot if before else None
+            if before and snapshot and moment - before.taken <= self.hold / 2:
+                over = snapshot  # the one before is young, and connections have joined it
+            elif snapshot:
+                self._held = [it for it in self._held if it is not before] + [_Held(number, snapshot, moment)]
+            else:
+                over = None
+        if over:
+            over.close()
+        return Step(number, moment, tags or frozenset(), reason)
+
+    def _is_half_old(self) -> bool:
+        """Returns True if the newest snapshot is to be replaced, though nothing may have changed."""
+        with self._lock:
+            return self._clock() - self._held[-1].taken > self.hold / 2 if self._held else True
+
+    def _let_old_go(self) -> None:
+        self._close_if(lambda it: self._clock() - it.taken > self.hold)
+
+    def let_go(self, below: Optional[int] = None) -> None:
+        """Closes the snapshots below a number, or all. What is cached stays, and the next look follows on."""
+        self._close_if(lambda it: below is None or it.number < below)
+
+    def _close_if(self, is_over: Callable[[_Held], bool]) -> None:
+        with self._lock:
+            over = [it for it in self._held if is_over(it)]
+            self._held = [it for it in self._held if not is_over(it)]
+        for it in over:
+            it.snapshot.close()
+
+    def snapshot(self, number: int) -> Snapshot:
+        """Returns the snapshot of a number. Fails with SnapshotLost if it is open no more."""
+        with self._lock:
+            for it in self._held:
+                if it.number == number:
+                    return it.snapshot
+            held = ", ".join(str(it.number) for it in self._held) or "none"
+        raise SnapshotLost(f"the snapshot {number} is open no more, but {held}")
+
+    @property
+    def mark(self) -> Any:
+        """Where the newest snapshot stands among the store's commits."""
+        return self._mark
+
+    def forget(self) -> None:
+        """Has the next look begin cold."""
+        self.let_go()
+        self._mark = None
+
+    @property
+    def numbers(self) -> List[int]:
+        """The numbers of the snapshots that are open, the oldest first."""
+        with self._lock:
+            return [it.number for it in self._held]
+
+    def close(self) -> None:
+        with self._looks:
+            self.let_go()
+            self._mark = None
+        self.store.close()

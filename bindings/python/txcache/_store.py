@@ -1,0 +1,75 @@
+"""What a cache follows: the snapshots of a database, and what changed between one and the next."""
+
+from dataclasses import dataclass
+from typing import Any, FrozenSet, List, Optional, Protocol, Sequence, Tuple
+
+from ._layout import Db, Layout, Read, Row, refuse_time_and_chance
+
+MAX_TAGS = 20_000  # tags of one step: a step of more begins cold
+PURGE_AGE = 600.0  # seconds: notes that an older purge saw the end of are deleted
+
+
+class Snapshot(Protocol):
+    """An open read-only transaction: all that is read through it is of one moment."""
+
+    layout: Layout
+
+    def rows(self, read: Read) -> List[Row]:
+        """Returns the rows of a query."""
+
+    def rows_and_tables(self, query: str, args: Sequence[Any]) -> Tuple[List[Row], FrozenSet[str]]:
+        """Returns the rows of a query, and the tables that it read, by their tags."""
+
+    def close(self) -> None:
+        """Lets it go."""
+
+
+@dataclass(frozen=True)
+class Look:
+    """A new snapshot, where it stands among the database's commits, and the tags of what changed since the last; None and why where that
+    is not known, and all that is cached must go. No snapshot where nothing has changed since, and none was wanted."""
+
+    snapshot: Optional[Snapshot]
+    mark: Any
+    tags: Optional[FrozenSet[str]]
+    reason: str = ""
+
+
+class Store(Protocol):
+    """A database beside which a service caches."""
+
+    def prepare(self, connections: int, hold: float) -> None:
+        """Has at most so many connections read, and snapshots that stay open for so many seconds."""
+
+    def forget(self) -> Any:
+        """Of a child after a fork: returns all that its parent has open, which it may neither use nor close, and has none of its own."""
+
+    def purge(self, age: float) -> int:
+        """Deletes the notes that a purge of so many seconds ago saw the end of. Returns how many."""
+
+    def look(self, last: Any, is_wanted: bool = True) -> Look:
+        """Takes a snapshot, and says what changed since the mark of the last. Fails with SnapshotRefused, SnapshotLost or NotInstalled."""
+
+    def wants_air(self) -> bool:
+        """Returns True if all snapshots must be let go, and `air` called."""
+
+    def air(self) -> None:
+        """Does what no snapshot may be open for."""
+
+    def sees(self, mark: Any, token: str) -> bool:
+        """Returns True if the snapshot of the mark sees the transaction of the token."""
+
+    def close(self) -> None:
+        """Closes all connections."""
+
+
+def db_of(snapshot: Snapshot) -> Db:
+    """Returns the reads of a snapshot with no cache."""
+
+    def run(read: Read) -> List[Row]:
+        if read.tags is not None:
+            return snapshot.rows(read)
+        refuse_time_and_chance(read.query)
+        return snapshot.rows_and_tables(read.query, read.args)[0]
+
+    return Db(snapshot.layout, run)

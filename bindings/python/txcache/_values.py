@@ -1,0 +1,39 @@
+"""The values of functions as bytes. A page that is answered from the cache gets a value of its own."""
+
+import pickle
+from typing import Any, Callable, Optional, Tuple
+
+Codec = Tuple[Callable[[Any], bytes], Callable[[bytes], Any]]
+_BYTES, _STR, _PICKLED, _CODED = b"b", b"s", b"p", b"c"
+
+
+def encode(value: Any, codec: Optional[Codec] = None) -> bytes:
+    """Returns a value as bytes: bytes and str as they are, all else by the codec, else by pickle, which leaves this process's memory never.
+    Fails with TypeError if that does not take it."""
+    if codec:
+        data = codec[0](value)
+        if not isinstance(data, bytes):
+            raise TypeError(f"the codec gave a {type(data).__name__}, and not bytes")
+        return _CODED + data
+    if type(value) is bytes:
+        return _BYTES + value
+    if type(value) is str:
+        return _STR + value.encode("utf-8", "surrogatepass")
+    try:
+        return _PICKLED + pickle.dumps(value, pickle.HIGHEST_PROTOCOL)
+    except Exception as error:
+        raise TypeError(f"pickle does not take a value of type {type(value).__name__}, and there is no codec: {error}") from error
+
+
+def decode(data: bytes, codec: Optional[Codec] = None) -> Any:
+    """Returns the value of bytes, which `encode` gave with the same codec."""
+    kind = data[:1]
+    if kind == _CODED and codec:
+        return codec[1](data[1:])
+    if kind == _BYTES:
+        return data[1:]
+    if kind == _STR:
+        return data[1:].decode("utf-8", "surrogatepass")
+    if kind == _PICKLED:
+        return pickle.loads(data[1:])
+    raise ValueError(f"no value begins with {kind!r}")
