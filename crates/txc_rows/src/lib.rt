@@ -10,6 +10,7 @@ mod reads;
 mod replaced;
 mod row;
 mod statements;
+mod sql_store;
 mod store;
 mod store_error;
 mod store_laws;
