@@ -10,7 +10,7 @@ use Rattle.txc_rows.specs.declared.query.Change.{Change}
 use Rattle.txc_rows.specs.Versions.{after_net, purged}
 use Rattle.txc_rows.specs.Holdable.{IsStorable}
 use Rattle.txc_rows.specs.declared.placed.Placed.{Placed}
-use Rattle.txc_rows.specs.Placed.{versions_by_place, left_from, placed_left, without_front_dead, AreBelow, AreWellPlaced, AreAll, AreAmong, AreSwept}
+use Rattle.txc_rows.specs.Placed.{versions_by_place, left_from, placed_left, without_front_dead, AreInOrder, AreAll, AreAmong, AreSwept}
 use Rattle.txc_rows.specs.Kept.{latest_in, versions_of, IsKept, IsCall, IsRoom, IsStore}
 use Rattle.txc_rows.proofs.HeldLemmas.{latest_by}
 use Rattle.txc_rows.proofs.SweepLemmas.{both_below, both_apart, left_alone, none_hidden, dropped_each, dropped_apart, dropped_same, purged_left}
@@ -19,7 +19,10 @@ use Rattle.txc_rows.proofs.ViewLemmas.{written_view, view_each}
 -- ---- a new store
 
 pub new_store : (h : Held MemStore) → IsKept h → latest_in h ≡ [] → IsStore 0 [] h
-new_store h kept empty = record { kept = kept; apart = rw empty (record { places = tt; keys = tt; current = tt; ended = tt; each = tt }); below = rw empty tt }
+new_store h kept empty = record {
+  kept = kept;
+  order = record { apart = rw empty (record { places = tt; keys = tt; current = tt; ended = tt; each = tt }); below = rw empty tt };
+}
 
 pub new_view : (h : Held MemStore) → latest_in h ≡ [] → left_from 0 (versions_of [] h) ≡ []
 new_view h empty = ap (λ (xs : List Placed). left_from 0 (versions_by_place (xs ++ []))) empty
@@ -30,7 +33,7 @@ module _ (replaced : List Placed) (old new : Held MemStore) (same : (state over_
   pub still_store : (next : ℕ) → IsStore next replaced old → IsKept new → IsStore next replaced new
   still_store next store kept =
       let are = latest_by old new same in
-      record { kept = kept; apart = subst (λ xs. AreWellPlaced xs replaced) (sym are) store.apart; below = subst (λ xs. AreBelow next (xs ++ replaced)) (sym are) store.below }
+      record { kept = kept; order = subst (λ xs. AreInOrder next xs replaced) (sym are) store.order }
 
   pub still_known : (known : List Placed) → AreAmong (latest_in old) known → AreAmong (latest_in new) known
   still_known known among = subst (λ xs. AreAmong xs known) (sym (latest_by old new same)) among
@@ -48,11 +51,13 @@ module _ (from stamp next : ℕ) (before : List Placed) (old new : Held MemStore
   room_left left x are call = record {
     store = record {
       kept = call.kept;
-      apart = both_apart from (latest_in old) before (latest_in new) left call.leaves are was.apart;
-      below = both_below from (latest_in old) before (latest_in new) left call.leaves are next was.below;
+      order = record {
+        apart = both_apart from (latest_in old) before (latest_in new) left call.leaves are was.order.apart;
+        below = both_below from (latest_in old) before (latest_in new) left call.leaves are next was.order.below;
+      };
     };
     low = omega arith;
-    shown = none_hidden (versions_of left new) ∙ left_alone from (latest_in old) before (latest_in new) left call.leaves are was.apart;
+    shown = none_hidden (versions_of left new) ∙ left_alone from (latest_in old) before (latest_in new) left call.leaves are was.order.apart;
     unchanged = tt;
   }
 
@@ -64,10 +69,12 @@ purged_store from h next replaced old new x store call =
     let last = max from (h + 1) in (
       record {
         kept = call.kept;
-        apart = dropped_apart last (latest_in old) replaced (latest_in new) call.leaves store.apart;
-        below = dropped_each last (latest_in old) replaced (latest_in new) call.leaves _ store.below;
+        order = record {
+          apart = dropped_apart last (latest_in old) replaced (latest_in new) call.leaves store.order.apart;
+          below = dropped_each last (latest_in old) replaced (latest_in new) call.leaves _ store.order.below;
+        };
       },
-      dropped_same last (latest_in old) replaced (latest_in new) call.leaves store.apart ∙ purged_left from h (versions_of replaced old),
+      dropped_same last (latest_in old) replaced (latest_in new) call.leaves store.order.apart ∙ purged_left from h (versions_of replaced old),
     )
 
 -- ---- a write
@@ -78,7 +85,7 @@ module _ (from first number stamp next : ℕ) (net : List Change) (before : List
   written_store replaced new x call =
       let all = call.leaves in
       let is = written_view first stamp (subst (λ n. first ≤ n) same_stamp room.low) net (latest_in mid ++ middle) (latest_in new ++ replaced) (next + length net) all.written ∙ ap (after_net stamp net) room.shown in (
-        record { kept = call.kept; apart = all.apart; below = all.written.below },
+        record { kept = call.kept; order = record { apart = all.apart; below = all.written.below } },
         is,
         subst (AllByRecursion IsStorable) is (view_each first (latest_in new ++ replaced) all.apart.each),
       )

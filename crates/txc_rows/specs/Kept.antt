@@ -16,7 +16,7 @@ use Rattle.txc_rows.specs.Found.{IsNeedless}
 use Rattle.txc_rows.specs.Holdable.{IsStorable}
 use Rattle.txc_rows.specs.Texts.{no_schema, latest_schema}
 use Rattle.txc_rows.specs.declared.placed.Placed.{Placed}
-use Rattle.txc_rows.specs.Placed.{version_of, versions_by_place, left_from, placed_left, AreBelow, AreWellPlaced, AreAll}
+use Rattle.txc_rows.specs.Placed.{version_of, all_versions, left_from, placed_left, AreInOrder, AreAll}
 use Rattle.txc_rows.specs.Stored.{placed_all, placed_from, AreVersionRows, AreCells, queried_columns, version_shown}
 
 -- the last versions of each table, id and group, as the transaction sees them
@@ -25,7 +25,7 @@ latest_in h = placed_all ((state over_memory h).now.trees 0)
 
 -- they and those that were replaced, in the order in which they were put
 abbrev pub versions_of : List Placed → Held MemStore → List Versioned
-versions_of replaced h = versions_by_place (latest_in h ++ replaced)
+versions_of replaced h = all_versions (latest_in h) replaced
 
 -- no table is there
 pub record HasNoTable (h : Held MemStore) : Type 0 where
@@ -126,11 +126,10 @@ pub record AddsAround (t : ℕ) (all old new : List Versioned) : Type 0 where
 
 -- ---- a store
 
--- the table and the replaced versions are in order, and each version has a lower place than the next one
+-- the table is kept, and its versions and the replaced ones are in order
 pub record IsStore (next : ℕ) (replaced : List Placed) (h : Held MemStore) : Type 0 where
   pub kept : IsKept h
-  pub apart : AreWellPlaced (latest_in h) replaced
-  pub below : AreBelow next (latest_in h ++ replaced)
+  pub order : AreInOrder next (latest_in h) replaced
 
 -- the store may write: its versions are as they were, and those that died at the stamp are not hidden. Or it is refused,
 -- and the same versions are shown from the stamp from which they were.

@@ -18,3 +18,5 @@ pub mod Around
 pub mod Uses
 pub mod Codes
 pub mod Owned
+pub mod Mapped
+pub mod Kinds

@@ -27,6 +27,11 @@ by_place (x ∷ xs) = put_at_place x (by_place xs)
 abbrev pub versions_by_place : List Placed → List Versioned
 versions_by_place xs = map version_of (by_place xs)
 
+-- all versions of a store in the order in which they were put: the last ones, wherever they lie, and those that were
+-- replaced
+abbrev pub all_versions : List Placed → List Placed → List Versioned
+all_versions latest replaced = versions_by_place (latest ++ replaced)
+
 -- no death, or one at the stamp or later
 abbrev pub lasts_to : ℕ → Option ℕ → Bool
 lasts_to from None = true
@@ -90,6 +95,10 @@ HaveOwnPlaces = IsAscending (λ x y. x.place ≢ y.place)
 abbrev pub HaveOwnKeys : List Placed → Type 0
 HaveOwnKeys = IsAscending (λ x y. has_key x.version.row.table x.version.row.id x.version.row.group y ≡ false)
 
+-- none of them has died
+abbrev pub AreAlive : List Placed → Type 0
+AreAlive = AllByRecursion (λ x. x.version.died ≡ None)
+
 -- each place is below the next one
 abbrev pub AreBelow : ℕ → List Placed → Type 0
 AreBelow next = AllByRecursion (λ x. x.place < next)
@@ -106,6 +115,12 @@ pub record AreWellPlaced (latest replaced : List Placed) : Type 0 where
   pub current : IsAscending IsOneCurrent latest
   pub ended : AllByRecursion (λ x. x.version.died ≢ None) replaced
   pub each : AllByRecursion (λ x. IsStorable x.version) (latest ++ replaced)
+
+-- what a store keeps, wherever its last versions lie: they and those that were replaced are well placed, and each has a lower
+-- place than the next one
+pub record AreInOrder (next : ℕ) (latest replaced : List Placed) : Type 0 where
+  pub apart : AreWellPlaced latest replaced
+  pub below : AreBelow next (latest ++ replaced)
 
 -- the last versions after a put: the new one stands in place of the last of its table, id and group, or else at
 -- the end

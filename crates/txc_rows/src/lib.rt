@@ -1,16 +1,19 @@
 //! Rows of tables, changes of them, queries over them, and the versions of rows that say every kept state.
 #![tactic(auto)]
 
+mod answers;
 mod counts;
+mod current_versions;
 mod decode;
 mod laws;
 mod placed;
+mod plain_store;
 mod query;
 mod reads;
 mod replaced;
 mod row;
-mod statements;
 mod sql_store;
+mod statements;
 mod store;
 mod store_error;
 mod store_laws;

@@ -1,4 +1,4 @@
-//! The store of row versions, by the stamps that are stored.
+//! The store of row versions over SQLite, by the stamps that are stored.
 
 ghost use Rattle.std.specs.Prelude.{◌≡◌, ◌≢◌, ℕ, ◌+◌, ◌-◌, ◌^◌, None, ◌<◌, ◌≤◌, [], true, false, Ok, IfOk, IfErr, OnOk, OnErr, length, filter, map};
 ghost use Rattle.std.specs.List.{AllByRecursion};
@@ -13,9 +13,10 @@ ghost use Rattle.txc_rows.specs.StoreErrors.{IsStoreRefusal};
 ghost use Rattle.txc_rows.specs.declared.sql_store.TheConstants.{MOST_KNOWN};
 ghost use Rattle.txc_rows.specs.declared.store_error.TheConstants.{MAX_MATCHING, MOST_MATCHING};
 
+use crate::answers::{around, current, matching};
 use crate::counts::Counts;
 use crate::decode::{add_known, add_shown};
-use crate::placed::Placed;
+use crate::placed::{Placed, is_half_full, place_after};
 use crate::query::{Change, Query};
 use crate::reads::{read, read_placed};
 use crate::replaced::Replaced;
@@ -72,17 +73,6 @@ fn open_table(alloc: Global) -> Result<Connection<MemStore>, sqlite::Error>
     let mut conn = Connection::open_in_memory(alloc)?;
     create(&mut conn)?;
     Ok(conn)
-}
-
-/// The next place after so many more versions, if there are so many.
-fn place_after(place: u32, more: usize) -> Result<u32, sqlite::Error>
-    ensures next { IfOk result (λ next. next ≡ place + more) }
-    ensures room { OnOk result (place + more < 2 ^ 32) }
-{
-    if more > (u32::MAX - place) as usize {
-        return Err(sqlite::Error::SqliteFailure(sqlite::ErrorCode::NoRowid));
-    }
-    Ok(place + more as u32)
 }
 
 /// Makes the table anew without what died before the stamp, where that is as much as what is left.
@@ -227,42 +217,6 @@ fn find_known(
     }
 }
 
-/// Refuses a query of which too many versions match, those that were replaced beside so many last ones. They are counted
-/// where all of them would be too many.
-fn check_few(
-    replaced: &Replaced,
-    query: &Query,
-    from: u32,
-    last: usize,
-    most: usize,
-) -> Result<(), StoreError>
-    requires each { AllByRecursion (λ x. IsStorable x.version) replaced.now }
-    requires ended { AllByRecursion (λ x. x.version.died ≢ None) replaced.now }
-    requires few { last ≤ most }
-    ensures few { OnOk result (last + length (filter (suits query.now) (left_from from (map version_of replaced.now))) ≤ most) }
-    ensures refused { result ≡ Err StoreError.TooManyRows
-        → most < last + length (filter (suits query.now) (left_from from (map version_of replaced.now))) }
-{
-    let room = most - last;
-    if replaced.len() <= room {
-        return Ok(());
-    }
-    if replaced.has_more(query, from as usize, room) {
-        return Err(StoreError::TooManyRows);
-    }
-    Ok(())
-}
-
-/// By id, and then by birth.
-fn sort(versions: &mut Vec<Versioned>) -> Result<(), StoreError>
-    ensures same { IsPermutation versions.old.items versions.new.items }
-    ensures sorted { OnOk result (IsSorted version_cmp versions.new.items) }
-    ensures refused { IfErr result (λ e. e ≡ StoreError.Memory) }
-{
-    versions.sort_by_key(|version| (version.row.id(), version.born.number()))?;
-    Ok(())
-}
-
 /// The versions that match, of those that did not die before the stamp, by id and then by birth.
 fn find_all(
     conn: &mut Connection<MemStore>,
@@ -281,10 +235,7 @@ fn find_all(
 {
     let mut found = Vec::new(alloc);
     find(conn, query, from, MAX_MATCHING, &mut found)?;
-    check_few(replaced, query, from, found.len(), MAX_MATCHING)?;
-    replaced.find(alloc, query, from as usize, &mut found)?;
-    sort(&mut found)?;
-    Ok(found)
+    matching(found, replaced, alloc, query, from)
 }
 
 /// Of the versions that match and did not die before the stamp `from`, those that are not needless at the stamp `at`, by id
@@ -310,40 +261,7 @@ fn find_around(
 {
     let mut found = Vec::new(alloc);
     find(conn, query, from, most, &mut found)?;
-    check_few(replaced, query, from, found.len(), most)?;
-    replaced.find_around(alloc, query, from as usize, at, &mut found)?;
-    sort(&mut found)?;
-    Ok(found)
-}
-
-/// The last versions that match, of those that did not die before the stamp.
-fn find_last(
-    conn: &mut Connection<MemStore>,
-    known: &mut Vec<Placed>,
-    replaced: &Replaced,
-    alloc: Global,
-    query: &Query,
-    from: u32,
-    most: usize,
-) -> Result<Vec<Versioned>, StoreError>
-    requires kept { IsKept conn.old }
-    requires known { AreAmong (latest_in conn.old) known.old.items }
-    requires apart { AreWellPlaced (latest_in conn.old) replaced.now }
-    requires most { most ≤ MOST_MATCHING }
-    ensures same { IsSame conn.old conn.new }
-    ensures known { AreAmong (latest_in conn.old) known.new.items }
-    ensures few_known { length known.old.items ≤ MOST_KNOWN + MOST_MATCHING
-        → length known.new.items ≤ MOST_KNOWN + MOST_MATCHING }
-    ensures finds { IfOk result (λ found. IsPermutation
-        (filter (suits query.now) (current (left_from from (versions_of replaced.now conn.old)))) (current found.items)) }
-    ensures bound { OnOk result (length (filter (suits query.now) (left_from from (versions_of replaced.now conn.old))) ≤ most) }
-    ensures refused { result ≡ Err StoreError.TooManyRows
-        → most < length (filter (suits query.now) (left_from from (versions_of replaced.now conn.old))) }
-{
-    let mut last = Vec::new(alloc);
-    find_known(conn, known, alloc, query, from, most, &mut last)?;
-    check_few(replaced, query, from, last.len(), most)?;
-    Ok(last)
+    around(found, replaced, alloc, query, from, at, most)
 }
 
 /// The versions that match and have not died, by id and then by birth.
@@ -369,10 +287,9 @@ fn find_current(
     ensures refused { result ≡ Err StoreError.TooManyRows
         → most < length (filter (suits query.now) (left_from from (versions_of replaced.now conn.old))) }
 {
-    let mut found = find_last(conn, known, replaced, alloc, query, from, most)?;
-    found.retain(|version| version.died.is_none());
-    sort(&mut found)?;
-    Ok(found)
+    let mut found = Vec::new(alloc);
+    find_known(conn, known, alloc, query, from, most, &mut found)?;
+    current(found, replaced, query, from, most)
 }
 
 impl SqlStore {
@@ -507,7 +424,7 @@ impl SqlStore {
 
     /// Whether half of the places are given to versions already.
     pub(crate) fn is_half_full(&self) -> bool {
-        self.next_place > u32::MAX / 2
+        is_half_full(self.next_place)
     }
 
     pub(crate) fn set_step_limit(&mut self, limit: Option<u64>)

@@ -18,10 +18,10 @@ pub write_all-requires-clause-kept : goal.write_all-requires-clause-kept
 write_all-requires-clause-kept c = (c.in_ok-kept_from.ensures.room c.self.inside.next_place c.self.invariant.0).store.kept
 
 pub write_all-requires-clause-apart : goal.write_all-requires-clause-apart
-write_all-requires-clause-apart c = (c.in_ok-kept_from.ensures.room c.self.inside.next_place c.self.invariant.0).store.apart
+write_all-requires-clause-apart c = (c.in_ok-kept_from.ensures.room c.self.inside.next_place c.self.invariant.0).store.order.apart
 
 pub write_all-requires-clause-below : goal.write_all-requires-clause-below
-write_all-requires-clause-below c = (c.in_ok-kept_from.ensures.room c.self.inside.next_place c.self.invariant.0).store.below
+write_all-requires-clause-below c = (c.in_ok-kept_from.ensures.room c.self.inside.next_place c.self.invariant.0).store.order.below
 
 pub invariant_of-self-in_err-written : goal.invariant_of-self-in_err-written
 invariant_of-self-in_err-written c =
