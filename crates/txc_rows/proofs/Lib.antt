@@ -27,6 +27,7 @@ pub mod MakeLemmas
 pub mod HeldLemmas
 pub mod ChangeSteps
 pub mod SweepCalls
+pub mod PlainLemmas
 pub mod ViewLemmas
 pub mod Finding
 pub mod Answering

@@ -141,7 +141,7 @@ few_keys t i g (x ∷ xs) own = elim (bool_cases (has_key t i g x)) [
   | inr e ↦ rw e (few_keys t i g xs own.1)
 ]
 
-higher : (place : ℕ) (xs : List Placed) → AreBelow place xs → AreBelow (place + 1) xs
+pub higher : (place : ℕ) (xs : List Placed) → AreBelow place xs → AreBelow (place + 1) xs
 higher place xs below = all_weaker (λ x. x.place < place) (λ x. x.place < place + 1) (λ x low. omega (arith, low)) xs below
 
 -- ---- a put

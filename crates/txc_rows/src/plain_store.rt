@@ -1,12 +1,14 @@
 //! A store of row versions without SQL, by the stamps that are stored.
 
-ghost use Rattle.std.specs.Prelude.{◌≡◌, ◌≢◌, ◌×◌, ◌⊎◌, ◌+◌, ◌-◌, ◌^◌, ◌<◌, ◌≤◌, ◌++◌, [], None, Err, filter, map, length, IfOk, IfErr, OnOk, OnErr};
+ghost use Rattle.std.specs.Prelude.{◌≡◌, ◌≢◌, ◌×◌, ◌⊎◌, ◌+◌, ◌-◌, ◌^◌, ◌<◌, ◌≤◌, ◌++◌, ◌∷◌, [], None, Err, filter, map, length, IfOk, IfErr, OnOk, OnErr};
 ghost use Rattle.std.specs.List.{AllByRecursion};
 ghost use Rattle.std.specs.List.Sorted.{IsPermutation};
 ghost use Rattle.txc_rows.specs.Versions.{suits, current, purged, after_write, after_net, closed};
 ghost use Rattle.txc_rows.specs.States.{is_at};
 ghost use Rattle.txc_rows.specs.Found.{Finds, FindsAround};
 ghost use Rattle.txc_rows.specs.Holdable.{IsStorable};
+ghost use Rattle.txc_rows.specs.Values.{IsRow};
+ghost use Rattle.txc_stamp.specs.declared.stamp.TheConstants.{MOST_STAMP};
 ghost use Rattle.txc_rows.specs.Placed.{all_versions, left_from, placed_left, closed_placed, new_placed, AreAlive, AreAll, AreBelow, AreInOrder, AreWellPlaced, AddsAtEnd};
 ghost use Rattle.txc_rows.specs.Mapped.{is_elsewhere};
 ghost use Rattle.txc_rows.specs.StoreErrors.{IsStoreRefusal};
@@ -117,10 +119,12 @@ fn put_row(
     stamp: Stamp,
     place: u32,
 ) -> Result<(), AllocError>
+    ensures row { IsRow row.now }
     ensures put { OnOk result (IsPermutation
         (new_placed place row.now stamp ∷ filter (is_elsewhere row.now.table row.now.id) current.old.versions) current.new.versions) }
     ensures before { current.new.before ≡ current.old.before }
 {
+    row.is_in_bounds();
     let placed = born_at(alloc, row, stamp, place)?;
     current.put(placed)
 }
@@ -134,6 +138,7 @@ fn write_change(
     stamp: Stamp,
     place: u32,
 ) -> Result<(), Error>
+    requires stamp { stamp ≤ MOST_STAMP }
     requires order { AreInOrder place current.old.versions replaced.old }
     requires alive { AreAlive current.old.versions }
     ensures written { OnOk result
@@ -163,6 +168,7 @@ fn write_each(
     stamp: Stamp,
     place: u32,
 ) -> Result<(), Error>
+    requires stamp { stamp ≤ MOST_STAMP }
     requires order { AreInOrder place current.old.versions replaced.old }
     requires alive { AreAlive current.old.versions }
     requires room { place + length net.now < 2 ^ 32 }
@@ -190,6 +196,7 @@ fn write_all(
     stamp: Stamp,
     place: u32,
 ) -> Result<(), Error>
+    requires stamp { stamp ≤ MOST_STAMP }
     requires order { AreInOrder place current.old.versions replaced.old }
     requires alive { AreAlive current.old.versions }
     requires settled { current.old.before ≡ current.old.versions }
@@ -308,12 +315,9 @@ impl PlainStore {
     {
         let place = self.next_place;
         let next_place = place_after(place, net.len())?;
-        self.kept_from = make_room(
-            &mut self.replaced,
-            self.alloc,
-            self.kept_from,
-            stamp.number(),
-        )?;
+        let number = stamp.number();
+        let kept_from = make_room(&mut self.replaced, self.alloc, self.kept_from, number)?;
+        self.kept_from = kept_from;
         write_all(
             &mut self.current,
             &mut self.replaced,

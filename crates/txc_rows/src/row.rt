@@ -126,6 +126,11 @@ impl Row {
         &self.body
     }
 
+    /// Each row is in bounds. It is a lemma: it has no code.
+    pub(crate) fn is_in_bounds(&self)
+        ensures { IsRow self.now }
+    {}
+
     /// An equal row.
     pub fn copy(&self, alloc: Global) -> Result<Row, AllocError>
         ensures { IfOk result (λ r. r ≡ self.now) }

@@ -1,14 +1,31 @@
-use Rattle.std.proofs.Common.{◌≡◌, subst, rules}
-use Rattle.std.specs.List.Sorted.{IsPermutation}
-use Rattle.std.proofs.lemmas.Fn.{filter_same}
-use Rattle.std.proofs.lemmas.List.Sorted.{IsPermutation-trans}
-use Rattle.txc_rows.specs.Versions.{current, is_current}
+use Rattle.std.proofs.Common.{◌≡◌, Err, [], ap, subst}
+use Rattle.txc_rows.specs.declared.store_error.StoreError.TheVariants.{TooManyRows}
+use Rattle.txc_rows.specs.Holdable.{IsStorable}
+use Rattle.txc_rows.specs.Kept.{latest_in, IsFinding}
+use Rattle.txc_rows.proofs.PutLemmas.{all_back}
+use Rattle.txc_rows.proofs.FindLemmas.{latest_many, passed_error}
 use Rattle.txc_rows.proofs.sql_store.find_current.Goals as goal
+
+-- of the last versions alone too many match
+pub returns-in_err-find_known-clause-refused : goal.returns-in_err-find_known-clause-refused
+returns-in_err-find_known-clause-refused c = λ many.
+    let passed = passed_error c.from_residual.result c.in_err-find_known.field-0.0 TooManyRows c.from_residual.ensures.1 many in
+    latest_many c.args.query.now c.args.from c.args.replaced.now (latest_in c.args.conn.now) c.args.most c.new-found.result.items c.new-found.ensures.items (c.in_err-find_known.ensures.refused (ap (λ e. Err e) passed))
+
+pub current-requires-clause-each : goal.current-requires-clause-each
+current-requires-clause-each c = all_back (λ x. IsStorable x.version) (latest_in c.args.conn.now) c.args.replaced.now c.requires.apart.each
 
 pub returns-clause-finds : goal.returns-clause-finds
 returns-clause-finds c =
-    let are : c.retain.new.self.items ≡ current c.in_ok-found.found.items = filter_same _ is_current _ (λ x b f' called. search rules) _ _ c.retain.ensures.filtered in
-    record {
-      same = IsPermutation-trans _ _ _ c.in_ok-found.ensures.finds (subst (λ vs. IsPermutation vs c.sort.new.versions.items) are c.sort.ensures.same);
-      sorted = c.in_ok-sort.ensures.sorted;
-    }
+    let latest = latest_in c.args.conn.now in
+    c.current.ensures.finds latest (subst (λ vs. IsFinding c.args.query.now c.args.from latest vs c.find_known.new.found.items) c.new-found.ensures.items c.in_ok-find_known.ensures.finds)
+
+pub returns-clause-bound : goal.returns-clause-bound
+returns-clause-bound c =
+    let latest = latest_in c.args.conn.now in
+    c.current.ensures.bound latest (subst (λ vs. IsFinding c.args.query.now c.args.from latest vs c.find_known.new.found.items) c.new-found.ensures.items c.in_ok-find_known.ensures.finds)
+
+pub returns-clause-refused : goal.returns-clause-refused
+returns-clause-refused c =
+    let latest = latest_in c.args.conn.now in
+    c.current.ensures.refused latest (subst (λ vs. IsFinding c.args.query.now c.args.from latest vs c.find_known.new.found.items) c.new-found.ensures.items c.in_ok-find_known.ensures.finds)

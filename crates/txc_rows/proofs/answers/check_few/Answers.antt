@@ -1,7 +1,7 @@
 use Rattle.std.proofs.Common.{◌≤◌, ◌<◌, ◌-◌, length, arith, rules}
 use Rattle.txc_rows.proofs.CurrentLemmas.{asked_few}
 use Rattle.txc_rows.proofs.FindLemmas.{asked}
-use Rattle.txc_rows.proofs.sql_store.check_few.Goals as goal
+use Rattle.txc_rows.proofs.answers.check_few.Goals as goal
 
 pub returns-then-len-clause-few : goal.returns-then-len-clause-few
 returns-then-len-clause-few c =
