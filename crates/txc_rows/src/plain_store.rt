@@ -1,9 +1,9 @@
 //! A store of row versions without SQL, by the stamps that are stored.
 
-ghost use Rattle.std.specs.Prelude.{◌≡◌, ◌≢◌, ◌×◌, ◌⊎◌, ◌+◌, ◌-◌, ◌^◌, ◌<◌, ◌≤◌, ◌++◌, ◌∷◌, [], None, Err, filter, map, length, IfOk, IfErr, OnOk, OnErr};
+ghost use Rattle.std.specs.Prelude.{◌≡◌, ◌≢◌, ◌×◌, ◌⊎◌, ◌+◌, ◌-◌, ◌^◌, ◌<◌, ◌≤◌, ◌++◌, ◌∷◌, [], ℕ, None, Err, filter, map, length, IfOk, IfErr, OnOk, OnErr};
 ghost use Rattle.std.specs.List.{AllByRecursion};
 ghost use Rattle.std.specs.List.Sorted.{IsPermutation};
-ghost use Rattle.txc_rows.specs.Versions.{suits, current, purged, after_write, after_net, closed};
+ghost use Rattle.txc_rows.specs.Versions.{suits, current, purged, put, removed, after_write, after_net};
 ghost use Rattle.txc_rows.specs.States.{is_at};
 ghost use Rattle.txc_rows.specs.Found.{Finds, FindsAround};
 ghost use Rattle.txc_rows.specs.Holdable.{IsStorable};
@@ -129,7 +129,58 @@ fn put_row(
     current.put(placed)
 }
 
-/// Writes a change: the current version of its table and id dies, and a put is current then.
+/// The current version of the row's table and id dies, and the row is current then.
+fn write_put(
+    current: &mut CurrentVersions,
+    replaced: &mut Replaced,
+    alloc: Global,
+    row: &Row,
+    stamp: Stamp,
+    place: u32,
+) -> Result<(), Error>
+    requires stamp { stamp ≤ MOST_STAMP }
+    requires order { AreInOrder place current.old.versions replaced.old }
+    requires alive { AreAlive current.old.versions }
+    ensures written { OnOk result
+        (AreAll (put row.now stamp (all_versions current.old.versions replaced.old)) (place + 1) replaced.new
+        current.new.versions) }
+    ensures alive { OnOk result (AreAlive current.new.versions) }
+    ensures before { current.new.before ≡ current.old.before }
+    ensures longer { AddsAtEnd replaced.old replaced.new }
+{
+    end_version(current, replaced, alloc, row.table(), row.id(), stamp)?;
+    let Ok(()) = put_row(current, alloc, row, stamp, place) else {
+        return Err(no_memory());
+    };
+    Ok(())
+}
+
+/// The current version of the table and id dies.
+fn write_removal(
+    current: &mut CurrentVersions,
+    replaced: &mut Replaced,
+    alloc: Global,
+    table: Table,
+    id: u32,
+    stamp: Stamp,
+) -> Result<(), Error>
+    requires stamp { stamp ≤ MOST_STAMP }
+    requires alive { AreAlive current.old.versions }
+    ensures written { OnOk result ((place : ℕ) → AreInOrder place current.old.versions replaced.old
+        → AreAll (removed table id stamp (all_versions current.old.versions replaced.old)) (place + 1) replaced.new
+        current.new.versions) }
+    ensures alive { OnOk result (AreAlive current.new.versions) }
+    ensures before { current.new.before ≡ current.old.before }
+    ensures longer { AddsAtEnd replaced.old replaced.new }
+{
+    end_version(current, replaced, alloc, table, id, stamp)?;
+    let Ok(()) = current.remove(table, id) else {
+        return Err(no_memory());
+    };
+    Ok(())
+}
+
+/// Writes a change: the current version of its table and id dies, and a row that is put is current then.
 fn write_change(
     current: &mut CurrentVersions,
     replaced: &mut Replaced,
@@ -148,15 +199,10 @@ fn write_change(
     ensures before { current.new.before ≡ current.old.before }
     ensures longer { AddsAtEnd replaced.old replaced.new }
 {
-    end_version(current, replaced, alloc, change.table(), change.id(), stamp)?;
-    let written = match change {
-        Change::Put(row) => put_row(current, alloc, row, stamp, place),
-        Change::Remove(table, id) => current.remove(*table, *id),
-    };
-    let Ok(()) = written else {
-        return Err(no_memory());
-    };
-    Ok(())
+    match change {
+        Change::Put(row) => write_put(current, replaced, alloc, row, stamp, place),
+        Change::Remove(table, id) => write_removal(current, replaced, alloc, *table, *id, stamp),
+    }
 }
 
 /// Writes the changes of one commit, up to the first that is refused.
