@@ -1,21 +1,22 @@
 -- What a change makes of the current versions of a store without SQL, and of those that were replaced.
-use Rattle.std.proofs.Common.{◌≡◌, ◌≢◌, inl, inr, ℕ, ◌+◌, ◌<◌, ◌≤◌, List, [], ◌∷◌, ◌++◌, map, filter, Bool, true, false, cond, not, ◌&&◌, ◌==◌, None, Some, refl, sym, ap, ◌∙◌, append_assoc, arith}
+use Rattle.std.proofs.Common.{◌≡◌, ◌≢◌, ◌⊎◌, inl, inr, ℕ, ◌+◌, ◌<◌, ◌≤◌, List, [], ◌∷◌, ◌++◌, map, filter, Bool, true, false, cond, not, ◌&&◌, ◌==◌, Option, None, Some, refl, sym, ap, ◌∙◌, append_assoc, arith}
 use Rattle.std.proofs.lemmas.List.{map-append}
 use Rattle.std.specs.List.{AllByRecursion}
 use Rattle.std.specs.List.Sorted.{IsPermutation}
 use Rattle.std.proofs.lemmas.List.Sorted.{IsPermutation-refl, IsPermutation-trans, IsPermutation-sym, IsPermutation-cons, IsPermutation-middle, IsPermutation-append_left, IsPermutation-append_right, IsPermutation-append_comm}
 use Rattle.sqlite.specs.Tree.{IsAscending}
-use Rattle.sqlite_trees.proofs.ListLemmas.{IsPermutation-same, all_of, all_weaker, all_both, all-append, all-filter, all-map, all-permutation, ascending-append, ascending-filter}
+use Rattle.sqlite_trees.proofs.ListLemmas.{IsPermutation-same, all_of, all_weaker, all_both, all-append, all-filter, all-map, all-permutation, ascending-append, ascending-filter, filter-map, filter_all}
 use Rattle.txc_stamp.specs.declared.stamp.TheConstants.{MOST_STAMP}
 use Rattle.txc_rows.specs.Values.{RowValue, IsRow}
 use Rattle.txc_rows.specs.States.{is_at}
 use Rattle.txc_rows.specs.Versions.{is_current, removed, put}
 use Rattle.txc_rows.specs.Holdable.{IsStorable}
 use Rattle.txc_rows.specs.declared.placed.Placed.{Placed}
-use Rattle.txc_rows.specs.Placed.{version_of, by_place, versions_by_place, all_versions, has_key, closed_placed, new_placed, HaveOwnPlaces, AreAlive, AreBelow, IsOneCurrent, AreWellPlaced, AreInOrder, AreAll}
+use Rattle.txc_rows.specs.Placed.{version_of, by_place, all_versions, lasts_to, is_left, left_from, placed_left, without_front_dead, has_key, closed_placed, new_placed, HaveOwnPlaces, AreAlive, AreBelow, IsOneCurrent, AreWellPlaced, AreInOrder, AreAll}
 use Rattle.txc_rows.specs.Mapped.{is_elsewhere}
 use Rattle.txc_rows.proofs.Members.{bool_cases, passing}
 use Rattle.txc_rows.proofs.PlaceLemmas.{pairs_permuted, by_place_same, by_place_last, own_places_permuted}
+use Rattle.txc_rows.proofs.SweepLemmas.{both_apart, both_below, left_alone, none_hidden, dropped_apart, dropped_each, dropped_same}
 use Rattle.txc_rows.proofs.PutLemmas.{ended_apart, ended_below, ended_versions, one_turned, key_turned, higher}
 
 -- what is changed of some elements alone stands apart
@@ -143,3 +144,44 @@ module _ (s place : ℕ) (row : RowValue) (is : IsRow row) (low : s ≤ MOST_STA
             (all-append (λ x. x.place < place + 1) (others ++ dead) (new ∷ []) (higher place (others ++ dead) below) (omega arith, tt));
       };
     }
+
+-- ---- none that is current is hidden
+
+left_lives : (from : ℕ) (d : Option ℕ) → d ≡ None → lasts_to from d ≡ true
+left_lives from None lives = refl
+left_lives from (Some d) lives = absurd (let f = lives in cc)
+
+pub all_left : (from : ℕ) (xs : List Placed) → AreAlive xs → placed_left from xs ≡ xs
+all_left from xs alive = filter_all _ xs (all_weaker (λ x. x.version.died ≡ None) _ (λ x lives. left_lives from x.version.died lives) xs alive)
+
+pub all_shown : (from : ℕ) (xs : List Placed) → AreAlive xs → left_from from (map version_of xs) ≡ map version_of xs
+all_shown from xs alive = filter_map_left ∙ ap (map version_of) (all_left from xs alive)
+  where
+    filter_map_left : left_from from (map version_of xs) ≡ map version_of (placed_left from xs)
+    filter_map_left = filter-map (is_left from) version_of xs
+
+-- ---- room for a write, and a purge
+
+module _ (from next : ℕ) (latest before : List Placed) (h : AreInOrder next latest before) (alive : AreAlive latest) where
+  stay : IsPermutation (placed_left from latest) latest
+  stay = rw (all_left from latest alive) (IsPermutation-refl latest)
+
+  pub room_order : (first : ℕ) (left : List Placed) → ((first ≡ from) × (left ≡ before)) ⊎ ((first ≡ 0) × (left ≡ placed_left from before))
+      → AreInOrder next latest left × (left_from first (all_versions latest left) ≡ left_from from (all_versions latest before))
+  room_order first left (inl same) = rw (same.0, same.1) (h, refl)
+  room_order first left (inr hides) = rw hides.0 (
+    record {
+      apart = both_apart from latest before latest left stay hides.1 h.apart;
+      below = both_below from latest before latest left stay hides.1 next h.below;
+    },
+    none_hidden (all_versions latest left) ∙ left_alone from latest before latest left stay hides.1 h.apart,
+  )
+
+  pub dropped_order : AreInOrder next latest (without_front_dead from before)
+  dropped_order = record {
+    apart = dropped_apart from latest before latest (inl refl) h.apart;
+    below = dropped_each from latest before latest (inl refl) (λ x. x.place < next) h.below;
+  }
+
+  pub dropped_view : left_from from (all_versions latest (without_front_dead from before)) ≡ left_from from (all_versions latest before)
+  dropped_view = dropped_same from latest before latest (inl refl) h.apart
