@@ -1,5 +1,5 @@
 -- The current versions of a store without SQL, in two ordered maps: words that only this crate's private functions promise.
-use Rattle.std.specs.Prelude.{◌≡◌, ℕ, Bool, ◌&&◌, ◌==◌, not, if◌then◌else◌, List, [], ◌∷◌, ◌++◌, map, filter, option_to_list, Option, Some, None}
+use Rattle.std.specs.Prelude.{◌≡◌, ℕ, Bool, ◌&&◌, ◌==◌, nat_le, not, if◌then◌else◌, List, [], ◌∷◌, ◌++◌, map, filter, option_to_list, Option, Some, None}
 use Rattle.std.specs.List.{flat_map, AllByRecursion, Contains}
 use Rattle.txc_rows.specs.declared.placed.Placed.{Placed}
 use Rattle.txc_rows.specs.declared.current_versions.RowKey.{RowKey}
@@ -28,9 +28,25 @@ is_elsewhere table id x = not (is_at table id x.version.row)
 abbrev pub standing : List (RowKey × Option Placed) → List Placed
 standing = flat_map (λ e. option_to_list e.1)
 
+-- it is at that key
+abbrev pub is_key : RowKey → (RowKey × Option Placed) → Bool
+is_key k e = (e.0.table == k.table) && (e.0.id == k.id)
+
+-- the version that stands at the key, if one does
+abbrev pub stands_at : RowKey → List (RowKey × Option Placed) → List Placed
+stands_at k rows = standing (filter (is_key k) rows)
+
+-- it is of the table, with an id from the first to the last
+abbrev pub is_row_between : ℕ → ℕ → ℕ → (RowKey × Option Placed) → Bool
+is_row_between table first last e = (e.0.table == table) && (nat_le first e.0.id && nat_le e.0.id last)
+
 -- that stands at the key, if the key is there
 abbrev pub with_at : RowKey → Option Placed → List (RowKey × Option Placed) → List (RowKey × Option Placed)
-with_at k o = map (λ e. if (e.0.table == k.table) && (e.0.id == k.id) then (e.0, o) else e)
+with_at k o = map (λ e. if is_key k e then (e.0, o) else e)
+
+-- those at other keys
+abbrev pub without : RowKey → List (RowKey × Option Placed) → List (RowKey × Option Placed)
+without k = filter (λ e. not (is_key k e))
 
 -- what stood at the keys before these were touched, the first first
 abbrev pub untouched : List Touched → List (RowKey × Option Placed) → List (RowKey × Option Placed)

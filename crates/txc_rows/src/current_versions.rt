@@ -1,13 +1,15 @@
 //! The current versions of a store without SQL, in two ordered maps.
 
-ghost use Rattle.std.specs.Prelude.{◌≡◌, ◌×◌, ◌+◌, ◌<◌, ◌≤◌, ◌∷◌, ◌++◌, [], ℕ, None, Err, filter, map, length, option_to_list, OnOk, OnErr, IfOk, MatchOption};
+ghost use Rattle.std.specs.Prelude.{◌≡◌, ◌≢◌, ◌↔◌, ◌⊎◌, ◌×◌, ◌+◌, ◌<◌, ◌≤◌, ◌∷◌, ◌++◌, [], ℕ, None, Err, filter, map, length, option_to_list, OnOk, OnErr, IfOk, MatchOption};
 ghost use Rattle.std.specs.List.{AllByRecursion, Contains};
 ghost use Rattle.std.specs.List.Sorted.{IsPermutation};
 ghost use Rattle.txc_rows.specs.Versions.{suits};
+ghost use Rattle.txc_rows.specs.declared.query.Query.TheVariants.{ByGroup};
+ghost use Rattle.txc_rows.specs.declared.current_versions.GroupKey.{GroupKey};
 ghost use Rattle.txc_rows.specs.States.{is_at};
-ghost use Rattle.txc_rows.specs.Placed.{version_of};
+ghost use Rattle.txc_rows.specs.Placed.{version_of, in_group};
 ghost use Rattle.txc_rows.specs.Kept.{IsFinding};
-ghost use Rattle.txc_rows.specs.Mapped.{row_key, group_key, is_elsewhere};
+ghost use Rattle.txc_rows.specs.Mapped.{row_key, group_key, placed_group, standing, stands_at, with_at, without, is_row_between, is_elsewhere, IsSlot};
 
 use crate::placed::Placed;
 use crate::query::Query;
@@ -96,7 +98,9 @@ impl Model for CurrentVersions {
 type Rows = BTreeMap<RowKey, Option<Placed>>;
 
 /// The version that stands at a key.
-fn at_key(rows: &Rows, key: RowKey) -> Option<&Placed> {
+fn at_key(rows: &Rows, key: RowKey) -> Option<&Placed>
+    ensures { MatchOption result (stands_at key rows.now.entries ≡ []) (λ x. stands_at key rows.now.entries ≡ x.now ∷ []) }
+{
     match rows.get(&key) {
         Some(Some(placed)) => Some(placed),
         _ => None,
@@ -130,7 +134,13 @@ fn find_between(
     last: u32,
     most: usize,
     found: &mut Vec<Versioned>,
-) -> Result<(), StoreError> {
+) -> Result<(), StoreError>
+    requires few { length found.old.items ≤ most }
+    ensures found { OnOk result (found.new.items ≡ found.old.items ++ map version_of (standing (filter (is_row_between table first last) rows.now.entries))) }
+    ensures few { OnOk result (length found.new.items ≤ most) }
+    ensures refused { result ≡ Err StoreError.TooManyRows
+        → most < length found.old.items + length (standing (filter (is_row_between table first last) rows.now.entries)) }
+{
     if first > last {
         return Ok(());
     }
@@ -149,7 +159,13 @@ fn find_one(
     key: RowKey,
     most: usize,
     found: &mut Vec<Versioned>,
-) -> Result<(), StoreError> {
+) -> Result<(), StoreError>
+    requires few { length found.old.items ≤ most }
+    ensures found { OnOk result (found.new.items ≡ found.old.items ++ map version_of (stands_at key rows.now.entries)) }
+    ensures few { OnOk result (length found.new.items ≤ most) }
+    ensures refused { result ≡ Err StoreError.TooManyRows
+        → most < length found.old.items + length (stands_at key rows.now.entries) }
+{
     match at_key(rows, key) {
         Some(placed) => add_one(placed, alloc, most, found),
         None => Ok(()),
@@ -164,7 +180,13 @@ fn find_member(
     group: u32,
     most: usize,
     found: &mut Vec<Versioned>,
-) -> Result<(), StoreError> {
+) -> Result<(), StoreError>
+    requires few { length found.old.items ≤ most }
+    ensures found { OnOk result (found.new.items ≡ found.old.items ++ map version_of (filter (in_group group) (stands_at key rows.now.entries))) }
+    ensures few { OnOk result (length found.new.items ≤ most) }
+    ensures refused { result ≡ Err StoreError.TooManyRows
+        → most < length found.old.items + length (filter (in_group group) (stands_at key rows.now.entries)) }
+{
     match at_key(rows, key) {
         Some(placed) if placed.version.row.group() == group => {
             add_one(placed, alloc, most, found)
@@ -182,7 +204,15 @@ fn find_group(
     group: u32,
     most: usize,
     found: &mut Vec<Versioned>,
-) -> Result<(), StoreError> {
+) -> Result<(), StoreError>
+    requires slots { AllByRecursion (λ e. IsSlot e.0 e.1) rows.now.entries }
+    requires grouped { AllByRecursion (λ x. Contains groups.now.keys (placed_group x)) (standing rows.now.entries) }
+    requires few { length found.old.items ≤ most }
+    ensures finds { OnOk result ((from : ℕ) → IsFinding (ByGroup table group) from (standing rows.now.entries) found.old.items found.new.items) }
+    ensures few { OnOk result (length found.new.items ≤ most) }
+    ensures refused { result ≡ Err StoreError.TooManyRows
+        → most < length found.old.items + length (filter (suits (ByGroup table group)) (map version_of (standing rows.now.entries))) }
+{
     let number = table.number();
     let low = GroupKey {
         table: number,
@@ -208,7 +238,11 @@ fn find_group(
 }
 
 /// That stands at a key that is there. It answers the version that stood there.
-fn exchange(rows: &mut Rows, key: RowKey, placed: Option<Placed>) -> Option<Placed> {
+fn exchange(rows: &mut Rows, key: RowKey, placed: Option<Placed>) -> Option<Placed>
+    requires { Contains (map (λ e. e.0) rows.old.entries) key }
+    ensures before { option_to_list result ≡ stands_at key rows.old.entries }
+    ensures rows { rows.new.entries ≡ with_at key placed rows.old.entries }
+{
     match rows.insert(key, placed) {
         Ok(Some(before)) => before,
         _ => None,
@@ -216,7 +250,12 @@ fn exchange(rows: &mut Rows, key: RowKey, placed: Option<Placed>) -> Option<Plac
 }
 
 /// Drops the group of the version, unless the version that stands at its key is of that group too.
-fn drop_group(rows: &Rows, groups: &mut BTreeSet<GroupKey>, before: &Placed) {
+fn drop_group(rows: &Rows, groups: &mut BTreeSet<GroupKey>, before: &Placed)
+    ensures stays { (g : GroupKey) → (g ≢ placed_group before.now) ⊎ Contains (map placed_group (stands_at (row_key before.now.version.row) rows.now.entries)) g
+        → Contains groups.old.keys g ↔ Contains groups.new.keys g }
+    ensures gone { Contains groups.new.keys (placed_group before.now)
+        → Contains (map placed_group (stands_at (row_key before.now.version.row) rows.now.entries)) (placed_group before.now) }
+{
     let row = &before.version.row;
     let stays = match at_key(rows, RowKey::of(row)) {
         Some(placed) => placed.version.row.group() == row.group(),
@@ -228,7 +267,10 @@ fn drop_group(rows: &Rows, groups: &mut BTreeSet<GroupKey>, before: &Placed) {
 }
 
 /// Drops the key, unless a version stands at it.
-fn drop_key(rows: &mut Rows, key: RowKey) {
+fn drop_key(rows: &mut Rows, key: RowKey)
+    ensures stays { stands_at key rows.old.entries ≢ [] → rows.new.entries ≡ rows.old.entries }
+    ensures gone { stands_at key rows.old.entries ≡ [] → rows.new.entries ≡ without key rows.old.entries }
+{
     if at_key(rows, key).is_none() {
         rows.remove(&key);
     }
