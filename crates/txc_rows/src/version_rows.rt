@@ -136,8 +136,7 @@ impl VersionRows {
         VersionRows::of(alloc, Store::open_in_memory(alloc)?)
     }
 
-    /// A store that has no version, without SQL: its current versions lie in two ordered maps. All of its calls mean the same.
-    /// A write takes far less time, and none for those that are stored but for the steps of a search among them. For rows
+    /// A store that has no version, without SQL: its current versions lie in two ordered maps. It means the same. It is for rows
     /// that are written more often than they are read.
     pub fn open_plain(alloc: Global) -> Result<VersionRows, StoreError>
         ensures answer { IfOk result (λ rows. rows ≡ []) }
