@@ -25,7 +25,7 @@ use Rattle.txc_call.specs.Frames.{answers_in, AreFew, AreUnreached, FramesHold, 
 pub record IsWaiting (next : Next) (objects : Objects) (top : Call) (ask : Ask) (frames : List Frame) :
     Type 0 where
   pub open_frames : IsOpen next objects top ask frames
-  pub few : AreFew frames
+  pub few : AreFew next.limits.asks frames
 
 -- the frames wait for what is needed; where nothing is, no call is open
 abbrev pub NeedFits : Next → Objects → Call → Option Need → List Frame → Type 0

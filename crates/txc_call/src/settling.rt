@@ -117,7 +117,7 @@ pub(crate) fn settle(frames: &mut Frames, ask: Ask) -> Result<Need, CallError>
     ensures same_stack { OnErr result (frames.new.stack ≡ frames.old.stack) }
     ensures same_top { frames.new.top ≡ frames.old.top }
 {
-    frames.count()?;
+    frames.count::<A>()?;
     match ask {
         Ask::Query(query) => Ok(Need::Query(query)),
         Ask::Call(key) => {
@@ -125,7 +125,7 @@ pub(crate) fn settle(frames: &mut Frames, ask: Ask) -> Result<Need, CallError>
             Ok(Need::Lookup(key))
         }
         Ask::Done(bytes) => {
-            let Some(value) = Value::new(bytes.into_vec()) else {
+            let Some(value) = Value::up_to(A::limits().value, bytes.into_vec()) else {
                 return Err(CallError::ValueTooLong);
             };
             let Some(frame) = frames.stack.pop() else {

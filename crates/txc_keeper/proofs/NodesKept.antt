@@ -18,12 +18,12 @@ same_settings old new grown = ap (λ (p : PassValue). p.settings) grown.is
 pub same_number : (old new : PassValue) → HasGrown old new → new.pass ≡ old.pass
 same_number old new grown = ap (λ (p : PassValue). p.pass) grown.is
 
-pub same_pass : (old new : StationValue) → HasGrown old.pass new.pass → IsSamePass old new
-same_pass old new grown =
-    record { settings = same_settings old.pass new.pass grown; pass = same_number old.pass new.pass grown }
+pub same_pass : (old new : StationValue) → HasGrown old.pass new.pass → new.budget ≡ old.budget → IsSamePass old new
+same_pass old new grown budget =
+    record { settings = same_settings old.pass new.pass grown; pass = same_number old.pass new.pass grown; budget = budget }
 
 pub same_then : (old mid new : StationValue) → IsSamePass old mid → IsSamePass mid new → IsSamePass old new
-same_then old mid new a b = record { settings = b.settings ∙ a.settings; pass = b.pass ∙ a.pass }
+same_then old mid new a b = record { settings = b.settings ∙ a.settings; pass = b.pass ∙ a.pass; budget = b.budget ∙ a.budget }
 
 -- one event more was taken
 pub one_taken_more : (row : Name) (old last new : StationValue) (stamps : List ℕ) (stamp closed : ℕ) → HasTakenEach row old stamps last
@@ -79,6 +79,11 @@ module _ (stations more : List StationValue) (s : StationValue) (added : more �
       ∙ ap (λ (l : List NodeSettings). l ++ s.pass.settings ∷ []) before
       ∙ ap (λ (n : NodeSettings). take i nodes ++ n ∷ []) (own ∙ at)
       ∙ sym (take_more nodes i node within)
+
+  pub all_have_budget : (budget : Option ℕ) → All (λ x. x.budget ≡ budget) stations → s.budget ≡ budget → All (λ x. x.budget ≡ budget) more
+  all_have_budget budget before own =
+      subst (All (λ x. x.budget ≡ budget)) (sym added)
+      (All-append (λ x. x.budget ≡ budget) stations (s ∷ []) before (λ k d within. search rules))
 
   pub none_has_seen : All (λ x. x.pass.records ≡ []) stations → s.pass.records ≡ [] → All (λ x. x.pass.records ≡ []) more
   none_has_seen before own =

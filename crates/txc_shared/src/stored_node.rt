@@ -2,10 +2,10 @@
 ghost use Rattle.std.specs.Prelude.{◌≡◌, ◌+◌, ◌<◌, ◌≤◌, ◌⊎◌, ◌↔◌, ◌++◌, ◌∷◌, [], true, false, length, Some, None, Ok, Err, IsOk, IfOk, OnOk, OnErr, IfErr, IfSome, IfNone, IsSome, IsTrue, MatchOption};
 ghost use Rattle.txc_stream.specs.Names.{stored, unstored, HasRow};
 ghost use Rattle.std.specs.Option.{option_map};
-ghost use Rattle.txc_node.specs.Cache.{lookup_answer, outcome, swept_count};
+ghost use Rattle.txc_node.specs.Cache.{lookup_answer, outcome, swept_count, trimmed_count};
 ghost use Rattle.txc_node.specs.Hit.{seen};
 ghost use Rattle.txc_node.specs.Counts.{AreCountsOf};
-ghost use Rattle.txc_node.specs.declared.op.Op.TheVariants.{Insert, Lookup, Sweep};
+ghost use Rattle.txc_node.specs.declared.op.Op.TheVariants.{Insert, Lookup, Sweep, Trim};
 ghost use Rattle.txc_app.specs.Claims.{IsTrueIn, entry_shown};
 ghost use Rattle.txc_shared.specs.Nodes.{NodeValue, start_of, after_call, seeing, next_stamp, IsLonger, HasTags, insertion_of, HasAdvanced, HasTakenAll};
 ghost use Rattle.txc_shared.specs.Histories.{records_of};
@@ -551,6 +551,32 @@ impl<A: App> StoredNode<A> {
         let prepared = self.log.prepare(alloc, pass, op, &self.core)?;
         let dropped = self.core.sweep(horizon);
         let reply = Reply::Swept(dropped);
+        count_step(&mut self.counts, None, &reply);
+        let next = prepared.answered(reply);
+        if !self.log.append(pass, next) {
+            self.broken = true;
+            return Err(NodeError::Broken);
+        }
+        Ok(dropped)
+    }
+
+    /// Keeps the first entries whose values have at most `most` bytes in all, as many as there are, and counts those that
+    /// it drops.
+    pub fn trim(&mut self, alloc: Global, pass: usize, most: usize) -> Result<usize, NodeError>
+        requires { pass < self.old.passes }
+        ensures after { OnOk result (self.new ≡ after_call self.old pass (Trim most)) }
+        ensures answer { IfOk result (λ count. count ≡ trimmed_count self.old.cache most) }
+        ensures only_if { OnOk result (CanRecord self.old) }
+        ensures left { IfErr result (IsNodeLeft self.old self.new) }
+        ensures refused { IfErr result (IsStepRefused self.old) }
+    {
+        nodes_go_on();
+        self.check_whole()?;
+        self.check_room()?;
+        let op = Op::Trim { most };
+        let prepared = self.log.prepare(alloc, pass, op, &self.core)?;
+        let dropped = self.core.trim(most);
+        let reply = Reply::Trimmed(dropped);
         count_step(&mut self.counts, None, &reply);
         let next = prepared.answered(reply);
         if !self.log.append(pass, next) {

@@ -1,6 +1,7 @@
 -- Plans of sites.
-use Rattle.std.specs.Prelude.{◌≤◌, ℕ, List, map, IfSome}
+use Rattle.std.specs.Prelude.{◌≤◌, ◌/◌, ℕ, List, Option, map, max, IfSome}
 use Rattle.std.specs.List.{range_with_len}
+use Rattle.std.specs.Option.{option_map}
 use Rattle.txc_node.specs.declared.node.TheConstants.{MAX_CAPACITY, MAX_RECENT}
 use Rattle.txc_permits.specs.declared.pool.TheConstants.{MAX_PERMITS}
 use Rattle.txc_shared.specs.declared.settings.NodeSettings.{NodeSettings}
@@ -21,6 +22,10 @@ IsPlan p =
 -- how the node of this number is made
 abbrev pub settings_of_node : Plan → ℕ → NodeSettings
 settings_of_node p number = record { number = number; capacity = p.capacity; recent = p.recent }
+
+-- the most bytes of the values that each node keeps: an equal share, where there is a budget
+abbrev pub share_of : Plan → Option ℕ
+share_of p = option_map (λ bytes. bytes / max p.nodes 1) p.bytes
 
 -- how the nodes are made, in order
 abbrev pub nodes_of : Plan → List NodeSettings

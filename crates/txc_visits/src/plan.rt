@@ -1,7 +1,7 @@
 //! How a site is made.
 ghost use Rattle.std.specs.Prelude.{◌≡◌, ◌≤◌, ◌↔◌, IsTrue, IfSome};
 ghost use Rattle.txc_stream.specs.declared.row.TheConstants.{MAX_CAPACITY as MAX_ROOM};
-ghost use Rattle.txc_visits.specs.Plans.{IsPlan};
+ghost use Rattle.txc_visits.specs.Plans.{share_of, IsPlan};
 
 use txc_keeper::Keeping;
 use txc_node::{MAX_CAPACITY, MAX_RECENT};
@@ -35,6 +35,9 @@ pub struct Plan {
     pub capacity: usize,
     /// How many of the last events a node keeps the tags of, from 1 to [`txc_node::MAX_RECENT`].
     pub recent: usize,
+    /// The most bytes of the values that the nodes keep, an equal share each. A keeper trims the nodes to it, so that
+    /// between two keeps they have more by what was inserted since. Without a number nothing is trimmed.
+    pub bytes: Option<usize>,
     /// After how many milliseconds a transaction renews its newest pin, where it may.
     pub renew_after: u64,
     /// For less than how many milliseconds a client keeps its pins from one page to the next, where it reads them so.
@@ -69,6 +72,7 @@ impl Plan {
         nodes: 16,
         capacity: 4096,
         recent: 64,
+        bytes: None,
         renew_after: 5000,
         keep_pins: 0,
         permits: 64,
@@ -76,6 +80,16 @@ impl Plan {
         records: None,
         keep: None,
     };
+
+    /// The most bytes of the values that each node keeps, where there is a budget.
+    pub fn share(&self) -> Option<usize>
+        ensures { result ≡ share_of self.now }
+    {
+        match self.bytes {
+            Some(bytes) => Some(bytes / self.nodes.max(1)),
+            None => None,
+        }
+    }
 
     /// Whether each number is within its limits.
     pub fn is_sound(&self) -> bool
