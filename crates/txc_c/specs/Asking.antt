@@ -106,7 +106,7 @@ pub record HasToldWritten (bytes : List ℕ) (old : CallerWriting) (number : ℕ
 
 abbrev pub HasFinishedToWrite : List ℕ → CallerWriting → ℕ → Buffer → Buffer → CallerWriting → Type 0
 HasFinishedToWrite bytes old number was is new = HasToldWritten bytes old number was is new
-    ⊎ ((error : CallerError) × (number ≡ error_number error) × IsWriteFinishRefused bytes old new error × (is ≡ was))
+    ⊎ ((error : CallerError) × (number ≡ error_number error) × IsWriteFinishRefused opaque_next.limits.value bytes old new error × (is ≡ was))
 
 abbrev pub HasFinishedWrite : List ℕ → CallerWriting → ℕ → Buffer → Buffer → CallerWriting → Type 0
 HasFinishedWrite bytes old number was is new =

@@ -9,7 +9,7 @@ use Rattle.txc_app.specs.declared.ask.Ask.{Ask}
 use Rattle.txc_app.specs.declared.ask.Ask.TheVariants.{Query, Call, Done}
 use Rattle.txc_app.specs.declared.ask.Answer.{Answer}
 use Rattle.txc_app.specs.declared.ask.Answer.TheVariants.{Rows, Value}
-use Rattle.txc_app.specs.Eval.{Next}
+use Rattle.txc_app.specs.Eval.{Next, small_limits}
 
 -- the table that they ask
 abbrev pub TABLE : ℕ

@@ -9,6 +9,7 @@ use Rattle.txc_node.specs.declared.entry.Entry.{Entry}
 use Rattle.txc_node.specs.declared.hit.Shown.{Shown}
 use Rattle.txc_db.specs.History.{History}
 use Rattle.txc_pinset.specs.Members.{kept}
+use Rattle.txc_app.specs.declared.app.Limits.{Limits}
 use Rattle.txc_app.specs.declared.ask.Ask.{Ask as FunctionAsk}
 use Rattle.txc_app.specs.declared.ask.Ask.TheVariants as asks
 use Rattle.txc_app.specs.Eval.{Next}
@@ -85,10 +86,10 @@ abbrev pub TakeTransition : CoreValue → Need → Reply → CoreValue → HandT
 TakeTransition old need reply new turn = (objects : Objects)
     → HandTransition (needing old.call.frames old.call.asked (need_after old.call.frames need reply) objects) new turn
 
--- the effect of an ask of the function that the call needs
-abbrev pub HandAskTransition : CoreValue → Need → FunctionAsk → CoreValue → HandTurn → Type 0
-HandAskTransition old need ask new turn = (objects : Objects)
-    → (stands : CallTurn) × AfterRan old.call.frames old.call.asked objects need ask stands
+-- the effect of an ask of the function that the call needs, within these limits
+abbrev pub HandAskTransition : Limits → CoreValue → Need → FunctionAsk → CoreValue → HandTurn → Type 0
+HandAskTransition limits old need ask new turn = (objects : Objects)
+    → (stands : CallTurn) × AfterRan limits old.call.frames old.call.asked objects need ask stands
     × HandTransition stands new turn
 
 -- a node's result counts if a member lies in its reach; anything else is a miss
@@ -169,11 +170,12 @@ pub record HasGoneOnByHand (old : CoreValue) (reply : PortReply) (new : CoreValu
   pub shown : ForSome (front_of_reply reply) (λ front. IsPrefix front.history new.seen.history)
   pub one : IsOneOf old.seen (front_of_reply reply) new.seen
 
--- What comes of an ask of the function that the call needs: a turn or none. No pin is to be added, and none is left to
--- be; all stays but the answers, the call, and its pin of the present.
-pub record HasAskedByHand (old : CoreValue) (ask : FunctionAsk) (new : CoreValue) (turn : HandTurn) : Type 0 where
+-- What comes of an ask of the function that the call needs, within these limits: a turn or none. No pin is to be added,
+-- and none is left to be; all stays but the answers, the call, and its pin of the present.
+pub record HasAskedByHand (limits : Limits) (old : CoreValue) (ask : FunctionAsk) (new : CoreValue) (turn : HandTurn)
+    : Type 0 where
   pub turn_fits : IsHandTurn new turn
-  pub leads : (need : Need) → old.call.need ≡ Some need → HandAskTransition old need ask new turn
+  pub leads : (need : Need) → old.call.need ≡ Some need → HandAskTransition limits old need ask new turn
   pub adds : IfSome turn IsNoAdding
   pub left : left_pin new.pinning ≡ None
   pub recorded : new.recorded ≡ recorded_by_hand old.recorded turn (Some old.call.top)
