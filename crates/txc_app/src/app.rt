@@ -4,7 +4,7 @@ ghost use Rattle.txc_app.specs.Eval.{Next};
 
 use txc_node::MAX_VALUE_LEN;
 
-/// The most asks of one activation, where no other limit is stated. Being done is an ask too.
+/// The most asks of one activation by [`Limits::SMALL`]. Being done is an ask too.
 pub const MAX_ASKS: usize = 64;
 
 /// The most asks of one activation that any application may state.
@@ -20,7 +20,7 @@ pub struct Limits {
 }
 
 impl Limits {
-    /// Values of [`MAX_VALUE_LEN`] bytes and [`MAX_ASKS`] asks, as the program has.
+    /// Values of at most [`MAX_VALUE_LEN`] bytes, and at most [`MAX_ASKS`] asks: the limits of the program.
     pub const SMALL: Limits = Limits {
         value: MAX_VALUE_LEN,
         asks: MAX_ASKS,
@@ -33,7 +33,7 @@ pub trait App {
     // refuses the arguments. And the limits of its functions.
     ghost next: { Next };
 
-    /// The limits of its functions.
+    /// Returns the limits of its functions.
     fn limits() -> Limits
         ensures answer { result ≡ next.limits }
         ensures value { result.value ≤ MOST_VALUE_LEN }
