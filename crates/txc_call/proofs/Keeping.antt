@@ -8,6 +8,7 @@ use Rattle.txc_tags.specs.Keys.{Call}
 use Rattle.txc_rows.specs.declared.query.Query.{Query}
 use Rattle.txc_rows.specs.States.{State}
 use Rattle.txc_db.specs.History.{History}
+use Rattle.txc_app.specs.declared.app.Limits.{Limits}
 use Rattle.txc_app.specs.declared.ask.Ask.{Ask}
 use Rattle.txc_app.specs.declared.ask.Ask.TheVariants as asks
 use Rattle.txc_app.specs.declared.ask.Answer.{Answer}
@@ -249,18 +250,18 @@ module _ (next : Next) (top : Call) (law : RightAnswersGiveTheValue) (s : Standi
       }
 
   -- one ask of the innermost frame, before any other function continues
-  told_keeps : (outer : List Frame) (asked : ℕ) (frame : Frame) (ask : Ask) (os : Objects) → AreFew outer → IsOpen next os top ask (frame ∷ outer) → FunctionExists os ask
-      → AfterOneAsk outer asked frame ask os (Ok s) → KeepsFrames (frame ∷ outer) os
+  told_keeps : (outer : List Frame) (asked : ℕ) (frame : Frame) (ask : Ask) (os : Objects) → AreFew next.limits.asks outer → IsOpen next os top ask (frame ∷ outer) → FunctionExists os ask
+      → AfterOneAsk next.limits outer asked frame ask os (Ok s) → KeepsFrames (frame ∷ outer) os
   told_keeps outer asked frame ask os few h there leads =
       ask_keeps outer asked frame ask os (stays_held outer asked frame (Ok s)) few h
       (λ bytes leads' none h'. held_keeps outer (asked + 1) (unreached frame bytes) (with_activity os frame.key.function idle)
       (record { open_frames = h'; few = few }) h.rising leads')
-      (asks_there outer asked frame os s ask there leads)
+      (asks_there next.limits outer asked frame os s ask there leads)
 
   begin_keeps : (frames : List Frame) (asked : ℕ) (k : Call) (ask : Ask) (os : Objects)
       → IsWaiting next os top (asks.Call k) frames → IsRising k.function frames → IsSome (activity_of os k.function)
-      → next k.function k.args [] ≡ Some ask → FunctionExists (with_begun os k) ask
-      → AfterOneAsk frames asked (begun_frame k) ask (with_begun os k) (Ok s) → KeepsFrames frames os
+      → next.says k.function k.args [] ≡ Some ask → FunctionExists (with_begun os k) ask
+      → AfterOneAsk next.limits frames asked (begun_frame k) ask (with_begun os k) (Ok s) → KeepsFrames frames os
   begin_keeps frames asked k ask os waits up there asked_first all_there leads =
       let free = free_below k.function frames os up waits.open_frames.free there in
       keeps_from
@@ -276,7 +277,7 @@ module _ (next : Next) (top : Call) (law : RightAnswersGiveTheValue) (s : Standi
   resume_keeps : (outer : List Frame) (asked : ℕ) (frame : Frame) (wanted ask : Ask) (x : HeldAnswer) (os : Objects)
       → IsWaiting next os top wanted (frame ∷ outer) → (t : ℕ) → InReach t x.reach → InAll t (frame ∷ outer)
       → next_ask next os frame x.answer ≡ Some ask → FunctionExists (with_answer os frame.key.function x.answer) ask
-      → AfterOneAsk outer asked (given frame x.reach x.tags) ask (with_answer os frame.key.function x.answer) (Ok s)
+      → AfterOneAsk next.limits outer asked (given frame x.reach x.tags) ask (with_answer os frame.key.function x.answer) (Ok s)
       → KeepsBeside (λ L. HeldAnswerHolds next L os (frame ∷ outer) x) x.reach (frame ∷ outer) os
   resume_keeps outer asked frame wanted ask x os waits t here all asked_next all_there leads =
       let after : Frame = given frame x.reach x.tags in
@@ -286,7 +287,7 @@ module _ (next : Next) (top : Call) (law : RightAnswersGiveTheValue) (s : Standi
       waits t here all asked_next
       (λ bytes leads' none h'. held_keeps outer (asked + 1) (unreached after bytes) (with_activity os' frame.key.function idle)
       (record { open_frames = h'; few = waits.few.1 }) waits.open_frames.rising leads')
-      (asks_there outer asked after os' s ask all_there leads)
+      (asks_there next.limits outer asked after os' s ask all_there leads)
 
   -- the needed function's ask
   abbrev KeepsRun : List Frame → Objects → Need → Type 0
@@ -294,11 +295,11 @@ module _ (next : Next) (top : Call) (law : RightAnswersGiveTheValue) (s : Standi
 
   pub ran_keeps : (frames : List Frame) (asked : ℕ) (os : Objects) (need : Need) (ask : Ask)
       → NeedFits next os top (Some need) frames → (t : ℕ) → InNeed t (Some need) frames → due_ask next os frames need ≡ Some ask
-      → FunctionExists (with_resumed os frames need) ask → AfterRan frames asked os need ask (Ok s) → KeepsRun frames os need
+      → FunctionExists (with_resumed os frames need) ask → AfterRan next.limits frames asked os need ask (Ok s) → KeepsRun frames os need
   ran_keeps frames asked os (needs.Begin k) ask fits t all asks_now there leads =
       ⊎_elim
       (λ no. let no' : Ok s ≡ Err no.0 = no.1 in absurd (cc))
-      (λ (after : AfterOneAsk frames asked (begun_frame k) ask (with_begun os k) (Ok s)).
+      (λ (after : AfterOneAsk next.limits frames asked (begun_frame k) ask (with_begun os k) (Ok s)).
       keeps_from
       (λ L. FramesHold next L os frames) (λ L. NeedHolds next L os (Some (needs.Begin k)) frames)
       (λ t. InAll t frames) (λ t. InNeed t (Some (needs.Begin k)) frames)
@@ -310,7 +311,7 @@ module _ (next : Next) (top : Call) (law : RightAnswersGiveTheValue) (s : Standi
   ran_keeps (frame ∷ outer) asked os (needs.Resume x) ask fits t all asks_now there leads =
       ⊎_elim
       (λ no. let no' : Ok s ≡ Err no.0 = no.1 in absurd (cc))
-      (λ (after : AfterOneAsk outer asked (given frame x.reach x.tags) ask (with_answer os frame.key.function x.answer) (Ok s)).
+      (λ (after : AfterOneAsk next.limits outer asked (given frame x.reach x.tags) ask (with_answer os frame.key.function x.answer) (Ok s)).
       resume_keeps outer asked frame fits.0.0 ask x os fits.0.1 t all.0 all.1 asks_now there after)
       leads
   ran_keeps frames asked os (needs.Lookup k) ask fits t all asks_now there leads = absurd (cc)
@@ -509,16 +510,17 @@ machine_keeps next law seen c os need reply s same is calling common leads =
     (subst (λ (v : Calling). AfterReply next v.frames v.asked os need reply (Ok s)) same leads)
 
 -- what an ask by hand keeps
-pub step_ran_keeps : (next : Next) → RightAnswersGiveTheValue → (seen c new : Calling) (os : Objects) (need : Need) (ask : Ask) → seen ≡ c → seen.need ≡ Some need → IsCalling next os c
+pub step_ran_keeps : (next : Next) (limits : Limits) → next.limits ≡ limits → RightAnswersGiveTheValue → (seen c new : Calling) (os : Objects) (need : Need) (ask : Ask) → seen ≡ c → seen.need ≡ Some need → IsCalling next os c
     → ((t : ℕ) × InCall t c) → due_ask next os c.frames need ≡ Some ask → FunctionExists (with_resumed os c.frames need) ask
-    → new.top ≡ c.top → AfterRan seen.frames seen.asked os need ask (Ok (record { frames = new.frames; asked = new.asked; need = new.need; objects = objects_after os c.frames need ask }))
+    → new.top ≡ c.top → AfterRan limits seen.frames seen.asked os need ask (Ok (record { frames = new.frames; asked = new.asked; need = new.need; objects = objects_after os c.frames need ask }))
     → StepKeeps next os c (objects_after os c.frames need ask) new
-step_ran_keeps next law seen c new os need ask same is calling common asks_now there top leads =
+step_ran_keeps next limits within law seen c new os need ask same is calling common asks_now there top leads =
     let is' : c.need ≡ Some need = subst (λ (v : Calling). v.need ≡ Some need) same is in
     let s : Standing = record { frames = new.frames; asked = new.asked; need = new.need; objects = objects_after os c.frames need ask } in
     let kept = ran_keeps next c.top law s c.frames c.asked os need ask
     (subst (λ (n : Option Need). NeedFits next os c.top n c.frames) is' calling) common.0 (subst (λ (n : Option Need). InNeed common.0 n c.frames) is' common.1) asks_now there
-    (subst (λ (v : Calling). AfterRan v.frames v.asked os need ask (Ok s)) same leads) in
+    (subst (λ (l : Limits). AfterRan l c.frames c.asked os need ask (Ok s)) (sym within)
+    (subst (λ (v : Calling). AfterRan limits v.frames v.asked os need ask (Ok s)) same leads)) in
     record {
       fits = subst (λ (k : Call). NeedFits next (objects_after os c.frames need ask) k new.need new.frames) (sym top) kept.fits;
       holds = λ L hold. kept.holds L (subst (λ (n : Option Need). NeedHolds next L os n c.frames) is' hold);

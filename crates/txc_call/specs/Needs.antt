@@ -49,8 +49,8 @@ NeedFits next objects top (Some (needs.Resume x)) frames =
 abbrev pub HeldAnswerHolds : Next → History → Objects → List Frame → HeldAnswer → Type 0
 HeldAnswerHolds next L objects [] x = ⊥
 HeldAnswerHolds next L objects (frame ∷ frames) x = HoldsOver L
-    (λ s. IsRight next frame.key.function s (next frame.key.function frame.key.args (answers_in objects frame.key.function)) x.answer)
-    (λ s. queries_of next s (next frame.key.function frame.key.args (answers_in objects frame.key.function)))
+    (λ s. IsRight next frame.key.function s (next.says frame.key.function frame.key.args (answers_in objects frame.key.function)) x.answer)
+    (λ s. queries_of next s (next.says frame.key.function frame.key.args (answers_in objects frame.key.function)))
     x.reach x.tags
 
 -- all answers so far are right, and so is a held value or answer

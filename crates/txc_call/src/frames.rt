@@ -43,19 +43,19 @@ fn error_of(function: u8, fault: CallFault) -> CallError
 }
 
 impl Frames {
-    /// Counts an ask of the innermost frame.
-    pub(crate) fn count<A: App>(&mut self) -> Result<(), CallError>
+    /// Counts an ask of the innermost frame, which may make so many.
+    pub(crate) fn count(&mut self, most: usize) -> Result<(), CallError>
         requires { self.old.stack ≢ [] }
         ensures after { OnOk result (self.new.asked ≡ self.old.asked + 1) }
         ensures refused { (frame : Frame) (rest : List Frame) → self.old.stack ≡ frame ∷ rest
-            → result_err result ≡ count_refusal A.next.limits.asks frame.answers self.old.asked }
+            → result_err result ≡ count_refusal most frame.answers self.old.asked }
         ensures same_top { self.new.top ≡ self.old.top }
         ensures same_stack { self.new.stack ≡ self.old.stack }
     {
         let Some(frame) = self.stack.top() else {
             unreachable!()
         };
-        if frame.answers >= A::limits().asks {
+        if frame.answers >= most {
             return Err(CallError::AskLimit);
         }
         if self.asked >= MAX_CALL_ASKS {
@@ -159,6 +159,7 @@ impl Frames {
             unreachable!()
         };
         let function = frame.key.function();
+        // They bound the answers.
         let _limits = A::limits();
         let Ok(()) = self.stack.give(reach, tags) else {
             return Err(CallError::Memory);
