@@ -14,7 +14,6 @@ use Rattle.txc_rows.specs.declared.query.Query.TheVariants.{ById, Range}
 use Rattle.txc_rows.specs.declared.query.Change.{Change}
 use Rattle.txc_rows.specs.declared.query.Change.TheVariants.{Put}
 use Rattle.txc_rows.specs.declared.store_error.StoreError.TheVariants as store
-use Rattle.txc_rows.specs.declared.store_error.TheConstants.{MAX_MATCHING}
 use Rattle.txc_rows.specs.declared.version.Versioned.{Versioned}
 use Rattle.txc_rows.specs.States.{RowValue, State, IsState, matches, answer}
 use Rattle.txc_rows.specs.Versions.{suits}
@@ -181,5 +180,5 @@ read_refused d q stamp whole sound at (Store store.StoreMemory) few r = tt
 read_refused d q stamp whole sound at (Store store.Memory) few r = absurd r.1
 read_refused d q stamp whole sound at e few r = absurd r
 
-pub too_many : (d : DatabaseValue) (t f l : ℕ) → f ≡ l → MAX_MATCHING < matching_of d (Range t f l) → MAX_MATCHING < matching_of d (ById t f)
-too_many d t f l one many = subst (λ (n : ℕ). MAX_MATCHING < n) (one_matching d t f) (subst (λ (last : ℕ). MAX_MATCHING < matching_of d (Range t f last)) (sym one) many)
+pub too_many : (d : DatabaseValue) (t f l : ℕ) → f ≡ l → d.most < matching_of d (Range t f l) → d.most < matching_of d (ById t f)
+too_many d t f l one many = subst (λ (n : ℕ). d.most < n) (one_matching d t f) (subst (λ (last : ℕ). d.most < matching_of d (Range t f last)) (sym one) many)

@@ -2,7 +2,6 @@
 use Rattle.std.specs.Prelude.{◌≡◌, ⊤, ℕ, ◌<◌, ◌≤◌, Bool, true, false, ◌&&◌, ◌||◌, ◌==◌, nat_lt, [], length, filter}
 use Rattle.std.specs.List.{AllByRecursion}
 use Rattle.txc_rows.specs.declared.query.Query.TheVariants.{ById}
-use Rattle.txc_rows.specs.declared.store_error.TheConstants.{MAX_MATCHING}
 use Rattle.txc_rows.specs.States.{RowValue}
 use Rattle.txc_db.specs.declared.error.DbError.{DbError}
 use Rattle.txc_db.specs.declared.error.DbError.TheVariants as refusals
@@ -49,7 +48,7 @@ IsPutRefusal old room e = ⊥
 -- new one refused
 abbrev pub IsCarryStepRefused : DatabaseValue → ℕ → CarryError → Type 0
 IsCarryStepRefused old room (Old e) = IsReadRefusal e
-IsCarryStepRefused old room (TooManyVersions table id) = MAX_MATCHING < matching_of old (ById table id)
+IsCarryStepRefused old room (TooManyVersions table id) = old.most < matching_of old (ById table id)
 IsCarryStepRefused old room (New e) = IsPutRefusal old room e
 
 -- that the new database refused as broken is so: it is stored in a row, and is broken from now on
