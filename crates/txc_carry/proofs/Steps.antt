@@ -47,11 +47,12 @@ none_gone (unstored number) horizon none gone = absurd (omega (arith, none, gone
 
 -- ---- the first step and the last
 
-pub start_carried : (old new : DatabaseValue) → new.broken ≡ false → new.holds ≡ [] → new.history ≡ [] → new.versions ≡ [] → new.horizon ≡ 0
+pub start_carried : (old new : DatabaseValue) → new.broken ≡ false → new.holds ≡ [] → new.history ≡ [] → new.versions ≡ [] → new.horizon ≡ 0 → new.most ≡ old.most
     → HasCarried old new.events 0 0 new
-start_carried old new whole holds history versions horizon = record {
+start_carried old new whole holds history versions horizon limit = record {
   whole = whole;
   named = refl;
+  limit = limit;
   horizon = horizon;
   holds = holds;
   rows = ap (λ (L : History). state_at L (length L)) history ∙ sym (none_before (newest_state old));
@@ -63,6 +64,7 @@ pub table_carried : (old new : DatabaseValue) (events : Name) (t : ℕ) → IsSo
 table_carried old new events t sound h = record {
   whole = h.whole;
   named = h.named;
+  limit = h.limit;
   horizon = h.horizon;
   holds = h.holds;
   rows = h.rows ∙ table_done old sound t;
@@ -121,6 +123,7 @@ module _ (old new : DatabaseValue) (events : Name) (t f l : ℕ) (rows : List Ro
   range_carried leads = record {
     whole = after_either new (map Put rows) (λ v. v.broken ≡ false) (λ none. h.whole) (λ some. h.whole);
     named = after_either new (map Put rows) (λ v. v.events ≡ events) (λ none. h.named) (λ some. h.named);
+    limit = after_either new (map Put rows) (λ v. v.most ≡ old.most) (λ none. h.limit) (λ some. h.limit);
     horizon = after_either new (map Put rows) (λ v. v.horizon ≡ 0) (λ none. h.horizon) (λ some. h.horizon);
     holds = after_either new (map Put rows) (λ v. v.holds ≡ []) (λ none. h.holds) (λ some. h.holds);
     rows = new_state leads ∙ whole_state;

@@ -16,11 +16,13 @@ use Rattle.txc_carry.specs.declared.error.CarryError.TheVariants.{Old, TooManyVe
 abbrev pub stands_before : ℕ → ℕ → RowValue → Bool
 stands_before table id r = nat_lt r.table table || ((r.table == table) && nat_lt r.id id)
 
--- The new database is whole, has the history of that name, and holds nothing. Its newest state is the rows of the old one's
--- that stand before the table and id, and so are the rows of its versions. It has at most one event for each row.
+-- The new database is whole, has the history of that name, and holds nothing. As many versions may match as of the old one.
+-- Its newest state is the rows of the old one's that stand before the table and id, and so are the rows of its versions. It
+-- has at most one event for each row.
 pub record HasCarried (old : DatabaseValue) (events : Name) (table id : ℕ) (new : DatabaseValue) : Type 0 where
   pub whole : new.broken ≡ false
   pub named : new.events ≡ events
+  pub limit : new.most ≡ old.most
   pub horizon : new.horizon ≡ 0
   pub holds : new.holds ≡ []
   pub rows : newest_state new ≡ filter (stands_before table id) (newest_state old)

@@ -11,7 +11,7 @@ pub enum CarryError {
     Old(DbError),
     /// Stamps that are held keep more versions than the database allows of the row with that table and
     /// id.
-    #[error("over 1,024 versions of {} are kept", Tag::id(*.0, *.1))]
+    #[error("too many versions of {} are kept", Tag::id(*.0, *.1))]
     TooManyVersions(Table, u32),
     /// The new database refused: it has too little room, another record stood in its row, or the memory or the
     /// store was refused.

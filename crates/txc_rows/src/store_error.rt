@@ -15,7 +15,7 @@ pub const MOST_MATCHING: usize = 65_536;
 #[derive(Clone, Copy, Debug, PartialEq, Eq, Error)]
 pub enum StoreError {
     /// More versions match the query than may: than [`MAX_MATCHING`], or than the greater number that was allowed.
-    #[error("over 1,024 versions match")]
+    #[error("too many versions match")]
     TooManyRows,
     /// The store refused for another reason than memory. Its transaction was rolled back.
     #[error("the store refused: {0}")]
