@@ -3,8 +3,8 @@ use Rattle.txc_rows.proofs.CurrentLemmas.{asked_few}
 use Rattle.txc_rows.proofs.FindLemmas.{asked}
 use Rattle.txc_rows.proofs.store.check_few.Goals as goal
 
-pub returns-then-len-clause-few : goal.returns-then-len-clause-few
-returns-then-len-clause-few c =
+pub returns-then-len-room-clause-few : goal.returns-then-len-room-clause-few
+returns-then-len-room-clause-few c =
     let all : length c.args.replaced.now ≤ c.args.most - c.args.last = search (arith, rules) in
     omega (arith, all, c.requires.few, asked_few c.args.query.now c.args.from c.args.replaced.now)
 

@@ -26,8 +26,8 @@ returns-clause-few c =
     let shown : OnOk c.add_shown.result (new ≡ c.args.found.now.items ++ map (version_shown (query_table q)) rows) = rw (c.table.ensures, c.deref.ensures.value) at c.add_shown.ensures.found in
     on_ok_weaker c.add_shown.result (read_few q c.args.most c.args.found.now.items new rows c.requires.few few) shown
 
-pub returns-then-len-clause-refused : goal.returns-then-len-clause-refused
-returns-then-len-clause-refused c = λ _.
+pub returns-then-len-most-clause-refused : goal.returns-then-len-most-clause-refused
+returns-then-len-most-clause-refused c = λ _.
     let rows = c.in_ok-rows.rows.items in
     let many : c.args.most - length c.args.found.now.items < length rows = search arith in
     many_listed c.args.query.now c.args.most (left_from c.args.from (map version_of (latest_in c.args.conn.now))) rows c.in_ok-rows.ensures.lists (length c.args.found.now.items) c.requires.few many

@@ -1,11 +1,11 @@
-use Rattle.std.proofs.Common.{Err, ap, arith}
+use Rattle.std.proofs.Common.{Err, ap, arith, ◌≡◌, ◌<◌, ◌≤◌, ◌+◌, ℕ, length, subst, rules}
 use Rattle.std.proofs.lemmas.List.Sorted.{length_permutation}
 use Rattle.txc_rows.specs.declared.store_error.StoreError.TheVariants.{TooManyRows}
 use Rattle.txc_rows.specs.Kept.{latest_in}
 use Rattle.txc_rows.proofs.PutLemmas.{all_back}
 use Rattle.txc_rows.specs.Holdable.{IsStorable}
 use Rattle.txc_rows.specs.declared.store_error.TheConstants.{MAX_MATCHING}
-use Rattle.txc_rows.proofs.FindLemmas.{found_latest, found_both, latest_many, replaced_few, replaced_many, found_all, passed_error}
+use Rattle.txc_rows.proofs.FindLemmas.{asked, found_latest, found_both, latest_many, replaced_few, replaced_many, found_all, passed_error}
 use Rattle.txc_rows.proofs.store.find_all.Goals as goal
 
 pub returns-in_err-find-clause-refused : goal.returns-in_err-find-clause-refused
@@ -23,7 +23,8 @@ pub returns-in_err-check_few-clause-refused : goal.returns-in_err-check_few-clau
 returns-in_err-check_few-clause-refused c = λ many.
     let passed = passed_error c.from_residual-in_err-check_few.result c.in_err-check_few.field-0.0 TooManyRows c.from_residual-in_err-check_few.ensures.1 many in
     let so_far = found_latest c.args.query.now c.args.from c.args.replaced.now c.args.conn.now c.new-found.result.items _ c.new-found.ensures.items c.in_ok-find.ensures.finds in
-    replaced_many c.args.query.now c.args.from c.args.replaced.now c.args.conn.now _ so_far MAX_MATCHING (c.in_err-check_few.ensures.refused (ap (λ e. Err e) passed))
+    let same : c.len.result ≡ length c.find.new.found.items = search (arith, rules) in
+    replaced_many c.args.query.now c.args.from c.args.replaced.now c.args.conn.now _ so_far MAX_MATCHING (subst (λ (n : ℕ). MAX_MATCHING < n + length (asked c.args.query.now c.args.from c.args.replaced.now)) same (c.in_err-check_few.ensures.refused (ap (λ e. Err e) passed)))
 
 pub returns-clause-finds : goal.returns-clause-finds
 returns-clause-finds c =
@@ -33,5 +34,6 @@ returns-clause-finds c =
 pub returns-clause-bound : goal.returns-clause-bound
 returns-clause-bound c =
     let so_far = found_latest c.args.query.now c.args.from c.args.replaced.now c.args.conn.now c.new-found.result.items _ c.new-found.ensures.items c.in_ok-find.ensures.finds in
-    let few = replaced_few c.args.query.now c.args.from c.args.replaced.now c.args.conn.now _ so_far MAX_MATCHING c.in_ok-check_few.ensures.few in
+    let same : c.len.result ≡ length c.find.new.found.items = search (arith, rules) in
+    let few = replaced_few c.args.query.now c.args.from c.args.replaced.now c.args.conn.now _ so_far MAX_MATCHING (subst (λ (n : ℕ). n + length (asked c.args.query.now c.args.from c.args.replaced.now) ≤ MAX_MATCHING) same c.in_ok-check_few.ensures.few) in
     omega (arith, few, length_permutation _ _ (found_both c.args.query.now c.args.from c.args.replaced.now c.args.conn.now _ so_far _ c.in_ok-find-2.ensures), length_permutation _ _ c.sort.ensures.same)

@@ -1,9 +1,9 @@
-use Rattle.std.proofs.Common.{Err, ap, arith}
+use Rattle.std.proofs.Common.{Err, ap, arith, ◌≡◌, ◌<◌, ◌≤◌, ◌+◌, ℕ, length, subst, rules}
 use Rattle.txc_rows.specs.declared.store_error.StoreError.TheVariants.{TooManyRows}
 use Rattle.txc_rows.specs.Kept.{latest_in}
 use Rattle.txc_rows.proofs.PutLemmas.{all_back}
 use Rattle.txc_rows.specs.Holdable.{IsStorable}
-use Rattle.txc_rows.proofs.FindLemmas.{found_latest, latest_many, replaced_few, replaced_many, passed_error}
+use Rattle.txc_rows.proofs.FindLemmas.{asked, found_latest, latest_many, replaced_few, replaced_many, passed_error}
 use Rattle.txc_rows.proofs.NearLemmas.{around_found}
 use Rattle.txc_rows.proofs.store.find_around.Goals as goal
 
@@ -22,7 +22,8 @@ pub returns-in_err-check_few-clause-refused : goal.returns-in_err-check_few-clau
 returns-in_err-check_few-clause-refused c = λ many.
     let passed = passed_error c.from_residual-in_err-check_few.result c.in_err-check_few.field-0.0 TooManyRows c.from_residual-in_err-check_few.ensures.1 many in
     let so_far = found_latest c.args.query.now c.args.from c.args.replaced.now c.args.conn.now c.new-found.result.items _ c.new-found.ensures.items c.in_ok-find.ensures.finds in
-    replaced_many c.args.query.now c.args.from c.args.replaced.now c.args.conn.now _ so_far c.args.most (c.in_err-check_few.ensures.refused (ap (λ e. Err e) passed))
+    let same : c.len.result ≡ length c.find.new.found.items = search (arith, rules) in
+    replaced_many c.args.query.now c.args.from c.args.replaced.now c.args.conn.now _ so_far c.args.most (subst (λ (n : ℕ). c.args.most < n + length (asked c.args.query.now c.args.from c.args.replaced.now)) same (c.in_err-check_few.ensures.refused (ap (λ e. Err e) passed)))
 
 pub returns-clause-finds : goal.returns-clause-finds
 returns-clause-finds c =
@@ -31,4 +32,5 @@ returns-clause-finds c =
 pub returns-clause-bound : goal.returns-clause-bound
 returns-clause-bound c =
     let so_far = found_latest c.args.query.now c.args.from c.args.replaced.now c.args.conn.now c.new-found.result.items _ c.new-found.ensures.items c.in_ok-find.ensures.finds in
-    replaced_few c.args.query.now c.args.from c.args.replaced.now c.args.conn.now _ so_far c.args.most c.in_ok-check_few.ensures.few
+    let same : c.len.result ≡ length c.find.new.found.items = search (arith, rules) in
+    replaced_few c.args.query.now c.args.from c.args.replaced.now c.args.conn.now _ so_far c.args.most (subst (λ (n : ℕ). n + length (asked c.args.query.now c.args.from c.args.replaced.now) ≤ c.args.most) same c.in_ok-check_few.ensures.few)

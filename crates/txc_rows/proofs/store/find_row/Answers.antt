@@ -6,8 +6,8 @@ use Rattle.txc_rows.specs.Kept.{latest_in}
 use Rattle.txc_rows.proofs.FindLemmas.{row_finding, row_few, row_many, row_among}
 use Rattle.txc_rows.proofs.store.find_row.Goals as goal
 
-pub returns-then-len-clause-refused : goal.returns-then-len-clause-refused
-returns-then-len-clause-refused c = λ _.
+pub returns-then-len-most-clause-refused : goal.returns-then-len-most-clause-refused
+returns-then-len-most-clause-refused c = λ _.
     let rows = c.in_ok-rows.rows.items in
     let many : c.args.most - length c.args.found.now.items < length rows = search arith in
     row_many c.args.table c.args.id c.args.from (latest_in c.args.conn.now) rows c.in_ok-rows.ensures.versions c.args.most c.args.found.now.items c.requires.few many
