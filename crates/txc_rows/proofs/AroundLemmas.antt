@@ -1,20 +1,19 @@
 -- What is found around a stamp shows there what the states answer.
-use Rattle.std.proofs.Common.{◌≡◌, ◌⊎◌, inl, inr, ℕ, ◌+◌, ◌-◌, ◌<◌, ◌≤◌, List, [], ◌∷◌, ◌++◌, filter, Bool, true, false, true≢false, ◌&&◌, Option, Some, None, nat_le, nat_lt, refl, sym, ap, subst, ◌∙◌, arith}
+use Rattle.std.proofs.Common.{◌≡◌, ◌⊎◌, inl, inr, ℕ, ◌+◌, ◌-◌, ◌<◌, ◌≤◌, List, [], ◌∷◌, ◌++◌, filter, true, ◌&&◌, Option, Some, None, nat_le, nat_lt, refl, sym, ap, subst, ◌∙◌, arith}
 use borrow.Author.Tests.{leb-true, le-leb, ltb-true, ltb-false, lt-ltb}
-use Rattle.std.specs.List.{AllByRecursion, Contains}
-use Rattle.std.specs.List.Sorted.{IsPermutation}
+use Rattle.std.specs.List.{AllByRecursion}
 use Rattle.std.proofs.lemmas.List.Sorted.{IsPermutation-sym, Contains-permutation}
 use Rattle.sqlite_trees.proofs.ListLemmas.{all-permutation}
 use Rattle.txc_rows.specs.declared.version.Versioned.{Versioned}
 use Rattle.txc_rows.specs.declared.query.Query.{Query}
 use Rattle.txc_rows.specs.Values.{RowValue}
 use Rattle.txc_rows.specs.States.{State, matches, answer}
-use Rattle.txc_rows.specs.Versions.{suits, row_of, is_visible, lives_at, visible_rows, shown_at, Follows, Pairwise, IsVersion, AreVersions}
-use Rattle.txc_rows.specs.Found.{IsNearer, IsNeedless, FindsAround}
+use Rattle.txc_rows.specs.Versions.{suits, is_visible, lives_at, shown_at, Follows, Pairwise, IsVersion, AreVersions}
+use Rattle.txc_rows.specs.Found.{IsNeedless, FindsAround}
 use Rattle.txc_rows.specs.Keeping.{KeepsStates}
 use Rattle.txc_rows.specs.Around.{HoldsOn, ShowsAround, AnswersAround}
 use Rattle.txc_rows.proofs.Members.{bool_cases, both_true, and_true, IsIn, is_in, contains_it, in_filter, from_filter, from_append, all_in, in_left}
-use Rattle.txc_rows.proofs.SaysLemmas.{Behind, behind, in_front, said_each, said_only, says_seen}
+use Rattle.txc_rows.proofs.SaysLemmas.{behind, in_front, said_each, said_only, says_seen}
 use Rattle.txc_rows.proofs.VersionLemmas.{kept_versions}
 use Rattle.txc_rows.proofs.Finding.{Meets, meet, pairs_permute, in_order, shown_rises}
 

@@ -1,12 +1,12 @@
 -- Replaced versions by their deaths: those between two stamps, and of them the first and the last.
-use Rattle.std.proofs.Common.{◌≡◌, ◌≢◌, ◌⊎◌, inl, inr, ℕ, ◌+◌, ◌-◌, ◌<◌, ◌≤◌, max, suc, zero, List, [], ◌∷◌, ◌++◌, map, filter, drop, length, option_to_list, Bool, true, false, true≢false, cond, not, ◌&&◌, ◌||◌, nat_le, Option, Some, None, refl, sym, ap, subst, ◌∙◌, append-nil, append_assoc, arith}
+use Rattle.std.proofs.Common.{◌≡◌, ◌≢◌, ◌⊎◌, inl, inr, ℕ, ◌+◌, ◌-◌, ◌<◌, ◌≤◌, max, suc, List, [], ◌∷◌, ◌++◌, map, filter, drop, length, Bool, true, false, true≢false, ◌&&◌, ◌||◌, nat_le, Option, Some, None, refl, sym, ap, subst, ◌∙◌, arith}
 use borrow.Author.Tests.{leb-true, le-leb, lt-leb, leb-false}
 use Rattle.std.proofs.lemmas.List.{length-map}
 use Rattle.std.specs.List.{slice_get, AllByRecursion, Contains}
 use Rattle.std.specs.Prelude.{MatchOption}
 use Rattle.std.specs.List.Sorted.{IsPermutation}
-use Rattle.std.proofs.lemmas.List.Sorted.{IsPermutation-refl, IsPermutation-sym, IsPermutation-trans, IsPermutation-map, IsPermutation-cons, IsPermutation-middle, IsPermutation-append_right, length_permutation}
-use Rattle.sqlite_trees.proofs.ListLemmas.{filter_same, all_weaker, all_both, all-filter, all-map, all-permutation, IsPermutation-flat_map, IsPermutation-same}
+use Rattle.std.proofs.lemmas.List.Sorted.{IsPermutation-refl, IsPermutation-sym, IsPermutation-trans, IsPermutation-map, IsPermutation-cons, IsPermutation-middle, length_permutation}
+use Rattle.sqlite_trees.proofs.ListLemmas.{filter_same, all_weaker, all_both, all-filter, all-map, all-permutation, IsPermutation-flat_map}
 use Rattle.txc_stamp.specs.declared.stamp.TheConstants.{MOST_STAMP}
 use Rattle.txc_rows.specs.declared.placed.Placed.{Placed}
 use Rattle.txc_rows.specs.declared.replaced.Spot.{Spot}
@@ -15,7 +15,7 @@ use Rattle.txc_rows.specs.declared.query.Query.{Query}
 use Rattle.txc_rows.specs.declared.version.Versioned.{Versioned}
 use Rattle.txc_rows.specs.Versions.{suits}
 use Rattle.txc_rows.specs.Holdable.{IsStorable}
-use Rattle.txc_rows.specs.Placed.{version_of, lasts_to, is_left, left_from}
+use Rattle.txc_rows.specs.Placed.{version_of, lasts_to, is_left}
 use Rattle.txc_rows.specs.Indexed.{stamp_of, death_of, dies_between, dead_between, picked, is_within, spot_suits, spots_asked, AreIndexed, DiedFirst, DiedLast}
 use Rattle.txc_rows.specs.Kept.{IsFinding}
 use Rattle.txc_rows.proofs.Members.{IsIn, is_in, all_in, both_true, and_true, filtered_both, passing}

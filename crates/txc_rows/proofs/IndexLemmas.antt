@@ -1,5 +1,5 @@
 -- The spots of replaced versions, and what is picked by them.
-use Rattle.std.proofs.Common.{◌≡◌, ◌≢◌, ◌⊎◌, inl, inr, ℕ, ◌+◌, ◌-◌, ◌^◌, ◌<◌, ◌≤◌, zero, suc, get_or, List, [], ◌∷◌, ◌++◌, map, filter, drop, length, length-drop, option_to_list, Bool, true, false, cond, not, ◌&&◌, ◌==◌, nat_le, Option, Some, None, Ok, Err, Result, OnOk, refl, sym, ap, subst, ◌∙◌, append_assoc, append-nil, length-append, arith}
+use Rattle.std.proofs.Common.{◌≡◌, ◌≢◌, ◌⊎◌, inl, inr, ℕ, ◌+◌, ◌-◌, ◌^◌, ◌<◌, ◌≤◌, zero, suc, get_or, List, [], ◌∷◌, ◌++◌, map, filter, drop, length, length-drop, option_to_list, Bool, true, false, cond, not, ◌&&◌, ◌==◌, nat_le, Option, Some, None, refl, sym, ap, subst, ◌∙◌, append_assoc, append-nil, length-append, arith}
 use Rattle.std.proofs.lemmas.Bool.Decides.{nat_tests}
 use borrow.Author.Tests.{eqb-true, leb-true, le-leb, lt-leb}
 use Rattle.std.specs.declared.cmp.Ordering.{Ordering}
@@ -14,8 +14,7 @@ use Rattle.std.specs.Set.{remove_key}
 use Rattle.std.specs.BTreeMap.Range.{range_contains}
 use Rattle.std.specs.declared.ops.Bound.TheVariants.{Included, Excluded}
 use Rattle.std.proofs.lemmas.List.Sorted.{IsPermutation-refl, IsPermutation-sym, IsPermutation-trans, IsPermutation-cons, IsPermutation-middle, IsPermutation-map, length_permutation}
-use Rattle.std.proofs.lemmas.List.{length-map}
-use Rattle.sqlite_trees.proofs.ListLemmas.{filter-map, all_of, all_both, all_weaker, all-filter, all-permutation, filter_all, filter_none, filter_same, IsPermutation-flat_map, IsPermutation-filter}
+use Rattle.sqlite_trees.proofs.ListLemmas.{filter-map, all_both, all_weaker, all-filter, all-permutation, filter_all, filter_none, filter_same, IsPermutation-flat_map, IsPermutation-filter}
 use Rattle.txc_rows.specs.declared.placed.Placed.{Placed}
 use Rattle.txc_rows.specs.declared.replaced.Spot.{Spot}
 use Rattle.txc_rows.specs.declared.replaced.Deaths.{Deaths}

@@ -1,5 +1,5 @@
 -- What is added of some versions around a stamp, one part after another.
-use Rattle.std.proofs.Common.{◌≡◌, ◌≢◌, inl, inr, ℕ, ◌+◌, ◌<◌, ◌≤◌, List, [], ◌∷◌, ◌++◌, map, filter, Bool, true, ◌==◌, Option, Some, None, refl, sym, ap, subst, ◌∙◌, append-nil, append_assoc, arith}
+use Rattle.std.proofs.Common.{◌≡◌, ◌≢◌, inl, inr, ℕ, ◌<◌, ◌≤◌, List, [], ◌∷◌, ◌++◌, filter, true, ◌==◌, Option, Some, None, refl, sym, ap, subst, ◌∙◌, append-nil, append_assoc, arith}
 use Rattle.std.specs.List.{AllByRecursion, Contains}
 use Rattle.std.specs.List.Sorted.{IsPermutation, IsSorted}
 use Rattle.std.proofs.lemmas.List.Sorted.{IsPermutation-refl, IsPermutation-trans, IsPermutation-append, IsPermutation-append_left, IsPermutation-append_right, IsPermutation-append_comm, Contains-permutation}
@@ -15,12 +15,12 @@ use Rattle.txc_rows.specs.declared.version.Versioned.{Versioned}
 use Rattle.txc_rows.specs.Holdable.{IsStorable}
 use Rattle.txc_rows.specs.Versions.{suits, version_cmp}
 use Rattle.txc_rows.specs.Found.{IsNearer, IsNeedless, FindsAround}
-use Rattle.txc_rows.specs.Placed.{version_of, left_from}
+use Rattle.txc_rows.specs.Placed.{left_from}
 use Rattle.txc_rows.specs.Indexed.{stamp_of, death_of, dead_between, DiedFirst, DiedLast}
 use Rattle.txc_rows.specs.Kept.{latest_in, versions_of, IsFinding, AddsAround}
-use Rattle.txc_rows.proofs.Members.{IsIn, is_in, contains_it, in_left, in_right, both_true}
+use Rattle.txc_rows.proofs.Members.{is_in, contains_it, in_left, in_right, both_true}
 use Rattle.txc_rows.proofs.FindLemmas.{asked, asked_append, all_asked}
-use Rattle.txc_rows.proofs.DeadLemmas.{all_between, left_dead, both_parts}
+use Rattle.txc_rows.proofs.DeadLemmas.{all_between, left_dead}
 
 module _ (t : ℕ) where
   pub wider : (found others : List Versioned) → ((w : Versioned) → Contains found w → Contains others w) → (vs : List Versioned) → AllByRecursion (IsNeedless t found) vs → AllByRecursion (IsNeedless t others) vs

@@ -1,13 +1,13 @@
 -- Loops over spots: which of them died so, the first, the last and the latest.
-use Rattle.std.proofs.Common.{◌≡◌, inl, inr, ℕ, ◌<◌, ◌≤◌, List, [], ◌∷◌, ◌++◌, filter, length, Bool, true, false, cond, Option, Some, None, refl, sym, ap, subst, ◌∙◌, append_assoc, append-nil, arith}
+use Rattle.std.proofs.Common.{◌≡◌, inl, ◌≤◌, List, [], ◌∷◌, ◌++◌, filter, true, false, Option, Some, None, refl, sym, ap, subst, ◌∙◌, append-nil, arith}
 use Rattle.std.specs.Prelude.{MatchOption}
-use Rattle.std.specs.List.{AllByRecursion, Contains}
+use Rattle.std.specs.List.{AllByRecursion}
 use Rattle.std.proofs.lemmas.List.Elements.{filter-append}
 use Rattle.sqlite_trees.proofs.ListLemmas.{all_weaker, all-append}
 use Rattle.txc_rows.specs.declared.replaced.Spot.{Spot}
 use Rattle.txc_rows.specs.declared.replaced.Deaths.{Deaths}
 use Rattle.txc_rows.specs.Indexed.{is_within, DeathsRise, IsEarliest, IsLatest}
-use Rattle.txc_rows.proofs.Members.{IsIn, is_in, contains_it, in_left, in_right}
+use Rattle.txc_rows.proofs.Members.{is_in, contains_it, in_left, in_right}
 
 module _ (d : Deaths) (s : Spot) where
   pub one_off : is_within d s ≡ false → filter (is_within d) (s ∷ []) ≡ []

@@ -1,5 +1,5 @@
 -- How replaced versions are found: words that only this crate's private functions promise.
-use Rattle.std.specs.Prelude.{ℕ, Bool, ◌<◌, ◌≡◌, ◌≤◌, ◌+◌, ◌-◌, ◌^◌, ◌&&◌, ◌==◌, nat_le, true, false, List, [], ◌∷◌, length, map, filter, option_to_list, Option, Some, None}
+use Rattle.std.specs.Prelude.{ℕ, Bool, ◌<◌, ◌≤◌, ◌+◌, ◌-◌, ◌^◌, ◌&&◌, ◌==◌, nat_le, true, false, List, [], ◌∷◌, length, map, filter, option_to_list, Option, Some, None}
 use Rattle.std.specs.List.{flat_map, slice_get, AllByRecursion, Contains}
 use Rattle.std.specs.List.Sorted.{IsPermutation}
 use Rattle.txc_rows.specs.declared.placed.Placed.{Placed}

@@ -1,6 +1,5 @@
-use Rattle.std.proofs.Common.{◌≡◌, ◌+◌, ◌<◌, ◌≤◌, length, filter, map, refl, sym, ap, subst, ◌∙◌}
+use Rattle.std.proofs.Common.{◌+◌, ◌<◌, ◌≤◌, length, refl, sym, ap, subst, ◌∙◌}
 use Rattle.txc_rows.specs.declared.replaced.Deaths.{Deaths}
-use Rattle.txc_rows.specs.Indexed.{is_within}
 use Rattle.txc_rows.proofs.IndexLemmas.{shown_ids_fit, shown_groups_fit}
 use Rattle.txc_rows.proofs.DeadLemmas.{found_count}
 use Rattle.txc_rows.proofs.FindLemmas.{asked}

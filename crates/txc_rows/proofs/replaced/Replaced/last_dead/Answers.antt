@@ -1,9 +1,6 @@
-use Rattle.std.proofs.Common.{◌≡◌, ◌+◌, refl, sym, ap, subst, ◌∙◌, rules}
-use Rattle.std.specs.Prelude.{MatchOption}
-use Rattle.std.specs.List.{Contains}
+use Rattle.std.proofs.Common.{◌+◌, refl}
 use Rattle.std.specs.Map.Iter.{deref}
 use Rattle.txc_rows.specs.declared.replaced.Deaths.{Deaths}
-use Rattle.txc_rows.specs.Indexed.{is_within}
 use Rattle.txc_rows.proofs.IndexLemmas.{shown_ids_fit, shown_groups_fit}
 use Rattle.txc_rows.proofs.DeadLemmas.{spot_high, none_dead, last_got}
 use Rattle.txc_rows.proofs.replaced.Replaced.last_dead.Goals as goal

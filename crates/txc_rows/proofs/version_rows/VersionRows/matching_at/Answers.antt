@@ -1,4 +1,4 @@
-use Rattle.std.proofs.Common.{◌≡◌, ◌+◌, ℕ, Err, ◌∙◌, ap, map, length, arith, rules}
+use Rattle.std.proofs.Common.{Err, ◌∙◌, ap, map, arith, rules}
 use Rattle.txc_rows.specs.declared.store_error.StoreError.TheVariants.{TooManyRows}
 use Rattle.txc_rows.specs.Versions.{counted_from}
 use Rattle.txc_rows.proofs.FindLemmas.{passed_error}
