@@ -4,6 +4,7 @@ use Rattle.std.specs.List.{range_with_len}
 use Rattle.std.specs.Option.{option_map}
 use Rattle.txc_node.specs.declared.node.TheConstants.{MAX_CAPACITY, MAX_RECENT}
 use Rattle.txc_permits.specs.declared.pool.TheConstants.{MAX_PERMITS}
+use Rattle.txc_rows.specs.declared.store_error.TheConstants.{MAX_MATCHING, MOST_MATCHING}
 use Rattle.txc_shared.specs.declared.settings.NodeSettings.{NodeSettings}
 use Rattle.txc_stream.specs.declared.row.TheConstants.{MAX_CAPACITY as MAX_ROOM}
 use Rattle.txc_visits.specs.declared.plan.Plan.{Plan}
@@ -16,6 +17,7 @@ IsPlan p =
     × (1 ≤ p.capacity) × (p.capacity ≤ MAX_CAPACITY)
     × (1 ≤ p.recent) × (p.recent ≤ MAX_RECENT)
     × (1 ≤ p.permits) × (p.permits ≤ MAX_PERMITS)
+    × (MAX_MATCHING ≤ p.matching) × (p.matching ≤ MOST_MATCHING)
     × IfSome p.events (λ room. (1 ≤ room) × (room ≤ MAX_ROOM))
     × IfSome p.records (λ room. (1 ≤ room) × (room ≤ MAX_ROOM))
 

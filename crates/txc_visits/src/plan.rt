@@ -6,6 +6,7 @@ ghost use Rattle.txc_visits.specs.Plans.{share_of, IsPlan};
 use txc_keeper::Keeping;
 use txc_node::{MAX_CAPACITY, MAX_RECENT};
 use txc_permits::MAX_PERMITS;
+use txc_rows::{MAX_MATCHING, MOST_MATCHING};
 use txc_stream::MAX_CAPACITY as MAX_ROOM;
 
 /// The most nodes of a site.
@@ -45,6 +46,9 @@ pub struct Plan {
     pub keep_pins: u64,
     /// How many calls of functions may run at once, from 1 to [`txc_permits::MAX_PERMITS`].
     pub permits: u64,
+    /// How many versions may match a query, those that are kept of replaced rows among them: from
+    /// [`txc_rows::MAX_MATCHING`] to [`txc_rows::MOST_MATCHING`].
+    pub matching: usize,
     /// How many commits and pins are stored, where anybody can read them: from 1 to [`txc_stream::MAX_CAPACITY`].
     /// Without a number none is, and there is room for one for each stamp, [`txc_stamp::MOST_STAMP`] of them.
     pub events: Option<usize>,
@@ -67,7 +71,8 @@ fn may_be_stored(room: Option<usize>) -> bool
 }
 
 impl Plan {
-    /// Sixteen nodes of 4,096 entries each. Neither events nor records are stored, and the site does not keep itself.
+    /// Sixteen nodes of 4,096 entries each. As many versions may match a query as can be allowed. Neither events nor records are
+    /// stored, and the site does not keep itself.
     pub const DEFAULT: Plan = Plan {
         nodes: 16,
         capacity: 4096,
@@ -76,6 +81,7 @@ impl Plan {
         renew_after: 5000,
         keep_pins: 0,
         permits: 64,
+        matching: MOST_MATCHING,
         events: None,
         records: None,
         keep: None,
@@ -103,6 +109,8 @@ impl Plan {
             && self.recent <= MAX_RECENT
             && 1 <= self.permits
             && self.permits <= MAX_PERMITS
+            && MAX_MATCHING <= self.matching
+            && self.matching <= MOST_MATCHING
             && may_be_stored(self.events)
             && may_be_stored(self.records)
     }
