@@ -15,7 +15,7 @@ use Rattle.txc_node.specs.declared.stored.Stored.{Stored}
 use Rattle.txc_node.specs.Places.{equal_places}
 use Rattle.txc_node.specs.Cache.{bytes_of}
 use Rattle.txc_node.specs.Indexed.{after_at, entry_of, entries_of, is_stale, stored_after}
-use Rattle.txc_node.specs.Weighed.{bytes_in}
+use Rattle.txc_node.specs.Weighed.{value_len_in}
 use Rattle.txc_node.proofs.Pairs.{removed_keeps}
 
 -- the bytes of the value of what is stored, if anything is
@@ -46,17 +46,17 @@ removed_weight test (x ∷ ps) =
     let go : (b : Bool) → weight (cond b ps (x ∷ remove_entry test ps)) + stored_bytes (cond b (Some x.1) (lookup test ps)) ≡ weight (x ∷ ps) = λ b. elim b as (λ v. weight (cond v ps (x ∷ remove_entry test ps)) + stored_bytes (cond v (Some x.1) (lookup test ps)) ≡ weight (x ∷ ps)) [ true ↦ omega (arith, here) | false ↦ omega (arith, rest, here, there) ] in
     go (test x.0)
 
-entry_weight : (test : Place → Bool) (ps : List (Place × Stored)) → weight (remove_entry test ps) + bytes_in (lookup_entry test ps) ≡ weight ps
+entry_weight : (test : Place → Bool) (ps : List (Place × Stored)) → weight (remove_entry test ps) + value_len_in (lookup_entry test ps) ≡ weight ps
 entry_weight test [] = refl
 entry_weight test (x ∷ ps) =
     let rest = entry_weight test ps in
     let here = weight_more x ps in
     let there = weight_more x (remove_entry test ps) in
-    let go : (b : Bool) → weight (cond b ps (x ∷ remove_entry test ps)) + bytes_in (cond b (Some x) (lookup_entry test ps)) ≡ weight (x ∷ ps) = λ b. elim b as (λ v. weight (cond v ps (x ∷ remove_entry test ps)) + bytes_in (cond v (Some x) (lookup_entry test ps)) ≡ weight (x ∷ ps)) [ true ↦ omega (arith, here) | false ↦ omega (arith, rest, here, there) ] in
+    let go : (b : Bool) → weight (cond b ps (x ∷ remove_entry test ps)) + value_len_in (cond b (Some x) (lookup_entry test ps)) ≡ weight (x ∷ ps) = λ b. elim b as (λ v. weight (cond v ps (x ∷ remove_entry test ps)) + value_len_in (cond v (Some x) (lookup_entry test ps)) ≡ weight (x ∷ ps)) [ true ↦ omega (arith, here) | false ↦ omega (arith, rest, here, there) ] in
     go (test x.0)
 
 -- one more than are left, or none
-pub taken_weight : (n : ℕ) (ps : List (Place × Stored)) → length ps ≤ n + 1 → weight (take n ps) + bytes_in (slice_get ps n) ≡ weight ps
+pub taken_weight : (n : ℕ) (ps : List (Place × Stored)) → length ps ≤ n + 1 → weight (take n ps) + value_len_in (slice_get ps n) ≡ weight ps
 taken_weight zero [] h = refl
 taken_weight (suc n) [] h = refl
 taken_weight zero (x ∷ []) h = let one = weight_more x [] in omega (arith, one)
@@ -72,7 +72,7 @@ taken_weight (suc n) (x ∷ ps) h =
 pub promoted_weight : (test : Place → Bool) (ps : List (Place × Stored)) → weight (promoted test ps) ≡ weight ps
 promoted_weight test ps =
     let all = entry_weight test ps in
-    (elim (lookup_entry test ps) as (λ o. weight (remove_entry test ps) + bytes_in o ≡ weight ps → weight (option_map_or (λ (e : Place × Stored). e ∷ remove_entry test ps) o ps) ≡ weight ps) [
+    (elim (lookup_entry test ps) as (λ o. weight (remove_entry test ps) + value_len_in o ≡ weight ps → weight (option_map_or (λ (e : Place × Stored). e ∷ remove_entry test ps) o ps) ≡ weight ps) [
       | None ↦ λ h. refl
       | Some e ↦ λ h. let here = weight_more e (remove_entry test ps) in omega (arith, h, here)
     ]) all
@@ -150,17 +150,17 @@ found_value test (x ∷ ps) =
     go (test x.0)
 
 pub put_weight : (c : LruCache Place Stored) (q : Place) (s : Stored) → length c.entries ≤ c.cap → 0 < c.cap
-    → weight (put_entries equal_places c q s) + bytes_in (displaced equal_places c q s) ≡ weight c.entries + length s.value
+    → weight (put_entries equal_places c q s) + value_len_in (displaced equal_places c q s) ≡ weight c.entries + length s.value
 put_weight c q s within some =
     let ps = c.entries in
     let test = equal_places q in
     let all = entry_weight test ps in
     let full = taken_weight (c.cap - 1) ps (omega arith) in
-    let value = ap (λ (o : Option Stored). bytes_in (option_map_or (λ (old : Stored). Some (q, old)) o (slice_get ps (c.cap - 1)))) (found_value test ps) in
-    let put : weight (put_entries equal_places c q s) + bytes_in (option_map_or (λ (old : Stored). Some (q, old)) (option_map (λ (p : Place × Stored). p.1) (lookup_entry test ps)) (slice_get ps (c.cap - 1))) ≡ weight ps + length s.value =
-    (elim (lookup_entry test ps) as (λ o. weight (remove_entry test ps) + bytes_in o ≡ weight ps
+    let value = ap (λ (o : Option Stored). value_len_in (option_map_or (λ (old : Stored). Some (q, old)) o (slice_get ps (c.cap - 1)))) (found_value test ps) in
+    let put : weight (put_entries equal_places c q s) + value_len_in (option_map_or (λ (old : Stored). Some (q, old)) (option_map (λ (p : Place × Stored). p.1) (lookup_entry test ps)) (slice_get ps (c.cap - 1))) ≡ weight ps + length s.value =
+    (elim (lookup_entry test ps) as (λ o. weight (remove_entry test ps) + value_len_in o ≡ weight ps
     → weight (option_map_or (λ (e : Place × Stored). (e.0, s) ∷ remove_entry test ps) o ((q, s) ∷ take (c.cap - 1) ps))
-    + bytes_in (option_map_or (λ (old : Stored). Some (q, old)) (option_map (λ (p : Place × Stored). p.1) o) (slice_get ps (c.cap - 1))) ≡ weight ps + length s.value) [
+    + value_len_in (option_map_or (λ (old : Stored). Some (q, old)) (option_map (λ (p : Place × Stored). p.1) o) (slice_get ps (c.cap - 1))) ≡ weight ps + length s.value) [
       | None ↦ λ h. let here = weight_more (q, s) (take (c.cap - 1) ps) in omega (arith, full, here)
       | Some e ↦ λ h. let here = weight_more (e.0, s) (remove_entry test ps) in omega (arith, h, here)
     ]) all in

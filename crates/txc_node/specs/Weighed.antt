@@ -10,9 +10,9 @@ use Rattle.txc_node.specs.Cache.{bytes_of}
 use Rattle.txc_node.specs.Indexed.{entries_of}
 
 -- the bytes of the value of a pair, if there is one
-abbrev pub bytes_in : Option (Place × Stored) → ℕ
-bytes_in None = 0
-bytes_in (Some p) = length p.1.value
+abbrev pub value_len_in : Option (Place × Stored) → ℕ
+value_len_in None = 0
+value_len_in (Some p) = length p.1.value
 
 -- so many bytes have the values of the entries; each has no more than any value, and there is room for no more than
 -- any node has

@@ -7,7 +7,7 @@ ghost use Rattle.lru.specs.LruCache.{IsValid, lru_cache, last_entry, promoted, p
 ghost use Rattle.txc_node.specs.Places.{equal_places};
 ghost use Rattle.txc_node.specs.Cache.{bytes_of};
 ghost use Rattle.txc_node.specs.Indexed.{after_at, closed_reach, entries_of, stays_live};
-ghost use Rattle.txc_node.specs.Weighed.{bytes_in};
+ghost use Rattle.txc_node.specs.Weighed.{value_len_in};
 
 use crate::closing::Closing;
 use crate::node::MOST_CAPACITY;
@@ -47,8 +47,8 @@ impl fmt::Debug for WeighedEntries {
 }
 
 // The bytes of the value of a pair, if there is one.
-fn bytes_in(pair: &Option<(Place, Stored)>) -> usize
-    ensures { result ≡ bytes_in pair.now }
+fn value_len_in(pair: &Option<(Place, Stored)>) -> usize
+    ensures { result ≡ value_len_in pair.now }
 {
     match pair {
         None => 0,
@@ -166,7 +166,7 @@ impl WeighedEntries {
             ≡ lru_cache (take (length self.old.entries - 1) self.old.entries) self.old.cap }
     {
         let last = self.cache.pop_lru();
-        self.bytes -= bytes_in(&last);
+        self.bytes -= value_len_in(&last);
         last
     }
 
@@ -188,7 +188,7 @@ impl WeighedEntries {
         match self.cache.push(place, stored) {
             Err(failed) => Err(failed),
             Ok(displaced) => {
-                self.bytes = self.bytes + more - bytes_in(&displaced);
+                self.bytes = self.bytes + more - value_len_in(&displaced);
                 Ok(displaced)
             }
         }
