@@ -159,7 +159,7 @@ impl Frames {
             unreachable!()
         };
         let function = frame.key.function();
-        // They bound the answers.
+        // The clauses of the limits bound how many answers a frame has.
         let _limits = A::limits();
         let Ok(()) = self.stack.give(reach, tags) else {
             return Err(CallError::Memory);

@@ -1,14 +1,13 @@
 -- The longest prefix of the entries whose values have at most so many bytes in all.
-use Rattle.std.proofs.Common.{◌≡◌, ℕ, ◌+◌, ◌-◌, ◌<◌, ◌≤◌, Bool, true, false, cond, List, [], ◌∷◌, ◌++◌, length, take, drop, get_or, leb, refl, sym, ap, subst, ◌∙◌, arith, suc, zero}
+use Rattle.std.proofs.Common.{◌≡◌, ℕ, ◌+◌, ◌-◌, ◌<◌, ◌≤◌, Bool, true, false, cond, List, [], ◌∷◌, ◌++◌, length, take, drop, get_or, refl, sym, ap, subst, ◌∙◌, arith, suc, zero}
 use Rattle.std.specs.Prelude.{nat_le}
 use Rattle.std.specs.List.{prefix_len, range_with_len}
-use Rattle.std.proofs.lemmas.Bool.{false≢true}
 use Rattle.std.proofs.lemmas.Bool.Decides.{nat_tests}
 use Rattle.std.proofs.lemmas.List.Sums.{prefix_len_is}
 use Rattle.std.proofs.lemmas.List.FromFn.{length-range_with_len, get_or-range_with_len}
 use Rattle.txc_node.specs.declared.entry.Entry.{Entry}
-use Rattle.txc_node.specs.Cache.{Cache, IsCache, IsBounded, bytes_of, fits, staying_count, longest_within, after_trim, trimmed_count}
-use Rattle.txc_node.specs.Laws.{KeepsTheFirst, TrimKeepsTheFirst}
+use Rattle.txc_node.specs.Cache.{Cache, IsCache, IsBounded, bytes_of, fits, staying_count, longest_within, after_trim}
+use Rattle.txc_node.specs.Laws.{TrimKeepsTheFirst}
 use Rattle.txc_node.proofs.Apart.{take_apart}
 use Rattle.txc_node.proofs.Swept.{bounded_of, cache_of}
 use Rattle.txc_node.proofs.Weights.{bytes_more}

@@ -252,7 +252,7 @@ impl Counts {
         self.swept
     }
 
-    /// How many entries trims dropped.
+    /// Returns how many entries trims dropped.
     pub fn trimmed(&self) -> u128
         ensures { result ≡ self.now.trimmed }
     {

@@ -69,7 +69,8 @@ impl Entry {
         })
     }
 
-    /// The same with a value of at most `most` bytes. Fails with what an insertion of it is refused for.
+    /// Makes an entry as [`Entry::new`] does, with a value of at most `most` bytes. Fails if a node refuses such an
+    /// insertion whatever it holds, with that refusal.
     pub fn up_to(
         most: usize,
         key: Key,

@@ -160,7 +160,7 @@ impl IndexedEntries {
         self.entries.len()
     }
 
-    /// The bytes of their values in all.
+    /// Returns the number of bytes of their values in all.
     pub(crate) fn bytes(&self) -> usize
         ensures { result ≡ bytes_of self.now.entries }
     {
@@ -259,8 +259,8 @@ impl IndexedEntries {
         unlist_evicted(&mut self.tags, &last);
     }
 
-    /// Keeps the longest prefix of the entries whose values have at most `most` bytes in all, and counts those that it
-    /// drops.
+    /// Keeps the longest prefix of the entries whose values have at most `most` bytes in all. Returns how many it
+    /// dropped.
     pub(crate) fn trim(&mut self, most: usize) -> usize
         ensures entries { self.new.entries ≡ longest_within most self.old.entries }
         ensures capacity { self.new.capacity ≡ self.old.capacity }

@@ -85,7 +85,7 @@ impl KeyedEntries {
         self.cache.len()
     }
 
-    /// The bytes of their values in all.
+    /// Returns the number of bytes of their values in all.
     pub(crate) fn bytes(&self) -> usize
         ensures { result ≡ bytes_of self.now.entries }
     {

@@ -211,7 +211,7 @@ impl NodeCore {
         self.entries.len()
     }
 
-    /// The bytes of the values of its entries in all.
+    /// Returns the number of bytes of its entries' values in all.
     pub fn bytes(&self) -> usize
         ensures { result ≡ bytes_of self.now.entries }
     {
@@ -348,8 +348,8 @@ impl NodeCore {
         self.entries.drop_ended(self.processed, horizon)
     }
 
-    /// Keeps the first entries whose values have at most `most` bytes in all, as many as there are, and counts those that
-    /// it drops. It takes no memory.
+    /// Keeps the longest prefix of the entries whose values have at most `most` bytes in all. Returns how many it
+    /// dropped. It takes no memory.
     pub fn trim(&mut self, most: usize) -> usize
         ensures after { self.new ≡ after_trim self.old most }
         ensures answer { result ≡ trimmed_count self.old most }

@@ -8,7 +8,7 @@ use std::fmt;
 use std::marker::Model;
 use std::sync::Arc;
 
-/// The most bytes of a value that owns them, and of one for which no other limit was asked.
+/// The most bytes of a value that [`Value::new`] makes, and of one whose copies don't share them.
 pub const MAX_VALUE_LEN: usize = 1024;
 
 /// The most bytes of any value.
@@ -22,7 +22,7 @@ pub(crate) enum Held {
 }
 
 impl Held {
-    // The bytes, that are shared where there are many and memory for it is left.
+    // Holds the bytes: shared if there are more than `MAX_VALUE_LEN` and memory for that is left.
     fn new(bytes: Vec<u8>) -> Held
         ensures { bytes_held result ≡ bytes.items }
     {
@@ -37,7 +37,7 @@ impl Held {
     }
 }
 
-/// The bytes of a cached result, at most [`MOST_VALUE_LEN`]. Where there are more than [`MAX_VALUE_LEN`], its copies share
+/// The bytes of a cached result, at most [`MOST_VALUE_LEN`]. If there are more than [`MAX_VALUE_LEN`], its copies share
 /// them, so that a copy costs the same however many there are.
 #[derive(Debug, Drop)]
 pub struct Value {
@@ -57,7 +57,7 @@ impl Model for Value {
 }
 
 impl Value {
-    /// The bytes as a value; None if there are more than [`MAX_VALUE_LEN`]. It takes no memory.
+    /// Returns the bytes as a value; none if there are more than [`MAX_VALUE_LEN`]. It takes no memory.
     pub fn new(bytes: Vec<u8>) -> Option<Value>
         ensures only_if { IsSome result ↔ (vec_len bytes ≤ MAX_VALUE_LEN) }
         ensures answer { IfSome result (λ v. v ≡ bytes.items) }
@@ -70,8 +70,8 @@ impl Value {
         })
     }
 
-    /// The bytes as a value; None if there are more than `most`. Where there are more than [`MAX_VALUE_LEN`], it takes
-    /// memory once, by the allocator of the bytes. Where that is refused, the value owns them, and its copies copy them.
+    /// Returns the bytes as a value; none if there are more than `most`. If there are more than [`MAX_VALUE_LEN`], it
+    /// takes memory once, by the allocator of the bytes, so that copies share them. If that fails, each copy copies them.
     pub fn up_to(most: usize, bytes: Vec<u8>) -> Option<Value>
         requires { most ≤ MOST_VALUE_LEN }
         ensures only_if { IsSome result ↔ (vec_len bytes ≤ most) }
@@ -85,7 +85,7 @@ impl Value {
         })
     }
 
-    /// The bytes.
+    /// Returns the bytes.
     pub fn bytes(&self) -> &[u8]
         ensures answer { result.now ≡ self.now }
         ensures bound { length self.now ≤ MOST_VALUE_LEN }
@@ -96,7 +96,7 @@ impl Value {
         }
     }
 
-    /// An equal value. It takes no memory where it shares the bytes.
+    /// Returns an equal value. It takes no memory if it shares the bytes.
     pub fn copy(&self, alloc: Global) -> Result<Value, AllocError>
         ensures { IfOk result (λ v. v ≡ self.now) }
     {

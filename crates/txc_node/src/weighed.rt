@@ -46,7 +46,7 @@ impl fmt::Debug for WeighedEntries {
     }
 }
 
-// The bytes of the value of a pair, if there is one.
+// Returns the number of bytes of a pair's value, and 0 if there is no pair.
 fn value_len_in(pair: &Option<(Place, Stored)>) -> usize
     ensures { result ≡ value_len_in pair.now }
 {
@@ -83,7 +83,7 @@ fn close_in(
 }
 
 impl WeighedEntries {
-    /// No entries, and room for `capacity`.
+    /// Makes room for `capacity` entries, of which there is none yet.
     pub(crate) fn new(alloc: Global, capacity: NonZeroUsize) -> Result<WeighedEntries, AllocError>
         requires { non_zero_usize_get capacity ≤ MOST_CAPACITY }
         ensures { IfOk result (λ w. w ≡ lru_cache [] (non_zero_usize_get capacity)) }
@@ -92,7 +92,7 @@ impl WeighedEntries {
         Ok(WeighedEntries { cache, bytes: 0 })
     }
 
-    /// How many there are.
+    /// Returns how many entries there are.
     pub(crate) fn len(&self) -> usize
         ensures len { result ≡ length self.now.entries }
         ensures valid { IsValid equal_places self.now }
@@ -100,21 +100,21 @@ impl WeighedEntries {
         self.cache.len()
     }
 
-    /// The bytes of their values in all.
+    /// Returns the number of bytes of their values in all.
     pub(crate) fn bytes(&self) -> usize
         ensures { result ≡ bytes_of (entries_of self.now.entries) }
     {
         self.bytes
     }
 
-    /// What is stored at a place.
+    /// Returns what is stored at a place.
     pub(crate) fn peek(&self, place: &Place) -> Option<&Stored>
         ensures { option_copied result ≡ lookup (equal_places place.now) self.now.entries }
     {
         self.cache.peek(place)
     }
 
-    /// What is stored of the entry that was used last.
+    /// Returns the entry that was used last, with its place.
     pub(crate) fn first(&self) -> Option<(&Place, &Stored)>
         ensures { option_map deref_pair result ≡ slice_get self.now.entries 0 }
     {
@@ -170,7 +170,7 @@ impl WeighedEntries {
         last
     }
 
-    /// Puts an entry first. Returns what stood at its place, and else the last entry where there is no room for it.
+    /// Puts an entry first. Returns what stood at its place, or else the last entry if there is no room for it.
     pub(crate) fn push(
         &mut self,
         place: Place,

@@ -1,4 +1,4 @@
-use Rattle.std.proofs.Common.{◌≡◌, ◌<◌, ap, arith}
+use Rattle.std.proofs.Common.{ap, arith}
 use Rattle.txc_app.specs.declared.app.Limits.{Limits}
 use Rattle.txc_call.proofs.OpenFrames.{released_given, resumed_at}
 use Rattle.txc_call.proofs.frames.Frames.resume.Goals as goal

@@ -1,4 +1,4 @@
-use Rattle.std.proofs.Common.{◌≡◌, ℕ, ◌+◌, ◌<◌, ◌≤◌, length, take}
+use Rattle.std.proofs.Common.{◌≡◌, ◌+◌, ◌<◌, ◌≤◌, length, take}
 use Rattle.txc_node.specs.Cache.{bytes_of}
 use Rattle.txc_node.proofs.indexed.IndexedEntries.trim.Given as goal
 

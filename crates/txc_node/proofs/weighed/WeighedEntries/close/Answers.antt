@@ -1,5 +1,4 @@
-use Rattle.std.proofs.Common.{◌≤◌, ℕ, sym, subst, ◌∙◌}
-use Rattle.std.specs.List.{AllByRecursion}
+use Rattle.std.proofs.Common.{◌≤◌, sym, subst, ◌∙◌}
 use Rattle.txc_node.specs.declared.node.TheConstants.{MOST_CAPACITY}
 use Rattle.txc_node.proofs.Weights.{closed_weight, closed_short}
 use Rattle.txc_node.proofs.weighed.WeighedEntries.close.Goals as goal

@@ -1,11 +1,9 @@
-use Rattle.std.proofs.Common.{◌≡◌, ℕ, ◌+◌, ◌-◌, List, Some, None, length, sym, ap, subst, ◌∙◌, arith}
-use Rattle.std.specs.Map.{lookup, remove_entry}
-use Rattle.lru.specs.LruCache.{LruCache, lru_cache}
+use Rattle.std.proofs.Common.{◌≡◌, ℕ, List, length, sym, ap, subst, ◌∙◌, arith}
+use Rattle.std.specs.Map.{lookup}
+use Rattle.lru.specs.LruCache.{LruCache}
 use Rattle.txc_node.specs.declared.place.Place.{Place}
 use Rattle.txc_node.specs.declared.stored.Stored.{Stored}
 use Rattle.txc_node.specs.Places.{equal_places}
-use Rattle.txc_node.specs.Cache.{bytes_of}
-use Rattle.txc_node.specs.Indexed.{entries_of}
 use Rattle.txc_node.specs.Weighed.{IsWeighed}
 use Rattle.txc_node.proofs.Weights.{stored_bytes, removed_weight, removed_short}
 use Rattle.txc_node.proofs.weighed.WeighedEntries.pop.Goals as goal
