@@ -322,7 +322,7 @@ impl<A: App, J: Naming> Held<A, J> {
         }
     }
 
-    /// Keeps the first entries whose values have at most `most` bytes in all.
+    /// Keeps the longest prefix of the entries whose values have at most `most` bytes in all.
     pub(crate) fn trim(
         &mut self,
         alloc: Global,

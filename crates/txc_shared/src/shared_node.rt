@@ -285,7 +285,7 @@ impl<J: Naming> NodePass<J> {
         count
     }
 
-    /// Keeps the first entries whose values have at most `most` bytes in all, as many as there are, and counts those that
+    /// Keeps the longest prefix of the entries whose values have at most `most` bytes in all, and counts the entries that
     /// it drops.
     pub fn trim<A: App>(
         &mut self,
