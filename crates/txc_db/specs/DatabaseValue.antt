@@ -13,9 +13,9 @@ use Rattle.txc_db.specs.Facts.{EventValue}
 use Rattle.txc_db.specs.Seen.{FrontValue}
 use Rattle.txc_db.specs.History.{History, state_at, AreTagged, pin_event, commit_event, state_event}
 
--- what the history of its events is called; the history; the versions that are kept; how many of them may match a query;
--- the horizon; the stamps that are held, one for each hold, the earliest hold first; and whether another record was found
--- in its row
+-- What the history of its events is called; the history; the versions that are kept; how many of them may match a query; the
+-- horizon. Then the stamps that are held, one for each hold, the earliest hold first; and whether another record was found in
+-- its row.
 pub record DatabaseValue : Type 0 where
   pub events : Name
   pub history : History

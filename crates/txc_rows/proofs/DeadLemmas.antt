@@ -16,7 +16,7 @@ use Rattle.txc_rows.specs.declared.version.Versioned.{Versioned}
 use Rattle.txc_rows.specs.Versions.{suits}
 use Rattle.txc_rows.specs.Holdable.{IsStorable}
 use Rattle.txc_rows.specs.Placed.{version_of, lasts_to, is_left}
-use Rattle.txc_rows.specs.Indexed.{stamp_of, death_of, dies_between, dead_between, picked, is_within, spot_suits, spots_asked, AreIndexed, DiedFirst, DiedLast}
+use Rattle.txc_rows.specs.Indexed.{death_stamp, death_of, dies_between, dead_between, picked, died_within, spot_suits, spots_asked, AreIndexed, DiedFirst, DiedLast}
 use Rattle.txc_rows.specs.Kept.{IsFinding}
 use Rattle.txc_rows.proofs.Members.{IsIn, is_in, all_in, both_true, and_true, filtered_both, passing}
 use Rattle.txc_rows.proofs.IndexLemmas.{Points, death_low, picked_dead, within_point}
@@ -85,7 +85,7 @@ and_on : (b c : Bool) → c ≡ true → b ≡ b && c
 and_on true c on = sym on
 and_on false c on = refl
 
-left_is : (from : ℕ) (d : Option ℕ) → d ≢ None → stamp_of d ≤ MOST_STAMP → lasts_to from d ≡ nat_le from (stamp_of d) && nat_le (stamp_of d) 18446744073709551615
+left_is : (from : ℕ) (d : Option ℕ) → d ≢ None → death_stamp d ≤ MOST_STAMP → lasts_to from d ≡ nat_le from (death_stamp d) && nat_le (death_stamp d) 18446744073709551615
 left_is from None alive low = absurd (alive refl)
 left_is from (Some d) alive low = and_on (nat_le from d) (nat_le d 18446744073709551615) (le-leb d 18446744073709551615 (omega (arith, low)))
 
@@ -110,7 +110,7 @@ module _ (q : Query) (xs : List Placed) (each : AllByRecursion (λ x. IsStorable
       bounds : (l h d : ℕ) → nat_le l d && nat_le d h ≡ true → (l ≤ d) × (d ≤ h)
       bounds l h d e = let both = both_true (nat_le l d) (nat_le d h) e in (leb-true l d both.0, leb-true d h both.1)
 
-      between : (o : Option ℕ) → o ≢ None → nat_le low (stamp_of o) && nat_le (stamp_of o) high ≡ true → (F : Type 0) → F → (d : ℕ) × (o ≡ Some d) × (low ≤ d) × (d ≤ high) × F
+      between : (o : Option ℕ) → o ≢ None → nat_le low (death_stamp o) && nat_le (death_stamp o) high ≡ true → (F : Type 0) → F → (d : ℕ) × (o ≡ Some d) × (low ≤ d) × (d ≤ high) × F
       between None alive passes F f = absurd (alive refl)
       between (Some d) alive passes F f = let b = bounds low high d passes in (d, refl, b.0, b.1, f)
 
@@ -190,9 +190,9 @@ module _ (q : Query) (xs : List Placed) (each : AllByRecursion (λ x. IsStorable
 -- ---- what is found at the spots of the versions that are not gone
 
 module _ (first gone : ℕ) (xs : List Placed) (ids groups : List Spot) (low : gone ≤ length xs) (h : AreIndexed first xs ids groups) (q : Query) (d : Deaths) (same : d.number ≡ first + gone) (ss : List Spot)
-    (are : filter (is_within d) ss ≡ filter (spot_suits q) (spots_asked q (filter (is_within d) ids) (filter (is_within d) groups))) where
+    (are : filter (died_within d) ss ≡ filter (spot_suits q) (spots_asked q (filter (died_within d) ids) (filter (died_within d) groups))) where
   abbrev spots : List Spot
-  spots = filter (is_within d) ss
+  spots = filter (died_within d) ss
 
   dead_there : IsPermutation (dead_between q d.low d.high (drop gone xs)) (map version_of (picked first xs spots))
   dead_there = picked_dead first gone xs ids groups low h q d same ss are
@@ -213,9 +213,9 @@ module _ (first gone : ℕ) (xs : List Placed) (ids groups : List Spot) (low : g
 
   -- its number is one of those
   pub spot_high : (s : Spot) → Contains spots s → first ≤ s.number
-  spot_high s there = let from = number_from d s (all_in (λ t. is_within d t ≡ true) spots s (passing (is_within d) ss) (is_in spots s there)) in omega (arith, from, same)
+  spot_high s there = let from = number_from d s (all_in (λ t. died_within d t ≡ true) spots s (passing (died_within d) ss) (is_in spots s there)) in omega (arith, from, same)
     where
-      number_from : (e : Deaths) (t : Spot) → is_within e t ≡ true → e.number ≤ t.number
+      number_from : (e : Deaths) (t : Spot) → died_within e t ≡ true → e.number ≤ t.number
       number_from e t is = go e.number t.number (nat_le e.low t.death && nat_le t.death e.high) is
         where
           go : (n m : ℕ) (b : Bool) → nat_le n m && b ≡ true → n ≤ m

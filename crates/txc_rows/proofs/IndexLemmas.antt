@@ -25,7 +25,7 @@ use Rattle.txc_rows.specs.Versions.{suits}
 use Rattle.txc_rows.specs.Holdable.{IsStorable}
 use Rattle.txc_stamp.specs.declared.stamp.TheConstants.{MOST_STAMP}
 use Rattle.txc_rows.specs.Placed.{version_of}
-use Rattle.txc_rows.specs.Indexed.{version_id, version_group, stamp_of, death_of, spot_of, spots_from, FitsSpot, AreIndexed, is_from, is_within, is_between, dies_between, spot_suits, spots_asked, picked, dead_between, DeathsRise}
+use Rattle.txc_rows.specs.Indexed.{version_id, version_group, death_stamp, death_of, spot_of, spots_from, FitsSpot, AreIndexed, is_from, died_within, is_between, dies_between, spot_suits, spots_asked, picked, dead_between, DeathsRise}
 use Rattle.txc_rows.proofs.Members.{both_true, filters_turned, filtered_both, passing}
 
 -- ---- one key more or less
@@ -262,7 +262,7 @@ keys_between t a b table key Equal Equal low high = grind (arith, nat_tests)
 keys_between t a b table key Equal Greater low high = grind (arith, nat_tests)
 keys_between t a b table key Greater r low high = absurd (let f = low in cc)
 
-within_both : (d : Deaths) (s : Spot) → is_within d s ≡ true → (d.low ≤ s.death) × (s.death ≤ d.high)
+within_both : (d : Deaths) (s : Spot) → died_within d s ≡ true → (d.low ≤ s.death) × (s.death ≤ d.high)
 within_both d s e =
     let both = both_true (nat_le d.low s.death) (nat_le s.death d.high) (both_true (nat_le d.number s.number) (nat_le d.low s.death && nat_le s.death d.high) e).1 in
     (leb-true d.low s.death both.0, leb-true s.death d.high both.1)
@@ -271,17 +271,17 @@ within_both d s e =
 abbrev pub dies : Deaths → Spot → Bool
 dies d s = nat_le d.low s.death && nat_le s.death d.high
 
-pub within_from : (d : Deaths) (ss : List Spot) → filter (is_within d) ss ≡ filter (dies d) (filter (is_from d.number) ss)
+pub within_from : (d : Deaths) (ss : List Spot) → filter (died_within d) ss ≡ filter (dies d) (filter (is_from d.number) ss)
 within_from d ss = sym (filtered_both (dies d) (is_from d.number) ss)
 
-pub within_fit : (d : Deaths) (ss : List Spot) → AllByRecursion FitsSpot (filter (is_from d.number) ss) → AllByRecursion FitsSpot (filter (is_within d) ss)
+pub within_fit : (d : Deaths) (ss : List Spot) → AllByRecursion FitsSpot (filter (is_from d.number) ss) → AllByRecursion FitsSpot (filter (died_within d) ss)
 within_fit d ss fit = subst (AllByRecursion FitsSpot) (sym (within_from d ss)) (all-filter FitsSpot (dies d) (filter (is_from d.number) ss) fit)
 
 pub between_spots : (t a b : ℕ) (d : Deaths) (ss : List Spot) → AllByRecursion FitsSpot (filter (is_from d.number) ss)
-    → filter (is_within d) (filter (range_contains spot_cmp (Included (record { table = t; key = a; death = d.low; number = 0 })) (Included (record { table = t; key = b; death = d.high; number = 18446744073709551615 }))) ss) ≡ filter (is_between t a b) (filter (is_within d) ss)
+    → filter (died_within d) (filter (range_contains spot_cmp (Included (record { table = t; key = a; death = d.low; number = 0 })) (Included (record { table = t; key = b; death = d.high; number = 18446744073709551615 }))) ss) ≡ filter (is_between t a b) (filter (died_within d) ss)
 between_spots t a b d ss fit =
-    filters_turned (is_within d) _ ss
-    ∙ filter_same _ _ (filter (is_within d) ss) (all_both (λ s. is_within d s ≡ true) FitsSpot _ (λ s within fits. let w = within_both d s within in keys_between t a b s.table s.key _ _ (inner_low d.low s.death s.number w.0) (inner_high d.high s.death s.number w.1 fits.2)) (filter (is_within d) ss) (passing (is_within d) ss) (within_fit d ss fit))
+    filters_turned (died_within d) _ ss
+    ∙ filter_same _ _ (filter (died_within d) ss) (all_both (λ s. died_within d s ≡ true) FitsSpot _ (λ s within fits. let w = within_both d s within in keys_between t a b s.table s.key _ _ (inner_low d.low s.death s.number w.0) (inner_high d.high s.death s.number w.1 fits.2)) (filter (died_within d) ss) (passing (died_within d) ss) (within_fit d ss fit))
 
 none_keys : (t a b table key : ℕ) → b < a → ((table == t) && (nat_le a key && nat_le key b)) ≡ false
 none_keys t a b table key low = grind (arith, nat_tests)
@@ -294,10 +294,10 @@ both_off : (b : Bool) → b && not b ≡ false
 both_off true = refl
 both_off false = refl
 
-pub none_between : (t a b : ℕ) (d : Deaths) (s : Spot) (ss : List Spot) → (b < a) ⊎ (d.high < d.low) → filter (is_within d) (filter (range_contains spot_cmp (Included s) (Excluded s)) ss) ≡ filter (is_between t a b) (filter (is_within d) ss)
+pub none_between : (t a b : ℕ) (d : Deaths) (s : Spot) (ss : List Spot) → (b < a) ⊎ (d.high < d.low) → filter (died_within d) (filter (range_contains spot_cmp (Included s) (Excluded s)) ss) ≡ filter (is_between t a b) (filter (died_within d) ss)
 none_between t a b d s ss low =
-    filters_turned (is_within d) _ ss
-    ∙ filter_same _ _ (filter (is_within d) ss) (all_weaker (λ x. is_within d x ≡ true) _ (λ x within. let w = within_both d x within in both_off (is_le (spot_cmp s x)) ∙ sym (none_in t a b d.low d.high x.table x.key x.death low w.0 w.1)) (filter (is_within d) ss) (passing (is_within d) ss))
+    filters_turned (died_within d) _ ss
+    ∙ filter_same _ _ (filter (died_within d) ss) (all_weaker (λ x. died_within d x ≡ true) _ (λ x within. let w = within_both d x within in both_off (is_le (spot_cmp s x)) ∙ sym (none_in t a b d.low d.high x.table x.key x.death low w.0 w.1)) (filter (died_within d) ss) (passing (died_within d) ss))
 
 -- of one key they stand in the order of their deaths
 same_keys : (t k a b : ℕ) → ((a == t) && (nat_le k b && nat_le b k)) ≡ true → (a ≡ t) × (b ≡ k)
@@ -324,9 +324,9 @@ deaths_rise t k (s ∷ ss) sorted all = (
   deaths_rise t k ss (sorted_tail spot_cmp s ss sorted) all.1,
 )
 
-pub between_rise : (t k : ℕ) (d : Deaths) (ss : List Spot) → IsStrictlySortedBy spot_cmp ss → DeathsRise (filter (is_between t k k) (filter (is_within d) ss))
+pub between_rise : (t k : ℕ) (d : Deaths) (ss : List Spot) → IsStrictlySortedBy spot_cmp ss → DeathsRise (filter (is_between t k k) (filter (died_within d) ss))
 between_rise t k d ss sorted =
-    deaths_rise t k _ (IsStrictlySortedBy-filter spot_cmp (is_between t k k) _ (IsStrictlySortedBy-filter spot_cmp (is_within d) ss sorted)) (passing (is_between t k k) (filter (is_within d) ss))
+    deaths_rise t k _ (IsStrictlySortedBy-filter spot_cmp (is_between t k k) _ (IsStrictlySortedBy-filter spot_cmp (died_within d) ss sorted)) (passing (is_between t k k) (filter (died_within d) ss))
 
 -- ---- what a query looks up
 
@@ -388,7 +388,7 @@ all_point q p first xs ids groups h = all-filter (Points first xs) (spot_suits q
     go (All t) = each version_id ids h.by_id
     go (Range t a b) = each version_id ids h.by_id
 
-stamp_low : (d : Option ℕ) (most : ℕ) → ((k : ℕ) → d ≡ Some k → k ≤ most) → stamp_of d ≤ most
+stamp_low : (d : Option ℕ) (most : ℕ) → ((k : ℕ) → d ≡ Some k → k ≤ most) → death_stamp d ≤ most
 stamp_low None most low = omega arith
 stamp_low (Some d) most low = low d refl
 
@@ -418,23 +418,23 @@ module _ (first gone : ℕ) (xs : List Placed) (ids groups : List Spot) (low : g
   pub shown_groups_fit : AllByRecursion (λ x. IsStorable x.version) (drop gone xs) → AllByRecursion FitsSpot (from_there groups)
   shown_groups_fit = groups_fit (first + gone) (drop gone xs) (from_there ids) (from_there groups) (shown_indexed first gone xs ids groups low h)
 
-  module _ (q : Query) (d : Deaths) (same : d.number ≡ first + gone) (ss : List Spot) (are : filter (is_within d) ss ≡ filter (spot_suits q) (spots_asked q (filter (is_within d) ids) (filter (is_within d) groups))) where
+  module _ (q : Query) (d : Deaths) (same : d.number ≡ first + gone) (ss : List Spot) (are : filter (died_within d) ss ≡ filter (spot_suits q) (spots_asked q (filter (died_within d) ids) (filter (died_within d) groups))) where
     -- what is picked at them is what died so
-    pub picked_dead : IsPermutation (dead_between q d.low d.high (drop gone xs)) (map version_of (picked first xs (filter (is_within d) ss)))
+    pub picked_dead : IsPermutation (dead_between q d.low d.high (drop gone xs)) (map version_of (picked first xs (filter (died_within d) ss)))
     picked_dead =
         let number : first + gone ≡ d.number = sym same in
         let indexed = shown_indexed first gone xs ids groups low h in
         let spots = asked_spots q d (first + gone) (drop gone xs) (from_there ids) (from_there groups) indexed in
-        let each : (keys : List Spot) → filter (is_within d) keys ≡ filter (dies d) (from_there keys) = λ keys. within_from d keys ∙ ap (λ n. filter (dies d) (filter (is_from n) keys)) same in
-        let moved : filter (is_within d) ss ≡ filter (spot_suits q) (spots_asked q (filter (dies d) (from_there ids)) (filter (dies d) (from_there groups)))
-        = are ∙ (ap (λ is. filter (spot_suits q) (spots_asked q is (filter (is_within d) groups))) (each ids) ∙ ap (λ gs. filter (spot_suits q) (spots_asked q (filter (dies d) (from_there ids)) gs)) (each groups)) in
-        let high : AllByRecursion (λ s. first + gone ≤ s.number) (filter (is_within d) ss) = subst (AllByRecursion (λ s. first + gone ≤ s.number)) (sym (within_from d ss)) (all-filter (λ s. first + gone ≤ s.number) (dies d) (filter (is_from d.number) ss) (subst (λ n. AllByRecursion (λ s. n ≤ s.number) (filter (is_from d.number) ss)) same (all_from d.number ss))) in
-        let there : picked first xs (filter (is_within d) ss) ≡ picked (first + gone) (drop gone xs) (filter (is_within d) ss) = picked_later first gone (first + gone) xs (filter (is_within d) ss) refl high in
+        let each : (keys : List Spot) → filter (died_within d) keys ≡ filter (dies d) (from_there keys) = λ keys. within_from d keys ∙ ap (λ n. filter (dies d) (filter (is_from n) keys)) same in
+        let moved : filter (died_within d) ss ≡ filter (spot_suits q) (spots_asked q (filter (dies d) (from_there ids)) (filter (dies d) (from_there groups)))
+        = are ∙ (ap (λ is. filter (spot_suits q) (spots_asked q is (filter (died_within d) groups))) (each ids) ∙ ap (λ gs. filter (spot_suits q) (spots_asked q (filter (dies d) (from_there ids)) gs)) (each groups)) in
+        let high : AllByRecursion (λ s. first + gone ≤ s.number) (filter (died_within d) ss) = subst (AllByRecursion (λ s. first + gone ≤ s.number)) (sym (within_from d ss)) (all-filter (λ s. first + gone ≤ s.number) (dies d) (filter (is_from d.number) ss) (subst (λ n. AllByRecursion (λ s. n ≤ s.number) (filter (is_from d.number) ss)) same (all_from d.number ss))) in
+        let there : picked first xs (filter (died_within d) ss) ≡ picked (first + gone) (drop gone xs) (filter (died_within d) ss) = picked_later first gone (first + gone) xs (filter (died_within d) ss) refl high in
         let mapped : dead_between q d.low d.high (drop gone xs) ≡ map version_of (filter (λ x. dies_between d.low d.high x.version && suits q x.version) (drop gone xs)) = filter-map (λ v. dies_between d.low d.high v && suits q v) version_of (drop gone xs) in
         rw (mapped, there, moved) (IsPermutation-map version_of _ _ spots)
 
-    pub within_point : AllByRecursion (Points first xs) (filter (is_within d) ss)
-    within_point = subst (AllByRecursion (Points first xs)) (sym are) (all_point q (is_within d) first xs ids groups h)
+    pub within_point : AllByRecursion (Points first xs) (filter (died_within d) ss)
+    within_point = subst (AllByRecursion (Points first xs)) (sym are) (all_point q (died_within d) first xs ids groups h)
 
 -- ---- one spot after another
 
@@ -445,13 +445,13 @@ got (y ∷ ys) (suc i) x low is = got ys i x (omega (arith, low)) is
 
 module _ (d : Deaths) (first : ℕ) (xs : List Placed) (s : Spot) (ss : List Spot) where
   abbrev pub taken : List Spot → List Versioned
-  taken ts = map version_of (picked first xs (filter (is_within d) ts))
+  taken ts = map version_of (picked first xs (filter (died_within d) ts))
 
-  pub taken_other : is_within d s ≡ false → taken (s ∷ ss) ≡ taken ss
+  pub taken_other : died_within d s ≡ false → taken (s ∷ ss) ≡ taken ss
   taken_other off = rw off refl
 
-  pub taken_past : is_within d s ≡ true → slice_get xs (s.number - first) ≡ None → taken (s ∷ ss) ≡ taken ss
+  pub taken_past : died_within d s ≡ true → slice_get xs (s.number - first) ≡ None → taken (s ∷ ss) ≡ taken ss
   taken_past on e = rw (on, e) refl
 
-  pub taken_there : is_within d s ≡ true → (x : Placed) → slice_get xs (s.number - first) ≡ Some x → taken (s ∷ ss) ≡ x.version ∷ taken ss
+  pub taken_there : died_within d s ≡ true → (x : Placed) → slice_get xs (s.number - first) ≡ Some x → taken (s ∷ ss) ≡ x.version ∷ taken ss
   taken_there on x e = rw (on, e) refl

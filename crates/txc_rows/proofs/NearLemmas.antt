@@ -16,7 +16,7 @@ use Rattle.txc_rows.specs.Holdable.{IsStorable}
 use Rattle.txc_rows.specs.Versions.{suits, version_cmp}
 use Rattle.txc_rows.specs.Found.{IsNearer, IsNeedless, FindsAround}
 use Rattle.txc_rows.specs.Placed.{left_from}
-use Rattle.txc_rows.specs.Indexed.{stamp_of, death_of, dead_between, DiedFirst, DiedLast}
+use Rattle.txc_rows.specs.Indexed.{death_stamp, death_of, dead_between, DiedFirst, DiedLast}
 use Rattle.txc_rows.specs.Kept.{latest_in, versions_of, IsFinding, AddsAround}
 use Rattle.txc_rows.proofs.Members.{is_in, contains_it, in_left, in_right, both_true}
 use Rattle.txc_rows.proofs.FindLemmas.{asked, asked_append, all_asked}
@@ -64,8 +64,8 @@ module _ (t : ℕ) where
 
 -- ---- one of those that died between two stamps
 
-death_is : (x : Option ℕ) (d : ℕ) → x ≡ Some d → stamp_of x ≡ d
-death_is x d e = ap stamp_of e
+death_is : (x : Option ℕ) (d : ℕ) → x ≡ Some d → death_stamp x ≡ d
+death_is x d e = ap death_stamp e
 
 -- it died between the two
 abbrev DiesIn : Query → ℕ → ℕ → Versioned → Type 0

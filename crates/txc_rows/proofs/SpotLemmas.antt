@@ -6,32 +6,32 @@ use Rattle.std.proofs.lemmas.List.Elements.{filter-append}
 use Rattle.sqlite_trees.proofs.ListLemmas.{all_weaker, all-append}
 use Rattle.txc_rows.specs.declared.replaced.Spot.{Spot}
 use Rattle.txc_rows.specs.declared.replaced.Deaths.{Deaths}
-use Rattle.txc_rows.specs.Indexed.{is_within, DeathsRise, IsEarliest, IsLatest}
+use Rattle.txc_rows.specs.Indexed.{died_within, DeathsRise, IsEarliest, IsLatest}
 use Rattle.txc_rows.proofs.Members.{is_in, contains_it, in_left, in_right}
 
 module _ (d : Deaths) (s : Spot) where
-  pub one_off : is_within d s ≡ false → filter (is_within d) (s ∷ []) ≡ []
+  pub one_off : died_within d s ≡ false → filter (died_within d) (s ∷ []) ≡ []
   one_off off = rw off refl
 
-  pub one_on : is_within d s ≡ true → filter (is_within d) (s ∷ []) ≡ s ∷ []
+  pub one_on : died_within d s ≡ true → filter (died_within d) (s ∷ []) ≡ s ∷ []
   one_on on = rw on refl
 
   -- it stands first
-  pub front_off : (ss : List Spot) → is_within d s ≡ false → filter (is_within d) (s ∷ ss) ≡ filter (is_within d) ss
+  pub front_off : (ss : List Spot) → died_within d s ≡ false → filter (died_within d) (s ∷ ss) ≡ filter (died_within d) ss
   front_off ss off = rw off refl
 
-  pub front_on : (ss : List Spot) → is_within d s ≡ true → filter (is_within d) (s ∷ ss) ≡ s ∷ filter (is_within d) ss
+  pub front_on : (ss : List Spot) → died_within d s ≡ true → filter (died_within d) (s ∷ ss) ≡ s ∷ filter (died_within d) ss
   front_on ss on = rw on refl
 
-  pub front_apart : (ss : List Spot) → filter (is_within d) (s ∷ ss) ≡ filter (is_within d) (s ∷ []) ++ filter (is_within d) ss
-  front_apart ss = filter-append (is_within d) (s ∷ []) ss
+  pub front_apart : (ss : List Spot) → filter (died_within d) (s ∷ ss) ≡ filter (died_within d) (s ∷ []) ++ filter (died_within d) ss
+  front_apart ss = filter-append (died_within d) (s ∷ []) ss
 
   -- it stands last
-  pub back_off : (ss : List Spot) → is_within d s ≡ false → filter (is_within d) (ss ++ s ∷ []) ≡ filter (is_within d) ss
-  back_off ss off = filter-append (is_within d) ss (s ∷ []) ∙ (ap (λ ts. filter (is_within d) ss ++ ts) (one_off off) ∙ append-nil (filter (is_within d) ss))
+  pub back_off : (ss : List Spot) → died_within d s ≡ false → filter (died_within d) (ss ++ s ∷ []) ≡ filter (died_within d) ss
+  back_off ss off = filter-append (died_within d) ss (s ∷ []) ∙ (ap (λ ts. filter (died_within d) ss ++ ts) (one_off off) ∙ append-nil (filter (died_within d) ss))
 
-  pub back_on : (ss : List Spot) → is_within d s ≡ true → filter (is_within d) (ss ++ s ∷ []) ≡ filter (is_within d) ss ++ s ∷ []
-  back_on ss on = filter-append (is_within d) ss (s ∷ []) ∙ ap (λ ts. filter (is_within d) ss ++ ts) (one_on on)
+  pub back_on : (ss : List Spot) → died_within d s ≡ true → filter (died_within d) (ss ++ s ∷ []) ≡ filter (died_within d) ss ++ s ∷ []
+  back_on ss on = filter-append (died_within d) ss (s ∷ []) ∙ ap (λ ts. filter (died_within d) ss ++ ts) (one_on on)
 
 -- the first is the earliest where deaths rise
 pub first_earliest : (s : Spot) (ss : List Spot) → DeathsRise (s ∷ ss) → IsEarliest (s ∷ ss) s

@@ -20,13 +20,13 @@ abbrev pub version_group : Placed → ℕ
 version_group x = x.version.row.group
 
 -- the stamp of a death, and 0 where there is none
-abbrev pub stamp_of : Option ℕ → ℕ
-stamp_of None = 0
-stamp_of (Some died) = died
+abbrev pub death_stamp : Option ℕ → ℕ
+death_stamp None = 0
+death_stamp (Some died) = died
 
 -- the stamp at which the version died
 abbrev pub death_of : Versioned → ℕ
-death_of v = stamp_of v.died
+death_of v = death_stamp v.died
 
 -- the spot of a version by its id or its group, by its death and by its number
 abbrev pub spot_of : (Placed → ℕ) → ℕ → Placed → Spot
@@ -57,8 +57,8 @@ abbrev pub dies_between : ℕ → ℕ → Versioned → Bool
 dies_between low high v = nat_le low (death_of v) && nat_le (death_of v) high
 
 -- the spot is of a version from the number on that died from the one stamp to the other
-abbrev pub is_within : Deaths → Spot → Bool
-is_within d s = is_from d.number s && (nat_le d.low s.death && nat_le s.death d.high)
+abbrev pub died_within : Deaths → Spot → Bool
+died_within d s = is_from d.number s && (nat_le d.low s.death && nat_le s.death d.high)
 
 -- of the table, and with a key from the first to the last
 abbrev pub is_between : ℕ → ℕ → ℕ → Spot → Bool

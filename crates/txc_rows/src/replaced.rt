@@ -7,7 +7,7 @@ ghost use Rattle.txc_rows.specs.declared.placed.Placed.{Placed};
 ghost use Rattle.txc_rows.specs.Versions.{suits};
 ghost use Rattle.txc_rows.specs.Holdable.{IsStorable};
 ghost use Rattle.txc_rows.specs.Placed.{version_of, lasts_to, left_from, placed_left, has_front_died, without_front_dead};
-ghost use Rattle.txc_rows.specs.Indexed.{version_id, version_group, spot_of, stamp_of, FitsSpot, picked, is_from, is_within, is_between, spot_suits, spots_asked, has_one_key, dead_between, DeathsRise, IsEarliest, IsLatest, DiedFirst, DiedLast};
+ghost use Rattle.txc_rows.specs.Indexed.{version_id, version_group, spot_of, death_stamp, FitsSpot, picked, is_from, died_within, is_between, spot_suits, spots_asked, has_one_key, dead_between, DeathsRise, IsEarliest, IsLatest, DiedFirst, DiedLast};
 ghost use Rattle.txc_rows.specs.Kept.{IsFinding, AddsAround};
 
 use crate::placed::Placed;
@@ -46,7 +46,7 @@ pub(crate) struct Deaths {
 
 impl Deaths {
     fn has(&self, spot: &Spot) -> bool
-        ensures { result ≡ is_within self.now spot.now }
+        ensures { result ≡ died_within self.now spot.now }
     {
         self.number <= spot.number && self.low <= spot.death && spot.death <= self.high
     }
@@ -78,8 +78,8 @@ impl Model for Replaced {
 
 // ---- spots
 
-fn stamp_of(died: Option<Stamp>) -> usize
-    ensures { result ≡ stamp_of died }
+fn death_stamp(died: Option<Stamp>) -> usize
+    ensures { result ≡ death_stamp died }
 {
     match died {
         Some(died) => died.number() as usize,
@@ -94,7 +94,7 @@ fn spot_by_id(placed: &Placed, number: usize) -> Spot
     Spot {
         table: row.table().number(),
         key: row.id(),
-        death: stamp_of(placed.version.died),
+        death: death_stamp(placed.version.died),
         number,
     }
 }
@@ -106,7 +106,7 @@ fn spot_by_group(placed: &Placed, number: usize) -> Spot
     Spot {
         table: row.table().number(),
         key: row.group(),
-        death: stamp_of(placed.version.died),
+        death: death_stamp(placed.version.died),
         number,
     }
 }
@@ -138,9 +138,9 @@ fn spots_between(
     last: u32,
 ) -> Range<'_, Spot>
     requires { AllByRecursion FitsSpot (filter (is_from deaths.number) spots.now.keys) }
-    ensures spots { filter (is_within deaths) result
-        ≡ filter (is_between table first last) (filter (is_within deaths) spots.now.keys) }
-    ensures rise { first ≡ last → DeathsRise (filter (is_within deaths) result) }
+    ensures spots { filter (died_within deaths) result
+        ≡ filter (is_between table first last) (filter (died_within deaths) spots.now.keys) }
+    ensures rise { first ≡ last → DeathsRise (filter (died_within deaths) result) }
 {
     let table = table.number();
     let low = Spot {
@@ -170,9 +170,9 @@ fn spots_for<'a>(
 ) -> Range<'a, Spot>
     requires ids { AllByRecursion FitsSpot (filter (is_from deaths.number) ids.now.keys) }
     requires groups { AllByRecursion FitsSpot (filter (is_from deaths.number) groups.now.keys) }
-    ensures spots { filter (is_within deaths) result ≡ filter (spot_suits query.now)
-        (spots_asked query.now (filter (is_within deaths) ids.now.keys) (filter (is_within deaths) groups.now.keys)) }
-    ensures rise { has_one_key query.now ≡ true → DeathsRise (filter (is_within deaths) result) }
+    ensures spots { filter (died_within deaths) result ≡ filter (spot_suits query.now)
+        (spots_asked query.now (filter (died_within deaths) ids.now.keys) (filter (died_within deaths) groups.now.keys)) }
+    ensures rise { has_one_key query.now ≡ true → DeathsRise (filter (died_within deaths) result) }
 {
     match *query {
         Query::ById(table, id) => spots_between(ids, deaths, table, id, id),
@@ -193,8 +193,8 @@ fn has_one_key(query: &Query) -> bool
 
 /// Whether there are more than so many that died so.
 fn are_more(deaths: Deaths, spots: Range<'_, Spot>, most: usize) -> bool
-    ensures more { result ≡ true → most < length (filter (is_within deaths) spots.entry) }
-    ensures few { result ≡ false → length (filter (is_within deaths) spots.entry) ≤ most }
+    ensures more { result ≡ true → most < length (filter (died_within deaths) spots.entry) }
+    ensures few { result ≡ false → length (filter (died_within deaths) spots.entry) ≤ most }
 {
     let mut left = most;
     for spot in spots {
@@ -211,9 +211,9 @@ fn are_more(deaths: Deaths, spots: Range<'_, Spot>, most: usize) -> bool
 
 /// The first that died so, where deaths rise: the earliest.
 fn first_of(deaths: Deaths, spots: Range<'_, Spot>) -> Option<Spot>
-    requires { DeathsRise (filter (is_within deaths) spots) }
-    ensures { MatchOption result (filter (is_within deaths) spots.entry ≡ [])
-        (IsEarliest (filter (is_within deaths) spots.entry)) }
+    requires { DeathsRise (filter (died_within deaths) spots) }
+    ensures { MatchOption result (filter (died_within deaths) spots.entry ≡ [])
+        (IsEarliest (filter (died_within deaths) spots.entry)) }
 {
     for spot in spots {
         if deaths.has(spot) {
@@ -225,9 +225,9 @@ fn first_of(deaths: Deaths, spots: Range<'_, Spot>) -> Option<Spot>
 
 /// The last that died so, where deaths rise: the latest.
 fn last_of(deaths: Deaths, mut spots: Range<'_, Spot>) -> Option<Spot>
-    requires { DeathsRise (filter (is_within deaths) spots) }
-    ensures { MatchOption result (filter (is_within deaths) spots.entry ≡ [])
-        (IsLatest (filter (is_within deaths) spots.entry)) }
+    requires { DeathsRise (filter (died_within deaths) spots) }
+    ensures { MatchOption result (filter (died_within deaths) spots.entry ≡ [])
+        (IsLatest (filter (died_within deaths) spots.entry)) }
 {
     while let Some(spot) = spots.next_back() {
         if deaths.has(spot) {
@@ -240,8 +240,8 @@ fn last_of(deaths: Deaths, mut spots: Range<'_, Spot>) -> Option<Spot>
 /// The later of the two, of those that died so.
 fn later(deaths: Deaths, last: Option<Spot>, spot: &Spot) -> Option<Spot>
     ensures { (seen : _) → MatchOption last (seen ≡ []) (IsLatest seen)
-        → MatchOption result (seen ++ filter (is_within deaths) (spot.now ∷ []) ≡ [])
-        (IsLatest (seen ++ filter (is_within deaths) (spot.now ∷ []))) }
+        → MatchOption result (seen ++ filter (died_within deaths) (spot.now ∷ []) ≡ [])
+        (IsLatest (seen ++ filter (died_within deaths) (spot.now ∷ []))) }
 {
     if !deaths.has(spot) {
         return last;
@@ -256,8 +256,8 @@ fn later(deaths: Deaths, last: Option<Spot>, spot: &Spot) -> Option<Spot>
 
 /// The latest that died so.
 fn latest_of(deaths: Deaths, spots: Range<'_, Spot>) -> Option<Spot>
-    ensures { MatchOption result (filter (is_within deaths) spots.entry ≡ [])
-        (IsLatest (filter (is_within deaths) spots.entry)) }
+    ensures { MatchOption result (filter (died_within deaths) spots.entry ≡ [])
+        (IsLatest (filter (died_within deaths) spots.entry)) }
 {
     let mut last = None;
     for spot in spots {
@@ -277,9 +277,9 @@ fn died_before(died: Option<Stamp>, from: u32) -> bool
 
 /// The latest that died so: the last one where deaths rise.
 fn latest_spot(deaths: Deaths, spots: Range<'_, Spot>, rise: bool) -> Option<Spot>
-    requires { rise ≡ true → DeathsRise (filter (is_within deaths) spots) }
-    ensures { MatchOption result (filter (is_within deaths) spots.entry ≡ [])
-        (IsLatest (filter (is_within deaths) spots.entry)) }
+    requires { rise ≡ true → DeathsRise (filter (died_within deaths) spots) }
+    ensures { MatchOption result (filter (died_within deaths) spots.entry ≡ [])
+        (IsLatest (filter (died_within deaths) spots.entry)) }
 {
     if rise {
         last_of(deaths, spots)
@@ -311,7 +311,7 @@ fn take_found(
 ) -> Result<(), AllocError>
     requires { first ≤ deaths.number }
     ensures { OnOk result (found.new.items ≡ found.old.items
-        ++ map version_of (picked first versions.now.items (filter (is_within deaths) spots.entry))) }
+        ++ map version_of (picked first versions.now.items (filter (died_within deaths) spots.entry))) }
 {
     for spot in spots {
         if !deaths.has(spot) {
@@ -595,7 +595,7 @@ impl Replaced {
     }
 
     /// Of the versions that match and did not die before the stamp `from`, those are added to the found ones that died after
-    /// the stamp `at`, of one id the first of them alone, and of the others the one that died last.
+    /// the stamp `at`, of one id the first of them alone. Of the others the one that died last is added.
     pub(crate) fn find_around(
         &self,
         alloc: Global,

@@ -1,6 +1,6 @@
 use Rattle.std.proofs.Common.{◌≡◌, filter}
-use Rattle.txc_rows.specs.Indexed.{is_within}
+use Rattle.txc_rows.specs.Indexed.{died_within}
 use Rattle.txc_rows.proofs.replaced.first_of.Given as goal
 
 abbrev pub invariant-loop-spot : goal.invariant-loop-spot
-invariant-loop-spot l = filter (is_within l.deaths) l.spot-iterator ≡ filter (is_within l.deaths) l.fn.spots
+invariant-loop-spot l = filter (died_within l.deaths) l.spot-iterator ≡ filter (died_within l.deaths) l.fn.spots

@@ -1,5 +1,5 @@
 use Rattle.std.proofs.Common.{◌≡◌, ◌++◌, ◌∷◌, [], true, filter, sym, ap, subst, ◌∙◌}
-use Rattle.txc_rows.specs.Indexed.{is_within, DeathsRise, IsLatest}
+use Rattle.txc_rows.specs.Indexed.{died_within, DeathsRise, IsLatest}
 use Rattle.txc_rows.proofs.SpotLemmas.{back_on, last_latest}
 use Rattle.txc_rows.proofs.replaced.last_of.Goals as goal
 
@@ -7,7 +7,7 @@ pub returns-then-has : goal.returns-then-has
 returns-then-has c =
     let d = c.args.deaths in
     let s = c.in-Some.spot.now in
-    let rest = filter (is_within d) c.next_back.new.self in
-    let on : is_within d s ≡ true = sym c.has.ensures ∙ c.if-has.true in
-    let are : filter (is_within d) c.args.spots ≡ rest ++ s ∷ [] = sym c.loop-spot.invariant ∙ (ap (filter (is_within d)) c.in-Some.ensures.steps ∙ back_on d s c.next_back.new.self on) in
+    let rest = filter (died_within d) c.next_back.new.self in
+    let on : died_within d s ≡ true = sym c.has.ensures ∙ c.if-has.true in
+    let are : filter (died_within d) c.args.spots ≡ rest ++ s ∷ [] = sym c.loop-spot.invariant ∙ (ap (filter (died_within d)) c.in-Some.ensures.steps ∙ back_on d s c.next_back.new.self on) in
     subst (λ ss. IsLatest ss s) (sym are) (last_latest s rest (subst DeathsRise are c.requires))
