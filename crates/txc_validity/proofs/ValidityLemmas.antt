@@ -8,7 +8,8 @@ use Rattle.txc_rows.specs.States.{State, answer}
 use Rattle.txc_rows.specs.Versions.{shown_at}
 use Rattle.txc_rows.specs.Keeping.{ShowsAnswers}
 use Rattle.txc_validity.specs.declared.answer.Found.{Found}
-use Rattle.txc_validity.specs.Validity.{HoldsOn, IsValidity}
+use Rattle.txc_rows.specs.Around.{HoldsOn}
+use Rattle.txc_validity.specs.Validity.{IsValidity}
 use Rattle.txc_validity.specs.Answers.{IsAnswer}
 use Rattle.txc_validity.specs.Laws.{SameWithin, DiffersBelow, DiffersAbove, OneValidity, KeptAnswersDecide, AroundIsValid}
 

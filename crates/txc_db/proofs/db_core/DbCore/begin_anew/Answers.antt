@@ -1,4 +1,4 @@
-use Rattle.std.proofs.Common.{◌≡◌, inr, refl, ℕ, [], ◌∷◌, ◌∙◌, ap, map, sym, subst, arith}
+use Rattle.std.proofs.Common.{◌≡◌, inr, ℕ, [], ◌∷◌, ◌∙◌, ap, map, sym, subst, arith}
 use Rattle.txc_rows.specs.RowTags.{tags_between}
 use Rattle.txc_rows.specs.Versions.{counted_from, purged}
 use Rattle.txc_rows.specs.Keeping.{KeepsBegun}

@@ -1,6 +1,5 @@
 use Rattle.std.proofs.Common.{◌≡◌, ◌≤◌, ℕ, List, length, sym, subst, ◌∙◌, arith, rules}
 use Rattle.txc_rows.specs.declared.version.Versioned.{Versioned}
-use Rattle.txc_rows.specs.States.{answer}
 use Rattle.txc_rows.specs.Versions.{AreVersions, shown_at}
 use Rattle.txc_rows.specs.Around.{ShowsAround}
 use Rattle.txc_validity.specs.Validity.{IsValidity}
