@@ -1,5 +1,4 @@
 use Rattle.std.proofs.Common.{◌≡◌, ℕ, false, ap, sym, subst, ◌∙◌}
-use Rattle.txc_stream.specs.Names.{Name}
 use Rattle.txc_db.specs.DatabaseValue.{DatabaseValue, newest_state, IsSound}
 use Rattle.txc_db.specs.Room.{events_room}
 use Rattle.txc_carry.specs.Carried.{HasCarried, IsCarryRefused, IsCarryStepRefused}
