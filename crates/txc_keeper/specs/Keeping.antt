@@ -43,8 +43,8 @@ HasSwept histories old (Some horizon) (Some result) new =
 HasSwept histories old None None new = new ≡ old
 HasSwept histories old horizon swept new = ⊥
 
--- the node was trimmed to its budget, and dropped so many entries; or refused the trim; without a budget it was not
--- trimmed
+-- the node was trimmed to its budget, and dropped so many entries; or refused the trim; without a budget there was no
+-- trim
 abbrev pub HasTrimmed : (ℕ → Name) → StationValue → Option ℕ → Option (Result ℕ NodeError) → StationValue → Type 0
 HasTrimmed histories old (Some most) (Some result) new =
     IfOk result (λ count. HasMade old.pass new.pass (Trim most) (Trimmed count) × HasNotRefused old new)

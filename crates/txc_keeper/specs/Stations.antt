@@ -7,8 +7,8 @@ use Rattle.txc_shared.specs.Passes.{PassValue, IsPassLeft}
 use Rattle.txc_shared.specs.Refusals.{IsRefusedThrough, NodeMayRefuse}
 use Rattle.txc_ledger.specs.Counted.{counted_again}
 
--- the pass, how often the node has refused what it was asked through it, and the most bytes of the values that the
--- node is to be left, where there is a budget
+-- the pass, how often the node has refused what it was asked through it, and the most bytes of the node's values
+-- after a trim, if there is a budget
 pub record StationValue : Type 0 where
   pub pass : PassValue
   pub refusals : ℕ

@@ -20,7 +20,7 @@ pub record OwnKeeperValue : Type 0 where
 pub record IsNewOwnKeeper (all : List NodeSettings) (budget : Option ℕ) (own : OwnKeeperValue) : Type 0 where
   pub nodes : map (λ s. s.pass.settings) own.stations ≡ all
   pub records : All (λ s. s.pass.records ≡ []) own.stations
-  pub budget : All (λ s. s.budget ≡ budget) own.stations
+  pub budgets : All (λ s. s.budget ≡ budget) own.stations
   pub tended : own.tended ≡ record { keeps = 0; refused = None }
 
 -- what a keeper did, with one keep more

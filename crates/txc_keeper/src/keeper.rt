@@ -45,7 +45,7 @@ pub struct KeptNode {
     pub ended: Ended,
     /// How many entries were swept. None where there was no horizon.
     pub swept: Option<Result<usize, NodeError>>,
-    /// How many entries were trimmed. None where there is no budget of bytes.
+    /// How many entries the trim dropped. None if there is no budget of bytes.
     pub trimmed: Option<Result<usize, NodeError>>,
     /// How many records there is room for after those that the keeper has seen, where they are stored.
     pub records_left: Option<usize>,
@@ -112,7 +112,7 @@ fn sweep<A: App, J: Naming>(
     }
 }
 
-/// Trims the node, where there is a budget for it.
+/// Trims the node, if it has a budget.
 fn trim<A: App, J: Naming>(
     rt: &impl Wait,
     alloc: Global,
@@ -148,7 +148,7 @@ fn stations<'a, A: App, J: Naming>(
 }
 
 /// Keeps the node of a station.
-#[tactic(auto, using(crate::proofs::NodesKept::same_then))]
+#[tactic(auto, using(crate::proofs::NodesKept::same_then, crate::proofs::NodesKept::trimmed_at))]
 fn keep_node<'a, A: App, J: Naming>(
     rt: &impl Wait,
     alloc: Global,
@@ -294,8 +294,8 @@ impl<'a, A: App, J: Naming> Model for Keeper<'a, A, J> {
 }
 
 impl<'a, A: App, J: Naming> Keeper<'a, A, J> {
-    /// A keeper of the ledger and of these nodes, with a pass of its own through each. Where there is a `budget`, it keeps
-    /// no more bytes of values in any of them.
+    /// A keeper of the ledger and of these nodes, with a pass of its own through each. With a `budget`, each keep trims
+    /// the values of every node to that many bytes.
     pub fn new(
         rt: &impl Wait,
         alloc: Global,
@@ -314,8 +314,8 @@ impl<'a, A: App, J: Naming> Keeper<'a, A, J> {
 
     /// Pins the present of the moment `now`, so that transactions find a fresh pin. Takes away the pins that
     /// none may use and whose moment is more than `age` before, and the states below the least that is held.
-    /// Lets each node take the events, drop what it can't show any more, and then what exceeds its budget of bytes. Times
-    /// are in milliseconds.
+    /// Lets each node take the events, drop what it can't show any more, and then what exceeds its budget of bytes, if it
+    /// has one. Times are in milliseconds.
     ///
     /// What a part of it refuses stands in the result, and the others are done. An error comes before
     /// anything was done but that a pin was refused.

@@ -90,8 +90,8 @@ impl<'a, A: App, J: Naming> OwnKeeper<'a, A, J> {
     }
 }
 
-/// Keeps the ledger and these nodes at this clock until the visitors have ended; where there is a `budget`, each node
-/// within it. The moment is what the clock showed last.
+/// Keeps the ledger and these nodes at this clock until the visitors have ended. With a `budget`, each keep trims the
+/// values of every node to that many bytes. The moment is what the clock showed last.
 #[tactic(auto, using(crate::proofs::Tending::since_begun, crate::proofs::Tending::once_more, crate::proofs::Tending::told_so))]
 pub fn keep_until_ended<A: App, J: Naming, C: Clock, R: Wait>(
     rt: &R,

@@ -14,8 +14,8 @@ use txc_db::Naming;
 use txc_ledger::Horizon;
 use txc_shared::{Advanced, NodeError, NodePass, SharedNode};
 
-/// A node, a pass through it, and the most bytes of the values that a trim leaves it, where there is a budget. It counts
-/// how often the node refused.
+/// A node, a pass through it, and the budget of a trim: the most bytes of the node's values, if there is a limit. It
+/// counts how often the node refused.
 #[derive(Drop)]
 pub(crate) struct Station<'a, A: App, J: Naming> {
     node: &'a SharedNode<A, J>,
@@ -60,7 +60,7 @@ impl<'a, A: App, J: Naming> Station<'a, A, J> {
         &self.pass
     }
 
-    /// The most bytes of the values that a trim leaves the node, where there is a budget.
+    /// Returns the most bytes of the values that a trim leaves in the node, if there is a budget.
     pub(crate) fn budget(&self) -> Option<usize>
         ensures { result ≡ self.now.budget }
     {
@@ -107,7 +107,7 @@ impl<'a, A: App, J: Naming> Station<'a, A, J> {
         }
     }
 
-    /// Keeps the first entries of the node whose values have at most so many bytes in all.
+    /// Keeps the longest prefix of the node's entries whose values have at most `most` bytes in all.
     #[tactic(auto, using(crate::proofs::NodesKept::same_settings, crate::proofs::NodesKept::same_pass))]
     pub(crate) fn trim(
         &mut self,
