@@ -240,7 +240,8 @@ impl<'a, A: App, D: Definition, J: Naming> SiteClient<'a, A, D, J> {
         (written, client)
     }
 
-    /// A keeper of the site, with a pass of its own through each node.
+    /// A keeper of the site, with a pass of its own through each node, and with each node's share of the plan's budget.
+    #[tactic(auto, using(crate::proofs::Tended::budgets_of))]
     pub fn keeper(&self, rt: &impl Wait, alloc: Global) -> Result<Keeper<'a, A, J>, SiteError>
         ensures nodes { IfOk result (λ keeper.
             map (λ s. s.pass.settings) keeper ≡ nodes_of self.now.plan) }

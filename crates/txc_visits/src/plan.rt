@@ -19,7 +19,7 @@ pub const MAX_NODES: usize = 64;
 /// that its bounds allow is refused. Where they are stored, their row is never given back. Else the history exists in the
 /// proofs alone: what stands in memory of an event are its tags, until each node has taken it and a keeper has passed it.
 ///
-/// Each lookup, insertion, event taken and sweep is a record of its node. These exist in the
+/// Each lookup, insertion, event taken, sweep and trim is a record of its node. These exist in the
 /// proofs alone, unless the plan asks for `records`; then, once there are as many, the node has nothing and keeps
 /// nothing, and all calls are computed. So a site of `e` events ends
 /// after `e` commits and pins: at ten a second [`Plan::DEFAULT`] lasts 13 years.
@@ -35,8 +35,8 @@ pub struct Plan {
     pub capacity: usize,
     /// How many of the last events a node keeps the tags of, from 1 to [`txc_node::MAX_RECENT`].
     pub recent: usize,
-    /// The most bytes of the values that the nodes keep, an equal share each. A keeper trims the nodes to it, so that
-    /// between two keeps they have more by what was inserted since. Without a number nothing is trimmed.
+    /// The budget of the nodes: the most bytes of their values after a keep, an equal share for each node. Between two
+    /// keeps the nodes exceed it by the values that were inserted since. Without a number no node is ever trimmed.
     pub bytes: Option<usize>,
     /// After how many milliseconds a transaction renews its newest pin, where it may.
     pub renew_after: u64,
@@ -81,7 +81,7 @@ impl Plan {
         keep: None,
     };
 
-    /// The most bytes of the values that each node keeps, where there is a budget.
+    /// Returns the most bytes of the values that a keep leaves in each node, if the plan has a budget.
     pub fn share(&self) -> Option<usize>
         ensures { result ≡ share_of self.now }
     {
