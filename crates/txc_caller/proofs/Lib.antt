@@ -1,10 +1,13 @@
-pub mod Turning
+pub mod Some
 pub mod Looking
-pub mod Acts
 pub mod Fresh
-pub mod Asked
 pub mod Reading
+pub mod Asked
+pub mod Begun
 pub mod Committing
+pub mod Lent
+pub mod Serving
+pub mod Telling
 pub mod Letting
 pub mod Taken
 pub mod PortsAsBox
