@@ -35,7 +35,7 @@ hear_seen c seen (ports.Pin (Ok pinned)) new turn h = (h.0, record { call = h.1.
 hear_seen c seen (ports.Pin (Err error)) new turn h = h
 hear_seen c seen (ports.AddPin pinned (Ok added)) new turn h = λ objects there.
     let t = h objects there in (t.0, t.1, pin_seen c seen objects (first_call c.pinning) new objects t.0 t.2)
-hear_seen c seen (ports.AddPin pinned (Err error)) new turn h = (h.0, h.1.0, record { call = h.1.1.call; first = h.1.1.first })
+hear_seen c seen (ports.AddPin pinned (Err error)) new turn h = (h.0, h.1, record { call = h.2.call; first = h.2.first })
 hear_seen c seen (ports.Unpin unpinned) new turn h = h
 hear_seen c seen (ports.Lookup None) new turn h = h
 hear_seen c seen (ports.Lookup (Some hit)) new turn h = λ k is. record { held = (h k is).held; none = (h k is).none }
