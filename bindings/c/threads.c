@@ -75,7 +75,7 @@ static void call(txc_txn txn, uint8_t function, uint32_t item, char *value) {
     uint32_t number = txc_call(&site, txn, &key, (uint8_t *)value, LONGEST - 1, &len);
     leave();
     if (number == TXC_COMPUTE) {
-        char made[2 * LONGEST], most[LONGEST], list[LONGEST];
+        char made[2 * LONGEST + 4], most[LONGEST], list[LONGEST];
         if (function == 2) {
             call(txn, 0, item, most);
             call(txn, 1, item, list);
