@@ -118,7 +118,6 @@ enum {
     TXC_MID_CALL = 15,       /* a call is open: finish it, give it up, or abort */
     TXC_REFUSED = 16,        /* the open call was refused, and is no more; or the query or change was. The transaction is open,
                               * and its answers are as before. Or none can begin now, or there is no such state to begin at */
-    TXC_OTHER_ASK = 17,      /* no call returns it any more */
     TXC_CONFLICT = 18        /* what was read has changed: nothing is committed, and the transaction is open, to be aborted */
 };
 

@@ -1,10 +1,13 @@
 //! What a transaction of a site changes that writes.
 ghost use Rattle.std.specs.Prelude.{◌≡◌};
-ghost use Rattle.txc_c.specs.Asking.{change_number, PutComesTo, RemoveComesTo};
+ghost use Rattle.txc_rows.specs.declared.query.Change.TheVariants as changes;
+ghost use Rattle.txc_c.specs.Asking.{change_number, ChangeComesTo, PutComesTo, RemoveComesTo};
 
+use crate::asking::txn_number;
+use crate::opened::{Open, place_of};
 use crate::site::Site;
 use std::alloc::Global;
-use txc_crossing::{BAD_ARGUMENT, DONE, NO_MEMORY, NOT_OPEN, REFUSED};
+use txc_crossing::{BAD_ARGUMENT, DONE, NO_MEMORY, NOT_OPEN};
 use txc_ports::TxnError;
 use txc_rows::Row;
 use txc_tags::Table;
@@ -15,16 +18,39 @@ fn change_number(kept: Result<(), TxnError>) -> u32
 {
     match kept {
         Ok(()) => DONE,
-        Err(TxnError::Memory) => NO_MEMORY,
-        Err(_) => REFUSED,
+        Err(error) => txn_number(error),
     }
 }
 
 impl Site {
+    // A row is to stand once the transaction is committed.
+    fn put_row(&mut self, txn: u64, row: Row) -> u32
+        ensures { ChangeComesTo (changes.Put row) txn self.old result self.new }
+    {
+        let Some(it) = self.opened.get_mut(place_of(txn)) else {
+            return NOT_OPEN;
+        };
+        if it.number != txn {
+            return NOT_OPEN;
+        }
+        match &mut it.txn {
+            Open::Writing(write) => change_number(write.put(row)),
+            Open::Reading(_) => NOT_OPEN,
+        }
+    }
+
     /// A row is to stand once the transaction is committed, with a copy of the body.
-    pub(crate) fn put(&mut self, alloc: Global, table: u8, id: u32, group: u32, body: &[u8]) -> u32
+    pub(crate) fn put(
+        &mut self,
+        alloc: Global,
+        txn: u64,
+        table: u8,
+        id: u32,
+        group: u32,
+        body: &[u8],
+    ) -> u32
         ensures { PutComesTo (record { table = table; id = id; group = group; body = body.now })
-            self.old result self.new }
+            txn self.old result self.new }
     {
         let Some(table) = Table::new(table) else {
             return BAD_ARGUMENT;
@@ -35,24 +61,25 @@ impl Site {
         let Ok(row) = Row::new(table, id, group, copy) else {
             return BAD_ARGUMENT;
         };
-        match self {
-            Site::Writing(write) => change_number(write.put(row)),
-            Site::Resting(_) => NOT_OPEN,
-            Site::Reading(_) => NOT_OPEN,
-        }
+        self.put_row(txn, row)
     }
 
     /// No row is to stand at the table and id once the transaction is committed.
-    pub(crate) fn remove(&mut self, table: u8, id: u32) -> u32
-        ensures { RemoveComesTo table id self.old result self.new }
+    pub(crate) fn remove(&mut self, txn: u64, table: u8, id: u32) -> u32
+        ensures { RemoveComesTo table id txn self.old result self.new }
     {
         let Some(table) = Table::new(table) else {
             return BAD_ARGUMENT;
         };
-        match self {
-            Site::Writing(write) => change_number(write.remove(table, id)),
-            Site::Resting(_) => NOT_OPEN,
-            Site::Reading(_) => NOT_OPEN,
+        let Some(it) = self.opened.get_mut(place_of(txn)) else {
+            return NOT_OPEN;
+        };
+        if it.number != txn {
+            return NOT_OPEN;
+        }
+        match &mut it.txn {
+            Open::Writing(write) => change_number(write.remove(table, id)),
+            Open::Reading(_) => NOT_OPEN,
         }
     }
 }

@@ -4,3 +4,4 @@ pub mod Telling
 pub mod Reading
 pub mod Serving
 pub mod Writing
+pub mod Pinning

@@ -1,5 +1,5 @@
 -- A caller, and its transactions that only read.
-use Rattle.std.specs.Prelude.{◌≡◌, ◌⊎◌, ℕ, ◌≤◌, List, [], true, map, None, Result}
+use Rattle.std.specs.Prelude.{◌≡◌, ◌⊎◌, ℕ, ◌≤◌, List, [], true, map, Option, Some, None, Result}
 use Rattle.std.specs.Option.{ForSome}
 use mathlib.Core.List.{IsPrefix}
 use Rattle.txc_tags.specs.Keys.{Call}
@@ -10,6 +10,9 @@ use Rattle.txc_db.specs.History.{state_at}
 use Rattle.txc_app.specs.Eval.{Next}
 use Rattle.txc_cushion.specs.declared.pin.Pin.{Pin}
 use Rattle.txc_cushion.specs.Cushion.{after_fresh, handed_out, CushionValue}
+use Rattle.txc_pinset.specs.Members.{choice_of}
+use Rattle.txc_pinset.specs.declared.choice.Choice.{Choice}
+use Rattle.txc_pinset.specs.declared.choice.Choice.TheVariants.{At, Present}
 use Rattle.txc_ports.specs.declared.bounds.Bounds.{Bounds}
 use Rattle.txc_ports.specs.declared.recorded.Recorded.{Recorded}
 use Rattle.txc_registry.specs.Objects.{numbers_of, AllIdle, Objects}
@@ -53,6 +56,14 @@ pub record IsOf (c : CallerValue) (t : TxnValue) : Type 0 where
 -- the states of the stamps at which the transaction may still be serialised
 abbrev pub open_states : CoreValue → List State
 open_states c = map (λ (m : Pin). state_at c.seen.history m.stamp) c.pins.members
+
+-- where a query runs that is asked now: at this stamp; none if it pins the present first
+abbrev pub chosen_stamp : Choice → Option ℕ
+chosen_stamp (At stamp) = Some stamp
+chosen_stamp Present = None
+
+abbrev pub read_stamp : CoreValue → Option ℕ
+read_stamp c = chosen_stamp (choice_of c.bounds.now c.renew_after c.pins)
 
 -- ---- acts
 

@@ -8,7 +8,7 @@ ghost use Rattle.txc_txn.specs.Kept.{IsTxn};
 ghost use Rattle.txc_txn.specs.Sessions.{IsAtLeast};
 ghost use Rattle.txc_caller.specs.Looking.{IsComputedOnMiss};
 ghost use Rattle.txc_caller.specs.Ports.{HasGrown};
-ghost use Rattle.txc_caller.specs.Reading.{open_states, HasEnded, IsOf, IsReadingStep, KeepsCaller, KeepsTxn};
+ghost use Rattle.txc_caller.specs.Reading.{open_states, read_stamp, HasEnded, IsOf, IsReadingStep, KeepsCaller, KeepsTxn};
 ghost use Rattle.txc_caller.specs.Telling.{computed_calls, told_answer, top_call, top_or, AsksNext, IsToldSo, ObjectsFollow};
 ghost use Rattle.txc_caller.specs.declared.step.CallerError.TheVariants.{NoFunction};
 
@@ -20,8 +20,10 @@ use std::alloc::Global;
 use std::marker::Model;
 use txc_app::{Answer, App, Ask, Bytes};
 use txc_cushion::Pin;
+use txc_pinset::Choice;
 use txc_ports::Recorded;
 use txc_rows::Query;
+use txc_stamp::Stamp;
 use txc_tags::Key;
 use txc_txn::Receipt;
 
@@ -220,6 +222,16 @@ impl<A: App> CallerTxn<A> {
         ensures { result ≡ self.now.core.pins.has_present }
     {
         self.txn.core().has_present()
+    }
+
+    /// Returns the stamp of the state that its next query reads; none if that query pins the present first.
+    pub fn read_stamp(&self) -> Option<Stamp>
+        ensures { result ≡ read_stamp self.now.core }
+    {
+        match self.txn.core().choice() {
+            Choice::At(stamp) => Some(stamp),
+            Choice::Present => None,
+        }
     }
 
     /// Returns the calls that were answered, with their values, in order.

@@ -32,8 +32,8 @@ use txc_validity::Found;
 /// A database, its pincushion, and one node that takes its events, behind a pointer. A method takes them out, calls one of
 /// theirs, and puts them back.
 pub(crate) struct Ports<A: App> {
-    slot: PortsSlot<A>,
-    alloc: Global,
+    pub(crate) slot: PortsSlot<A>,
+    pub(crate) alloc: Global,
 }
 
 impl<A: App> Drop for Ports<A> {
