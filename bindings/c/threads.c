@@ -99,7 +99,7 @@ static bool is_torn(uint32_t item) {
     txc_txn txn;
     txc_receipt receipt;
     take();
-    must(txc_begin(&site, now(), 500, 0, &txn) == TXC_DONE, "a page begins");
+    must(txc_begin(&site, now(), 50, 0, &txn) == TXC_DONE, "a page begins");
     leave();
     call(txn, 2, item, both);
     call(txn, 0, item, alone);
@@ -154,7 +154,7 @@ int main(void) {
     int bids[2] = {0, 0};
     size_t torn = 0, open;
     void *found;
-    settings.renew_after = 50;
+    settings.renew_after = 10;
     must(txc_site_open(&site, &settings) == TXC_DONE, "a site");
     for (uint32_t item = 0; item < ITEMS; item++)
         bid(item);

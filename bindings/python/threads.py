@@ -45,7 +45,7 @@ def summary(call, item):
 
 def is_torn(site, now, item):
     """A page shows the highest bid, and beside it the bids. It is torn if they are of two moments."""
-    with site.read(now=now, staleness=500) as page:
+    with site.read(now=now, staleness=50) as page:
         shown, alone = page(summary, item), page(highest, item)
     most, _, listed = shown.partition(b" of ")
     return most != alone or int(most) != max(map(int, listed.split(b",")))
@@ -65,7 +65,7 @@ def write(site, now, is_over):
     return amount - ITEMS, meanwhile
 
 
-with Site(None, 1000, 1000, renew_after=50) as site:
+with Site(None, 1000, 1000, renew_after=10) as site:
     begun, is_over = time.monotonic(), threading.Event()
     now = lambda: int((time.monotonic() - begun) * 1000)
     with site.write() as first:

@@ -182,7 +182,7 @@ static void try_most(size_t events) {
 
 /* ---- asks of a call */
 
-/* The first call asks 63 others, each of which asks 64 times; so there is one ask left for the last. */
+/* The first call asks 63 others, each of which asks 63 times and gives its value; so of 4,096 there is one ask left for the last. */
 static void try_asks(size_t events, bool is_writing) {
     txc_site site;
     open_site(&site, events);
@@ -192,16 +192,20 @@ static void try_asks(size_t events, bool is_writing) {
     long asked = 0;
     for (uint32_t at = 0; at < 63; at++) {
         asked += call(&site, txn, &(txc_key){1, 1, {at}}) == TXC_COMPUTE;
-        for (int query = 0; query < 64; query++)
+        for (int query = 0; query < 63; query++)
             asked += rows(&site, txn) == TXC_ANSWERED;
         CHECK(finish(&site, txn, "1") == TXC_ANSWERED);
     }
-    CHECK(asked == 63 * 65 && call(&site, txn, &(txc_key){1, 1, {63}}) == TXC_COMPUTE);
+    CHECK(asked == 63 * 64 && call(&site, txn, &(txc_key){1, 1, {63}}) == TXC_COMPUTE);
     CHECK(rows(&site, txn) == TXC_REFUSED && finish(&site, txn, "1") == TXC_NOT_OPEN && txc_give_up(&site, txn) == TXC_MISS);
     CHECK(call(&site, txn, &(txc_key){1, 1, {70}}) == TXC_COMPUTE);
     for (int query = 0; query < 64; query++)
         CHECK(rows(&site, txn) == TXC_ANSWERED);
     CHECK(rows(&site, txn) == TXC_REFUSED && finish(&site, txn, "1") == TXC_NOT_OPEN);
+    CHECK(call(&site, txn, &(txc_key){1, 1, {71}}) == TXC_COMPUTE);
+    for (int query = 0; query < 64; query++)
+        CHECK(rows(&site, txn) == TXC_ANSWERED);
+    CHECK(finish(&site, txn, "1") == TXC_REFUSED && txc_give_up(&site, txn) == TXC_MISS);
     CHECK((is_writing ? txc_commit_write(&site, txn, &stamp) : txc_commit(&site, txn, &receipt)) == TXC_DONE);
     CHECK((is_writing || receipt.answers == 0) && txc_site_close(&site) == TXC_DONE);
 }

@@ -11,9 +11,10 @@ from ._calls import ANSWERED, COMPUTE, DONE, MISS, NO_MEMORY, NO_ROOM
 from .errors import TxCacheError
 from .node import MAX_VALUE_LEN, _Handle, _Key
 
-MAX_ASKS = 64  # of one function that is computed
+MAX_ASKS = 63  # of one function that is computed; what it gives is the last of 64
 MAX_PINS = 1024
 MAX_PLACES = 65_536
+UNCHANGING_PLACE = MAX_PLACES  # of no tag
 _TABLES = 16  # the version of a place is a row of one of so many tables, since an event names at most 16 rows of each
 _ROWS = 15
 _EVER = 2**64 - 1  # a pin is never renewed: the present of the table of versions may be the middle of a step

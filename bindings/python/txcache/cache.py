@@ -19,7 +19,7 @@ from ._forms import Growth
 from ._keys import Arguments, digest
 from ._layout import Db, Read, Row, refuse_time_and_chance
 from ._store import PURGE_AGE, Snapshot, Store, db_of
-from ._versions import MAX_ASKS, MAX_PINS, Places, Versions
+from ._versions import MAX_ASKS, MAX_PINS, UNCHANGING_PLACE, Places, Versions
 from .errors import AuditError, NotSeen, SnapshotLost
 
 LOG = logging.getLogger("txcache")
@@ -281,6 +281,7 @@ class Page:
             with self.cache._works.at(key, self.cache._versions.read_stamp(self._txn)):
                 value = function.body(Db(self._snapshot().layout, self._read), *args, **named)
                 self._refuse_after_failure(frame)
+                self._ask_once(frame)
                 data = _values.encode(value, function.codec)
                 if len(data) > self.cache._versions.longest:
                     raise ValueError(f"{function.name} gave a value of {len(data)} bytes, and at most {self.cache._versions.longest} are kept")
@@ -341,6 +342,11 @@ class Page:
                 self._count_ask(frame)
                 self.cache._versions.version(self._txn, place)
                 frame.places[place] = None
+
+    def _ask_once(self, frame: _Frame) -> None:
+        """Has a function that asked nothing ask for a place that never changes, since the library keeps only what depends on a row."""
+        if not frame.asks:
+            self.cache._versions.version(self._txn, UNCHANGING_PLACE)
 
     def _snapshot(self) -> Snapshot:
         """Returns the snapshot in which the next query reads."""

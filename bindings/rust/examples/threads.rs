@@ -46,7 +46,7 @@ fn summary(asking: &mut dyn Asking, item: u32) -> Result<Vec<u8>, Error> {
 
 /// A page shows the highest bid, and beside it the bids. It is torn if they are of two moments.
 fn is_torn(site: &Site, now: u64, item: u32) -> Result<bool, Error> {
-    let mut page = site.read(now, 500)?;
+    let mut page = site.read(now, 50)?;
     let shown = page.cached(Key::new(2, &[item])?, |asking| summary(asking, item))?;
     let alone = page.cached(Key::new(0, &[item])?, |asking| highest(asking, item))?;
     page.commit()?;
@@ -74,7 +74,7 @@ fn write(site: &Site, begun: Instant, is_over: &AtomicBool) -> Result<(u32, u32)
 }
 
 fn main() -> Result<(), Error> {
-    let site = Site::new(None, 1000, 1000, 50)?;
+    let site = Site::new(None, 1000, 1000, 10)?;
     let mut first = site.write()?;
     for item in 0..ITEMS {
         first.put(1, item, item, item.to_string().as_bytes())?;
