@@ -1,23 +1,26 @@
 -- A transaction whose functions its caller runs: what stays true from one request or ask to the next.
-use Rattle.std.proofs.Common.{◌≡◌, ◌∙◌, ◌≤◌, ℕ, Bool, true, false, eqb, Option, Some, None, IsSome, List, [], ◌∷◌, Ok, Err, refl, ap, sym, subst}
+use Rattle.std.proofs.Common.{◌≡◌, ◌∙◌, ◌≤◌, ℕ, Bool, true, false, eqb, Option, Some, None, IsSome, List, [], ◌∷◌, Ok, Err, inl, inr, refl, ap, sym, subst}
 use Rattle.std.specs.Option.{ForSome}
 use Rattle.txc_tags.specs.Keys.{Call}
 use Rattle.txc_tags.specs.declared.key.TheConstants.{LAST_FUNCTION}
 use Rattle.txc_app.specs.declared.ask.Ask.{Ask}
 use Rattle.txc_app.specs.declared.ask.Ask.TheVariants as asks
 use Rattle.txc_registry.specs.Activity.{Activity, answered, begun, running}
-use Rattle.txc_registry.specs.Objects.{Objects, activation_of, activity_of, numbers_of}
+use Rattle.txc_app.specs.Eval.{Next}
+use Rattle.txc_registry.specs.Objects.{AllIdle, Objects, activation_of, activity_of, numbers_of}
 use Rattle.txc_registry.proofs.Offered.{numbers_stay}
 use Rattle.txc_call.specs.declared.frame.Frame.{Frame}
 use Rattle.txc_call.specs.declared.need.Need.{Need}
 use Rattle.txc_call.specs.declared.need.Need.TheVariants as needs
+use Rattle.txc_call.specs.Needs.{NeedFits}
 use Rattle.txc_call.specs.Running.{with_resumed, FunctionExists, NeedsFunction}
 use Rattle.txc_ports.specs.declared.turn.Turn.TheVariants.{Ask as Asks, Ended}
 use Rattle.txc_ports.specs.Turns.{PortTurn, IsAsk}
 use Rattle.txc_txn.specs.declared.pinning.Pinning.{Pinning}
-use Rattle.txc_txn.specs.ByHand.{FirstExists, HandTurn, IsHandTurn, IsUnended}
-use Rattle.txc_txn.specs.Core.{CoreValue, either_call, first_call, open_call, running_call, IsIdle, IsTurn}
-use Rattle.txc_caller.specs.Telling.{HaveAllFunctions}
+use Rattle.txc_txn.specs.ByHand.{FirstExists, HandTurn, IsHandTurn, IsUnended, ObjectsLeft}
+use Rattle.txc_txn.specs.Core.{CoreValue, either_call, first_call, open_call, running_call, IsCore, IsIdle, IsTurn}
+use Rattle.txc_caller.specs.Reading.{IsResting}
+use Rattle.txc_caller.specs.Telling.{top_call, HaveAllFunctions}
 use Rattle.txc_caller.proofs.Some.{for_none}
 
 -- ---- there is an object for each function
@@ -74,7 +77,7 @@ pub open_runs : (c : CoreValue) → c.pinning ≡ None → NeedsFunction c.call.
 open_runs c none runs = ap (λ (p : Option Pinning). either_call (first_call p) (running_call c.call.need c.call.top)) none ∙ runs_top c.call.need c.call.top runs
 
 module _ (P : Call → Type 0) where
-  at_idle : (c : CoreValue) → IsIdle c → ForSome (open_call c) P
+  pub at_idle : (c : CoreValue) → IsIdle c → ForSome (open_call c) P
   at_idle c idle = subst (λ (o : Option Call). ForSome o P) (sym (idle_open c idle)) (for_none P)
 
   at_this : (c : CoreValue) (k : Call) → open_call c ≡ Some k → P k → ForSome (open_call c) P
@@ -96,3 +99,30 @@ pub first_exists : (objects : Objects) (c : CoreValue) → HaveAllFunctions obje
     → FirstExists objects (first_call c.pinning)
 first_exists objects c all top = λ k is.
     all k.function (top k (ap (λ (o : Option Call). either_call o (running_call c.call.need c.call.top)) is))
+
+-- without an open call all objects are idle
+pub idle_objects : (next : Next) (objects : Objects) (c : CoreValue) → IsIdle c → IsCore next objects c → AllIdle objects
+idle_objects next objects c idle core = (subst (λ (n : Option Need). NeedFits next objects c.call.top n c.call.frames) idle.0 core.call).1
+
+-- a call that begins leaves the objects; if it ended, all are idle
+pub start_left : (next : Next) (objects : Objects) (c : CoreValue) (turn : PortTurn) → IsTurn c turn → IsCore next objects c → ObjectsLeft objects (Some turn) objects
+start_left next objects c (Asks request) fits core = refl
+start_left next objects c (Ended (Ok value)) fits core = refl
+start_left next objects c (Ended (Err error)) fits core = idle_objects next objects c fits core
+
+-- ---- at rest
+
+-- a call of the machine is open just if it needs something
+pub resting_runs : (c : CoreValue) (k : Call) → IsResting c → top_call c.call ≡ Some k → (c.pinning ≡ None) × NeedsFunction c.call.need × (k ≡ c.call.top)
+resting_runs c k (inl idle) is = let no : None ≡ Some k = sym (ap (λ (n : Option Need). running_call n c.call.top) idle.0) ∙ is in absurd (cc no)
+resting_runs c k (inr runs) is =
+    let one : Some c.call.top ≡ Some k = sym (runs_top c.call.need c.call.top runs.1) ∙ is in (runs.0, runs.1, (let same : c.call.top ≡ k = cc one in sym same))
+
+top_some : (need : Option Need) (top : Call) → running_call need top ≡ None → need ≡ None
+top_some None top is = refl
+top_some (Some need) top is = absurd (cc is)
+
+-- if none is open, it is idle
+pub resting_idle : (c : CoreValue) → IsResting c → top_call c.call ≡ None → IsIdle c
+resting_idle c (inl idle) closed = idle
+resting_idle c (inr runs) closed = absurd (subst NeedsFunction (top_some c.call.need c.call.top closed) runs.1)

@@ -6,8 +6,11 @@ pub mod Asked
 pub mod Begun
 pub mod Committing
 pub mod Lent
-pub mod Serving
+pub mod Requests
+pub mod Making
+pub mod Served
 pub mod Telling
 pub mod Letting
 pub mod Taken
 pub mod PortsAsBox
+pub mod WriteActs

@@ -12,16 +12,19 @@ use Rattle.txc_app.specs.Eval.{Next}
 use Rattle.txc_app.specs.declared.ask.Ask.{Ask}
 use Rattle.txc_app.specs.declared.ask.Ask.TheVariants as asks
 use Rattle.txc_ports.specs.Refusals.{refused_request}
+use Rattle.txc_ports.specs.declared.turn.Turn.TheVariants.{Ask as AskTurn, Ended}
 use Rattle.txc_ports.specs.declared.error.TxnError.{TxnError}
 use Rattle.txc_ports.specs.declared.error.TxnError.TheVariants.{Memory}
 use Rattle.txc_registry.specs.Objects.{AllIdle, Objects}
-use Rattle.txc_rw.specs.ByHand.{IsRwByHand}
-use Rattle.txc_rw.specs.Core.{IsBegun, IsRwIdle, IsWriteRefused, RwHolds, RwValue, tags_read}
+use Rattle.txc_call.specs.Calling.{Calling}
+use Rattle.txc_validity.specs.declared.answer.Found.{Found}
+use Rattle.txc_rw.specs.ByHand.{IsRwByHand, RwHandTurn, RwHearTransition}
+use Rattle.txc_rw.specs.Core.{IsBegun, IsFoundAt, IsRwIdle, IsWriteRefused, RwHolds, RwValue, tags_read}
 use Rattle.txc_rw.specs.declared.given.Given.TheVariants as given
 use Rattle.txc_rw.specs.declared.rw_core.TheConstants.{MAX_CHANGES}
 use Rattle.txc_caller.specs.Ports.{IsLetGo, MayHaveTaken}
 use Rattle.txc_caller.specs.Reading.{CallerValue}
-use Rattle.txc_caller.specs.Telling.{HaveAllFunctions, IsStepOf}
+use Rattle.txc_caller.specs.Telling.{HaveAllFunctions, IsNextStep, IsStepOf, ended_step}
 use Rattle.txc_caller.specs.declared.step.CallerError.{CallerError}
 use Rattle.txc_caller.specs.declared.step.Step.{Step}
 use Rattle.txc_caller.specs.declared.step.WriteError.{WriteError}
@@ -58,6 +61,30 @@ pub record IsBegunWrite (base : ℕ) (held : Bool) (w : CallerWriting) : Type 0 
   pub is_held : w.is_held ≡ held
 
 -- ---- acts
+
+-- the reply to this query is that of the state of the stamp, or the database refused it
+abbrev pub IsReplyAt : DatabaseValue → ℕ → Query → Result Found DbError → Type 0
+IsReplyAt d base query (Ok found) = IsFoundAt d.history base query found
+IsReplyAt d base query (Err error) = IsQueryRefused d query base error
+
+-- The query that the turn asks was asked, at the base, and the core has gone on with the reply. If it asks none, all stays.
+abbrev pub HasLed : DatabaseValue → RwValue → RwHandTurn → RwValue → RwHandTurn → Type 0
+HasLed d old None new last = (new ≡ old) × (last ≡ None)
+HasLed d old (Some (Ended outcome)) new last = (new ≡ old) × (last ≡ Some (Ended outcome))
+HasLed d old (Some (AskTurn query)) new last =
+    (reply : Result Found DbError) × IsReplyAt d old.base query reply × RwHearTransition old query reply new last
+
+-- the turn asks no query
+abbrev pub IsHeard : RwHandTurn → Type 0
+IsHeard None = Unit {0}
+IsHeard (Some (Ended outcome)) = Unit {0}
+IsHeard (Some (AskTurn query)) = ⊥
+
+-- what the caller does next after a turn that asks no query
+abbrev pub IsStepAfter : Calling → RwHandTurn → Result Step CallerError → Type 0
+IsStepAfter call None result = (step : Step) × (result ≡ Ok step) × IsNextStep call step
+IsStepAfter call (Some (Ended outcome)) result = result ≡ ended_step outcome
+IsStepAfter call (Some (AskTurn query)) result = ⊥
 
 -- what comes of an act in this call
 abbrev pub IsWritingStep : RwValue → RwValue → Call → Result Step CallerError → Type 0

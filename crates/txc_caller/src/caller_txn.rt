@@ -80,6 +80,7 @@ impl<A: App> CallerTxn<A> {
             return Err(CallerError::NoFunction);
         }
         let turn = self.txn.ran(alloc, ask);
+        self.txn.is_lent();
         let step = serve(alloc, &mut caller.ports, &mut self.txn, turn);
         self.txn.is_lent();
         step

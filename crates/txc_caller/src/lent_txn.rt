@@ -78,6 +78,7 @@ impl<A: App> LentTxn<A> {
         requires nodes { (value_of core).nodes ≡ 1 }
         ensures core { result.core ≡ value_of core }
         ensures idle { AllIdle result.objects }
+        ensures lent { IsLent A.next result }
     {
         LentTxn {
             core,
@@ -104,7 +105,7 @@ impl<A: App> LentTxn<A> {
     pub(crate) fn start(&mut self, key: Key) -> Turn<PortRequest, Value>
         requires { IsIdle self.old.core }
         ensures begun { HasBegunCall self.old key self.new result }
-        ensures objects { self.new.objects ≡ self.old.objects }
+        ensures objects { ObjectsLeft self.old.objects (Some result) self.new.objects }
     {
         let _function = key.function();
         self.core.start_by_hand(key)

@@ -1,15 +1,23 @@
 //! The acts of a transaction that writes: its calls use no node, and each query is asked at its base.
-ghost use Rattle.std.specs.Prelude.{◌≡◌, ◌≤◌, ◌++◌, IfErr, IfOk, None, OnErr, OnOk, Some};
+ghost use Rattle.std.specs.Prelude.{◌≡◌, ◌≤◌, ◌++◌, ◌∷◌, List, IfErr, IfOk, None, OnErr, OnOk, Some, false};
 ghost use Rattle.txc_tags.specs.Keys.{Call};
 ghost use Rattle.txc_tags.specs.declared.key.TheConstants.{LAST_FUNCTION};
 ghost use Rattle.txc_db.specs.Calls.{IsQueryRefused};
+ghost use Rattle.txc_db.specs.History.{History, state_at};
+ghost use Rattle.txc_rows.specs.declared.query.Query.{Query};
+ghost use Rattle.txc_app.specs.Answering.{IsRight};
+ghost use Rattle.txc_app.specs.Eval.{Next};
 ghost use Rattle.txc_app.specs.declared.ask.Ask.TheVariants as asks;
-ghost use Rattle.txc_call.specs.Running.{NeedsFunction};
-ghost use Rattle.txc_registry.specs.Objects.{numbers_of};
-ghost use Rattle.txc_rw.specs.ByHand.{IsRwByHand, RwObjectsLeft};
+ghost use Rattle.txc_call.specs.Frames.{answers_in};
+ghost use Rattle.txc_call.specs.Running.{is_done, NeedsFunction};
+ghost use Rattle.txc_call.specs.declared.frame.Frame.{Frame};
+ghost use Rattle.txc_call.specs.declared.need.HeldAnswer.{HeldAnswer};
+ghost use Rattle.txc_call.specs.declared.need.Need.{Need};
+ghost use Rattle.txc_registry.specs.Objects.{numbers_of, Objects};
+ghost use Rattle.txc_rw.specs.ByHand.{IsRwByHand, IsRwHandTurn, RwObjectsLeft};
 ghost use Rattle.txc_rw.specs.Core.{IsFoundAt, RwHolds};
-ghost use Rattle.txc_caller.specs.Telling.{top_call, AsksNext, HaveAllFunctions, IsToldSo, ObjectsFollow};
-ghost use Rattle.txc_caller.specs.Writing.{base_states_in, queried_for, IsWritingStep};
+ghost use Rattle.txc_caller.specs.Telling.{top_call, AsksNext, HaveAllFunctions, IsNextStep, IsToldSo, ObjectsFollow};
+ghost use Rattle.txc_caller.specs.Writing.{base_states_in, queried_for, HasLed, IsHeard, IsStepAfter, IsWritingStep};
 
 use crate::ports::Ports;
 use crate::step::{CallerError, Step, ended};
@@ -48,6 +56,72 @@ pub(crate) fn find<A: App>(
     ports.query(alloc, query, base)
 }
 
+// Asks the database the query that the turn asks, if it asks one, and goes on with the reply.
+fn lead<A: App>(
+    alloc: Global,
+    ports: &mut Ports<A>,
+    core: &mut RwCore,
+    turn: Option<Turn<Query, Value>>,
+) -> Option<Turn<Query, Value>>
+    requires turn { IsRwHandTurn core.old turn }
+    requires fits { (query : Query) → turn ≡ Some (Turn.Ask query)
+        → (next : Next) × (objects : Objects) × IsRwByHand next objects core.old }
+    ensures fits { (next : Next) (objects after : Objects)
+        → ((mid : Objects) → RwObjectsLeft objects turn mid → IsRwByHand next mid core.old)
+        → RwObjectsLeft objects result after → IsRwByHand next after core.new }
+    ensures holds { (next : Next) (objects after : Objects)
+        → ((mid : Objects) → RwObjectsLeft objects turn mid → IsRwByHand next mid core.old)
+        → ((mid : Objects) → RwObjectsLeft objects turn mid → RwHolds next ports.old.database.history mid core.old)
+        → RwObjectsLeft objects result after → RwHolds next ports.old.database.history after core.new }
+    ensures turn { IsRwHandTurn core.new result }
+    ensures heard { IsHeard result }
+    ensures led { HasLed ports.old.database core.old turn core.new result }
+    ensures same { ports.new ≡ ports.old }
+{
+    match turn {
+        Some(Turn::Ask(query)) => {
+            let found = find(alloc, ports, &query, core.base());
+            core.hear(found)
+        }
+        Some(Turn::Ended(outcome)) => Some(Turn::Ended(outcome)),
+        None => None,
+    }
+}
+
+// Returns what the caller does next for a call that needs a function. A held answer is right at the base.
+fn next_step(core: &RwCore) -> Step
+    requires { NeedsFunction core.now.call.need }
+    ensures step { IsNextStep core.now.call result }
+    ensures right { (next : Next) (objects : Objects) (L : History) (x : HeldAnswer) (frame : Frame)
+        (outer : List Frame) → IsRwByHand next objects core.now → RwHolds next L objects core.now
+        → core.now.call.need ≡ Some (Need.Resume x) → core.now.call.frames ≡ frame ∷ outer
+        → IsRight next frame.key.function (state_at L core.now.base)
+        (next frame.key.function frame.key.args (answers_in objects frame.key.function)) x.answer }
+{
+    match core.held_answer() {
+        Some(_) => Step::Answered,
+        None => Step::Compute,
+    }
+}
+
+// Returns what the caller does next after a turn that asks no query.
+fn step_after(core: &RwCore, turn: Option<Turn<Query, Value>>) -> Result<Step, CallerError>
+    requires turn { IsRwHandTurn core.now turn }
+    requires heard { IsHeard turn }
+    ensures step { IsStepAfter core.now.call turn result }
+    ensures right { (next : Next) (objects : Objects) (L : History) (x : HeldAnswer) (frame : Frame)
+        (outer : List Frame) → IsRwByHand next objects core.now → RwHolds next L objects core.now
+        → core.now.call.need ≡ Some (Need.Resume x) → core.now.call.frames ≡ frame ∷ outer
+        → IsRight next frame.key.function (state_at L core.now.base)
+        (next frame.key.function frame.key.args (answers_in objects frame.key.function)) x.answer }
+{
+    match turn {
+        None => Ok(next_step(core)),
+        Some(Turn::Ended(outcome)) => ended(outcome),
+        Some(Turn::Ask(_)) => unreachable!(),
+    }
+}
+
 /// Takes the ask of the function that is to begin or to continue. A query is asked at once.
 pub(crate) fn act<A: App>(
     alloc: Global,
@@ -73,6 +147,7 @@ pub(crate) fn act<A: App>(
     ensures objects { ObjectsFollow told.old.objects core.old.call ask told.new.objects result }
     ensures queried { OnOk result (core.new.queried ≡ core.old.queried ++ queried_for ask) }
     ensures unqueried { OnErr result (core.new.queried ≡ core.old.queried) }
+    ensures undone { is_done ask ≡ false → core.new.answers ≡ core.old.answers }
     ensures same { core.new ≡ record core.old {
       queried = core.new.queried;
       answers = core.new.answers;
@@ -81,18 +156,9 @@ pub(crate) fn act<A: App>(
     ensures ports { ports.new ≡ ports.old }
 {
     let after = told.ran(core.machine(), &ask);
-    let turn = match core.ran(alloc, ask) {
-        Some(Turn::Ask(query)) => {
-            let found = find(alloc, ports, &query, core.base());
-            core.hear(found)
-        }
-        turn => turn,
-    };
+    let first = core.ran(alloc, ask);
+    let last = lead(alloc, ports, core, first);
     *told = after;
-    settle(&turn, told);
-    match turn {
-        None => Ok(Step::next(core.machine())),
-        Some(Turn::Ended(outcome)) => ended(outcome),
-        Some(Turn::Ask(_)) => unreachable!(),
-    }
+    settle(&last, told);
+    step_after(core, last)
 }
