@@ -35,6 +35,10 @@ abbrev pub IsOpenOf : CallerValue → Open → Type 0
 IsOpenOf c (Reading t) = IsOf c t
 IsOpenOf c (Writing w) = IsWriteOf opaque_next c w
 
+-- What an act of another leaves: one of the caller as it was is one of the caller as it is.
+abbrev pub OpenStays : Type 0
+OpenStays = (c c' : CallerValue) (x : Open) → KeepsCaller c c' → HasGrown c.ports.database c'.ports.database → IsOpenOf c x → IsOpenOf c' x
+
 -- what the caller owes: the function that is computed asks this next, if one is
 abbrev pub OpenAsksNext : Ask → Open → Type 0
 OpenAsksNext ask x = AsksNext opaque_next (objects_of x) (call_of x) ask

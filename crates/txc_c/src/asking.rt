@@ -7,7 +7,7 @@ ghost use Rattle.txc_c.specs.Receipts.{query_of};
 ghost use Rattle.txc_c.specs.Telling.{buffer};
 ghost use Rattle.txc_c.specs.Asking.{txn_number, CallComesTo, FinishComesTo, GiveUpComesTo, QueryComesTo, StepComesTo};
 
-use crate::opened::{Open, place_of};
+use crate::opened::{Open, acts_leave_others, place_of};
 use crate::receipts::TxcQuery;
 use crate::site::Site;
 use crate::telling::tell_step;
@@ -32,6 +32,7 @@ impl Site {
         requires { SiteAsksNext ask txn self.old }
         ensures { StepComesTo ask (buffer value.old len.old) (buffer value.new len.new) txn self.old result self.new }
     {
+        acts_leave_others();
         let Some(it) = self.opened.get_mut(place_of(txn)) else {
             return NOT_OPEN;
         };
@@ -71,6 +72,7 @@ impl Site {
         requires { SiteAsksNext (asks.Query (query_of query.now)) txn self.old }
         ensures { QueryComesTo query.now count.old count.new txn self.old result self.new }
     {
+        acts_leave_others();
         let Some(query) = query.query() else {
             return BAD_ARGUMENT;
         };

@@ -5,6 +5,7 @@ ghost use Rattle.txc_caller.specs.Reading.{KeepsCaller};
 ghost use Rattle.txc_c.specs.Keeping.{add_number, node_number, pin_number, HasKept, KeepComesTo, PinComesTo};
 
 use crate::opaque::Opaque;
+use crate::opened::acts_leave_others;
 use crate::site::Site;
 use crate::turning::database_number;
 use std::alloc::Global;
@@ -83,6 +84,7 @@ impl Site {
     pub(crate) fn keep(&mut self, alloc: Global, now: u64, age: u64, kept: &mut TxcKept) -> u32
         ensures { KeepComesTo now age kept.old kept.new self.old result self.new }
     {
+        acts_leave_others();
         keep(alloc, &mut self.caller, now, age, kept)
     }
 
@@ -90,6 +92,7 @@ impl Site {
     pub(crate) fn pin(&mut self, alloc: Global, moment: u64, stamp: &mut u32) -> u32
         ensures { PinComesTo moment stamp.old stamp.new self.old result self.new }
     {
+        acts_leave_others();
         match self.caller.pin(alloc, moment) {
             Ok(pinned) => {
                 *stamp = pinned.number();

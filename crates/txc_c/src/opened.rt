@@ -4,7 +4,7 @@ ghost use Rattle.slab.specs.Slab.{HasRoomFor};
 ghost use Rattle.txc_caller.specs.Reading.{CallerValue};
 ghost use Rattle.txc_caller.specs.Telling.{told_answer, top_call};
 ghost use Rattle.txc_c.specs.Asking.{next_stamp, HasGivenUp};
-ghost use Rattle.txc_c.specs.Opened.{call_of, IsOpenOf, IsStep, OpenAsksNext};
+ghost use Rattle.txc_c.specs.Opened.{call_of, IsOpenOf, IsStep, OpenAsksNext, OpenStays};
 ghost use Rattle.txc_c.specs.Sites.{HasAdded};
 
 use crate::opaque::Opaque;
@@ -12,6 +12,7 @@ use slab::Slab;
 use std::alloc::Global;
 use txc_app::{Answer, Ask};
 use txc_caller::{Caller, CallerError, CallerTxn, CallerWrite, Step};
+use txc_db::states_stay;
 use txc_stamp::Stamp;
 
 /// How many transactions are open at a site at most.
@@ -52,6 +53,13 @@ pub(crate) fn add(opened: &mut Slab<Opened>, begun: &mut u64, txn: Open) -> u64
     let number = opened.vacant_key() as u64 + MAX_OPEN * *begun;
     let _place = opened.insert_reserved(Opened { number, txn });
     number
+}
+
+/// What an act of one leaves of the others. It does nothing when it runs.
+pub(crate) fn acts_leave_others()
+    ensures { OpenStays }
+{
+    states_stay();
 }
 
 impl Open {

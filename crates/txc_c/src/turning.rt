@@ -4,7 +4,7 @@ ghost use Rattle.slab.specs.Slab.{HasRoomFor};
 ghost use Rattle.txc_c.specs.Sites.{IsPlaced, IsPutBack, IsTakenOut};
 ghost use Rattle.txc_c.specs.Turning.{database_number, is_site_stamp, write_number, AbortComesTo, BeginComesTo, BeginWriteAtComesTo, BeginWriteComesTo, CommitComesTo, CommitWriteComesTo};
 
-use crate::opened::{Open, Opened, add, place_of};
+use crate::opened::{Open, Opened, acts_leave_others, add, place_of};
 use crate::receipts::TxcReceipt;
 use crate::site::Site;
 use std::alloc::Global;
@@ -61,6 +61,7 @@ impl Site {
         let Some(at_least) = site_stamp(at_least) else {
             return BAD_ARGUMENT;
         };
+        acts_leave_others();
         if !self.has_place() {
             return REFUSED;
         }
@@ -84,6 +85,7 @@ impl Site {
     pub(crate) fn begin_write(&mut self, alloc: Global, txn: &mut u64) -> u32
         ensures { BeginWriteComesTo txn.old txn.new self.old result self.new }
     {
+        acts_leave_others();
         if !self.has_place() {
             return REFUSED;
         }
@@ -106,6 +108,7 @@ impl Site {
         let Some(base) = site_stamp(stamp) else {
             return BAD_ARGUMENT;
         };
+        acts_leave_others();
         if !self.has_place() {
             return REFUSED;
         }
@@ -142,6 +145,7 @@ impl Site {
     pub(crate) fn commit(&mut self, txn: u64, receipt: &mut TxcReceipt) -> u32
         ensures { CommitComesTo receipt.old receipt.new txn self.old result self.new }
     {
+        acts_leave_others();
         match self.opened(txn) {
             Some(Open::Reading(reading)) => {
                 if reading.is_computing() {
@@ -170,6 +174,7 @@ impl Site {
     pub(crate) fn commit_write(&mut self, alloc: Global, txn: u64, stamp: &mut u32) -> u32
         ensures { CommitWriteComesTo stamp.old stamp.new txn self.old result self.new }
     {
+        acts_leave_others();
         match self.opened(txn) {
             Some(Open::Writing(_)) => (),
             _ => return NOT_OPEN,
@@ -200,6 +205,7 @@ impl Site {
     pub(crate) fn abort(&mut self, txn: u64) -> u32
         ensures { AbortComesTo txn self.old result self.new }
     {
+        acts_leave_others();
         let Some(Opened { number: _, txn }) = self.take_out(txn) else {
             return NOT_OPEN;
         };
