@@ -10,6 +10,7 @@ It prints a table in markdown: pages of the seven by themselves, and the share o
 before the FOLDER, the Python one alone, whose calls keep the interpreter's lock or let go of it.
 """
 
+import ctypes
 import os
 import subprocess
 import sys
@@ -22,9 +23,14 @@ SLEEPS = (0, 1, 10, 100)
 READERS = 7
 
 
-def in_python(seconds, sleep):
+def in_python(kind, seconds, sleep):
     """How many pages the seven made, in this process."""
     sys.path.insert(0, f"{ROOT}/bindings/python")
+    from txcache import _library
+
+    if kind:
+        load = _library.load
+        _library.load = lambda _=None: load(getattr(ctypes, kind))
     from txcache.site import Query, Site, cacheable
 
     @cacheable(0)
@@ -85,19 +91,19 @@ def row(name, words, where, seconds, rounds):
 def main():
     words = sys.argv[1:]
     if words[:1] == ["--run"]:
-        print(in_python(float(words[1]), float(words[2])))
+        print(in_python(words[1], float(words[2]), float(words[3])))
         return
     kind = words[1] if words[:1] == ["--kind"] else ""
     given = words[2:] if kind else words
     folder, seconds, rounds = [*given, *[f"{ROOT}/bindings/out", "4", "5"][len(given):]]
-    where = {**os.environ, "TXC_LIBRARY": os.path.abspath(folder), **({"TXC_KIND": kind} if kind else {})}
+    where = {**os.environ, "TXC_LIBRARY": os.path.abspath(folder)}
     print("| | Pages a second | 1 ms | 10 ms | 100 ms |\n|---|---|---|---|---|")
     if not kind:
         with tempfile.TemporaryDirectory(prefix="beside-") as target:
             build = ["cargo", "--quiet", "build", "--release", "--offline", "--example", "beside", "--target-dir", target]
             subprocess.run(build, check=True, cwd=f"{ROOT}/bindings/rust", env=where)
             row("Rust", [f"{target}/release/examples/beside"], where, int(seconds), int(rounds))
-    row(f"Python{' ' * bool(kind)}{kind}", [sys.executable, __file__, "--run"], where, int(seconds), int(rounds))
+    row(f"Python{' ' * bool(kind)}{kind}", [sys.executable, __file__, "--run", kind], where, int(seconds), int(rounds))
 
 
 if __name__ == "__main__":

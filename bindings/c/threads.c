@@ -10,7 +10,7 @@
 #include <time.h>
 #include "txc.h"
 
-enum { READERS = 8, PAGES = 40, ITEMS = 8, LONGEST = 512 };
+enum { READERS = 8, PAGES = 100, ITEMS = 8, LONGEST = 512 };
 
 static txc_site site = TXC_SITE_CLOSED;
 static pthread_mutex_t lock = PTHREAD_MUTEX_INITIALIZER;
@@ -113,8 +113,10 @@ static bool is_torn(uint32_t item) {
 
 static void *read_pages(void *of) {
     size_t reader = (size_t)of, torn = 0;
-    for (size_t page = 0; page < PAGES; page++)
+    for (size_t page = 0; page < PAGES; page++) {
         torn += is_torn((uint32_t)((reader + page) % ITEMS));
+        rest(1);
+    }
     return (void *)torn;
 }
 

@@ -6,7 +6,7 @@ from concurrent.futures import ThreadPoolExecutor
 
 from txcache.site import Query, Site, cacheable
 
-READERS, PAGES, ITEMS, SLEEP = 8, 40, 8, 0.005
+READERS, PAGES, ITEMS, SLEEP = 8, 100, 8, 0.005
 counts = {"computed": 0, "asleep": 0, "most": 0}
 counting = threading.Lock()
 
@@ -47,6 +47,7 @@ def is_torn(site, now, item):
     """A page shows the highest bid, and beside it the bids. It is torn if they are of two moments."""
     with site.read(now=now, staleness=50) as page:
         shown, alone = page(summary, item), page(highest, item)
+    time.sleep(0.001)
     most, _, listed = shown.partition(b" of ")
     return most != alone or int(most) != max(map(int, listed.split(b",")))
 

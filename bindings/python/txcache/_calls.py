@@ -7,7 +7,8 @@ from . import _library
 from .node import _Handle, _Key
 
 DONE, MISS, NO_ROOM, CLOSED, ALREADY_OPEN, BAD_ARGUMENT, NO_MEMORY = 0, 1, 3, 4, 5, 6, 11
-COMPUTE, ANSWERED, NOT_OPEN, MID_CALL, REFUSED, _OTHER_ASK, CONFLICT = range(12, 19)
+COMPUTE, ANSWERED, NOT_OPEN, MID_CALL, REFUSED = range(12, 17)
+CONFLICT = 18
 
 
 class Settings(c.Structure):
@@ -30,9 +31,12 @@ class Kept(c.Structure):
     _fields_ = [("retired", c.c_size_t), ("horizon", c.c_uint32), ("swept", c.c_size_t)]
 
 
+LONG = "keep", "site_close"
+
+
 def declared():
-    """Returns the calls by their names. Each is short, so it keeps the interpreter's lock: to let go of it costs more than most calls."""
-    found = _library.load(c.PyDLL)
+    """Returns the calls by their names. All but the long ones keep the interpreter's lock: to let go of it costs more than most calls take."""
+    short, long = _library.load(c.PyDLL), _library.load(c.CDLL)
     size, u8, u32, u64 = c.c_size_t, c.c_uint8, c.c_uint32, c.c_uint64
     number, txn, out, text = c.POINTER(u32), c.POINTER(u64), [c.c_char_p, size, c.POINTER(size)], [c.c_char_p, size]
     parameters = {
@@ -46,7 +50,7 @@ def declared():
     }
     calls = SimpleNamespace()
     for name, kinds in parameters.items():
-        function = getattr(found, f"txc_{name}")
+        function = getattr(long if name in LONG else short, f"txc_{name}")
         function.argtypes, function.restype = [c.POINTER(_Handle), *kinds], u32
         setattr(calls, name, function)
     return calls

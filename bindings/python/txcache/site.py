@@ -182,20 +182,24 @@ class _Transaction:
         """Returns the rows of a query."""
         words = map(_number, query, (255, 255, _U32, _U32))
         site, count = self._site, c.c_size_t()
-        with site._turn(), site._buffer() as (buffer, size):
+        with site._turn():
             self._check()
             number = _TXC.query_rows(site._handle, self._number, _calls.Query(*words), count)
-            rows = [self._row(at, buffer, size) for at in range(count.value)] if number == ANSWERED else []
+            rows = self._rows(count.value) if number == ANSWERED else []
         if number != ANSWERED:
             self._refuse(number)
         return rows
 
-    def _row(self, at, buffer, size):
-        row = _calls.Row()
-        number = _TXC.row_at(self._site._handle, self._number, at, row, buffer, len(buffer), size)
-        if number != DONE:
-            self._refuse(number)
-        return Row(row.table, row.id, row.group, buffer[: size.value])
+    def _rows(self, count):
+        row, site, rows = _calls.Row(), self._site, []
+        buffer, size = pair = site._buffer()
+        for at in range(count):
+            number = _TXC.row_at(site._handle, self._number, at, row, buffer, MAX_VALUE_LEN, size)
+            if number != DONE:
+                self._refuse(number)
+            rows.append(Row(row.table, row.id, row.group, buffer[: size.value]))
+        site._buffers.append(pair)
+        return rows
 
     def __call__(self, function, *args):
         """Returns the value of a call."""
@@ -226,12 +230,15 @@ class _Transaction:
     def _told(self, ask, *words):
         """Makes a call of the library that may write a value. Returns its number, and the value."""
         site = self._site
-        with site._turn(), site._buffer() as (buffer, size):
+        with site._turn():
             self._check()
-            number = ask(site._handle, self._number, *words, buffer, len(buffer), size)
+            buffer, size = pair = site._buffer()
+            number = ask(site._handle, self._number, *words, buffer, MAX_VALUE_LEN, size)
             if number == COMPUTE:
                 self._thread, self._depth = threading.get_ident(), self._depth + 1
-            return number, buffer[: size.value] if number in (DONE, ANSWERED) else b""
+            value = buffer[: size.value] if number in (DONE, ANSWERED) else b""
+            site._buffers.append(pair)
+            return number, value
 
     def _ask(self, ask, *words):
         with self._site._turn():
@@ -339,23 +346,6 @@ class _Write(_Transaction):
         self.stamp = stamp.value
 
 
-class _Buffer:
-    """A buffer with room for each value and body, lent for a `with`."""
-
-    def __init__(self, idle):
-        self._idle = idle
-
-    def __enter__(self):
-        try:
-            self._pair = self._idle.pop()
-        except IndexError:
-            self._pair = c.create_string_buffer(MAX_VALUE_LEN), c.c_size_t()
-        return self._pair
-
-    def __exit__(self, *_):
-        self._idle.append(self._pair)
-
-
 class Site:
     """A database, its pins, and a node of so many entries, which keeps the tags of the last `recent` events; 0 is the most that there may be. It has
     room for `events` commits and pins, which it stores; or, where that is None, no bound on them, and none is stored: `keep` lets go what no transaction
@@ -457,4 +447,5 @@ class Site:
                 _TXC.abort(self._handle, self._forgotten.popleft())
 
     def _buffer(self):
-        return _Buffer(self._buffers)
+        """Returns a buffer with room for each value and body, and one for a length. Under the lock; then it goes back."""
+        return self._buffers.pop() if self._buffers else (c.create_string_buffer(MAX_VALUE_LEN), c.c_size_t())

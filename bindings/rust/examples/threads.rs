@@ -6,7 +6,7 @@ use txcache_node::site::{Asking, Error, Query, Site};
 use txcache_node::Key;
 
 const READERS: u32 = 8;
-const PAGES: u32 = 40;
+const PAGES: u32 = 100;
 const ITEMS: u32 = 8;
 const SLEEP: Duration = Duration::from_millis(5);
 
@@ -50,6 +50,7 @@ fn is_torn(site: &Site, now: u64, item: u32) -> Result<bool, Error> {
     let shown = page.cached(Key::new(2, &[item])?, |asking| summary(asking, item))?;
     let alone = page.cached(Key::new(0, &[item])?, |asking| highest(asking, item))?;
     page.commit()?;
+    thread::sleep(Duration::from_millis(1));
     let text = String::from_utf8(shown).unwrap();
     let (highest, bids) = text.split_once(" of ").unwrap();
     let most = bids.split(',').map(|it| it.parse::<u32>().unwrap()).max();
