@@ -42,7 +42,7 @@ class ManyTransactions(unittest.TestCase):
         self.assertEqual((self.site.open_transactions(), self.site.oldest_open()), (0, None))
 
     def test_nobody_waits_for_anothers_function(self):
-        begun, written = threading.Barrier(9), threading.Barrier(9)
+        begun, written = threading.Barrier(9, timeout=20), threading.Barrier(9, timeout=20)
 
         @cacheable(3)
         def twice(call, item):
@@ -115,19 +115,26 @@ class ManyTransactions(unittest.TestCase):
         self.is_none_open()
 
     def test_a_finaliser_waits_for_no_lock(self):
-        page, held, is_over = self.page(), threading.Event(), threading.Event()
+        pages, held, is_over, is_collected = [self.page()], threading.Event(), threading.Event(), threading.Event()
 
         def hold():
             with self.site._lock:
                 held.set()
                 is_over.wait()
 
-        thread = threading.Thread(target=hold)
-        thread.start()
+        def collect():
+            pages.clear()
+            is_collected.set()
+
+        threads = [threading.Thread(target=it) for it in (hold, collect)]
+        threads[0].start()
         held.wait()
-        del page  # this would never end
+        threads[1].start()
+        has_waited = not is_collected.wait(10)
         is_over.set()
-        thread.join()
+        for it in threads:
+            it.join()
+        self.assertFalse(has_waited)
         self.is_none_open()
 
     def test_another_thread_is_refused_in_mid_call(self):

@@ -29,7 +29,24 @@ def of_each_store(test: str) -> str:
     return f"tests.test_cache -k {test}"
 
 
+def of_many(name: str, text: str, put: str, test: str, file: str = "site.py") -> Wrong:
+    return Wrong(name, file, text, put, f"tests.test_many -k {test}")
+
+
 WRONG = [
+    of_many("a finaliser that waits", "self._site._forgotten.append(self._number)", "self._abort()", "test_a_finaliser"),
+    of_many("what is collected stays open", "self._site._forgotten.append(self._number)", "pass", "test_what_is_collected"),
+    of_many("a child that uses its parent's site", "return self._born == _forks", "return True", "test_a_forked_child"),
+    of_many("another thread asks in mid-call", "if self._thread != threading.get_ident():", "if False:", "test_another_thread"),
+    of_many("a function asks on that was given up", "            if self._is_given_up:\n", "            if False:\n", "test_no_function_asks"),
+    of_many("a refused call gives nothing up", "if self._depth and number != BAD_ARGUMENT:", "if False:", "test_no_function_asks"),
+    of_many("a bad argument gives all up", "if self._depth and number != BAD_ARGUMENT:", "if self._depth:", "test_a_bad_argument"),
+    of_many("a function asks on that has ended", "            asking._transaction = None\n", "", "test_a_function_that_has_ended"),
+    of_many("a block that fails stays open", "            self._abort()\n            return\n        stamp =", "            return\n        stamp =", "test_what_ends_by_an_exception"),
+    of_many("a commit that fails stays open", "            self._abort()\n            raise\n", "            raise\n", "test_writers_within_writers"),
+    of_many("a lock that is held beside a function", "            given = bytes(function(asking, *args))\n", "            with self._site._lock:\n                given = bytes(function(asking, *args))\n",
+            "test_nobody_waits"),
+    of_many("a library of another header", "if number != ABI:", "if False:", "Abi", "_library.py"),
     Wrong("followed from xmax alone", "postgres.py", "running=\",\".join(map(str, last.running))", "running=\"\"",
           "tests.test_postgres -k test_a_transaction_that_was_open_at_the_last_look_follows_once"),
     Wrong("a snapshot before its lock", "postgres.py", "READ ONLY; {self.settings}{lock}", "READ ONLY; SELECT 1; {self.settings}{lock}",
