@@ -95,6 +95,8 @@ WRONG = [
     Wrong("a pin within a step", "cache.py",
           "        self._versions.touch(self._places.all_of(step.tags), step.number)\n        stamp = self._versions.pin(_us(step.moment))\n",
           "        stamp = self._versions.pin(_us(step.moment))\n        self._versions.touch(self._places.all_of(step.tags), step.number)\n", of_each_store("test_hits_and_changes")),
+    Wrong("a tag of a step is forgotten", "cache.py", "self._places.all_of(step.tags)", "self._places.all_of(sorted(step.tags)[:-1])", of_each_store("test_hits_and_changes")),
+    Wrong("what asks nothing is computed on each page", "cache.py", "        if not frame.asks:\n", "        if False:\n", of_each_store("test_functions_and_their_levels")),
     Wrong("a query in the newest snapshot", "cache.py", "        number = self._numbers.get(stamp) if stamp is not None else None\n",
           "        number = max(self._follower.numbers, default=None)\n", of_each_store("test_a_page_is_of_one_moment")),
     Wrong("after= by the newest held", "cache.py", "found = next((it.stamp for it in self._state.pins if self.store.sees(it.mark, token)), None)",
