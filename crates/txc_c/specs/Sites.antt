@@ -1,11 +1,11 @@
 -- Sites: a caller, and the transactions that are open at it, each with its number.
-use Rattle.std.specs.Prelude.{◌≡◌, ◌≢◌, ◌==◌, ◌+◌, ◌*◌, ◌%◌, ◌<◌, ◌≤◌, ◌&&◌, ℕ, [], Bool, nat_le, nat_lt, if◌then◌else◌, Option, Some, None}
+use Rattle.std.specs.Prelude.{◌≡◌, ◌≢◌, ◌⊎◌, ◌==◌, ◌+◌, ◌*◌, ◌%◌, ◌<◌, ◌≤◌, ◌&&◌, ℕ, [], Bool, true, false, nat_le, nat_lt, if◌then◌else◌, Option, Some, None}
 use Rattle.std.specs.Option.{ForSome}
 use Rattle.slab.specs.Slab.{Slab, get, HasRoomFor, Updates}
 use Rattle.txc_shared.specs.Nodes.{start_of}
 use Rattle.txc_caller.specs.Ports.{HasEventRoom, IsNewDatabase}
 use Rattle.txc_caller.specs.Reading.{CallerValue}
-use Rattle.txc_crossing.specs.declared.numbers.TheConstants.{NOT_OPEN}
+use Rattle.txc_crossing.specs.declared.numbers.TheConstants.{NO_MEMORY, NOT_OPEN, REFUSED}
 use Rattle.txc_c.specs.Opened.{IsOpenOf}
 use Rattle.txc_c.specs.Settings.{node_of, renew_after_of, room_of}
 use Rattle.txc_c.specs.declared.opened.Open.{Open}
@@ -106,6 +106,23 @@ pub record HasBegunAt (begin_is : CallerValue → CallerValue → Open → Type 
   pub as_begun : begin_is old.caller new.caller is
 
 -- ---- places
+
+-- there is room for one more, at the place that was the next one
+pub record HasMadeRoom (old new : SiteValue) : Type 0 where
+  pub may : has_place old ≡ true
+  pub room : HasRoomFor new.opened 1
+  pub same : new ≡ record old { opened = record old.opened { capacity = new.opened.capacity } }
+
+-- memory is wanting for the place of one more
+pub record HasNoMemory (old : SiteValue) (number : ℕ) (new : SiteValue) : Type 0 where
+  pub may : has_place old ≡ true
+  pub number_is : number ≡ NO_MEMORY
+  pub caller : new.caller ≡ old.caller
+  pub keeps : KeepsOpen old new
+
+-- there is no place or no number for one more; or memory is wanting
+abbrev pub IsNoRoom : SiteValue → ℕ → SiteValue → Type 0
+IsNoRoom old number new = ((has_place old ≡ false) × Stays REFUSED old number new) ⊎ HasNoMemory old number new
 
 -- a transaction was put at a place, and has a number of it
 pub record HasAdded (txn : Open) (old : Slab Opened) (begun : ℕ) (new : Slab Opened) (begun' n : ℕ) : Type 0 where

@@ -118,9 +118,13 @@ last_while None told outside = outside
 abbrev pub last_of : Open → Option Last
 last_of x = last_while (top_call (call_of x)) (told_answer (call_of x)) (last_outside x)
 
+abbrev pub answer_rows : Answer → List RowValue
+answer_rows (answers.Rows rows) = rows
+answer_rows (answers.Value value) = []
+
 abbrev pub rows_in : Option Last → List RowValue
-rows_in (Some (record { number = number; answer = answers.Rows rows })) = rows
-rows_in last = []
+rows_in (Some last) = answer_rows last.answer
+rows_in None = []
 
 -- the rows that were found last, while nothing else was answered
 abbrev pub rows_found : Open → List RowValue

@@ -25,7 +25,7 @@ use Rattle.txc_caller.specs.declared.step.WriteError.{WriteError}
 use Rattle.txc_caller.specs.declared.step.WriteError.TheVariants.{Database, MidCall}
 use Rattle.txc_c.specs.Opaque.{opaque_next}
 use Rattle.txc_c.specs.Receipts.{crossing_receipt}
-use Rattle.txc_c.specs.Sites.{has_place, HasActed, HasBegunAt, HasEndedAt, KeepsOpen, OfNumber, SiteValue, Stays}
+use Rattle.txc_c.specs.Sites.{has_place, HasBegunAt, HasEndedAt, IsNoRoom, KeepsOpen, OfNumber, SiteValue, Stays}
 use Rattle.txc_c.specs.declared.receipts.TxcReceipt.{TxcReceipt}
 use Rattle.txc_c.specs.declared.opened.Open.{Open}
 use Rattle.txc_c.specs.declared.opened.Open.TheVariants.{Reading, Writing}
@@ -73,11 +73,14 @@ abbrev pub BeginsOrNot : Bounds → ℕ → ℕ → SiteValue → ℕ → SiteVa
 BeginsOrNot bounds was is old number new = ((number ≡ DONE) × HasBegunAt (BeginsReading bounds) is old new)
     ⊎ (HasNotBegunReading old number new × (is ≡ was))
 
+-- if there is room for one more, this comes of it
+abbrev pub PlacedComesTo : (SiteValue → ℕ → SiteValue → Type 0) → Type 0 → SiteValue → ℕ → SiteValue → Type 0
+PlacedComesTo begins unwritten old number new =
+    ((has_place old ≡ true) × begins old number new) ⊎ (IsNoRoom old number new × unwritten)
+
 -- of a transaction that only reads; its number is written if it has begun
 abbrev pub BeginPlaced : Bounds → ℕ → ℕ → SiteValue → ℕ → SiteValue → Type 0
-BeginPlaced bounds was is old number new = MatchBool (has_place old)
-    (BeginsOrNot bounds was is old number new ⊎ ((number ≡ NO_MEMORY) × (new.caller ≡ old.caller) × KeepsOpen old new × (is ≡ was)))
-    (Stays REFUSED old number new × (is ≡ was))
+BeginPlaced bounds was is old number new = PlacedComesTo (BeginsOrNot bounds was is) (is ≡ was) old number new
 
 abbrev pub BeginComesTo : ℕ → ℕ → ℕ → ℕ → ℕ → SiteValue → ℕ → SiteValue → Type 0
 BeginComesTo now staleness at_least was is old number new = MatchBool (is_site_stamp at_least)
@@ -101,11 +104,12 @@ pub record IsNotBegun (reason : DbError → Type 0) (old : SiteValue) (number : 
   pub keeps : KeepsOpen old new
 
 -- of one that writes, which begins so or is refused so
+abbrev pub WritesOrNot : (CallerValue → CallerValue → Open → Type 0) → (DbError → Type 0) → ℕ → ℕ → SiteValue → ℕ → SiteValue → Type 0
+WritesOrNot begins reason was is old number new = ((number ≡ DONE) × HasBegunAt begins is old new)
+    ⊎ (IsNotBegun reason old number new × (is ≡ was))
+
 abbrev pub BeginWritePlaced : (CallerValue → CallerValue → Open → Type 0) → (DbError → Type 0) → ℕ → ℕ → SiteValue → ℕ → SiteValue → Type 0
-BeginWritePlaced begins reason was is old number new = MatchBool (has_place old)
-    (((number ≡ DONE) × HasBegunAt begins is old new) ⊎ ((IsNotBegun reason old number new
-    ⊎ ((number ≡ NO_MEMORY) × (new.caller ≡ old.caller) × KeepsOpen old new)) × (is ≡ was)))
-    (Stays REFUSED old number new × (is ≡ was))
+BeginWritePlaced begins reason was is old number new = PlacedComesTo (WritesOrNot begins reason was is) (is ≡ was) old number new
 
 abbrev pub BeginWriteComesTo : ℕ → ℕ → SiteValue → ℕ → SiteValue → Type 0
 BeginWriteComesTo was is old number new =

@@ -1,7 +1,7 @@
 //! Transactions of a site that begin and end.
-ghost use Rattle.std.specs.Prelude.{◌≡◌, is_some, IfSome};
+ghost use Rattle.std.specs.Prelude.{◌≡◌, is_some, IfErr, IfSome, OnOk};
 ghost use Rattle.slab.specs.Slab.{HasRoomFor};
-ghost use Rattle.txc_c.specs.Sites.{IsPlaced, IsPutBack, IsTakenOut};
+ghost use Rattle.txc_c.specs.Sites.{HasMadeRoom, IsNoRoom, IsPlaced, IsPutBack, IsTakenOut};
 ghost use Rattle.txc_c.specs.Turning.{database_number, is_site_stamp, write_number, AbortComesTo, BeginComesTo, BeginWriteAtComesTo, BeginWriteComesTo, CommitComesTo, CommitWriteComesTo};
 
 use crate::opened::{Open, Opened, acts_leave_others, add, place_of};
@@ -47,6 +47,20 @@ fn site_stamp(number: u32) -> Option<Stamp>
 }
 
 impl Site {
+    // Makes room for one transaction more, or returns the number of what keeps one from beginning.
+    fn make_room(&mut self) -> Result<(), u32>
+        ensures made { OnOk result (HasMadeRoom self.old self.new) }
+        ensures refused { IfErr result (λ number. IsNoRoom self.old number self.new) }
+    {
+        if !self.has_place() {
+            return Err(REFUSED);
+        }
+        if self.opened.reserve(1).is_err() {
+            return Err(NO_MEMORY);
+        }
+        Ok(())
+    }
+
     /// Begins a transaction that only reads, and writes its number.
     pub(crate) fn begin(
         &mut self,
@@ -62,11 +76,8 @@ impl Site {
             return BAD_ARGUMENT;
         };
         acts_leave_others();
-        if !self.has_place() {
-            return REFUSED;
-        }
-        if self.opened.reserve(1).is_err() {
-            return NO_MEMORY;
+        if let Err(number) = self.make_room() {
+            return number;
         }
         let _has_all = self.caller.take_events(alloc);
         let bounds = Bounds {
@@ -86,11 +97,8 @@ impl Site {
         ensures { BeginWriteComesTo txn.old txn.new self.old result self.new }
     {
         acts_leave_others();
-        if !self.has_place() {
-            return REFUSED;
-        }
-        if self.opened.reserve(1).is_err() {
-            return NO_MEMORY;
+        if let Err(number) = self.make_room() {
+            return number;
         }
         match self.caller.begin_write(alloc) {
             Ok(write) => {
@@ -109,11 +117,8 @@ impl Site {
             return BAD_ARGUMENT;
         };
         acts_leave_others();
-        if !self.has_place() {
-            return REFUSED;
-        }
-        if self.opened.reserve(1).is_err() {
-            return NO_MEMORY;
+        if let Err(number) = self.make_room() {
+            return number;
         }
         match self.caller.begin_write_at(alloc, base) {
             Ok(write) => {
