@@ -14,3 +14,5 @@ pub mod Letting
 pub mod Taken
 pub mod PortsAsBox
 pub mod WriteActs
+pub mod WriteAsks
+pub mod Writers

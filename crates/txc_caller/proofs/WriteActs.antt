@@ -1,12 +1,13 @@
 -- What comes of an act of a transaction that writes.
 use Rattle.std.proofs.Common.{◌≡◌, ◌≢◌, ◌∙◌, ◌⊎◌, ⊎_elim, inl, inr, ℕ, false, List, [], ◌∷◌, ◌++◌, All, Option, Some, None, Ok, Err, append-nil, refl, ap, sym, subst}
-use Rattle.std.specs.Prelude.{Result, OnErr, OnOk}
+use Rattle.std.specs.Prelude.{Result, IfOk, OnErr, OnOk}
 use Rattle.std.proofs.lemmas.List.Elements.{All-nil, All-push}
 use Rattle.txc_tags.specs.Keys.{Call}
 use Rattle.txc_rows.specs.States.{State}
 use Rattle.txc_rows.specs.declared.query.Query.{Query}
 use Rattle.txc_validity.specs.declared.answer.Found.{Found}
 use Rattle.txc_db.specs.DatabaseValue.{DatabaseValue}
+use Rattle.txc_db.specs.History.{History}
 use Rattle.txc_db.specs.declared.error.DbError.{DbError}
 use Rattle.txc_app.specs.Answering.{IsRight}
 use Rattle.txc_app.specs.Eval.{Next}
@@ -33,15 +34,15 @@ use Rattle.txc_told.specs.Steps.{objects_after_ask}
 use Rattle.txc_txn.specs.Core.{running_call}
 use Rattle.txc_rw.specs.declared.given.Given.{Given}
 use Rattle.txc_rw.specs.declared.given.Given.TheVariants as given
-use Rattle.txc_rw.specs.ByHand.{RwHandTurn, RwHandTransition, RwObjectsLeft, without_node, answers_by_hand, IsRwHandTurn, IsRwUnended}
-use Rattle.txc_rw.specs.Core.{RwValue}
+use Rattle.txc_rw.specs.ByHand.{RwHandTurn, RwHandTransition, RwHearTransition, RwObjectsLeft, without_node, answers_by_hand, IsRwHandTurn, IsRwUnended}
+use Rattle.txc_rw.specs.Core.{IsFoundAt, IsRightReply, RwValue}
 use Rattle.txc_caller.specs.Telling.{ContinuesWith, HasBegunFunction, IsNextStep, IsOpenWith, IsToldRight, IsToldSo, ObjectsFollow, calls_of, computed_calls, computed_in, ended_step, told_answer, told_in, top_call}
 use Rattle.txc_caller.specs.Writing.{HasLed, IsHeard, IsStepAfter, IsWritingStep, queried_for}
 use Rattle.txc_caller.specs.declared.step.CallerError.{CallerError}
 use Rattle.txc_caller.specs.declared.step.CallerError.TheVariants.{Txn}
 use Rattle.txc_caller.specs.declared.step.Step.{Step}
 use Rattle.txc_caller.specs.declared.step.Step.TheVariants.{Answered, Compute, Value}
-use Rattle.txc_caller.proofs.Telling.{AsksAt, IsValueNeed, NeedsNext, StandsNext, call_asked, open_asking, query_asked}
+use Rattle.txc_caller.proofs.WriteAsks.{AsksAt, IsValueNeed, NeedsNext, StandsNext, call_asked, open_asking, query_asked}
 
 -- ---- what the core does after an ask, before the database answers a query
 
@@ -177,7 +178,8 @@ asked_from computed ask (Ok s) mid None next leads fits =
     goes_on_from computed s.frames next.0 mid.call ask next.2 leads.0 (leads.2 ∙ ap (λ (n : Option Need). without_node s.frames n) next.1) fits.1
 asked_from computed ask (Ok s) mid (Some (AskTurn q)) next leads fits =
     let now : Standing = record { frames = mid.call.frames; asked = mid.call.asked; need = mid.call.need; objects = s.objects } in
-    let e : now ≡ record s { need = without_node s.frames s.need } = cc leads in
+    let both = leads.1 in
+    let e : now ≡ record s { need = without_node s.frames s.need } = cc both in
     asks_from computed s.frames next.0 mid.call ask q next.2 (ap (λ (st : Standing). st.frames) e)
     (ap (λ (st : Standing). st.need) e ∙ ap (λ (n : Option Need). without_node s.frames n) next.1) fits.1
 asked_from computed ask (Ok s) mid (Some (Ended (Ok value))) next leads fits =
@@ -185,6 +187,20 @@ asked_from computed ask (Ok s) mid (Some (Ended (Ok value))) next leads fits =
 asked_from computed ask (Ok s) mid (Some (Ended (Err other))) next leads fits = tt
 
 -- ---- and once it has
+
+-- what was found at the base is a right reply
+pub right_reply_to : (L : History) (c : RwValue) (base : ℕ) (reply : Result Found DbError) (q : Query) → base ≡ c.base → c.reading ≡ Some q → IfOk reply (IsFoundAt L base q)
+    → IsRightReply L c reply
+right_reply_to L c base (Err error) q at asked found = tt
+right_reply_to L c base (Ok f) q at asked found = λ other asked'.
+    let two : Some q ≡ Some other = sym asked ∙ asked' in
+    let same : q ≡ other = cc two in
+    subst (λ (p : Query). IsFoundAt L c.base p f) same (subst (λ (b : ℕ). IsFoundAt L b q f) at found)
+
+-- no query is asked then
+pub heard_after : (old : RwValue) (q : Query) (reply : Result Found DbError) (new : RwValue) (last : RwHandTurn) → RwHearTransition old q reply new last → IsHeard last
+heard_after old q (Ok found) new last heard = subst (λ (t : RwHandTurn). IsHeard t) (sym heard.0) tt
+heard_after old q (Err error) new last heard = subst (λ (t : RwHandTurn). IsHeard t) (sym heard.0) tt
 
 module _ (d : DatabaseValue) (mid new : RwValue) where
   -- only these fields change
@@ -231,6 +247,14 @@ rests_after c (Some (AskTurn q)) fits heard = absurd heard
 runs_top : (need : Option Need) (top : Call) → NeedsFunction need → running_call need top ≡ Some top
 runs_top None top runs = absurd runs
 runs_top (Some need) top runs = refl
+
+-- the outermost call of one that is open
+pub is_top : (call : Calling) (k : Call) → top_call call ≡ Some k → call.top ≡ k
+is_top call k is = is_top_by call.need call.top k is
+  where
+    is_top_by : (need : Option Need) (top k : Call) → running_call need top ≡ Some k → top ≡ k
+    is_top_by None top k is = absurd (cc is)
+    is_top_by (Some need) top k is = cc is
 
 module _ (before : List Given) (k : Call) (new : RwValue) where
   told_by_next : (step : Step) → IsNextStep new.call step → new.answers ≡ before → top_call new.call ≡ Some k → NeedsFunction new.call.need
@@ -489,5 +513,5 @@ pub same_but : (old mid new : RwValue) → mid ≡ record old { answers = mid.an
 same_but old mid new first then rests none =
     let both : new ≡ record old { queried = new.queried; answers = mid.answers; call = new.call; reading = new.reading } =
     then ∙ ap (λ (v : RwValue). record v { queried = new.queried; call = new.call; reading = new.reading }) first in
-    both ∙ (ap (λ (as : List Given). record old { queried = new.queried; answers = as; call = new.call; reading = new.reading }) (sym (ap (λ (v : RwValue). v.answers) then))
+    both ∙ (ap (λ (xs : List Given). record old { queried = new.queried; answers = xs; call = new.call; reading = new.reading }) (sym (ap (λ (v : RwValue). v.answers) then))
     ∙ ap (λ (r : Option Query). record old { queried = new.queried; answers = new.answers; call = new.call; reading = r }) (rests ∙ sym none))

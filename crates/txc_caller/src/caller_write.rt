@@ -106,6 +106,7 @@ impl<A: App> Caller<A> {
 
 impl<A: App> CallerWrite<A> {
     ghost use Rattle.txc_app.specs.declared.ask.Ask.TheVariants as asks;
+    ghost use Rattle.txc_call.specs.Running.{is_done};
     ghost use Rattle.txc_caller.specs.Writing.{ChangeLeaves, IsBegunWrite};
 
     // Returns a transaction over the state of that stamp.
@@ -133,6 +134,7 @@ impl<A: App> CallerWrite<A> {
         ensures objects { ObjectsFollow self.old.objects self.old.core.call ask self.new.objects result }
         ensures queried { OnOk result (self.new.core.queried ≡ self.old.core.queried ++ queried_for ask) }
         ensures unqueried { OnErr result (self.new.core.queried ≡ self.old.core.queried) }
+        ensures undone { is_done ask ≡ false → self.new.core.answers ≡ self.old.core.answers }
         ensures same { self.new ≡ record self.old {
           core = record self.old.core {
             queried = self.new.core.queried;
