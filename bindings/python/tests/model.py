@@ -143,6 +143,7 @@ class Versions:
     def finish(self, txn: int, data: bytes) -> None:
         with self.lock:
             it = self.txns[txn]
+            self._ask(it)
             frame = it.frames.pop()
             hi = min([frame.hi] + [changed - 1 for place in frame.places for changed, _ in self.rows.get(place, ()) if changed > it.members[0].stamp])
             self.entries.setdefault(frame.digest, []).append(Entry(data, frame.lo, hi, frame.places))

@@ -441,6 +441,22 @@ class Pages(Case):
         self.write("UPDATE accounts SET balance = 7 WHERE id = 0")
         self.page((many, 100), (many, 5), max_age=0.0)
 
+    def test_as_many_calls_as_may_be(self):
+        cache = self.open()
+
+        @cache.cacheable
+        def one(db, n):
+            return n
+
+        @cache.cacheable
+        def sum_of(db, n):
+            return sum(one(it) for it in range(n))
+
+        self.assertEqual(self.page((sum_of, 63)), [sum(range(63))])
+        self.assertRaisesRegex(ValueError, "asks for more than 63", self.page, (sum_of, 64))
+        self.assertEqual(self.page((sum_of, 63)), [sum(range(63))])
+        self.assertEqual(self.counts(), (1, 0))
+
     def test_audit(self):
         cache = self.open(audit=1.0)
         self.page((self.highest, 7), (self.bids, 7), (self.total,))
