@@ -2,7 +2,7 @@
 use std::panic::{catch_unwind, AssertUnwindSafe};
 use std::sync::Barrier;
 use std::thread;
-use txcache_node::site::{Asking, Error, Query, Site, Transaction, Write};
+use txcache_node::site::{Asking, Compute, Error, Query, Site, Transaction, Write};
 use txcache_node::Key;
 
 fn key(function: u8, item: u32) -> Key {
@@ -111,7 +111,7 @@ fn a_function_that_panics_gives_its_call_up() {
 fn no_function_asks_once_its_call_was_given_up() {
     for site in sites() {
         let mut page = site.read(1000, 30_000).unwrap();
-        let failing: &mut dyn FnMut(&mut dyn Asking) -> Result<Vec<u8>, Error> = &mut |_| Err(Error::Conflict);
+        let failing: &mut Compute = &mut |_| Err(Error::Conflict);
         let caught = page.cached(key(2, 7), |asking| {
             assert_eq!(asking.call(key(1, 7), failing), Err(Error::Conflict));
             assert_eq!(asking.rows(Query::all(1)), Err(Error::GivenUp));
