@@ -1,5 +1,5 @@
 -- What an act comes to, once its requests were made.
-use Rattle.std.proofs.Common.{◌≡◌, ◌≢◌, ◌∙◌, ℕ, List, [], ◌∷◌, Option, Some, None, Ok, Err, inl, inr, refl, ap, sym, subst}
+use Rattle.std.proofs.Common.{◌≡◌, ◌∙◌, ℕ, true, false, List, [], ◌∷◌, Option, Some, None, Ok, Err, inl, inr, refl, ap, sym, subst}
 use Rattle.std.specs.Prelude.{Result}
 use Rattle.txc_stream.specs.Names.{Name}
 use Rattle.txc_tags.specs.Keys.{Call}
@@ -18,20 +18,27 @@ use Rattle.txc_txn.specs.Kept.{TxnValue}
 use Rattle.txc_caller.specs.Looking.{HasMissed, IsComputedOnMiss}
 use Rattle.txc_caller.specs.Reading.{IsReadingStep}
 use Rattle.txc_caller.specs.Serving.{FunctionAfter, HasMade, HasPassed, HasServed, IsTurnOf, NeedsAfter}
-use Rattle.txc_caller.specs.Telling.{ended_step, told_answer, told_in, top_call, IsNextStep, IsOpenWith}
+use Rattle.txc_caller.specs.Telling.{ended_step, is_begin, told_answer, told_in, top_call, IsNextStep, IsOpenWith}
 use Rattle.txc_caller.specs.declared.step.Step.{Step}
 use Rattle.txc_caller.specs.declared.step.Step.TheVariants.{Answered, Compute, Value}
 use Rattle.txc_caller.proofs.Requests.{keeps_then}
 
--- a call that needs no function to begin needs one to continue
-pub next_answered : (need : Option Need) → NeedsFunction need → ((k : Call) → need ≢ Some (needs.Begin k)) → (x : HeldAnswer) × (need ≡ Some (needs.Resume x))
-next_answered None runs other = absurd runs
-next_answered (Some (needs.Lookup k)) runs other = absurd runs
-next_answered (Some (needs.Query q)) runs other = absurd runs
-next_answered (Some (needs.Insert e)) runs other = absurd runs
-next_answered (Some (needs.Value o)) runs other = absurd runs
-next_answered (Some (needs.Begin k)) runs other = absurd (other k refl)
-next_answered (Some (needs.Resume x)) runs other = (x, refl)
+-- a function that is needed is to begin, or continues
+pub begins_next : (need : Need) → is_begin need ≡ true → (k : Call) × (need ≡ needs.Begin k)
+begins_next (needs.Begin k) is = (k, refl)
+begins_next (needs.Resume x) is = absurd (cc is)
+begins_next (needs.Lookup k) is = absurd (cc is)
+begins_next (needs.Query q) is = absurd (cc is)
+begins_next (needs.Insert e) is = absurd (cc is)
+begins_next (needs.Value o) is = absurd (cc is)
+
+pub continues_next : (need : Need) → is_begin need ≡ false → NeedsFunction (Some need) → (x : HeldAnswer) × (need ≡ needs.Resume x)
+continues_next (needs.Begin k) is runs = absurd (cc is)
+continues_next (needs.Resume x) is runs = (x, refl)
+continues_next (needs.Lookup k) is runs = absurd runs
+continues_next (needs.Query q) is runs = absurd runs
+continues_next (needs.Insert e) is runs = absurd runs
+continues_next (needs.Value o) is runs = absurd runs
 
 module _ (row : Name) (old mid new : TxnValue) (turn pinned : HandTurn) (passed : HasPassed row old turn mid pinned) where
   module _ (made : HasMade mid pinned new None) where

@@ -14,3 +14,7 @@ for_none P y is = absurd (cc is)
 pub some_of : {X : Type 0} (o : Option X) → IsSome o → (x : X) × (o ≡ Some x)
 some_of None there = absurd (cc there)
 some_of (Some x) there = (x, refl)
+
+pub none_of : {X : Type 0} (o : Option X) → ¬ (IsSome o) → o ≡ None
+none_of None never = refl
+none_of (Some x) never = absurd (never refl)

@@ -91,7 +91,7 @@ module _ (outer : List Frame) (asked : ℕ) (frame : Frame) (turn : Turn) where
   done_next : (reach : Option Interval) (bytes : List ℕ) (objects : Objects) → DoneTransition outer asked frame reach bytes objects (λ after value. turn ≡ needing outer asked (value_need outer (unreached frame value)) after) turn
       → StandsNext (frame.key ∷ calls_of outer) (asks.Done bytes) turn
   done_next (Some reach) bytes objects is =
-      needs_next (frame.key ∷ calls_of outer) (asks.Done bytes) outer asked (needs.Insert (entry_of_frame frame bytes reach)) objects turn is (frame.key, refl, refl, refl)
+      needs_next (frame.key ∷ calls_of outer) (asks.Done bytes) outer asked (needs.Insert (entry_of_frame frame bytes reach)) objects turn is (frame.key, refl, (refl, refl))
   done_next None bytes objects is =
       needs_next (frame.key ∷ calls_of outer) (asks.Done bytes) outer asked (value_need outer (unreached frame bytes)) objects turn is
       (frame.key, refl, goes_out frame.key outer (unreached frame bytes) bytes refl refl)
@@ -127,17 +127,22 @@ hand_next computed ask (Err error) new turn next leads on = absurd (subst IsUnen
 hand_next computed ask (Ok s) new None next leads on =
     (next.0, leads.2 ∙ next.1, subst (λ (fs : List Frame). NeedsNext computed ask fs next.0) (sym leads.0) next.2)
 hand_next computed ask (Ok s) new (Some (Asks request)) next leads on =
-    (next.0, leads.3 ∙ next.1, subst (λ (fs : List Frame). NeedsNext computed ask fs next.0) (sym leads.1) next.2)
+    (next.0, leads.1.2 ∙ next.1, subst (λ (fs : List Frame). NeedsNext computed ask fs next.0) (sym leads.1.0) next.2)
 hand_next computed ask (Ok s) new (Some (Ended outcome)) next leads on = absurd on
+
+-- a value neither begins a function nor is looked up
+no_value_begin : (frames : List Frame) (o : Outcome) (k : Call) → needs.Begin k ≡ value_need frames o → ⊥
+no_value_begin [] o k is = cc is
+no_value_begin (frame ∷ frames) o k is = cc is
+
+no_value_lookup : (frames : List Frame) (o : Outcome) (k : Call) → needs.Lookup k ≡ value_need frames o → ⊥
+no_value_lookup [] o k is = cc is
+no_value_lookup (frame ∷ frames) o k is = cc is
 
 no_begin_next : (computed : List Call) (ask : Ask) (frames : List Frame) (k : Call) → NeedsNext computed ask frames (needs.Begin k) → ⊥
 no_begin_next computed (asks.Query q) frames k h = cc (h.1)
 no_begin_next computed (asks.Call j) frames k h = cc (h.1)
-no_begin_next computed (asks.Done bytes) frames k h = out frames h.2.3
-  where
-    out : (fs : List Frame) → needs.Begin k ≡ value_need fs h.2.0 → ⊥
-    out [] is = cc is
-    out (f ∷ fs) is = cc is
+no_begin_next computed (asks.Done bytes) frames k h = no_value_begin frames h.2.0 k h.2.3
 
 -- ---- what the innermost function asks
 
@@ -247,11 +252,7 @@ module _ (next : Next) (computed : List Call) (mid new : CoreValue) (objects : O
     where
       value_not : (n : Need) → n ≡ needs.Lookup k → IsValueNeed h.0 mid.call.frames bytes n → ⊥
       value_not (needs.Insert e) at v = cc at
-      value_not (needs.Lookup j) at v = out mid.call.frames v.3
-        where
-          out : (fs : List Frame) → needs.Lookup j ≡ value_need fs v.0 → ⊥
-          out [] no = cc no
-          out (f ∷ fs) no = cc no
+      value_not (needs.Lookup j) at v = no_value_lookup mid.call.frames v.0 j v.3
       value_not (needs.Query q) at v = cc at
       value_not (needs.Value o) at v = cc at
       value_not (needs.Begin j) at v = cc at
@@ -301,9 +302,7 @@ module _ (next : Next) (computed : List Call) (mid new : CoreValue) (objects : O
 
 -- ---- what an act tells
 
-module _ (next : Next) (old mid new : TxnValue) (ask : Ask) (turn : HandTurn) (asked : HasAskedByHand old.core ask mid.core turn) (runs : NeedsFunction old.core.call.need)
-    (fits_old : IsCore next old.objects old.core) (left : ObjectsLeft (objects_after_ask old.objects old.core.call ask) turn mid.objects)
-    (fits_mid : IsCore next mid.objects mid.core) (meant : IsTxn next new) where
+module _ (next : Next) (old mid : TxnValue) (ask : Ask) (turn : HandTurn) (asked : HasAskedByHand old.core ask mid.core turn) (runs : NeedsFunction old.core.call.need) where
   stands_next : IsUnended turn → (need : Need) × (mid.core.call.need ≡ Some need) × NeedsNext (computed_calls old.core.call) ask mid.core.call.frames need
   stands_next on =
       let n = some_need old.core.call.need runs in
@@ -318,44 +317,46 @@ module _ (next : Next) (old mid new : TxnValue) (ask : Ask) (turn : HandTurn) (a
       let n = stands_next (subst IsUnended (sym none) tt) in
       let one : Some n.0 ≡ Some (needs.Begin k) = sym n.1 ∙ is in
       let same : n.0 ≡ needs.Begin k = cc one in
-      absurd (no_begin_next (computed_calls old.core.call) ask mid.core.call.frames k (subst (NeedsNext (computed_calls old.core.call) ask mid.core.call.frames) same n.2))
+      no_begin_next (computed_calls old.core.call) ask mid.core.call.frames k (subst (NeedsNext (computed_calls old.core.call) ask mid.core.call.frames) same n.2)
 
-  unended_left : (t : HandTurn) → IsUnended t → ObjectsLeft (objects_after_ask old.objects old.core.call ask) t mid.objects
-      → mid.objects ≡ objects_after_ask old.objects old.core.call ask
-  unended_left None on is = is
-  unended_left (Some (Asks request)) on is = is
-  unended_left (Some (Ended outcome)) on is = absurd on
+  module _ (fits_old : IsCore next old.objects old.core) (left : ObjectsLeft (objects_after_ask old.objects old.core.call ask) turn mid.objects)
+      (fits_mid : IsCore next mid.objects mid.core) (new : TxnValue) (meant : IsTxn next new) where
+    unended_left : (t : HandTurn) → IsUnended t → ObjectsLeft (objects_after_ask old.objects old.core.call ask) t mid.objects
+        → mid.objects ≡ objects_after_ask old.objects old.core.call ask
+    unended_left None on is = is
+    unended_left (Some (Asks request)) on is = is
+    unended_left (Some (Ended outcome)) on is = absurd on
 
-  fits_at : IsUnended turn → new.objects ≡ objects_after_ask old.objects old.core.call ask → IsCore next new.objects mid.core
-  fits_at on same = subst (λ (os : Objects). IsCore next os mid.core) (unended_left turn on left ∙ sym same) fits_mid
+    fits_at : IsUnended turn → new.objects ≡ objects_after_ask old.objects old.core.call ask → IsCore next new.objects mid.core
+    fits_at on same = subst (λ (os : Objects). IsCore next os mid.core) (unended_left turn on left ∙ sym same) fits_mid
 
-  around : new.objects ≡ objects_after_ask old.objects old.core.call ask → (bytes : List ℕ) (done : Call) (calls : List Call) → ask ≡ asks.Done bytes
-      → computed_calls old.core.call ≡ done ∷ calls → InnermostAsks next new.objects calls (asks.Call done)
-  around same bytes done calls is computed =
-      let n = some_need old.core.call.need runs in
-      let fits = subst (λ (o : Option Need). NeedFits next old.objects old.core.call.top o old.core.call.frames) n.1 fits_old.call in
-      let after : objects_after old.objects old.core.call.frames n.0 (asks.Done bytes) ≡ new.objects =
-          sym (same ∙ ap (λ (o : Option Need). objects_after_need old.objects old.core.call.frames o ask) n.1 ∙ ap (λ (a : Ask). objects_after old.objects old.core.call.frames n.0 a) is) in
-      subst (λ (os : Objects). InnermostAsks next os calls (asks.Call done)) after
-      (done_around next old.objects old.core.call.top bytes old.core.call.frames n.0 fits (subst NeedsFunction n.1 runs) done calls
-      (sym (ap (λ (o : Option Need). computed_in old.core.call.frames o) n.1) ∙ computed))
+    around : new.objects ≡ objects_after_ask old.objects old.core.call ask → (bytes : List ℕ) (done : Call) (calls : List Call) → ask ≡ asks.Done bytes
+        → computed_calls old.core.call ≡ done ∷ calls → InnermostAsks next new.objects calls (asks.Call done)
+    around same bytes done calls is computed =
+        let n = some_need old.core.call.need runs in
+        let fits = subst (λ (o : Option Need). NeedFits next old.objects old.core.call.top o old.core.call.frames) n.1 fits_old.call in
+        let after : objects_after old.objects old.core.call.frames n.0 (asks.Done bytes) ≡ new.objects =
+            sym (same ∙ ap (λ (o : Option Need). objects_after_need old.objects old.core.call.frames o ask) n.1 ∙ ap (λ (a : Ask). objects_after old.objects old.core.call.frames n.0 a) is) in
+        subst (λ (os : Objects). InnermostAsks next os calls (asks.Call done)) after
+        (done_around next old.objects old.core.call.top bytes old.core.call.frames n.0 fits (subst NeedsFunction n.1 runs) done calls
+        (sym (ap (λ (o : Option Need). computed_in old.core.call.frames o) n.1) ∙ computed))
 
-  pub told_so : (step : Result Step CallerError) → FunctionAfter mid.core turn new.core.call step → ObjectsAfter (objects_after_ask old.objects old.core.call ask) new.objects step
-      → IsToldSo next (open_states new.core) old.core.call ask new.core.call step
-  told_so (Ok Compute) goes same =
-      let n = stands_next goes.0 in
-      begun_so next (computed_calls old.core.call) mid.core new.core new.objects turn (fits_at goes.0 same) meant.fits meant.holds ask n.0 n.1 n.2
-      goes.1.0 goes.1.1 goes.1.2 goes.1.3 old.core.call refl
-  told_so (Ok Answered) goes same =
-      let n = stands_next goes.0 in
-      (
-        goes.1.0.answer,
-        ap told_in goes.1.1,
-        continues_so next (computed_calls old.core.call) mid.core new.core new.objects turn (fits_at goes.0 same) meant.fits meant.holds goes.1.0 goes.1.1 goes.1.2 ask n.0 n.1 n.2
-        goes.1.3 (around same) old.core.call refl,
-      )
-  told_so (Ok (Value value)) goes same = tt
-  told_so (Err error) goes same = tt
+    pub told_so : (step : Result Step CallerError) → FunctionAfter mid.core turn new.core.call step → ObjectsAfter (objects_after_ask old.objects old.core.call ask) new.objects step
+        → IsToldSo next (open_states new.core) old.core.call ask new.core.call step
+    told_so (Ok Compute) goes same =
+        let n = stands_next goes.0 in
+        begun_so next (computed_calls old.core.call) mid.core new.core new.objects turn (fits_at goes.0 same) meant.fits meant.holds ask n.0 n.1 n.2
+        goes.1.0 goes.1.1 goes.1.2 goes.1.3 old.core.call refl
+    told_so (Ok Answered) goes same =
+        let n = stands_next goes.0 in
+        (
+          goes.1.0.answer,
+          ap told_in goes.1.1,
+          continues_so next (computed_calls old.core.call) mid.core new.core new.objects turn (fits_at goes.0 same) meant.fits meant.holds goes.1.0 goes.1.1 goes.1.2 ask n.0 n.1 n.2
+          goes.1.3 (around same) old.core.call refl,
+        )
+    told_so (Ok (Value value)) goes same = tt
+    told_so (Err error) goes same = tt
 
 -- what each function was told until now
 pub follow_so : (old : Objects) (call : Calling) (ask : Ask) (new : Objects) (step : Result Step CallerError) → ObjectsAfter (objects_after_ask old call ask) new step

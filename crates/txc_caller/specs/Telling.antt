@@ -1,5 +1,5 @@
 -- The functions that are computed for an open call: which they are, and what each is told.
-use Rattle.std.specs.Prelude.{◌≡◌, ◌≤◌, ℕ, List, [], ◌∷◌, ◌++◌, map, All, IsSome, Option, Some, None, Result, Ok, Err}
+use Rattle.std.specs.Prelude.{◌≡◌, ◌≤◌, ℕ, List, [], ◌∷◌, ◌++◌, map, All, Bool, true, false, IsSome, Option, Some, None, Result, Ok, Err}
 use Rattle.std.specs.Option.{ForSome}
 use Rattle.txc_tags.specs.Keys.{Call}
 use Rattle.txc_rows.specs.States.{State}
@@ -106,6 +106,11 @@ ObjectsFollow old call ask new (Ok step) = new ≡ objects_after_ask old call as
 ObjectsFollow old call ask new (Err error) = AllIdle new
 
 -- ---- how a call stands
+
+-- a function is to begin
+abbrev pub is_begin : Need → Bool
+is_begin (needs.Begin k) = true
+is_begin need = false
 
 -- what the caller does next for a call that needs a function
 abbrev pub IsNextStep : Calling → Step → Type 0

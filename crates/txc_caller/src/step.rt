@@ -1,6 +1,6 @@
 ghost use Rattle.std.specs.Prelude.{◌≡◌};
 ghost use Rattle.txc_call.specs.Running.{NeedsFunction};
-ghost use Rattle.txc_caller.specs.Telling.{ended_step, IsNextStep};
+ghost use Rattle.txc_caller.specs.Telling.{ended_step, is_begin, IsNextStep};
 
 use thiserror::Error;
 use txc_call::{CallMachine, Need};
@@ -52,15 +52,33 @@ pub enum WriteError {
     Database(DbError),
 }
 
+// Whether a function is to begin.
+fn is_begin(need: &Need) -> bool
+    ensures { result ≡ is_begin need.now }
+{
+    match need {
+        Need::Begin(_) => true,
+        Need::Resume(_) => false,
+        Need::Lookup(_) => false,
+        Need::Query(_) => false,
+        Need::Insert(_) => false,
+        Need::Value(_) => false,
+    }
+}
+
 impl Step {
     /// Returns what the caller does next for a call that needs a function.
     pub(crate) fn next(machine: &CallMachine) -> Step
         requires { NeedsFunction machine.now.need }
         ensures { IsNextStep machine.now result }
     {
-        match machine.need() {
-            Some(Need::Begin(_)) => Step::Compute,
-            _ => Step::Answered,
+        let Some(need) = machine.need() else {
+            unreachable!()
+        };
+        if is_begin(need) {
+            Step::Compute
+        } else {
+            Step::Answered
         }
     }
 }

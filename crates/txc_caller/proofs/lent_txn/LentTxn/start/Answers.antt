@@ -19,7 +19,7 @@ invariant_of-self g c =
     let next = g.A.App.next in
     let objects = c.self.inside.told.objects in
     let new = value_of c.start_by_hand.new.self in
-    let there = c.self.invariant.functions c.args.key.function c.function-_function.ensures.bound in
+    let there = c.self.invariant.functions c.args.key.function c.function-function.ensures.bound in
     let begun = c.start_by_hand.ensures.begun objects there in
     record {
       meant = record {
@@ -28,7 +28,7 @@ invariant_of-self g c =
             (c.start_by_hand.ensures.holds next objects (value_of c.self.inside.core).seen.history c.self.invariant.meant.holds);
       };
       functions = c.self.invariant.functions;
-      top = top_begun (λ (k : Call). k.function ≤ LAST_FUNCTION) new c.args.key c.start_by_hand.result begun.turn_fits begun.begins c.function-_function.ensures.bound;
+      top = top_begun (λ (k : Call). k.function ≤ LAST_FUNCTION) new c.args.key c.start_by_hand.result begun.turn_fits begun.begins c.function-function.ensures.bound;
       nodes = ap (λ (v : CoreValue). v.nodes) begun.same ∙ c.self.invariant.nodes;
     }
 
@@ -36,12 +36,12 @@ pub returns-clause-begun : goal.returns-clause-begun
 returns-clause-begun g c =
     let objects = c.self.inside.told.objects in
     subst (λ (t : TxnValue). HasBegunCall t c.args.key (txn_value (value_of c.start_by_hand.new.self) objects) c.start_by_hand.result) c.self.view_is
-    (c.start_by_hand.ensures.begun objects (c.self.invariant.functions c.args.key.function c.function-_function.ensures.bound))
+    (c.start_by_hand.ensures.begun objects (c.self.invariant.functions c.args.key.function c.function-function.ensures.bound))
 
 pub returns-clause-objects : goal.returns-clause-objects
 returns-clause-objects g c =
     let objects = c.self.inside.told.objects in
-    let there = c.self.invariant.functions c.args.key.function c.function-_function.ensures.bound in
+    let there = c.self.invariant.functions c.args.key.function c.function-function.ensures.bound in
     let new = value_of c.start_by_hand.new.self in
     subst (λ (t : TxnValue). ObjectsLeft t.objects (Some c.start_by_hand.result) objects) c.self.view_is
     (start_left g.A.App.next objects new c.start_by_hand.result (c.start_by_hand.ensures.begun objects there).turn_fits (c.start_by_hand.ensures.fits g.A.App.next objects there c.self.invariant.meant.fits))

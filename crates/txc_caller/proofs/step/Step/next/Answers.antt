@@ -1,7 +1,15 @@
-use Rattle.txc_caller.proofs.Telling.{told_so, first_told, no_begun, follow_so, first_follow}
-use Rattle.txc_caller.proofs.Served.{served_open, served_ended, next_answered}
+use Rattle.std.proofs.Common.{◌∙◌, Option, Some, ap, sym, subst}
+use Rattle.txc_call.specs.Running.{NeedsFunction}
+use Rattle.txc_call.specs.declared.need.Need.{Need}
+use Rattle.txc_caller.proofs.Served.{begins_next, continues_next}
 use Rattle.txc_caller.proofs.step.Step.next.Goals as goal
-use Rattle.txc_caller.proofs.step.Step.next.Goals.{in_default-via-in-Some+in_default, in_default-via-in_default}
 
-pub returns-in_default : goal.returns-in_default
-returns-in_default c = elim c.in_default.branch [ in_default-via-in-Some+in_default w ↦ let h = w.in_default in ? | in_default-via-in_default w ↦ let h = w.in_default in ? ]
+pub returns-then-is_begin : goal.returns-then-is_begin
+returns-then-is_begin c =
+    let begins = begins_next c.in-Some.need.now (sym c.is_begin.ensures ∙ c.if-is_begin.true) in
+    (begins.0, c.in-Some.ensures ∙ ap (λ (n : Need). Some n) begins.1)
+
+pub returns-else-is_begin : goal.returns-else-is_begin
+returns-else-is_begin c =
+    let continues = continues_next c.in-Some.need.now (sym c.is_begin.ensures ∙ c.if-is_begin.false) (subst NeedsFunction c.in-Some.ensures c.requires) in
+    (continues.0, c.in-Some.ensures ∙ ap (λ (n : Need). Some n) continues.1)
