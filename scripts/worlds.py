@@ -183,5 +183,5 @@ def unlike(program, play, said):
     for (line, wanted), other in zip(lines, with_moments(lines, replies)):
         if wanted is not None and wanted != other:
             return f"{line}: the site {wanted}, txcache {other}"
-    status = int("\nrefused " in ran.stdout)
+    status = int("refused " in ran.stdout)
     return "" if len(replies) == len(lines) and ran.returncode == status else f"{len(lines)} lines, {len(replies)} replies, status {ran.returncode}"
