@@ -5,3 +5,4 @@ pub mod Asked
 pub mod Kept
 pub mod Staying
 pub mod Places
+pub mod Acting

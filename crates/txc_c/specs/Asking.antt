@@ -157,11 +157,14 @@ change_number (Ok kept) = DONE
 change_number (Err error) = txn_number error
 
 -- of a transaction that writes: the number says what came of the change. One that only reads takes none
+abbrev pub OpenChanges : Change → Open → ℕ → Open → Type 0
+OpenChanges change (Writing w) number (Writing w') = (kept : Result (Unit {0}) TxnError) × (number ≡ change_number kept)
+    × ChangeLeaves change w w' kept
+OpenChanges change (Writing w) number (Reading t') = ⊥
+OpenChanges change (Reading t) number x' = (number ≡ NOT_OPEN) × (x' ≡ Reading t)
+
 abbrev pub ChangeAct : Change → CallerValue → Open → ℕ → CallerValue → Open → Type 0
-ChangeAct change c (Writing w) number c' (Writing w') = (c' ≡ c) × ((kept : Result (Unit {0}) TxnError) × (number ≡ change_number kept)
-    × ChangeLeaves change w w' kept)
-ChangeAct change c (Writing w) number c' (Reading t') = ⊥
-ChangeAct change c (Reading t) number c' x' = (number ≡ NOT_OPEN) × (x' ≡ Reading t) × (c' ≡ c)
+ChangeAct change c x number c' x' = OpenChanges change x number x' × (c' ≡ c)
 
 abbrev pub ChangeComesTo : Change → ℕ → SiteValue → ℕ → SiteValue → Type 0
 ChangeComesTo change n old number new = ActsAs (ChangeAct change) (Unit {0}) n old number new

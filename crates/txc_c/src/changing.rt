@@ -1,7 +1,8 @@
 //! What a transaction of a site changes that writes.
 ghost use Rattle.std.specs.Prelude.{◌≡◌};
-ghost use Rattle.txc_rows.specs.declared.query.Change.TheVariants as changes;
-ghost use Rattle.txc_c.specs.Asking.{change_number, ChangeComesTo, PutComesTo, RemoveComesTo};
+ghost use Rattle.txc_caller.specs.Reading.{CallerValue};
+ghost use Rattle.txc_c.specs.Opened.{IsOpenOf};
+ghost use Rattle.txc_c.specs.Asking.{change_number, ChangeComesTo, OpenChanges, PutComesTo, RemoveComesTo};
 
 use crate::asking::txn_number;
 use crate::opened::{Open, place_of};
@@ -9,7 +10,7 @@ use crate::site::Site;
 use std::alloc::Global;
 use txc_crossing::{BAD_ARGUMENT, DONE, NO_MEMORY, NOT_OPEN};
 use txc_ports::TxnError;
-use txc_rows::Row;
+use txc_rows::{Change, Row};
 use txc_tags::Table;
 
 // The number of a change that is kept, or why it is not.
@@ -22,10 +23,26 @@ fn change_number(kept: Result<(), TxnError>) -> u32
     }
 }
 
+impl Open {
+    // Keeps a change until the transaction is committed, if it is one that writes.
+    fn change(&mut self, change: Change) -> u32
+        ensures changed { OpenChanges change self.old result self.new }
+        ensures of_caller { (c : CallerValue) → IsOpenOf c self.old → IsOpenOf c self.new }
+    {
+        match self {
+            Open::Writing(write) => match change {
+                Change::Put(row) => change_number(write.put(row)),
+                Change::Remove(table, id) => change_number(write.remove(table, id)),
+            },
+            Open::Reading(_) => NOT_OPEN,
+        }
+    }
+}
+
 impl Site {
-    // A row is to stand once the transaction is committed.
-    fn put_row(&mut self, txn: u64, row: Row) -> u32
-        ensures { ChangeComesTo (changes.Put row) txn self.old result self.new }
+    // Makes a change in the transaction of that number.
+    fn change(&mut self, txn: u64, change: Change) -> u32
+        ensures { ChangeComesTo change txn self.old result self.new }
     {
         let Some(it) = self.opened.get_mut(place_of(txn)) else {
             return NOT_OPEN;
@@ -33,10 +50,7 @@ impl Site {
         if it.number != txn {
             return NOT_OPEN;
         }
-        match &mut it.txn {
-            Open::Writing(write) => change_number(write.put(row)),
-            Open::Reading(_) => NOT_OPEN,
-        }
+        it.txn.change(change)
     }
 
     /// A row is to stand once the transaction is committed, with a copy of the body.
@@ -61,7 +75,7 @@ impl Site {
         let Ok(row) = Row::new(table, id, group, copy) else {
             return BAD_ARGUMENT;
         };
-        self.put_row(txn, row)
+        self.change(txn, Change::Put(row))
     }
 
     /// No row is to stand at the table and id once the transaction is committed.
@@ -71,15 +85,6 @@ impl Site {
         let Some(table) = Table::new(table) else {
             return BAD_ARGUMENT;
         };
-        let Some(it) = self.opened.get_mut(place_of(txn)) else {
-            return NOT_OPEN;
-        };
-        if it.number != txn {
-            return NOT_OPEN;
-        }
-        match &mut it.txn {
-            Open::Writing(write) => change_number(write.remove(table, id)),
-            Open::Reading(_) => NOT_OPEN,
-        }
+        self.change(txn, Change::Remove(table, id))
     }
 }
