@@ -6,3 +6,4 @@ pub mod Kept
 pub mod Staying
 pub mod Places
 pub mod Acting
+pub mod Stepping
