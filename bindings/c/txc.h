@@ -265,14 +265,14 @@ uint32_t txc_begin(txc_site *site, uint64_t now, uint64_t staleness, uint32_t at
 
 /* Asks for the value of a call, in either transaction. TXC_DONE or TXC_ANSWERED write it; TXC_NO_ROOM writes its length alone, and
  * txc_answer gives it once more. In a transaction that writes it is TXC_COMPUTE. A function calls functions of lower numbers: another
- * call is TXC_REFUSED, as is one after 64 asks of a function or 4,096 of a call: the whole open call has ended then. So it has
- * if memory is wanting.
+ * call is TXC_REFUSED. So is the next ask of a function that was answered 64 times, or in a call with 4,096 answers, its txc_finish
+ * too; and an ask for which memory is wanting. With TXC_REFUSED the whole open call has ended.
  * TXC_DONE, TXC_ANSWERED, TXC_COMPUTE, TXC_NO_ROOM, TXC_NOT_OPEN, TXC_BAD_ARGUMENT or TXC_REFUSED. */
 uint32_t txc_call(txc_site *site, txc_txn txn, const txc_key *key, uint8_t *value, size_t room, size_t *len);
 
 /* Asks for the rows of a query, and writes how many they are: by the function that you compute, or by a transaction that writes,
- * outside its functions. If a function's query is TXC_REFUSED, the whole open call has ended. TXC_NO_MEMORY comes outside functions
- * alone.
+ * outside its functions. If a function's query is TXC_REFUSED, the whole open call has ended. TXC_NO_MEMORY comes only outside
+ * functions.
  * TXC_ANSWERED, TXC_NOT_OPEN, TXC_BAD_ARGUMENT, TXC_REFUSED or TXC_NO_MEMORY. */
 uint32_t txc_query_rows(txc_site *site, txc_txn txn, const txc_query *query, size_t *count);
 
