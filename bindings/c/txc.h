@@ -265,8 +265,8 @@ uint32_t txc_begin(txc_site *site, uint64_t now, uint64_t staleness, uint32_t at
 
 /* Asks for the value of a call, in either transaction. TXC_DONE or TXC_ANSWERED write it; TXC_NO_ROOM writes its length alone, and
  * txc_answer gives it once more. In a transaction that writes it is TXC_COMPUTE. A function calls functions of lower numbers: another
- * call is TXC_REFUSED. So is the next ask of a function that was answered 64 times, or in a call with 4,096 answers, its txc_finish
- * too; and an ask for which memory is wanting. With TXC_REFUSED the whole open call has ended.
+ * call is TXC_REFUSED. So is each further ask, a txc_finish too, of a function that was answered 64 times, or of a call with 4,096
+ * asks; and one for which memory is wanting. With TXC_REFUSED the whole open call has ended.
  * TXC_DONE, TXC_ANSWERED, TXC_COMPUTE, TXC_NO_ROOM, TXC_NOT_OPEN, TXC_BAD_ARGUMENT or TXC_REFUSED. */
 uint32_t txc_call(txc_site *site, txc_txn txn, const txc_key *key, uint8_t *value, size_t room, size_t *len);
 
