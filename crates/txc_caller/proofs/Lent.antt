@@ -126,3 +126,8 @@ top_some (Some need) top is = absurd (cc is)
 pub resting_idle : (c : CoreValue) → IsResting c → top_call c.call ≡ None → IsIdle c
 resting_idle c (inl idle) closed = idle
 resting_idle c (inr runs) closed = absurd (subst NeedsFunction (top_some c.call.need c.call.top closed) runs.1)
+
+-- .. and no pin is under way
+pub resting_free : (c : CoreValue) → IsResting c → c.pinning ≡ None
+resting_free c (inl idle) = idle.1
+resting_free c (inr runs) = runs.0

@@ -11,6 +11,7 @@ pub mod Making
 pub mod Served
 pub mod Telling
 pub mod Letting
+pub mod Growing
 pub mod Taken
 pub mod PortsAsBox
 pub mod WriteActs

@@ -75,6 +75,19 @@ keeps_seen old new functions same = record {
   events = ap (λ (c : CoreValue). c.seen.events) same;
 }
 
+-- by a step that leaves all but the call
+pub keeps_call : (old new : TxnValue) → numbers_of new.objects ≡ numbers_of old.objects → new.core ≡ record old.core { call = new.core.call } → KeepsTxn old new
+keeps_call old new functions same = record {
+  settings = record {
+    bounds = ap (λ (c : CoreValue). c.bounds) same;
+    renew_after = ap (λ (c : CoreValue). c.renew_after) same;
+    nodes = ap (λ (c : CoreValue). c.nodes) same;
+  };
+  functions = functions;
+  longer = subst (λ (L : History). IsPrefix old.core.seen.history L) (sym (ap (λ (c : CoreValue). c.seen.history) same)) (prefix_self old.core.seen.history);
+  events = ap (λ (c : CoreValue). c.seen.events) same;
+}
+
 -- by a reply that was heard
 pub keeps_heard : (old new : TxnValue) (reply : PortReply) (turn : HandTurn) → numbers_of new.objects ≡ numbers_of old.objects
     → HasGoneOnByHand old.core reply new.core turn → KeepsTxn old new
