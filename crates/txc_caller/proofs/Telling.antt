@@ -242,8 +242,7 @@ module _ (next : Next) (computed : List Call) (mid new : CoreValue) (objects : O
       let no : needs.Query q ≡ needs.Lookup k = sym h.1 ∙ lookup_of need k is waits in absurd (cc no)
   begun_so (asks.Call j) need is h k waits begins frames old same =
       let one : needs.Lookup j ≡ needs.Lookup k = sym h.1 ∙ lookup_of need k is waits in
-      let called : k ≡ j = cc one in
-      (
+      let called : k ≡ j = cc one in (
         ap (λ (n : Option Need). computed_in new.call.frames n) begins ∙ ap (λ (fs : List Frame). k ∷ calls_of fs) frames
             ∙ ap (λ (ks : List Call). k ∷ ks) (h.0 ∙ sym same) ∙ ap (λ (i : Call). i ∷ computed_calls old) called,
         ap told_in begins,
@@ -275,13 +274,12 @@ module _ (next : Next) (computed : List Call) (mid new : CoreValue) (objects : O
         (computed_new ∙ h.0 ∙ sym same, right_by (asks.Query q) ((asked_by next objects mid.call.top mid.call.frames mid.call.need fits_mid.call).0 q (is ∙ ap Some h.1)))
     continues_so (asks.Call k) need is h held around old same =
         (computed_new ∙ h.0 ∙ sym same, right_by (asks.Call k) ((asked_by next objects mid.call.top mid.call.frames mid.call.need fits_mid.call).1 k (is ∙ ap Some h.1)))
-    continues_so (asks.Done bytes) need is h held around old same =
-        (
-          h.0,
-          same ∙ h.1 ∙ ap (λ (ks : List Call). h.0 ∷ ks) (sym computed_new),
-          value_of_need need h.2 (subst (λ (n : Option Need). IsHeldFor n x) is held),
-          right_by (asks.Call h.0) (around bytes h.0 (calls_of mid.call.frames) refl h.1),
-        )
+    continues_so (asks.Done bytes) need is h held around old same = (
+      h.0,
+      same ∙ h.1 ∙ ap (λ (ks : List Call). h.0 ∷ ks) (sym computed_new),
+      value_of_need need h.2 (subst (λ (n : Option Need). IsHeldFor n x) is held),
+      right_by (asks.Call h.0) (around bytes h.0 (calls_of mid.call.frames) refl h.1),
+    )
       where
         some : mid.call.frames ≢ []
         some = λ no. (subst (λ (n : Option Need). NeedFits next objects new.call.top n new.call.frames) resumes fits.call).1 (frames ∙ no)
@@ -336,7 +334,7 @@ module _ (next : Next) (old mid : TxnValue) (ask : Ask) (turn : HandTurn) (asked
         let n = some_need old.core.call.need runs in
         let fits = subst (λ (o : Option Need). NeedFits next old.objects old.core.call.top o old.core.call.frames) n.1 fits_old.call in
         let after : objects_after old.objects old.core.call.frames n.0 (asks.Done bytes) ≡ new.objects =
-            sym (same ∙ ap (λ (o : Option Need). objects_after_need old.objects old.core.call.frames o ask) n.1 ∙ ap (λ (a : Ask). objects_after old.objects old.core.call.frames n.0 a) is) in
+        sym (same ∙ ap (λ (o : Option Need). objects_after_need old.objects old.core.call.frames o ask) n.1 ∙ ap (λ (a : Ask). objects_after old.objects old.core.call.frames n.0 a) is) in
         subst (λ (os : Objects). InnermostAsks next os calls (asks.Call done)) after
         (done_around next old.objects old.core.call.top bytes old.core.call.frames n.0 fits (subst NeedsFunction n.1 runs) done calls
         (sym (ap (λ (o : Option Need). computed_in old.core.call.frames o) n.1) ∙ computed))
@@ -348,12 +346,11 @@ module _ (next : Next) (old mid : TxnValue) (ask : Ask) (turn : HandTurn) (asked
         begun_so next (computed_calls old.core.call) mid.core new.core new.objects turn (fits_at goes.0 same) meant.fits meant.holds ask n.0 n.1 n.2
         goes.1.0 goes.1.1 goes.1.2 goes.1.3 old.core.call refl
     told_so (Ok Answered) goes same =
-        let n = stands_next goes.0 in
-        (
+        let n = stands_next goes.0 in (
           goes.1.0.answer,
           ap told_in goes.1.1,
           continues_so next (computed_calls old.core.call) mid.core new.core new.objects turn (fits_at goes.0 same) meant.fits meant.holds goes.1.0 goes.1.1 goes.1.2 ask n.0 n.1 n.2
-          goes.1.3 (around same) old.core.call refl,
+              goes.1.3 (around same) old.core.call refl,
         )
     told_so (Ok (Value value)) goes same = tt
     told_so (Err error) goes same = tt
@@ -391,8 +388,7 @@ module _ (next : Next) (old mid new : TxnValue) (key : Call) (turn : PortTurn) (
   pub first_told : (step : Result Step CallerError) → FunctionAfter mid.core (Some turn) new.core.call step
       → IsToldSo next (open_states new.core) old.core.call (asks.Call key) new.core.call step
   first_told (Ok Compute) goes =
-      let at = first_waits old.core.pins.members refl in
-      (
+      let at = first_waits old.core.pins.members refl in (
         ap (λ (n : Option Need). computed_in new.core.call.frames n) goes.1.2 ∙ ap (λ (fs : List Frame). goes.1.0 ∷ calls_of fs) (goes.1.3 ∙ at.0)
             ∙ ap (λ (k : Call). k ∷ []) (at.1 goes.1.0 goes.1.1) ∙ ap (λ (n : Option Need). key ∷ computed_in old.core.call.frames n) (sym idle.0),
         ap told_in goes.1.2,

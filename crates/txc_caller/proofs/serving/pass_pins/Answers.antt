@@ -18,9 +18,9 @@ returns-clause-passed g c =
     let row = (g.P.CallPorts.ports c.args.ports.now).database.events in
     let one = c.pass_pin-first.ensures.passed in
     let two = subst (λ (r : Name). HasPassed r c.pass_pin-first.new.txn c.pass_pin-first.result c.pass_pin-second.new.txn c.pass_pin-second.result)
-        c.pass_pin-first.ensures.grown.events c.pass_pin-second.ensures.passed in
+    c.pass_pin-first.ensures.grown.events c.pass_pin-second.ensures.passed in
     let three = subst (λ (r : Name). HasPassed r c.pass_pin-second.new.txn c.pass_pin-second.result c.pass_pin.new.txn c.pass_pin.result)
-        (c.pass_pin-second.ensures.grown.events ∙ c.pass_pin-first.ensures.grown.events) c.pass_pin.ensures.passed in
+    (c.pass_pin-second.ensures.grown.events ∙ c.pass_pin-first.ensures.grown.events) c.pass_pin.ensures.passed in
     passed_then row c.args.txn.now c.pass_pin-first.new.txn c.pass_pin.new.txn c.args.turn c.pass_pin-first.result c.pass_pin.result one
     (passed_then row c.pass_pin-first.new.txn c.pass_pin-second.new.txn c.pass_pin.new.txn c.pass_pin-first.result c.pass_pin-second.result c.pass_pin.result two three)
 

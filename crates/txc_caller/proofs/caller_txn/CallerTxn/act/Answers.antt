@@ -49,7 +49,7 @@ pub returns-then-not-is_computing-clause-objects : goal.returns-then-not-is_comp
 returns-then-not-is_computing-clause-objects g c =
     let old = c.self.inside.txn in
     let closed = none_of (top_call old.core.call)
-        (λ there. let yes = c.is_computing.ensures.1 (subst (λ (t : TxnValue). IsSome (top_call t.core.call)) c.self.view_is there) in absurd (cc (yes, c.if-not-is_computing.true))) in
+    (λ there. let yes = c.is_computing.ensures.1 (subst (λ (t : TxnValue). IsSome (top_call t.core.call)) c.self.view_is there) in absurd (cc (yes, c.if-not-is_computing.true))) in
     idle_objects g.A.App.next old.objects old.core (resting_idle old.core c.self.invariant.rests closed) c.self.invariant.lent.meant.fits
 
 pub returns-then-not-is_computing-clause-step : goal.returns-then-not-is_computing-clause-step

@@ -23,7 +23,7 @@ pub start-turn-requires : goal.start-turn-requires
 start-turn-requires g c =
     let old = c.self.inside.txn in
     let closed = none_of (top_call old.core.call)
-        (λ there. let yes = c.is_computing.ensures.1 (subst (λ (t : TxnValue). IsSome (top_call t.core.call)) c.self.view_is there) in absurd (cc (yes, c.if-is_computing.false))) in
+    (λ there. let yes = c.is_computing.ensures.1 (subst (λ (t : TxnValue). IsSome (top_call t.core.call)) c.self.view_is there) in absurd (cc (yes, c.if-is_computing.false))) in
     resting_idle old.core c.self.invariant.rests closed
 
 pub serve-step-requires : goal.serve-step-requires
@@ -52,7 +52,7 @@ returns-clause-told g c =
     let old = c.self.inside.txn in
     let new = c.serve-step.new.txn in
     let closed = none_of (top_call old.core.call)
-        (λ there. let yes = c.is_computing.ensures.1 (subst (λ (t : TxnValue). IsSome (top_call t.core.call)) c.self.view_is there) in absurd (cc (yes, c.if-is_computing.false))) in
+    (λ there. let yes = c.is_computing.ensures.1 (subst (λ (t : TxnValue). IsSome (top_call t.core.call)) c.self.view_is there) in absurd (cc (yes, c.if-is_computing.false))) in
     subst (λ (t : TxnValue). IsToldSo g.A.App.next (open_states new.core) t.core.call (asks.Call c.args.key) new.core.call c.serve-step.result) c.self.view_is
     (first_told g.A.App.next old c.start-turn.new.self new c.args.key c.start-turn.result c.start-turn.ensures.begun (resting_idle old.core c.self.invariant.rests closed)
     (c.self.invariant.lent.functions c.args.key.function c.function-function.ensures.bound) c.self.invariant.lent.meant.fits c.is_lent.ensures.meant c.serve-step.result c.serve-step.ensures.served.goes_on)
@@ -62,7 +62,7 @@ returns-clause-objects g c =
     let old = c.self.inside.txn in
     let new = c.serve-step.new.txn in
     let closed = none_of (top_call old.core.call)
-        (λ there. let yes = c.is_computing.ensures.1 (subst (λ (t : TxnValue). IsSome (top_call t.core.call)) c.self.view_is there) in absurd (cc (yes, c.if-is_computing.false))) in
+    (λ there. let yes = c.is_computing.ensures.1 (subst (λ (t : TxnValue). IsSome (top_call t.core.call)) c.self.view_is there) in absurd (cc (yes, c.if-is_computing.false))) in
     subst (λ (t : TxnValue). ObjectsFollow t.objects t.core.call (asks.Call c.args.key) new.objects c.serve-step.result) c.self.view_is
     (first_follow g.A.App.next old c.start-turn.new.self new c.args.key c.start-turn.result c.start-turn.ensures.begun (resting_idle old.core c.self.invariant.rests closed)
     (c.self.invariant.lent.functions c.args.key.function c.function-function.ensures.bound) c.self.invariant.lent.meant.fits c.is_lent.ensures.meant c.serve-step.result

@@ -13,7 +13,7 @@ pub finish-receipt-requires : goal.finish-receipt-requires
 finish-receipt-requires g c =
     let old = c.self.inside.txn in
     let closed = none_of (top_call old.core.call)
-        (λ there. let yes : c.is_computing.result ≡ true = c.is_computing.ensures.1 (subst (λ (t : TxnValue). IsSome (top_call t.core.call)) c.self.view_is there) in absurd (cc (yes, c.if-is_computing.false))) in
+    (λ there. let yes : c.is_computing.result ≡ true = c.is_computing.ensures.1 (subst (λ (t : TxnValue). IsSome (top_call t.core.call)) c.self.view_is there) in absurd (cc (yes, c.if-is_computing.false))) in
     resting_idle old.core c.self.invariant.rests closed
 
 pub returns-clause-explained : goal.returns-clause-explained
