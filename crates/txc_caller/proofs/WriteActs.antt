@@ -1,13 +1,14 @@
 -- What comes of an act of a transaction that writes.
 use Rattle.std.proofs.Common.{◌≡◌, ◌≢◌, ◌∙◌, ◌⊎◌, ⊎_elim, inl, inr, ℕ, false, List, [], ◌∷◌, ◌++◌, All, Option, Some, None, Ok, Err, append-nil, refl, ap, sym, subst}
-use Rattle.std.specs.Prelude.{Result, IfOk, OnErr, OnOk}
+use Rattle.std.specs.Prelude.{Vec, Result, IfErr, IfOk, OnErr, OnOk}
 use Rattle.std.proofs.lemmas.List.Elements.{All-nil, All-push}
 use Rattle.txc_tags.specs.Keys.{Call}
-use Rattle.txc_rows.specs.States.{State}
+use Rattle.std.specs.declared.alloc.Global.{Global}
+use Rattle.txc_rows.specs.States.{RowValue, State, answer}
 use Rattle.txc_rows.specs.declared.query.Query.{Query}
 use Rattle.txc_validity.specs.declared.answer.Found.{Found}
 use Rattle.txc_db.specs.DatabaseValue.{DatabaseValue}
-use Rattle.txc_db.specs.History.{History}
+use Rattle.txc_db.specs.History.{History, state_at}
 use Rattle.txc_db.specs.declared.error.DbError.{DbError}
 use Rattle.txc_app.specs.Answering.{IsRight}
 use Rattle.txc_app.specs.Eval.{Next}
@@ -25,7 +26,7 @@ use Rattle.txc_call.specs.declared.need.Outcome.{Outcome}
 use Rattle.txc_call.specs.Calling.{Calling, IsCalling}
 use Rattle.txc_call.specs.Needs.{NeedFits}
 use Rattle.txc_call.specs.Frames.{answers_in}
-use Rattle.txc_call.specs.Running.{due_ask, is_done, objects_after, value_need, NeedsFunction}
+use Rattle.txc_call.specs.Running.{AfterRan, due_ask, is_done, objects_after, value_need, NeedsFunction}
 use Rattle.txc_call.specs.Turns.{Standing, Turn, outcome_of, value_held}
 use Rattle.txc_ports.specs.declared.turn.Turn.TheVariants.{Ask as AskTurn, Ended}
 use Rattle.txc_ports.specs.declared.error.TxnError.{TxnError}
@@ -36,8 +37,10 @@ use Rattle.txc_rw.specs.declared.given.Given.{Given}
 use Rattle.txc_rw.specs.declared.given.Given.TheVariants as given
 use Rattle.txc_rw.specs.ByHand.{RwHandTurn, RwHandTransition, RwHearTransition, RwObjectsLeft, without_node, answers_by_hand, IsRwHandTurn, IsRwUnended}
 use Rattle.txc_rw.specs.Core.{IsFoundAt, IsRightReply, RwValue}
+use Rattle.txc_rw.specs.Transitions.{IsQueryLeft, RowsTransition}
 use Rattle.txc_caller.specs.Telling.{ContinuesWith, HasBegunFunction, IsNextStep, IsOpenWith, IsToldRight, IsToldSo, ObjectsFollow, calls_of, computed_calls, computed_in, ended_step, told_answer, told_in, top_call}
-use Rattle.txc_caller.specs.Writing.{HasLed, IsHeard, IsStepAfter, IsWritingStep, queried_for}
+use Rattle.txc_db.specs.Calls.{IsQueryRefused}
+use Rattle.txc_caller.specs.Writing.{HasLed, IsActRefused, IsAskedQueryRefused, IsHeard, IsReadRefused, IsReplyAt, IsStepAfter, IsWritingStep, queried_for}
 use Rattle.txc_caller.specs.declared.step.CallerError.{CallerError}
 use Rattle.txc_caller.specs.declared.step.CallerError.TheVariants.{Txn}
 use Rattle.txc_caller.specs.declared.step.Step.{Step}
@@ -141,8 +144,7 @@ module _ (computed : List Call) (frames : List Frame) (need : Need) (call : Call
   goes_on_from (asks.Call k) next at is runs =
       (ap (λ (fs : List Frame). calls_of fs) at ∙ next.0, is ∙ ap (λ (n : Need). without_node frames (Some n)) next.1)
   goes_on_from (asks.Done bytes) next at is runs =
-      let h = held_for frames need bytes next.2 (subst (λ (n : Option Need). NeedsFunction n) is runs) in
-      (
+      let h = held_for frames need bytes next.2 (subst (λ (n : Option Need). NeedsFunction n) is runs) in (
         next.0,
         next.1 ∙ ap (λ (fs : List Frame). next.0 ∷ calls_of fs) (sym at),
         record { frame = h.0; outer = h.1; held = h.2; at = at ∙ h.3; need = is ∙ h.4; value = h.5 },
@@ -515,3 +517,92 @@ same_but old mid new first then rests none =
     then ∙ ap (λ (v : RwValue). record v { queried = new.queried; call = new.call; reading = new.reading }) first in
     both ∙ (ap (λ (xs : List Given). record old { queried = new.queried; answers = xs; call = new.call; reading = new.reading }) (sym (ap (λ (v : RwValue). v.answers) then))
     ∙ ap (λ (r : Option Query). record old { queried = new.queried; answers = new.answers; call = new.call; reading = r }) (rests ∙ sym none))
+
+-- ---- why it was refused
+
+module _ (d : DatabaseValue) (computed : List Call) (old mid new : RwValue) (objects : Objects) (need : Need) (ask : Ask) (needed : old.call.need ≡ Some need) where
+  first_refused : (stands : Turn) (error : TxnError) → AfterRan old.call.frames old.call.asked objects need ask stands → RwHandTransition stands mid (Some (Ended (Err error)))
+      → IsActRefused d old objects ask (Txn error)
+  first_refused (Err cause) error after leads = inr (inl (record { need = need; needed = needed; cause = cause; after = after; is = cc leads }))
+  first_refused (Ok s) error after leads = inl leads.1
+
+  query_refused : (a : Ask) (q : Query) (cause : DbError) → AsksFrom computed a mid.call.frames q → mid.base ≡ old.base → IsQueryRefused d q mid.base cause
+      → IsAskedQueryRefused d old.base a (refused_request cause)
+  query_refused (asks.Query p) q cause from base refused =
+      (cause, subst (λ (x : Query). IsQueryRefused d x old.base cause) from.1 (subst (λ (b : ℕ). IsQueryRefused d q b cause) base refused), refl)
+  query_refused (asks.Call k) q cause from base refused = absurd from
+  query_refused (asks.Done bytes) q cause from base refused = absurd from
+
+  pub why_refused : (stands : Turn) (turn last : RwHandTurn) (result : Result Step CallerError) → AfterRan old.call.frames old.call.asked objects need ask stands
+      → RwHandTransition stands mid turn → HasAskedFrom computed ask mid.call turn → mid.base ≡ old.base → HasLed d mid turn new last → IsStepAfter new.call last result
+      → IfErr result (IsActRefused d old objects ask)
+  why_refused stands None last result after leads from base led says =
+      let then = subst (λ (t : RwHandTurn). IsStepAfter new.call t result) led.1 says in
+      subst (λ (r : Result Step CallerError). IfErr r (IsActRefused d old objects ask)) (sym then.1) tt
+  why_refused stands (Some (Ended (Ok value))) last result after leads from base led says =
+      let ends : result ≡ ended_step (Ok value) = subst (λ (t : RwHandTurn). IsStepAfter new.call t result) led.1 says in
+      subst (λ (r : Result Step CallerError). IfErr r (IsActRefused d old objects ask)) (sym ends) tt
+  why_refused stands (Some (Ended (Err error))) last result after leads from base led says =
+      let ends : result ≡ ended_step (Err error) = subst (λ (t : RwHandTurn). IsStepAfter new.call t result) led.1 says in
+      subst (λ (r : Result Step CallerError). IfErr r (IsActRefused d old objects ask)) (sym ends) (first_refused stands error after leads)
+  why_refused stands (Some (AskTurn q)) last result after leads from base (Ok found, at, heard) says =
+      let then = subst (λ (t : RwHandTurn). IsStepAfter new.call t result) heard.0 says in
+      subst (λ (r : Result Step CallerError). IfErr r (IsActRefused d old objects ask)) (sym then.1) tt
+  why_refused stands (Some (AskTurn q)) last result after leads from base (Err cause, at, heard) says =
+      let ends : result ≡ ended_step (Err (refused_request cause)) = subst (λ (t : RwHandTurn). IsStepAfter new.call t result) heard.0 says in
+      subst (λ (r : Result Step CallerError). IfErr r (IsActRefused d old objects ask)) (sym ends) (inr (inr (query_refused ask q cause from base at)))
+
+-- ---- a query of its own
+
+pub reply_at : (d : DatabaseValue) (base : ℕ) (q : Query) (reply : Result Found DbError) → IfOk reply (IsFoundAt d.history base q) → IfErr reply (IsQueryRefused d q base)
+    → IsReplyAt d base q reply
+reply_at d base q (Ok found) at refused = at
+reply_at d base q (Err error) at refused = refused
+
+module _ (d : DatabaseValue) (core mid new : RwValue) (q : Query) (asking : mid ≡ record core { reading = Some q }) (none : core.reading ≡ None) where
+  pub read_answer : (base : ℕ) (reply : Result Found DbError) (result : Result (Vec RowValue Global) TxnError) → RowsTransition mid q reply new result → IsReplyAt d base q reply
+      → IfOk result (λ rows. rows.items ≡ answer q (state_at d.history base))
+  read_answer base (Ok found) (Ok rows) leads at = leads.0 ∙ at.rows
+  read_answer base (Ok found) (Err error) leads at = tt
+  read_answer base (Err cause) result leads at =
+      subst (λ (r : Result (Vec RowValue Global) TxnError). IfOk r (λ rows. rows.items ≡ answer q (state_at d.history base))) (sym leads.0) tt
+
+  pub read_after : (reply : Result Found DbError) (result : Result (Vec RowValue Global) TxnError) → RowsTransition mid q reply new result
+      → IfOk result (λ rows. new ≡ record core { queried = core.queried ++ q ∷ []; answers = core.answers ++ given.Rows q rows.items ∷ [] })
+  read_after (Ok found) (Ok rows) leads =
+      leads.1
+      ∙ (ap (λ (v : RwValue). record v { queried = v.queried ++ q ∷ []; answers = v.answers ++ given.Rows q rows.items ∷ []; reading = None }) asking
+      ∙ ap (λ (r : Option Query). record core { queried = core.queried ++ q ∷ []; answers = core.answers ++ given.Rows q rows.items ∷ []; reading = r }) (sym none))
+  read_after (Ok found) (Err error) leads = tt
+  read_after (Err cause) result leads =
+      subst (λ (r : Result (Vec RowValue Global) TxnError). IfOk r (λ rows. new ≡ record core { queried = core.queried ++ q ∷ []; answers = core.answers ++ given.Rows q rows.items ∷ [] })) (sym leads.0) tt
+
+  pub read_refused : (base : ℕ) (reply : Result Found DbError) (result : Result (Vec RowValue Global) TxnError) → RowsTransition mid q reply new result → IsReplyAt d base q reply
+      → IfErr result (IsReadRefused d base q)
+  read_refused base (Ok found) (Ok rows) leads at = tt
+  read_refused base (Ok found) (Err error) leads at = inl leads.0
+  read_refused base (Err cause) result leads at =
+      subst (λ (r : Result (Vec RowValue Global) TxnError). IfErr r (IsReadRefused d base q)) (sym leads.0) (inr (cause, at, refl))
+
+  pub read_left : (reply : Result Found DbError) (result : Result (Vec RowValue Global) TxnError) → RowsTransition mid q reply new result → IfErr result (IsQueryLeft core q new)
+  read_left (Ok found) (Ok rows) leads = tt
+  read_left (Ok found) (Err error) leads =
+      inr (
+        leads.0,
+        leads.1
+            ∙ (ap (λ (v : RwValue). record v { queried = v.queried ++ q ∷ []; reading = None }) asking
+            ∙ ap (λ (r : Option Query). record core { queried = core.queried ++ q ∷ []; reading = r }) (sym none)),
+      )
+  read_left (Err cause) result leads =
+      subst (λ (r : Result (Vec RowValue Global) TxnError). IfErr r (IsQueryLeft core q new)) (sym leads.0)
+      (inl (leads.1 ∙ (ap (λ (v : RwValue). record v { reading = None }) asking ∙ ap (λ (r : Option Query). record core { reading = r }) (sym none))))
+
+  pub read_call : (reply : Result Found DbError) (result : Result (Vec RowValue Global) TxnError) → RowsTransition mid q reply new result → new.call ≡ core.call
+  read_call (Ok found) (Ok rows) leads = ap (λ (v : RwValue). v.call) leads.1 ∙ ap (λ (v : RwValue). v.call) asking
+  read_call (Ok found) (Err error) leads = ap (λ (v : RwValue). v.call) leads.1 ∙ ap (λ (v : RwValue). v.call) asking
+  read_call (Err cause) result leads = ap (λ (v : RwValue). v.call) leads.1 ∙ ap (λ (v : RwValue). v.call) asking
+
+  pub read_rests : (reply : Result Found DbError) (result : Result (Vec RowValue Global) TxnError) → RowsTransition mid q reply new result → new.reading ≡ None
+  read_rests (Ok found) (Ok rows) leads = ap (λ (v : RwValue). v.reading) leads.1
+  read_rests (Ok found) (Err error) leads = ap (λ (v : RwValue). v.reading) leads.1
+  read_rests (Err cause) result leads = ap (λ (v : RwValue). v.reading) leads.1

@@ -1,42 +1,38 @@
 -- A transaction that writes, between two of its acts and at its end.
-use Rattle.std.proofs.Common.{◌≡◌, ◌≢◌, ◌∙◌, ◌⊎◌, ⊎_elim, inl, inr, ℕ, ◌≤◌, Bool, true, false, List, [], ◌∷◌, ◌++◌, length, Option, Some, None, IsSome, append-nil, refl, ap, sym, subst}
+use Rattle.std.proofs.Common.{◌≡◌, ◌≢◌, ◌∙◌, ◌⊎◌, inl, inr, ℕ, ◌≤◌, List, [], ◌∷◌, ◌++◌, length, Option, Some, None, IsSome, refl, ap, sym, subst, arith}
 use Rattle.std.specs.Prelude.{◌<◌, Result, Ok, Err, IfErr, IsOk, OnErr, OnOk}
 use mathlib.Core.List.{IsPrefix}
-use Rattle.txc_tags.specs.Keys.{Call}
 use Rattle.txc_tags.specs.declared.tag.Tag.{Tag}
 use Rattle.txc_rows.specs.declared.query.Change.{Change}
 use Rattle.txc_rows.specs.declared.query.Query.{Query}
-use Rattle.txc_db.specs.Calls.{IsCommittable}
-use Rattle.txc_db.specs.DatabaseValue.{DatabaseValue, after_commit, front_of, newest}
-use Rattle.txc_db.specs.History.{History, state_at}
+use Rattle.txc_db.specs.Calls.{IsBase, IsCommittable, IsCommitRefused, IsLeft}
+use Rattle.txc_db.specs.declared.error.DbError.{DbError}
+use Rattle.txc_db.specs.DatabaseValue.{DatabaseValue, after_commit, after_hold, front_of, newest}
+use Rattle.txc_db.specs.History.{History}
 use Rattle.txc_db.specs.Shared.{IsEventIn, IsQuietIn}
 use Rattle.txc_db.proofs.Committed.{commit_result}
 use Rattle.txc_db.proofs.Histories.{states_stay}
 use Rattle.txc_app.specs.Eval.{Next}
-use Rattle.txc_registry.specs.Objects.{AllIdle, Objects}
-use Rattle.txc_call.specs.Calling.{started, Calling}
-use Rattle.txc_call.specs.Frames.{InAll}
+use Rattle.txc_registry.specs.Objects.{Objects}
+use Rattle.txc_call.specs.Calling.{Calling}
 use Rattle.txc_call.specs.Needs.{InNeed, NeedFits}
 use Rattle.txc_call.specs.Running.{NeedsFunction}
-use Rattle.txc_call.specs.declared.frame.Frame.{Frame}
 use Rattle.txc_call.specs.declared.need.Need.{Need}
 use Rattle.txc_shared.specs.Nodes.{NodeValue}
 use Rattle.txc_txn.specs.Core.{running_call}
 use Rattle.txc_rw.specs.ByHand.{IsRwByHand}
-use Rattle.txc_rw.specs.Core.{IsBegun, IsRwIdle, IsWriteRefused, ReadingFits, RwHolds, RwValue, tags_read}
+use Rattle.txc_rw.specs.Core.{IsRwIdle, IsWriteRefused, ReadingFits, RwHolds, RwValue, tags_read}
 use Rattle.txc_rw.specs.declared.rw_core.TheConstants.{MAX_CHANGES}
-use Rattle.txc_rw.specs.Answers.{AreRightIn}
 use Rattle.txc_rw.specs.Outcomes.{IsCommitted}
-use Rattle.txc_rw.proofs.Commits.{commits_are_right, event_tags_are_sound}
-use Rattle.txc_rw.proofs.Holding.{holds_at_first, holds_in_longer, right_at_base}
+use Rattle.txc_rw.proofs.Commits.{answer_lent, commits_are_right, event_tags_are_sound}
+use Rattle.txc_rw.proofs.Holding.{holds_in_longer}
 use Rattle.txc_ports.specs.declared.error.TxnError.{TxnError}
-use Rattle.txc_caller.specs.Ports.{HasGrown, IsLetGo, MayHaveTaken}
-use Rattle.txc_app.specs.declared.ask.Ask.{Ask}
-use Rattle.txc_app.specs.declared.ask.Ask.TheVariants as asks
-use Rattle.txc_call.specs.declared.need.Need.TheVariants as needs
-use Rattle.txc_told.specs.Steps.{objects_after_ask, objects_after_need}
-use Rattle.txc_caller.specs.Telling.{call_or, computed_calls, computed_in, told_answer, top_call, top_or, HasBegunFunction, IsOpenWith}
-use Rattle.txc_caller.specs.Writing.{CallerWriting, ChangeLeaves, IsCallerWrite}
+use Rattle.txc_caller.specs.Ports.{CallerPorts, HasGrown, IsLetGo, MayHaveTaken}
+use Rattle.txc_caller.specs.Reading.{CallerValue, KeepsCaller}
+use Rattle.txc_caller.specs.Telling.{top_call}
+use Rattle.txc_caller.specs.Writing.{CallerWriting, ChangeLeaves, HasCommittedWrite, IsCallerWrite, IsWriteCommitRefused, IsWriteLeft, held_base}
+use Rattle.txc_caller.specs.declared.step.WriteError.TheVariants as writes
+use Rattle.txc_caller.proofs.Letting.{let_go_history}
 
 -- ---- how it stands
 
@@ -47,36 +43,6 @@ closed_call call closed = by_need call.need closed
     by_need : (need : Option Need) → ¬ (IsSome (running_call need call.top)) → need ≡ None
     by_need None closed = refl
     by_need (Some need) closed = absurd (closed refl)
-
--- what needs nothing is not open
-pub no_top : (call : Calling) → call.need ≡ None → top_call call ≡ None
-no_top call none = ap (λ (need : Option Need). running_call need call.top) none
-
--- between two acts a call that is open needs a function
-pub open_runs : (next : Next) (w : CallerWriting) → IsCallerWrite next w → IsSome (top_call w.core.call) → NeedsFunction w.core.call.need
-open_runs next w is there =
-    ⊎_elim
-    (λ (fits : ReadingFits w.core.reading w.core.call.need).
-    let none : w.core.call.need ≡ None = subst (λ (r : Option Query). ReadingFits r w.core.call.need) is.rests fits in
-    let no : IsSome (running_call None w.core.call.top) = subst (λ (need : Option Need). IsSome (running_call need w.core.call.top)) none there in
-    absurd (cc no))
-    (λ (runs : (w.core.reading ≡ None) × NeedsFunction w.core.call.need). runs.1)
-    is.fits.reading
-
--- .. and if none is open, no function is
-pub closed_idle : (next : Next) (w : CallerWriting) → IsCallerWrite next w → w.core.call.need ≡ None → AllIdle w.objects
-closed_idle next w is none = (subst (λ (need : Option Need). NeedFits next w.objects w.core.call.top need w.core.call.frames) none is.fits.call).1
-
-pub closed_frames : (next : Next) (w : CallerWriting) → IsCallerWrite next w → w.core.call.need ≡ None → w.core.call.frames ≡ []
-closed_frames next w is none = (subst (λ (need : Option Need). NeedFits next w.objects w.core.call.top need w.core.call.frames) none is.fits.call).0
-
--- it begins
-pub begun_fits : (next : Next) (objects : Objects) (c : RwValue) (base : ℕ) → IsBegun base c → AllIdle objects → IsRwByHand next objects c
-begun_fits next objects c base begun idle = record {
-  call = subst (λ (need : Option Need). NeedFits next objects c.call.top need c.call.frames) (sym begun.need) (begun.frames, idle);
-  at_one = subst (λ (need : Option Need). InNeed 1 need c.call.frames) (sym begun.need) (tt, subst (λ (fs : List Frame). InAll 1 fs) (sym begun.frames) tt);
-  reading = inl (subst (λ (r : Option Query). ReadingFits r c.call.need) (sym begun.reading) begun.need);
-}
 
 -- what the core holds is of the call, the queries and the answers alone
 pub same_fits : (next : Next) (objects : Objects) (c d : RwValue) → d.call ≡ c.call → d.reading ≡ c.reading → IsRwByHand next objects c → IsRwByHand next objects d
@@ -124,54 +90,100 @@ newest_still None d e is = ap newest is
 newest_still (Some stamp) d e (inl after) = ap newest after
 newest_still (Some stamp) d e (inr left) = ap newest left.0
 
--- ---- acts
+-- ---- a commit
 
--- what was read by an ask that reads nothing
-pub unread : {T E : Type 0} (result : Result T E) (now was : List Query) → OnOk result (now ≡ was ++ []) → OnErr result (now ≡ was) → now ≡ was
-unread (Ok done) now was ok err = ok ∙ append-nil was
-unread (Err error) now was ok err = err
+-- its answer, in the history that is left once the hold is taken away
+pub commit_done : (d new last : DatabaseValue) (unpin : Option ℕ) (base base' stamp : ℕ) (read read' : List Tag) (changes changes' : List Change) → base ≡ base' → read ≡ read' → changes ≡ changes'
+    → new ≡ after_commit d changes → stamp ≡ newest new → IsCommittable d base read changes → IsLetGo unpin new last
+    → IsQuietIn last.history base' read' changes' stamp ⊎ IsEventIn last.history base' read' changes' stamp
+commit_done d new last unpin base base' stamp read read' changes changes' one two three after answer due gone =
+    answer_lent last.history stamp base base' read read' changes changes' one two three
+    (commit_says d new base stamp read changes last.history (let_go_history unpin new last gone) after answer due)
 
--- what an act leaves of a transaction, if it reads nothing and gives no value
-module _ (old new : CallerWriting) (is : new ≡ record old {
-      core = record old.core { queried = new.core.queried; answers = new.core.answers; call = new.core.call };
-      objects = new.objects;
-    }) where
-  pub only_call : new.core.queried ≡ old.core.queried → new.core.answers ≡ old.core.answers
-      → new ≡ record old { core = record old.core { call = new.core.call }; objects = new.objects }
-  only_call queried answers = is ∙ (λ i. record old { core = record old.core { queried = queried i; answers = answers i; call = new.core.call }; objects = new.objects })
+-- a caller with these ports
+abbrev caller_of : CallerPorts → ℕ → CallerValue
+caller_of p renew = record { ports = p; renew_after = renew }
 
-  pub only_queried : new.core.answers ≡ old.core.answers
-      → new ≡ record old { core = record old.core { queried = new.core.queried; call = new.core.call }; objects = new.objects }
-  only_queried answers = is ∙ (λ i. record old { core = record old.core { queried = new.core.queried; answers = answers i; call = new.core.call }; objects = new.objects })
-
-  pub only_answers : new.core.queried ≡ old.core.queried
-      → new ≡ record old { core = record old.core { answers = new.core.answers; call = new.core.call }; objects = new.objects }
-  only_answers queried = is ∙ (λ i. record old { core = record old.core { queried = queried i; answers = new.core.answers; call = new.core.call }; objects = new.objects })
-
--- the outermost call of one that is open
-pub open_top : (call : Calling) → IsSome (top_call call) → top_call call ≡ Some call.top
-open_top call there = by_need call.need there
-  where
-    by_need : (need : Option Need) → IsSome (running_call need call.top) → running_call need call.top ≡ Some call.top
-    by_need None there = absurd (cc there)
-    by_need (Some need) there = refl
-
--- a call that begins
-module _ (old new : Calling) (k : Call) (none : old.need ≡ None) (is : new ≡ record (started k) { need = Some (needs.Begin k) }) where
-  pub begins_told : HasBegunFunction old (asks.Call k) new
-  begins_told =
-      let before : computed_calls old ≡ [] = ap (λ (need : Option Need). computed_in old.frames need) none in
-      (ap (λ (c : Calling). computed_calls c) is ∙ ap (λ (ks : List Call). k ∷ ks) (sym before), ap (λ (c : Calling). told_answer c) is)
-
-  pub begins_open : IsOpenWith (top_or old k) None new
-  begins_open =
-      let first : top_or old k ≡ k = ap (λ (top : Option Call). call_or top k) (no_top old none) in
-      subst (λ (j : Call). IsOpenWith j None new) (sym first) record {
-        top = ap (λ (c : Calling). top_call c) is;
-        computing = subst (λ (c : Calling). NeedsFunction c.need) (sym is) tt;
-        told_is = ap (λ (c : Calling). told_answer c) is;
+module _ (old : CallerValue) (p0 p1 : CallerPorts) (renew : ℕ) (w : CallerWriting) (base : ℕ) (read : List Tag) (changes : List Change)
+    (was : caller_of p0 renew ≡ old) (at : base ≡ w.core.base) (tags : read ≡ tags_read w.core) (same_changes : changes ≡ w.core.changes) where
+  -- what it did
+  pub committed_so : (p2 : CallerPorts) (unpin : Option ℕ) (stamp : ℕ) → IsRwIdle w.core → unpin ≡ held_base w → IsCommittable p0.database base read changes
+      → p1.database ≡ after_commit p0.database changes → stamp ≡ newest p1.database → MayHaveTaken p1.database p0.node p1.node
+      → p1 ≡ record p0 { database = p1.database; node = p1.node } → IsLetGo unpin p1.database p2.database → p2 ≡ record p1 { database = p2.database }
+      → HasCommittedWrite old w stamp (caller_of p2 renew)
+  committed_so p2 unpin stamp idle held could after answer taken same gone same' =
+      let node : p2.node ≡ p1.node = ap (λ (p : CallerPorts). p.node) same' in
+      let ports : p2 ≡ record p0 { database = p2.database; node = p2.node } =
+      same' ∙ (ap (λ (p : CallerPorts). record p { database = p2.database }) same ∙ ap (λ (n : NodeValue). record p0 { database = p2.database; node = n }) (sym node)) in
+      subst (λ (c : CallerValue). HasCommittedWrite c w stamp (caller_of p2 renew)) was record {
+        idle = idle;
+        could = subst (λ (cs : List Change). IsCommittable p0.database w.core.base (tags_read w.core) cs) same_changes
+            (subst (λ (r : List Tag). IsCommittable p0.database w.core.base r changes) tags (subst (λ (b : ℕ). IsCommittable p0.database b read changes) at could));
+        after = subst (λ (u : Option ℕ). IsLetGo u (after_commit p0.database w.core.changes) p2.database) held
+            (subst (λ (d : DatabaseValue). IsLetGo unpin d p2.database) (after ∙ ap (λ (cs : List Change). after_commit p0.database cs) same_changes) gone);
+        stamp_is = answer ∙ sym (newest_still unpin p1.database p2.database gone);
+        taken = subst (λ (n : NodeValue). MayHaveTaken p2.database p0.node n) (sym node) (taken_still unpin p1.database p2.database p0.node p1.node gone taken);
+        same = ap (λ (p : CallerPorts). caller_of p renew) ports;
       }
 
--- no function has an ask to make
-pub no_ask : (objects : Objects) (call : Calling) (ask : Ask) → call.need ≡ None → objects ≡ objects_after_ask objects call ask
-no_ask objects call ask none = sym (ap (λ (need : Option Need). objects_after_need objects call.frames need ask) none)
+  -- why it was refused, and what that leaves
+  pub commit_refused : (error : DbError) → IsCommitRefused p0.database base read changes error → IsWriteCommitRefused old w (writes.Database error)
+  commit_refused error refused =
+      subst (λ (c : CallerValue). IsWriteCommitRefused c w (writes.Database error)) was
+      (subst (λ (cs : List Change). IsCommitRefused p0.database w.core.base (tags_read w.core) cs error) same_changes
+      (subst (λ (r : List Tag). IsCommitRefused p0.database w.core.base r changes error) tags (subst (λ (b : ℕ). IsCommitRefused p0.database b read changes error) at refused)))
+
+  pub commit_left : (error : DbError) → IsLeft p0.database p1.database error → p1 ≡ record p0 { database = p1.database } → IsWriteLeft old (writes.Database error) (caller_of p1 renew)
+  commit_left error left same =
+      subst (λ (c : CallerValue). IsWriteLeft c (writes.Database error) (caller_of p1 renew)) was
+      (left, ap (λ (p : CallerPorts). caller_of p renew) same)
+
+-- what every act keeps of its caller
+pub keeps_ports : (old : CallerValue) (p q : CallerPorts) (renew : ℕ) → caller_of p renew ≡ old → HasGrown p.database q.database
+    → KeepsCaller old (caller_of q renew)
+keeps_ports old p q renew was grown = record {
+  row = grown.events ∙ ap (λ (c : CallerValue). c.ports.database.events) was;
+  renew_after = ap (λ (c : CallerValue). c.renew_after) was;
+}
+
+pub grown_ports : (old : CallerValue) (p q : CallerPorts) (renew : ℕ) → caller_of p renew ≡ old → HasGrown p.database q.database
+    → HasGrown old.ports.database q.database
+grown_ports old p q renew was grown = subst (λ (c : CallerValue). HasGrown c.ports.database q.database) was grown
+
+-- ---- a change more
+
+pub written_call : {T E : Type 0} (result : Result T E) (old new : RwValue) (changes : List Change) → OnOk result (new ≡ record old { changes = changes }) → OnErr result (new ≡ old)
+    → new.call ≡ old.call
+written_call (Ok done) old new changes after unchanged = ap (λ (v : RwValue). v.call) after
+written_call (Err error) old new changes after unchanged = ap (λ (v : RwValue). v.call) unchanged
+
+pub written_reading : {T E : Type 0} (result : Result T E) (old new : RwValue) (changes : List Change) → OnOk result (new ≡ record old { changes = changes }) → OnErr result (new ≡ old)
+    → new.reading ≡ old.reading
+written_reading (Ok done) old new changes after unchanged = ap (λ (v : RwValue). v.reading) after
+written_reading (Err error) old new changes after unchanged = ap (λ (v : RwValue). v.reading) unchanged
+
+-- it stands as it stood
+pub written_fits : {T E : Type 0} (result : Result T E) (next : Next) (w : CallerWriting) (core : RwValue) (changes : List Change)
+    → OnOk result (core ≡ record w.core { changes = changes }) → OnErr result (core ≡ w.core) → IsCallerWrite next w → IsCallerWrite next (record w { core = core })
+written_fits result next w core changes after unchanged h =
+    let reading = written_reading result w.core core changes after unchanged in
+    record {
+      fits = same_fits next w.objects w.core core (written_call result w.core core changes after unchanged) reading h.fits;
+      functions = h.functions;
+      rests = reading ∙ h.rests;
+    }
+
+pub changed_so : (change : Change) (inside old : CallerWriting) (core : RwValue) (result : Result (Unit {0}) TxnError) → inside ≡ old
+    → OnOk result (core ≡ record inside.core { changes = inside.core.changes ++ change ∷ [] }) → (IsOk result → length inside.core.changes < MAX_CHANGES)
+    → IfErr result (IsWriteRefused (length inside.core.changes)) → OnErr result (core ≡ inside.core) → ChangeLeaves change old (record inside { core = core }) result
+changed_so change inside old core result is after only_if refused unchanged =
+    subst (λ (v : CallerWriting). ChangeLeaves change v (record inside { core = core }) result) is
+    (change_leaves change inside (record inside { core = core }) core result refl after only_if refused unchanged)
+
+-- ---- a beginning
+
+pub held_within : (p q : CallerPorts) (base : ℕ) → q ≡ record p { database = after_hold p.database } → base ≡ newest p.database → base ≤ length q.database.history
+held_within p q base is at = let same = ap (λ (v : CallerPorts). length v.database.history) is in omega (arith, same, at)
+
+pub base_within : (p q : CallerPorts) (base : ℕ) → q ≡ p → IsBase p.database base → base ≤ length q.database.history
+base_within p q base is known = let same = ap (λ (v : CallerPorts). length v.database.history) is in let low = known.known in omega (arith, same, low)

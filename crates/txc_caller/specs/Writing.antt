@@ -11,12 +11,15 @@ use Rattle.txc_db.specs.declared.error.DbError.{DbError}
 use Rattle.txc_app.specs.Eval.{Next}
 use Rattle.txc_app.specs.declared.ask.Ask.{Ask}
 use Rattle.txc_app.specs.declared.ask.Ask.TheVariants as asks
-use Rattle.txc_ports.specs.Refusals.{refused_request}
+use Rattle.txc_ports.specs.Refusals.{refused_call, refused_request}
 use Rattle.txc_ports.specs.declared.turn.Turn.TheVariants.{Ask as AskTurn, Ended}
 use Rattle.txc_ports.specs.declared.error.TxnError.{TxnError}
 use Rattle.txc_ports.specs.declared.error.TxnError.TheVariants.{Memory}
 use Rattle.txc_registry.specs.Objects.{AllIdle, Objects}
 use Rattle.txc_call.specs.Calling.{Calling}
+use Rattle.txc_call.specs.Running.{AfterRan}
+use Rattle.txc_call.specs.declared.error.CallError.{CallError}
+use Rattle.txc_call.specs.declared.need.Need.{Need}
 use Rattle.txc_validity.specs.declared.answer.Found.{Found}
 use Rattle.txc_rw.specs.ByHand.{IsRwByHand, RwHandTurn, RwHearTransition}
 use Rattle.txc_rw.specs.Core.{IsBegun, IsFoundAt, IsRwIdle, IsWriteRefused, RwHolds, RwValue, tags_read}
@@ -24,8 +27,9 @@ use Rattle.txc_rw.specs.declared.given.Given.TheVariants as given
 use Rattle.txc_rw.specs.declared.rw_core.TheConstants.{MAX_CHANGES}
 use Rattle.txc_caller.specs.Ports.{IsLetGo, MayHaveTaken}
 use Rattle.txc_caller.specs.Reading.{CallerValue}
-use Rattle.txc_caller.specs.Telling.{HaveAllFunctions, IsNextStep, IsStepOf, ended_step}
+use Rattle.txc_caller.specs.Telling.{HaveAllFunctions, IsNextStep, IsStepOf, ended_step, top_call}
 use Rattle.txc_caller.specs.declared.step.CallerError.{CallerError}
+use Rattle.txc_caller.specs.declared.step.CallerError.TheVariants.{NoFunction, Txn}
 use Rattle.txc_caller.specs.declared.step.Step.{Step}
 use Rattle.txc_caller.specs.declared.step.WriteError.{WriteError}
 use Rattle.txc_caller.specs.declared.step.WriteError.TheVariants as writes
@@ -89,6 +93,27 @@ IsStepAfter call (Some (AskTurn query)) result = ⊥
 -- what comes of an act in this call
 abbrev pub IsWritingStep : RwValue → RwValue → Call → Result Step CallerError → Type 0
 IsWritingStep old new k step = IsStepOf (given.Value k) old.answers new.answers new.call k step
+
+-- the machine of calls refused the ask
+pub record IsRefusedByCall (core : RwValue) (objects : Objects) (ask : Ask) (error : TxnError) : Type 0 where
+  pub need : Need
+  pub needed : core.call.need ≡ Some need
+  pub cause : CallError
+  pub after : AfterRan core.call.frames core.call.asked objects need ask (Err cause)
+  pub is : error ≡ refused_call cause
+
+-- the database refused the query
+abbrev pub IsAskedQueryRefused : DatabaseValue → ℕ → Ask → TxnError → Type 0
+IsAskedQueryRefused d base (asks.Query query) error =
+    (cause : DbError) × IsQueryRefused d query base cause × (error ≡ refused_request cause)
+IsAskedQueryRefused d base ask error = ⊥
+
+-- Why an act was refused: an allocation failed; or the machine of calls refused the ask; or the database refused the query. Or no
+-- function is computed.
+abbrev pub IsActRefused : DatabaseValue → RwValue → Objects → Ask → CallerError → Type 0
+IsActRefused d core objects ask (Txn error) =
+    (error ≡ Memory) ⊎ (IsRefusedByCall core objects ask error ⊎ IsAskedQueryRefused d core.base ask error)
+IsActRefused d core objects ask NoFunction = top_call core.call ≡ None
 
 -- the queries that count as read once this ask was answered
 abbrev pub queried_for : Ask → List Query

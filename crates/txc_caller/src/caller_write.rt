@@ -16,13 +16,13 @@ ghost use Rattle.txc_rw.specs.Transitions.{IsQueryLeft};
 ghost use Rattle.txc_caller.specs.Ports.{HasGrown};
 ghost use Rattle.txc_caller.specs.Reading.{CallerValue, KeepsCaller};
 ghost use Rattle.txc_caller.specs.Telling.{computed_calls, told_answer, top_call, top_or, AsksNext, IsToldSo, ObjectsFollow};
-ghost use Rattle.txc_caller.specs.Writing.{base_states, held_base, queried_for, HasAbortedWrite, HasCommittedWrite, IsReadRefused, IsWriteCommitRefused, IsWriteLeft, IsWriteOf, IsWritingStep};
+ghost use Rattle.txc_caller.specs.Writing.{base_states, held_base, queried_for, HasAbortedWrite, HasCommittedWrite, IsActRefused, IsReadRefused, IsWriteCommitRefused, IsWriteLeft, IsWriteOf, IsWritingStep};
 ghost use Rattle.txc_caller.specs.declared.step.CallerError.TheVariants.{NoFunction};
 
 use crate::call_ports::CallPorts;
 use crate::caller::Caller;
 use crate::step::{CallerError, Step, WriteError, Written};
-use crate::writing::{act, find};
+use crate::writing::{act, read};
 use std::alloc::Global;
 use std::marker::{Model, PhantomData};
 use txc_app::{Answer, App, Ask, Bytes};
@@ -135,6 +135,7 @@ impl<A: App> CallerWrite<A> {
         ensures queried { OnOk result (self.new.core.queried ≡ self.old.core.queried ++ queried_for ask) }
         ensures unqueried { OnErr result (self.new.core.queried ≡ self.old.core.queried) }
         ensures undone { is_done ask ≡ false → self.new.core.answers ≡ self.old.core.answers }
+        ensures refused { IfErr result (IsActRefused caller.old.ports.database self.old.core self.old.objects ask) }
         ensures same { self.new ≡ record self.old {
           core = record self.old.core {
             queried = self.new.core.queried;
@@ -172,6 +173,8 @@ impl<A: App> CallerWrite<A> {
         ensures told { IsToldSo A.next (base_states caller.old self.old.core) self.old.core.call (asks.Call key)
             self.new.core.call result }
         ensures objects { ObjectsFollow self.old.objects self.old.core.call (asks.Call key) self.new.objects result }
+        ensures refused { IfErr result (IsActRefused caller.old.ports.database self.old.core self.old.objects
+            (asks.Call key)) }
         ensures same { self.new ≡ record self.old {
           core = record self.old.core { call = self.new.core.call };
           objects = self.new.objects;
@@ -203,6 +206,8 @@ impl<A: App> CallerWrite<A> {
         ensures told { IsToldSo A.next (base_states caller.old self.old.core) self.old.core.call (asks.Query query)
             self.new.core.call result }
         ensures objects { ObjectsFollow self.old.objects self.old.core.call (asks.Query query) self.new.objects result }
+        ensures refused { IfErr result (IsActRefused caller.old.ports.database self.old.core self.old.objects
+            (asks.Query query)) }
         ensures queried { OnOk result (self.new.core.queried ≡ self.old.core.queried ++ query ∷ []) }
         ensures unqueried { OnErr result (self.new.core.queried ≡ self.old.core.queried) }
         ensures same { self.new ≡ record self.old {
@@ -231,6 +236,8 @@ impl<A: App> CallerWrite<A> {
             (asks.Done bytes.items) self.new.core.call result }
         ensures objects { ObjectsFollow self.old.objects self.old.core.call (asks.Done bytes.items)
             self.new.objects result }
+        ensures refused { IfErr result (IsActRefused caller.old.ports.database self.old.core self.old.objects
+            (asks.Done bytes.items)) }
         ensures same { self.new ≡ record self.old {
           core = record self.old.core { answers = self.new.core.answers; call = self.new.core.call };
           objects = self.new.objects;
@@ -263,9 +270,7 @@ impl<A: App> CallerWrite<A> {
         ensures of_caller { IsWriteOf A.next caller.new self.new }
         ensures caller { caller.new ≡ caller.old }
     {
-        self.core.ask(alloc, &query)?;
-        let found = find(alloc, &mut caller.ports, &query, self.core.base());
-        self.core.answer(alloc, found)
+        read(alloc, &mut caller.ports, &mut self.core, query)
     }
 
     /// Gives the whole open call up, if one is, and returns whether one was. It asks no port, so it is lent no caller.

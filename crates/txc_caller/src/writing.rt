@@ -1,9 +1,10 @@
 //! The acts of a transaction that writes: its calls use no node, and each query is asked at its base.
-ghost use Rattle.std.specs.Prelude.{◌≡◌, ◌≤◌, ◌++◌, ◌∷◌, List, IfErr, IfOk, None, OnErr, OnOk, Some, false};
+ghost use Rattle.std.specs.Prelude.{◌≡◌, ◌≤◌, ◌++◌, ◌∷◌, [], List, IfErr, IfOk, None, OnErr, OnOk, Some, false};
 ghost use Rattle.txc_tags.specs.Keys.{Call};
 ghost use Rattle.txc_tags.specs.declared.key.TheConstants.{LAST_FUNCTION};
 ghost use Rattle.txc_db.specs.Calls.{IsQueryRefused};
 ghost use Rattle.txc_db.specs.History.{History, state_at};
+ghost use Rattle.txc_rows.specs.States.{answer};
 ghost use Rattle.txc_rows.specs.declared.query.Query.{Query};
 ghost use Rattle.txc_app.specs.Answering.{IsRight};
 ghost use Rattle.txc_app.specs.Eval.{Next};
@@ -16,8 +17,10 @@ ghost use Rattle.txc_call.specs.declared.need.Need.{Need};
 ghost use Rattle.txc_registry.specs.Objects.{numbers_of, Objects};
 ghost use Rattle.txc_rw.specs.ByHand.{IsRwByHand, IsRwHandTurn, RwObjectsLeft};
 ghost use Rattle.txc_rw.specs.Core.{IsFoundAt, RwHolds};
+ghost use Rattle.txc_rw.specs.Transitions.{IsQueryLeft};
+ghost use Rattle.txc_rw.specs.declared.given.Given.{Given};
 ghost use Rattle.txc_caller.specs.Telling.{top_call, AsksNext, HaveAllFunctions, IsNextStep, IsToldSo, ObjectsFollow};
-ghost use Rattle.txc_caller.specs.Writing.{base_states_in, queried_for, HasLed, IsHeard, IsStepAfter, IsWritingStep};
+ghost use Rattle.txc_caller.specs.Writing.{base_states_in, queried_for, HasLed, IsActRefused, IsHeard, IsReadRefused, IsStepAfter, IsWritingStep};
 
 use crate::ports::Ports;
 use crate::step::{CallerError, Step, ended};
@@ -25,8 +28,8 @@ use std::alloc::Global;
 use txc_app::{App, Ask};
 use txc_db::DbError;
 use txc_node::Value;
-use txc_ports::Turn;
-use txc_rows::Query;
+use txc_ports::{Turn, TxnError};
+use txc_rows::{Query, Row};
 use txc_rw::RwCore;
 use txc_stamp::Stamp;
 use txc_told::Told;
@@ -42,8 +45,8 @@ fn settle(turn: &Option<Turn<Query, Value>>, told: &mut Told)
     }
 }
 
-/// Returns the rows of the query at the stamp, with its tag.
-pub(crate) fn find<A: App>(
+// Returns the rows of the query at the stamp, with its tag.
+fn find<A: App>(
     alloc: Global,
     ports: &mut Ports<A>,
     query: &Query,
@@ -54,6 +57,33 @@ pub(crate) fn find<A: App>(
     ensures refused { IfErr result (IsQueryRefused ports.old.database query.now base) }
 {
     ports.query(alloc, query, base)
+}
+
+/// Reads the rows of a query, by no function, at the base. The query counts as read.
+pub(crate) fn read<A: App>(
+    alloc: Global,
+    ports: &mut Ports<A>,
+    core: &mut RwCore,
+    query: Query,
+) -> Result<Vec<Row>, TxnError>
+    requires none { core.old.reading ≡ None }
+    ensures answer { IfOk result (λ rows.
+        rows.items ≡ answer query (state_at ports.old.database.history core.old.base)) }
+    ensures after { IfOk result (λ rows. core.new ≡ record core.old {
+      queried = core.old.queried ++ query ∷ [];
+      answers = core.old.answers ++ Given.Rows query rows.items ∷ [];
+    }) }
+    ensures refused { IfErr result (IsReadRefused ports.old.database core.old.base query) }
+    ensures left { IfErr result (IsQueryLeft core.old query core.new) }
+    ensures holds { (next : Next) (objects : Objects) → RwHolds next ports.old.database.history objects core.old
+        → RwHolds next ports.old.database.history objects core.new }
+    ensures call { core.new.call ≡ core.old.call }
+    ensures rests { core.new.reading ≡ None }
+    ensures ports { ports.new ≡ ports.old }
+{
+    core.ask(alloc, &query)?;
+    let found = find(alloc, ports, &query, core.base());
+    core.answer(alloc, found)
 }
 
 // Asks the database the query that the turn asks, if it asks one, and goes on with the reply.
@@ -148,6 +178,7 @@ pub(crate) fn act<A: App>(
     ensures queried { OnOk result (core.new.queried ≡ core.old.queried ++ queried_for ask) }
     ensures unqueried { OnErr result (core.new.queried ≡ core.old.queried) }
     ensures undone { is_done ask ≡ false → core.new.answers ≡ core.old.answers }
+    ensures refused { IfErr result (IsActRefused ports.old.database core.old told.old.objects ask) }
     ensures same { core.new ≡ record core.old {
       queried = core.new.queried;
       answers = core.new.answers;

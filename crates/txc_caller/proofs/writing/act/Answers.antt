@@ -21,7 +21,7 @@ use Rattle.txc_caller.specs.Telling.{computed_calls, computed_in}
 use Rattle.txc_caller.specs.Writing.{queried_for}
 use Rattle.txc_caller.proofs.Lent.{ask_there, some_need}
 use Rattle.txc_caller.proofs.WriteAsks.{StandsNext, ran_next}
-use Rattle.txc_caller.proofs.WriteActs.{asked_from, asked_so, is_top, led_answers, led_same, led_top, led_unended, no_answer_more, objects_follow, read_once, rests_after, same_but, stepped, told_when_led, unread_once}
+use Rattle.txc_caller.proofs.WriteActs.{asked_from, asked_so, is_top, led_answers, led_same, led_top, led_unended, no_answer_more, objects_follow, read_once, rests_after, same_but, stepped, told_when_led, unread_once, why_refused}
 use Rattle.txc_caller.proofs.writing.act.Goals as goal
 
 pub ran-first-requires : goal.ran-first-requires
@@ -110,6 +110,7 @@ returns g c =
       unqueried = subst (λ (v : RwValue). OnErr c.step_after.result (new.queried ≡ v.queried)) asked.same
           (unread_once d computed mid new first last c.step_after.result led step);
       undone = λ undone. answers ∙ no_answer_more computed old.answers old.call.top ask mid.call first from undone;
+      refused = why_refused d computed old mid new objects need.0 ask need.1 leads.0 first last c.step_after.result leads.1 leads.2 from (ap (λ (v : RwValue). v.base) asked.same) led step;
       same = same;
       ports = c.lead-last.ensures.same;
     }
