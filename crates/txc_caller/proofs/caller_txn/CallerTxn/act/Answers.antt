@@ -1,11 +1,11 @@
-use Rattle.std.proofs.Common.{◌≡◌, ◌∙◌, None, Some, ap, refl, sym, subst}
+use Rattle.std.proofs.Common.{◌≡◌, ◌∙◌, true, None, Option, Some, ap, refl, sym, subst}
 use Rattle.std.specs.Prelude.{IsSome}
-use Rattle.txc_txn.specs.Kept.{IsTxn, TxnValue}
-use Rattle.txc_registry.specs.Objects.{AllIdle}
+use Rattle.txc_tags.specs.Keys.{Call}
+use Rattle.txc_txn.specs.Kept.{TxnValue}
 use Rattle.txc_told.specs.Steps.{objects_after_ask}
 use Rattle.txc_caller.specs.Looking.{IsComputedOnMiss}
 use Rattle.txc_caller.specs.Ports.{HasGrown}
-use Rattle.txc_caller.specs.Reading.{open_states, CallerValue, IsReadingStep, KeepsCaller, KeepsTxn}
+use Rattle.txc_caller.specs.Reading.{open_states, CallerValue, IsReadingStep, KeepsTxn}
 use Rattle.txc_caller.specs.Telling.{top_call, AsksNext, IsToldSo, ObjectsFollow}
 use Rattle.txc_caller.proofs.Lent.{idle_objects, resting_idle, resting_runs}
 use Rattle.txc_caller.proofs.Requests.{going_ran, keeps_seen, keeps_self, keeps_then, of_call_ran}
@@ -49,13 +49,13 @@ pub returns-then-not-is_computing-clause-objects : goal.returns-then-not-is_comp
 returns-then-not-is_computing-clause-objects g c =
     let old = c.self.inside.txn in
     let closed = none_of (top_call old.core.call)
-    (λ there. let yes = c.is_computing.ensures.1 (subst (λ (t : TxnValue). IsSome (top_call t.core.call)) c.self.view_is there) in absurd (cc (yes, c.if-not-is_computing.true))) in
+    (λ there. let yes : c.is_computing.result ≡ true = c.is_computing.ensures.1 (subst (λ (t : TxnValue). IsSome (top_call t.core.call)) c.self.view_is there) in absurd (cc (yes, c.if-not-is_computing.true))) in
     idle_objects g.A.App.next old.objects old.core (resting_idle old.core c.self.invariant.rests closed) c.self.invariant.lent.meant.fits
 
 pub returns-then-not-is_computing-clause-step : goal.returns-then-not-is_computing-clause-step
 returns-then-not-is_computing-clause-step g c = λ k is.
-    let there : IsSome (top_call c.args.self.now.core.call) = rw is refl in
-    let yes = c.is_computing.ensures.1 there in
+    let there = subst (λ (o : Option Call). IsSome o) (sym is) refl in
+    let yes : c.is_computing.result ≡ true = c.is_computing.ensures.1 there in
     absurd (cc (yes, c.if-not-is_computing.true))
 
 pub returns-then-not-is_computing-clause-keeps : goal.returns-then-not-is_computing-clause-keeps

@@ -1,13 +1,12 @@
-use Rattle.std.proofs.Common.{◌≡◌, ◌∙◌, None, Option, Some, ap, refl, sym, subst}
+use Rattle.std.proofs.Common.{◌≡◌, ◌∙◌, true, None, Option, Some, ap, refl, sym, subst}
 use Rattle.std.specs.Prelude.{IsSome}
 use Rattle.txc_tags.specs.Keys.{Call}
 use Rattle.txc_app.specs.declared.ask.Ask.TheVariants as asks
-use Rattle.txc_txn.specs.ByHand.{ObjectsLeft}
 use Rattle.txc_txn.specs.Kept.{TxnValue}
 use Rattle.txc_caller.specs.Looking.{IsComputedOnMiss}
 use Rattle.txc_caller.specs.Ports.{HasGrown}
 use Rattle.txc_caller.specs.Reading.{open_states, CallerValue, IsReadingStep, KeepsTxn}
-use Rattle.txc_caller.specs.Telling.{call_or, top_call, top_or, IsToldSo, ObjectsFollow}
+use Rattle.txc_caller.specs.Telling.{call_or, top_call, IsToldSo, ObjectsFollow}
 use Rattle.txc_caller.proofs.Lent.{resting_idle}
 use Rattle.txc_caller.proofs.Requests.{going_begun, keeps_begun, keeps_then, of_call_begun}
 use Rattle.txc_caller.proofs.Some.{none_of, some_of}
@@ -23,7 +22,7 @@ pub start-turn-requires : goal.start-turn-requires
 start-turn-requires g c =
     let old = c.self.inside.txn in
     let closed = none_of (top_call old.core.call)
-    (λ there. let yes = c.is_computing.ensures.1 (subst (λ (t : TxnValue). IsSome (top_call t.core.call)) c.self.view_is there) in absurd (cc (yes, c.if-is_computing.false))) in
+    (λ there. let yes : c.is_computing.result ≡ true = c.is_computing.ensures.1 (subst (λ (t : TxnValue). IsSome (top_call t.core.call)) c.self.view_is there) in absurd (cc (yes, c.if-is_computing.false))) in
     resting_idle old.core c.self.invariant.rests closed
 
 pub serve-step-requires : goal.serve-step-requires
@@ -42,7 +41,7 @@ pub returns-clause-step : goal.returns-clause-step
 returns-clause-step g c =
     let old = c.self.inside.txn in
     let new = c.serve-step.new.txn in
-    let closed = none_of (top_call c.args.self.now.core.call) (λ there. let yes = c.is_computing.ensures.1 there in absurd (cc (yes, c.if-is_computing.false))) in
+    let closed = none_of (top_call c.args.self.now.core.call) (λ there. let yes : c.is_computing.result ≡ true = c.is_computing.ensures.1 there in absurd (cc (yes, c.if-is_computing.false))) in
     subst (λ (o : Option Call). IsReadingStep c.args.self.now.core new.core (call_or o c.args.key) c.serve-step.result) (sym closed)
     (subst (λ (t : TxnValue). IsReadingStep t.core new.core c.args.key c.serve-step.result) c.self.view_is
     (c.serve-step.ensures.served.step_is old.core.recorded c.args.key (of_call_begun old c.start-turn.new.self c.args.key c.start-turn.result c.start-turn.ensures.begun)))
@@ -52,7 +51,7 @@ returns-clause-told g c =
     let old = c.self.inside.txn in
     let new = c.serve-step.new.txn in
     let closed = none_of (top_call old.core.call)
-    (λ there. let yes = c.is_computing.ensures.1 (subst (λ (t : TxnValue). IsSome (top_call t.core.call)) c.self.view_is there) in absurd (cc (yes, c.if-is_computing.false))) in
+    (λ there. let yes : c.is_computing.result ≡ true = c.is_computing.ensures.1 (subst (λ (t : TxnValue). IsSome (top_call t.core.call)) c.self.view_is there) in absurd (cc (yes, c.if-is_computing.false))) in
     subst (λ (t : TxnValue). IsToldSo g.A.App.next (open_states new.core) t.core.call (asks.Call c.args.key) new.core.call c.serve-step.result) c.self.view_is
     (first_told g.A.App.next old c.start-turn.new.self new c.args.key c.start-turn.result c.start-turn.ensures.begun (resting_idle old.core c.self.invariant.rests closed)
     (c.self.invariant.lent.functions c.args.key.function c.function-function.ensures.bound) c.self.invariant.lent.meant.fits c.is_lent.ensures.meant c.serve-step.result c.serve-step.ensures.served.goes_on)
@@ -62,7 +61,7 @@ returns-clause-objects g c =
     let old = c.self.inside.txn in
     let new = c.serve-step.new.txn in
     let closed = none_of (top_call old.core.call)
-    (λ there. let yes = c.is_computing.ensures.1 (subst (λ (t : TxnValue). IsSome (top_call t.core.call)) c.self.view_is there) in absurd (cc (yes, c.if-is_computing.false))) in
+    (λ there. let yes : c.is_computing.result ≡ true = c.is_computing.ensures.1 (subst (λ (t : TxnValue). IsSome (top_call t.core.call)) c.self.view_is there) in absurd (cc (yes, c.if-is_computing.false))) in
     subst (λ (t : TxnValue). ObjectsFollow t.objects t.core.call (asks.Call c.args.key) new.objects c.serve-step.result) c.self.view_is
     (first_follow g.A.App.next old c.start-turn.new.self new c.args.key c.start-turn.result c.start-turn.ensures.begun (resting_idle old.core c.self.invariant.rests closed)
     (c.self.invariant.lent.functions c.args.key.function c.function-function.ensures.bound) c.self.invariant.lent.meant.fits c.is_lent.ensures.meant c.serve-step.result
