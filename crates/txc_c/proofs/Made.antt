@@ -10,6 +10,7 @@ use Rattle.txc_node.specs.declared.reply.Reply.{Reply}
 use Rattle.txc_node.specs.declared.reply.Reply.TheVariants as replies
 use Rattle.txc_node.specs.Cache.{Cache, after_insert, outcome}
 use Rattle.txc_node.specs.Steps.{entry_refusal, reply_by, reply_to, cache_by, after_op}
+use Rattle.txc_c.specs.Numbers.{inserted_number, reply_number}
 use Rattle.txc_c.specs.Counted.{Counted, TotalsAfter, LeavesCounted}
 use Rattle.txc_c.specs.Told.{StoredTold}
 use Rattle.txc_crossing.specs.declared.crossing.TxcStored.{TxcStored}
@@ -19,6 +20,11 @@ made_reply c e made = ap (λ (r : Option Refusal). reply_by r (replies.Inserted 
 
 made_cache : (c : Cache) (e : Entry) → entry_refusal MAX_VALUE_LEN e ≡ None → after_op MAX_VALUE_LEN c (Insert e) ≡ after_insert c e
 made_cache c e made = ap (λ (r : Option Refusal). cache_by r c (after_insert c e)) made
+
+pub number_made : (c : Cache) (e : Entry) (i : Inserted) (n : ℕ) → entry_refusal MAX_VALUE_LEN e ≡ None → i ≡ outcome c e → n ≡ inserted_number i
+    → n ≡ reply_number 0 (reply_to MAX_VALUE_LEN c (Insert e))
+number_made c e i n made is number =
+    number ∙ ap inserted_number is ∙ ap (λ (r : Reply Shown). reply_number 0 r) (sym (made_reply c e made))
 
 pub told_made : (c : Cache) (e : Entry) (i : Inserted) (old new : TxcStored) → entry_refusal MAX_VALUE_LEN e ≡ None → i ≡ outcome c e → StoredTold (Some (replies.Inserted i)) old new
     → StoredTold (Some (reply_to MAX_VALUE_LEN c (Insert e))) old new
