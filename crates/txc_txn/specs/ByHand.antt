@@ -65,6 +65,15 @@ recorded_by_hand recorded (Some turn) k = recorded_after recorded turn k
 abbrev pub FirstExists : Objects → Option Call → Type 0
 FirstExists objects first = ForSome first (λ k. FunctionExists objects (asks.Call k))
 
+-- after a reply to a lookup, a query or an insertion the core asks nothing before a function has run
+abbrev pub RestsAfter : PortReply → HandTurn → Type 0
+RestsAfter (ports.Pin pinned) turn = Unit {0}
+RestsAfter (ports.AddPin pinned added) turn = Unit {0}
+RestsAfter (ports.Unpin unpinned) turn = Unit {0}
+RestsAfter (ports.Lookup hit) turn = IfSome turn (λ t. ¬ (IsAsk t))
+RestsAfter (ports.Query found) turn = IfSome turn (λ t. ¬ (IsAsk t))
+RestsAfter (ports.Insert kept) turn = IfSome turn (λ t. ¬ (IsAsk t))
+
 -- ---- the effect of a step
 
 -- how a call stands, beside what the objects do
@@ -103,14 +112,20 @@ abbrev pub PresentByHand : CoreValue → CoreValue → HandTurn → Type 0
 PresentByHand old new turn = (objects : Objects) → FirstExists objects (first_call old.pinning)
     → (t : PortTurn) × (turn ≡ Some t) × PresentPinTransition (first_call old.pinning) old objects new objects t
 
+-- the call is as it was, and so is the one that is to begin after the pin
+pub record HasSameCall (old new : CoreValue) : Type 0 where
+  pub call : new.call ≡ old.call
+  pub first : first_call new.pinning ≡ first_call old.pinning
+
 -- The effect of a reply. A pin is to be added; one that is not added loses its hold, and then the call fails for that
 -- reason. The call takes a node's result, and what the database finds; it fails with the database's error.
 abbrev pub HearTransition : CoreValue → PortReply → CoreValue → HandTurn → Type 0
-HearTransition old (ports.Pin (Ok pinned)) new turn = turn ≡ Some (Ask (requests.AddPin pinned))
+HearTransition old (ports.Pin (Ok pinned)) new turn =
+    (turn ≡ Some (Ask (requests.AddPin pinned))) × HasSameCall old new
 HearTransition old (ports.Pin (Err error)) new turn = turn ≡ Some (Ended (Err (refused_request error)))
 HearTransition old (ports.AddPin pinned (Ok added)) new turn = PresentByHand old new turn
 HearTransition old (ports.AddPin pinned (Err error)) new turn = (turn ≡ Some (Ask (requests.Unpin pinned.stamp)))
-    × IsPinningAt new (Dropping pinned.stamp (refused_pin error))
+    × IsPinningAt new (Dropping pinned.stamp (refused_pin error)) × HasSameCall old new
 HearTransition old (ports.Unpin unpinned) new turn = (stamp : ℕ) (error : TxnError)
     → IsPinningAt old (Dropping stamp error) → turn ≡ Some (Ended (Err error))
 HearTransition old (ports.Lookup None) new turn = (k : Call) → old.call.need ≡ Some (needs.Lookup k)
@@ -139,6 +154,7 @@ pub record HasHeard (old : CoreValue) (reply : PortReply) (new : CoreValue) (tur
       → CoreHolds next L after new
   pub turn_fits : IsHandTurn new turn
   pub leads : HearTransition old reply new turn
+  pub rests : RestsAfter reply turn
   pub adds : IfSome turn (AddsOnly reply)
   pub pins : PinsAfter old reply new.pins
   pub taken : new.taken ≡ taken_after old.taken reply
@@ -158,6 +174,7 @@ pub record HasHeard (old : CoreValue) (reply : PortReply) (new : CoreValue) (tur
 pub record HasGoneOnByHand (old : CoreValue) (reply : PortReply) (new : CoreValue) (turn : HandTurn) : Type 0 where
   pub turn_fits : IsHandTurn new turn
   pub leads : HearTransition old reply new turn
+  pub rests : RestsAfter reply turn
   pub adds : IfSome turn (AddsOnly reply)
   pub pins : PinsAfter old reply new.pins
   pub taken : new.taken ≡ taken_after old.taken reply

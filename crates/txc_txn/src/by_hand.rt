@@ -4,6 +4,7 @@ ghost use Rattle.std.specs.Option.{ForSome};
 ghost use mathlib.Core.List.{IsPrefix};
 ghost use Rattle.txc_rows.specs.declared.query.Query.{Query};
 ghost use Rattle.txc_tags.specs.Keys.{Call};
+ghost use Rattle.txc_node.specs.declared.entry.Entry.{Entry};
 ghost use Rattle.txc_db.specs.History.{History, state_at};
 ghost use Rattle.txc_pinset.specs.Members.{choice_of};
 ghost use Rattle.txc_node.specs.declared.value.TheConstants.{MOST_VALUE_LEN};
@@ -118,6 +119,9 @@ impl TxnCore {
         ensures goes_on { IsUnended result → open_call (value_of self.new) ≡ Some self.old.machine.top }
         ensures leads { (objects : Objects) → HandTransition (standing_of self.old.machine objects)
             (value_of self.new) result }
+        ensures rests { ((k : Call) → self.old.machine.need ≢ Some (Need.Lookup k))
+            → ((q : Query) → self.old.machine.need ≢ Some (Need.Query q))
+            → ((e : Entry) → self.old.machine.need ≢ Some (Need.Insert e)) → IfSome result (λ turn. ¬ (IsAsk turn)) }
         ensures query { (query : Query) → self.old.machine.need ≡ Some (Need.Query query)
             → self.old.pins.has_present ≡ false → (turn : PortTurn) × (result ≡ Some turn) × IsAsk turn
             × (self.new.machine ≡ self.old.machine) × (self.new.pinning ≡ None) }
@@ -229,6 +233,7 @@ impl TxnCore {
         ensures recorded { self.new.recorded.items
             ≡ recorded_by_hand self.old.recorded.items result (Some self.old.machine.top) }
         ensures goes_on { IsUnended result → open_call (value_of self.new) ≡ Some self.old.machine.top }
+        ensures rests { IfSome result (λ turn. ¬ (IsAsk turn)) }
         ensures leads { (need : Need) → self.old.machine.need ≡ Some need
             → TakeTransition (value_of self.old) need reply (value_of self.new) result }
         ensures same { value_of self.new ≡ record (value_of self.old) {

@@ -7,6 +7,23 @@ returns-in-Some-first c = record {
   holds = search rules;
   turn_fits = search rules;
   leads = search rules;
+  rests = tt;
+  adds = search rules;
+  pins = search rules;
+  taken = search rules;
+  left = search rules;
+  recorded = search rules;
+  goes_on = search rules;
+  same = search rules;
+}
+
+pub returns-in-None : goal.returns-in-None
+returns-in-None c = record {
+  fits = search rules;
+  holds = search rules;
+  turn_fits = search rules;
+  leads = search rules;
+  rests = tt;
   adds = search rules;
   pins = search rules;
   taken = search rules;
