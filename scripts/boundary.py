@@ -13,8 +13,8 @@ usage: scripts/boundary.py [--all] [--proved | --library FOLDER] [--rows FOLDER]
              compiled for it with no proof
 
 The header's sizes, places and numbers are those of the sources; the examples, and the random scripts, are answered byte for byte as
-`txcache` does; the same with every allocation refused in its turn; odd uses. Then the tests of the bindings for Rust and Python. The
-last line is `N passed, M failed`; what the machine lacks is skipped by its name.
+`txcache` does; the same with every allocation refused in its turn; odd uses; work done again and again, in memory that does not grow. Then
+the tests of the bindings for Rust and Python. The last line is `N passed, M failed`; what the machine lacks is skipped by its name.
 """
 
 import argparse
@@ -38,6 +38,8 @@ C = f"{ROOT}/bindings/c"
 SANITIZERS = ["-fsanitize=address,undefined", "-fno-sanitize-recover=all", "-g", "-O1"]
 WARNINGS = ["-std=c11", "-Wall", "-Wextra", "-Werror"]
 COMPILERS = ("gcc", "clang")
+# The functions of the allocator in whose place a program has its own.
+WRAPPED = {"tests/play.c": ("malloc", "realloc"), "tests/odd_site.c": ("malloc", "realloc"), "tests/flat.c": ("malloc", "realloc", "free")}
 # How many random scripts of each kind are played, by default and with --all.
 SCRIPTS, ALL_SCRIPTS = 200, 2000
 
@@ -202,8 +204,8 @@ def try_worlds(trial, what, room, said_before, program, played):
 
 def build_c(trial, room, compiler, name, flags, archive):
     """Builds each program in C over the archive, and returns whether all were built."""
-    for file in ("tests/play.c", "tests/play_site.c", "tests/odd.c", "tests/odd_site.c", "example.c", "page.c"):
-        wrap = ["-Wl,--wrap=malloc", "-Wl,--wrap=realloc"] if file in ("tests/play.c", "tests/odd_site.c") else []
+    for file in ("tests/play.c", "tests/play_site.c", "tests/odd.c", "tests/odd_site.c", "tests/flat.c", "example.c", "page.c"):
+        wrap = [f"-Wl,--wrap={it}" for it in WRAPPED.get(file, ())]
         words = [compiler, *WARNINGS, *flags, "-I", C, f"{C}/{file}", archive, *wrap, "-o", f"{room}/{os.path.basename(file)[:-2]}"]
         if trial.ran(f"{compiler}: {file}{name}", words).returncode:
             return False
@@ -233,6 +235,7 @@ def try_c(trial, room, compiler, archives, played, wanted, of_sites):
             continue
         trial.ran(f"{compiler}{name}", [f"{room}/odd"])
         trial.ran(f"{compiler}{name}", [f"{room}/odd_site"])
+        trial.ran(f"{compiler}{name}", [f"{room}/flat"])
         trial.ran(f"{compiler}: the example{name}", [f"{room}/example"])
         trial.ran(f"{compiler}: the page{name}", [f"{room}/page"])
         ran = subprocess.run([f"{room}/play", f"{room}/list"], stdout=subprocess.PIPE, stderr=subprocess.PIPE, text=True, errors="replace")

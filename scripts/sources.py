@@ -5,7 +5,7 @@ from dataclasses import dataclass
 from functools import lru_cache
 
 ROOT = pathlib.Path(__file__).resolve().parent.parent
-ITEM = re.compile(r"(?:abbrev|unfoldable|pub|record|data)\b(?: (?:abbrev|unfoldable|pub|record|data)\b)* ([^\s:{(]+)")
+ITEM = re.compile(r"(?!pub use\b)(?:abbrev|unfoldable|pub|record|data)\b(?: (?:abbrev|unfoldable|pub|record|data)\b)* ([^\s:{(]+)")
 USE = re.compile(r"^ *(?:pub )?(?:ghost )?use ([^;{\s]+?)(?:\.\{([^}]*)\})?(?: as (\w+))?;?$", re.M)
 TYPE = re.compile(r"( *)pub(?:\([^)]*\))? (struct|enum|trait|type|const|static) (\w+)")
 FN = re.compile(r'( *)(pub(?:\([^)]*\))? )?(?:const )?(?:unsafe )?(?:extern "C" )?fn (\w+)')

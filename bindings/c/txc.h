@@ -16,7 +16,7 @@
  *  3. No call from a signal handler, nor in a forked child of a process with threads.
  *  4. malloc, realloc and free are of one allocator, and aligned to 16.
  *
- * With length 0 a pointer to tags, to a value or to a buffer may be NULL.
+ * With length 0 a pointer to tags, to a value, to a body or to a buffer may be NULL.
  */
 #ifndef TXC_H
 #define TXC_H
@@ -35,6 +35,7 @@ extern "C" {
 #define TXC_LAST_STAMP 1048576     /* stamps of a node are 0 to 1,048,576; and so many events a site stores at most */
 #define TXC_LAST_SITE_STAMP 4294967294 /* stamps of a site are 0 to 4,294,967,294 */
 #define TXC_MAX_VALUE_LEN 1024     /* bytes of a value */
+#define TXC_MAX_BODY_LEN 65536     /* bytes of a row's body */
 #define TXC_MAX_CAPACITY 65536     /* entries of a node */
 #define TXC_MAX_RECENT 4096        /* events whose tags a node keeps */
 
@@ -100,7 +101,7 @@ enum {
     /* Refusals. The node is as it was, nothing is counted, and nothing is written but *processed. */
     TXC_CLOSED = 4,          /* the handle has no node, or no site */
     TXC_ALREADY_OPEN = 5,    /* the handle has a node or a site, which stays; or the site a transaction, which stays */
-    TXC_BAD_ARGUMENT = 6,    /* a number is above its limit, a size is 0, or a tag is of no kind */
+    TXC_BAD_ARGUMENT = 6,    /* a number is above its limit, a size is 0, a body is too long, or a tag is of no kind */
     TXC_EMPTY_RANGE = 7,     /* hi is below lo */
     TXC_BAD_REACH = 8,       /* known is below lo */
     TXC_OUT_OF_ORDER = 9,    /* the event is not the one after *processed */
@@ -281,8 +282,8 @@ uint32_t txc_begin_write(txc_site *site);
  * query is TXC_REFUSED. */
 uint32_t txc_begin_write_at(txc_site *site, uint32_t stamp);
 
-/* The row is to stand at its table and id once the transaction is committed. A body has 1 to 256 bytes, each from 0x21 to 0x7E; and
- * a transaction keeps 256 changes at most.
+/* The row is to stand at its table and id once the transaction is committed. A body has up to
+ * TXC_MAX_BODY_LEN bytes of any kind; and a transaction keeps 256 changes at most.
  * TXC_DONE, TXC_NOT_OPEN, TXC_BAD_ARGUMENT, TXC_REFUSED or TXC_NO_MEMORY. */
 uint32_t txc_put(txc_site *site, uint8_t table, uint32_t id, uint32_t group, const uint8_t *body, size_t len);
 

@@ -44,7 +44,8 @@ static const txc_key BIDS = {1, 1, {7}};
 static const txc_query GROUP = {1, TXC_GROUP, 7, 0};
 
 static uint8_t value[TXC_MAX_VALUE_LEN + 1];
-static uint8_t body[256];
+static uint8_t body[TXC_MAX_BODY_LEN];
+static uint8_t longest[TXC_MAX_BODY_LEN + 1];
 static size_t len, count;
 static txc_row row;
 static txc_receipt receipt;
@@ -120,9 +121,10 @@ static void try_writing(txc_site *site) {
     CHECK(txc_begin_write_at(site, 0) == TXC_ALREADY_OPEN && txc_begin_write_at(site, 1) == TXC_ALREADY_OPEN);
     kept.retired = 77;
     CHECK(txc_keep(site, 0, 0, &kept) == TXC_ALREADY_OPEN && kept.retired == 77);
-    CHECK(put(site, "") == TXC_BAD_ARGUMENT && put(site, "two words") == TXC_BAD_ARGUMENT);
+    CHECK(put(site, "") == TXC_DONE && put(site, "two words") == TXC_DONE);
     CHECK(txc_put(site, TXC_LAST_TABLE + 1, 1, 7, (const uint8_t *)"1", 1) == TXC_BAD_ARGUMENT);
-    CHECK(txc_put(site, 1, 1, 7, NULL, 0) == TXC_BAD_ARGUMENT);
+    CHECK(txc_put(site, 1, 1, 7, NULL, 0) == TXC_DONE);
+    CHECK(txc_put(site, 1, 1, 7, longest, sizeof longest) == TXC_BAD_ARGUMENT);
     CHECK(txc_remove(site, TXC_LAST_TABLE + 1, 1) == TXC_BAD_ARGUMENT);
     CHECK(put(site, "110") == TXC_DONE);
     CHECK(rows(site) == TXC_ANSWERED && count == 0 && row_at(site, 0, 8) == TXC_MISS);
@@ -133,6 +135,21 @@ static void try_writing(txc_site *site) {
     CHECK(row_at(site, 0, 2) == TXC_NO_ROOM && len == 3 && row_at(site, 0, 3) == TXC_DONE && !memcmp(body, "110", 3));
     CHECK(row.table == 1 && row.id == 1 && row.group == 7 && row_at(site, 1, 8) == TXC_MISS);
     CHECK(txc_abort(site) == TXC_DONE);
+}
+
+/* Bodies of any bytes: none, each byte there is, and as many as there may be. */
+static void try_bodies(txc_site *site) {
+    for (size_t at = 0; at < sizeof longest; at++)
+        longest[at] = (uint8_t)at;
+    CHECK(txc_begin_write(site) == TXC_DONE && txc_put(site, 2, 0, 9, longest, 0) == TXC_DONE);
+    CHECK(txc_put(site, 2, 1, 9, longest, 256) == TXC_DONE && txc_put(site, 2, 2, 9, longest, TXC_MAX_BODY_LEN) == TXC_DONE);
+    CHECK(txc_commit_write(site, &stamp) == TXC_DONE && txc_begin_write(site) == TXC_DONE);
+    CHECK(txc_query_rows(site, &(txc_query){2, TXC_GROUP, 9, 0}, &count) == TXC_ANSWERED && count == 3);
+    CHECK(row_at(site, 0, 0) == TXC_DONE && len == 0 && row_at(site, 1, 255) == TXC_NO_ROOM && len == 256);
+    CHECK(row_at(site, 1, 256) == TXC_DONE && !memcmp(body, longest, 256));
+    CHECK(row_at(site, 2, sizeof body) == TXC_DONE && len == sizeof body && !memcmp(body, longest, sizeof body));
+    CHECK(txc_remove(site, 2, 0) == TXC_DONE && txc_remove(site, 2, 1) == TXC_DONE && txc_remove(site, 2, 2) == TXC_DONE);
+    CHECK(txc_commit_write(site, &stamp) == TXC_DONE);
 }
 
 /* Functions that a transaction computes that writes. */
@@ -360,6 +377,7 @@ static void try_site(size_t events) {
     try_reading(&site);
     try_other_ask(&site);
     try_keeping(&site);
+    try_bodies(&site);
     CHECK(txc_site_close(&site) == TXC_DONE && !site.is_open);
     try_closed(&site);
     try_lost_update(events);

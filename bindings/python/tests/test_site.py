@@ -72,7 +72,15 @@ class Transactions(unittest.TestCase):
             self.assertRaises(Refused, lambda: self.site.keep(0, 0))
             self.assertRaises(Refused, lambda: page.rows(Query.all(1)))
         with self.site.write() as write:
-            self.assertRaises(Refused, lambda: write.put(1, 1, 7, b""))
+            self.assertRaises(Refused, lambda: write.put(1, 1, 7, bytes(65_537)))
+
+    def test_bodies_are_any_bytes(self):
+        bodies = [b"", bytes(range(256)), b'{"id": 7}' * 2_000, bytes(65_536)]
+        with self.site.write() as write:
+            for number, body in enumerate(bodies):
+                write.put(2, number, 9, body)
+        with self.site.write() as write:
+            self.assertEqual([row.body for row in write.rows(Query.group(2, 9))], bodies)
 
     def test_an_update_is_not_lost(self):
         stamp = self.seen()

@@ -87,6 +87,7 @@ pub struct Kept {
 pub const DONE: u32 = 0;
 pub const MISS: u32 = 1;
 pub const KEPT: u32 = 2;
+pub const NO_ROOM: u32 = 3;
 pub const BAD_ARGUMENT: u32 = 6;
 pub const EMPTY_RANGE: u32 = 7;
 pub const BAD_REACH: u32 = 8;

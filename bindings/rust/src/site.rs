@@ -28,12 +28,15 @@ use crate::{Key, MAX_VALUE_LEN};
 use std::fmt;
 
 /// The most bytes of a row's body.
-pub const MAX_BODY_LEN: usize = 256;
+pub const MAX_BODY_LEN: usize = 65_536;
+
+// Longer bodies are asked for twice.
+const FIRST_ROOM: usize = 1024;
 
 /// Why something was refused.
 #[derive(Clone, Copy, Debug, PartialEq, Eq)]
 pub enum Error {
-    /// A number is above its limit, a size is 0, or a body is none.
+    /// A number is above its limit, a size is 0, or a body is too long.
     BadArgument,
     /// A call is open.
     MidCall,
@@ -50,7 +53,7 @@ pub enum Error {
 impl fmt::Display for Error {
     fn fmt(&self, f: &mut fmt::Formatter<'_>) -> fmt::Result {
         f.write_str(match self {
-            Error::BadArgument => "a number is above its limit, a size is 0, or a body is none",
+            Error::BadArgument => "a number is above its limit, a size is 0, or a body is too long",
             Error::MidCall => "a call is open",
             Error::Refused => "the call, or what was asked, was refused",
             Error::OtherAsk => "another ask was supplied for the same answers",
@@ -229,8 +232,13 @@ impl Site {
             id: 0,
             group: 0,
         };
-        let (mut body, mut len) = (vec![0; MAX_BODY_LEN], 0);
-        done(unsafe { ffi::txc_row_at(&mut self.handle, at, &mut row, body.as_mut_ptr(), body.len(), &mut len) })?;
+        let (mut body, mut len) = (vec![0; FIRST_ROOM], 0);
+        let mut number = unsafe { ffi::txc_row_at(&mut self.handle, at, &mut row, body.as_mut_ptr(), body.len(), &mut len) };
+        if number == ffi::NO_ROOM {
+            body = vec![0; len];
+            number = unsafe { ffi::txc_row_at(&mut self.handle, at, &mut row, body.as_mut_ptr(), body.len(), &mut len) };
+        }
+        done(number)?;
         body.truncate(len);
         Ok(Row {
             table: row.table,

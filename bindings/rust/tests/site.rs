@@ -1,5 +1,5 @@
 //! Transactions of a site, and what they refuse; with events that are stored, and with none.
-use txcache_node::site::{Asking, Error, Kept, Query, Site};
+use txcache_node::site::{Asking, Error, Kept, MAX_BODY_LEN, Query, Site};
 use txcache_node::{Key, LAST_SITE_STAMP, LAST_STAMP};
 
 fn highest(asking: &mut dyn Asking) -> Result<Vec<u8>, Error> {
@@ -64,10 +64,24 @@ fn what_is_given_up_leaves_nothing() {
         drop(page);
         let mut write = site.write().unwrap();
         assert_eq!(write.rows(Query::all(1)).unwrap().len(), 1);
-        assert_eq!(write.put(1, 2, 7, b""), Err(Error::BadArgument));
+        assert_eq!(write.put(1, 2, 7, &vec![0; MAX_BODY_LEN + 1]), Err(Error::BadArgument));
         write.remove(1, 1).unwrap();
         write.commit().unwrap();
         assert!(site.write().unwrap().rows(Query::all(1)).unwrap().is_empty());
+    }
+}
+
+#[test]
+fn bodies_are_any_bytes() {
+    for mut site in sites() {
+        let bodies = [vec![], (0..=255).collect(), vec![b'x'; 20_000], vec![0; MAX_BODY_LEN]];
+        let mut write = site.write().unwrap();
+        for (id, body) in (0..).zip(&bodies) {
+            write.put(2, id, 9, body).unwrap();
+        }
+        write.commit().unwrap();
+        let rows = site.write().unwrap().rows(Query::group(2, 9)).unwrap();
+        assert_eq!(rows.into_iter().map(|row| row.body).collect::<Vec<_>>(), bodies);
     }
 }
 

@@ -7,7 +7,7 @@ use Rattle.txc_site.specs.Ask.{Ask}
 use Rattle.txc_site.specs.Ask.TheVariants.{Query, Call, Done}
 use Rattle.txc_site.specs.Answer.{Answer}
 use Rattle.txc_site.specs.Answer.TheVariants.{Rows, Value}
-use Rattle.txc_site.specs.Eval.{Next}
+use Rattle.txc_site.specs.Eval.{Next, small_limits}
 
 -- an item is a row with its title, in the group of its seller
 abbrev pub ITEMS : ℕ
@@ -76,5 +76,9 @@ abbrev pub refuses : List ℕ → List Answer → Option Ask
 refuses args given = None
 
 -- the functions, by their numbers
+abbrev pub auction_functions : ℕ → List ℕ → List Answer → Option Ask
+auction_functions f = if f == 0 then highest_bid else (if f == 1 then item_page else (if f == 2 then items_of else refuses))
+
+-- what they mean, within small limits
 abbrev pub auction : Next
-auction f = if f == 0 then highest_bid else (if f == 1 then item_page else (if f == 2 then items_of else refuses))
+auction = record { says = auction_functions; limits = small_limits }

@@ -11,4 +11,4 @@ auction_number functions.ItemPage = 1
 auction_number functions.ItemsOf = 2
 
 abbrev pub auction_says : AuctionFunction → Says
-auction_says f = auction (auction_number f)
+auction_says f = auction.says (auction_number f)

@@ -3,7 +3,7 @@ ghost use Rattle.std.specs.Prelude.{◌≡◌, ◌++◌, ◌∷◌, IfOk};
 ghost use Rattle.auction.specs.Auction.{body_of, bytes_in, group_of, rows_in, titles_of, BIDS, ITEMS, USERS};
 
 use std::alloc::{AllocError, Global};
-use txc_site::{Answer, App, Application, Ask, Bytes, Definition, Key, Query, Row, Table};
+use txc_site::{Answer, App, Application, Ask, Bytes, Definition, Key, Limits, Query, Row, Table};
 
 /// The auction, as an application.
 pub struct Auction;
@@ -12,6 +12,10 @@ impl App for Auction {
     ghost use Rattle.auction.specs.Auction.{auction};
 
     ghost next = { auction };
+
+    fn limits() -> Limits {
+        Limits::SMALL
+    }
 }
 
 pub fn items() -> Table

@@ -7,7 +7,7 @@ use Rattle.txc_site.specs.Ask.{Ask}
 use Rattle.txc_site.specs.Ask.TheVariants.{Query, Call}
 use Rattle.txc_site.specs.Answer.{Answer}
 use Rattle.txc_site.specs.Answer.TheVariants.{Rows, Value}
-use Rattle.txc_site.specs.Eval.{Next}
+use Rattle.txc_site.specs.Eval.{Next, small_limits}
 use Rattle.txc_site.specs.Straight.{in_turn}
 use Rattle.txc_site.specs.Activity.{Says}
 use Rattle.shop.specs.declared.Shop.{Shop}
@@ -56,5 +56,9 @@ abbrev pub no_function : Says
 no_function args answers = None
 
 -- the functions, by their numbers
+abbrev pub shop_functions : ℕ → Says
+shop_functions f = if f == 0 then shop_says Stock else (if f == 1 then shop_says ProductPage else no_function)
+
+-- what they mean, within small limits
 abbrev pub shop : Next
-shop f = if f == 0 then shop_says Stock else (if f == 1 then shop_says ProductPage else no_function)
+shop = record { says = shop_functions; limits = small_limits }

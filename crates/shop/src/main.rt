@@ -8,8 +8,8 @@ ghost use Rattle.shop.specs.Trade.{HasVisited, WritesTrade};
 use std::alloc::{AllocError, Global};
 use std::sync::Wait;
 use txc_site::{
-    Answer, App, Application, Ask, Bounds, Bytes, Change, ChangeTxn, InTurn, Key, Naming, OneCall,
-    Plan, Query, Row, RunError, SiteClient, Stamp, Straight, Table, Visitor, with_site,
+    Answer, App, Application, Ask, Bounds, Bytes, Change, ChangeTxn, InTurn, Key, Limits, Naming,
+    OneCall, Plan, Query, Row, RunError, SiteClient, Stamp, Straight, Table, Visitor, with_site,
 };
 
 /// How many products there are, and how many pieces of each in the beginning.
@@ -47,6 +47,10 @@ type Turn = InTurn<Shop>;
 
 impl App for Shop {
     ghost next = { shop };
+
+    fn limits() -> Limits {
+        Limits::SMALL
+    }
 }
 
 impl Straight for Shop {

@@ -77,10 +77,11 @@ found_rows_hold L q t horizon found h tags = record {
 comes_to : (next : Next) (q : Query) (rows : List RowValue) (k : Call) (bytes : List ℕ) → IsDoneAfter next k q rows bytes
     → (s : State) → rows ≡ answer q s → (eval next k s ≡ Some bytes) × (met next k s ≡ q ∷ [])
 comes_to next q rows k bytes done s same =
-    let is_right : List Answer → Answer → Type 0 = λ before a. IsRight next k.function s (next k.function k.args before) a in
+    let is_right : List Answer → Answer → Type 0 = λ before a. IsRight next k.function s (next.says k.function k.args before) a in
     let right : AreRight next k s (answers.Rows rows ∷ []) = each_push is_right [] (answers.Rows rows) (each_none is_right)
     (subst (λ (o : Option Ask). IsRight next k.function s o (answers.Rows rows)) (sym done.query) (ap answers.Rows same)) in
-    let it = right_answers_give_the_value next k s (answers.Rows rows ∷ []) bytes right (omega arith) done.done done.short in
+    let two = done.few in
+    let it = right_answers_give_the_value next k s (answers.Rows rows ∷ []) bytes right (omega (arith, two)) done.done done.short in
     (it.0, it.1 ∙ ap (λ (o : Option Ask). queries_of next s o ++ []) done.query)
 
 pub done_after_is_true : DoneAfterIsTrue

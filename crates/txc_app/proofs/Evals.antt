@@ -7,7 +7,6 @@ use Rattle.txc_tags.specs.Keys.{Call}
 use Rattle.txc_tags.proofs.Lists.{bool_cases}
 use Rattle.txc_rows.specs.declared.query.Query.{Query}
 use Rattle.txc_rows.specs.States.{RowValue, answer}
-use Rattle.txc_app.specs.declared.app.TheConstants.{MAX_ASKS}
 use Rattle.txc_app.specs.declared.ask.Ask.{Ask}
 use Rattle.txc_app.specs.declared.ask.Ask.TheVariants as asks
 use Rattle.txc_app.specs.declared.ask.Answer.{Answer}
@@ -61,25 +60,25 @@ value_same : (a b : Rows) (v : Option (List ℕ)) (r t : Answer → Evaluation)
 value_same a b None r t rest h = refl
 value_same a b (Some v) r t rest h = rest (answers.Value v) h
 
-ask_same : (a b : Rows) (c d : Calls) → ((k : Call) → Agree a b (c k).met → c k ≡ d k) → (o : Option Ask) (r t : Answer → Evaluation)
-    → ((x : Answer) → Agree a b (r x).met → r x ≡ t x) → Agree a b (after_ask a c o r).met → after_ask a c o r ≡ after_ask b d o t
-ask_same a b c d calls None r t rest h = refl
-ask_same a b c d calls (Some (asks.Done v)) r t rest h = refl
-ask_same a b c d calls (Some (asks.Query q)) r t rest h =
+ask_same : (most : ℕ) (a b : Rows) (c d : Calls) → ((k : Call) → Agree a b (c k).met → c k ≡ d k) → (o : Option Ask) (r t : Answer → Evaluation)
+    → ((x : Answer) → Agree a b (r x).met → r x ≡ t x) → Agree a b (after_ask most a c o r).met → after_ask most a c o r ≡ after_ask most b d o t
+ask_same most a b c d calls None r t rest h = refl
+ask_same most a b c d calls (Some (asks.Done v)) r t rest h = refl
+ask_same most a b c d calls (Some (asks.Query q)) r t rest h =
     ap (λ (o : Evaluation). after_meeting (q ∷ []) o) (rest (answers.Rows (a q)) h.1)
     ∙ ap (λ (rs : List RowValue). after_meeting (q ∷ []) (t (answers.Rows rs))) h.0
-ask_same a b c d calls (Some (asks.Call k)) r t rest h =
+ask_same most a b c d calls (Some (asks.Call k)) r t rest h =
     ap (λ (o : Evaluation). after_meeting (c k).met o)
     (value_same a b (c k).value r t rest (agree_right a b (c k).met (after_value (c k).value r).met h))
     ∙ ap (λ (o : Evaluation). after_meeting o.met (after_value o.value t)) (calls k (agree_left a b (c k).met (after_value (c k).value r).met h))
 
-activation_same : (says : List Answer → Option Ask) (a b : Rows) (c d : Calls) → ((k : Call) → Agree a b (c k).met → c k ≡ d k)
-    → (n : ℕ) (given : List Answer) → Agree a b (activation says a c n given).met → activation says a c n given ≡ activation says b d n given
+activation_same : (most : ℕ) (says : List Answer → Option Ask) (a b : Rows) (c d : Calls) → ((k : Call) → Agree a b (c k).met → c k ≡ d k)
+    → (n : ℕ) (given : List Answer) → Agree a b (activation most says a c n given).met → activation most says a c n given ≡ activation most says b d n given
 unfolding activation
-activation_same says a b c d calls zero given h = refl
-activation_same says a b c d calls (suc n) given h =
-    ask_same a b c d calls (says given) (λ x. activation says a c n (given ++ x ∷ [])) (λ x. activation says b d n (given ++ x ∷ []))
-    (λ x. activation_same says a b c d calls n (given ++ x ∷ [])) h
+activation_same most says a b c d calls zero given h = refl
+activation_same most says a b c d calls (suc n) given h =
+    ask_same most a b c d calls (says given) (λ x. activation most says a c n (given ++ x ∷ [])) (λ x. activation most says b d n (given ++ x ∷ []))
+    (λ x. activation_same most says a b c d calls n (given ++ x ∷ [])) h
 
 call_same : (next : Next) (a b : Rows) (f : ℕ) (k : Call) → Agree a b (call_below next a f k).met → call_below next a f k ≡ call_below next b f k
 unfolding call_below
@@ -89,11 +88,11 @@ call_same next a b (suc f) k h = go (k.function == f) (call_same next a b f) h
     go : (e : Bool) → ((g : Call) → Agree a b (call_below next a f g).met → call_below next a f g ≡ call_below next b f g)
         → Agree a b (cond e (called_with next a (call_below next a f) k) (call_below next a f k)).met
         → cond e (called_with next a (call_below next a f) k) (call_below next a f k) ≡ cond e (called_with next b (call_below next b f) k) (call_below next b f k)
-    go true rest h = activation_same (next k.function k.args) a b (call_below next a f) (call_below next b f) rest MAX_ASKS [] h
+    go true rest h = activation_same next.limits.value (next.says k.function k.args) a b (call_below next a f) (call_below next b f) rest next.limits.asks [] h
     go false rest h = rest k h
 
 pub equal_answers_decide : EqualAnswersDecide
 equal_answers_decide next k s t h =
-    activation_same (next k.function k.args) (λ q. answer q s) (λ q. answer q t)
+    activation_same next.limits.value (next.says k.function k.args) (λ q. answer q s) (λ q. answer q t)
     (call_below next (λ q. answer q s) k.function) (call_below next (λ q. answer q t) k.function)
-    (call_same next (λ q. answer q s) (λ q. answer q t) k.function) MAX_ASKS [] h
+    (call_same next (λ q. answer q s) (λ q. answer q t) k.function) next.limits.asks [] h

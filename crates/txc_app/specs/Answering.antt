@@ -27,7 +27,7 @@ IsRight next f s None a = ⊥
 -- each answer is right for what the call asked after those before it
 abbrev pub AreRight : Next → Call → State → List Answer → Type 0
 AreRight next k s given =
-    EachAfter (λ before a. IsRight next k.function s (next k.function k.args before) a) given
+    EachAfter (λ before a. IsRight next k.function s (next.says k.function k.args before) a) given
 
 -- the queries that an ask meets
 abbrev pub queries_of : Next → State → Option Ask → List Query
@@ -40,7 +40,7 @@ queries_of next s None = []
 abbrev pub queries_after : Next → Call → State → List Answer → List Answer → List Query
 queries_after next k s before [] = []
 queries_after next k s before (a ∷ given) =
-    queries_of next s (next k.function k.args before) ++ queries_after next k s (before ++ a ∷ []) given
+    queries_of next s (next.says k.function k.args before) ++ queries_after next k s (before ++ a ∷ []) given
 
 -- the queries met for these answers
 abbrev pub queries_for : Next → Call → State → List Answer → List Query

@@ -5,15 +5,21 @@ use Rattle.txc_rows.specs.declared.query.Query.{Query}
 use Rattle.txc_rows.specs.States.{RowValue, State, answer}
 use Rattle.txc_node.specs.declared.value.TheConstants.{MAX_VALUE_LEN}
 use Rattle.txc_app.specs.declared.app.TheConstants.{MAX_ASKS}
+use Rattle.txc_app.specs.declared.app.Limits.{Limits}
 use Rattle.txc_app.specs.declared.ask.Ask.{Ask}
 use Rattle.txc_app.specs.declared.ask.Ask.TheVariants as asks
 use Rattle.txc_app.specs.declared.ask.Answer.{Answer}
 use Rattle.txc_app.specs.declared.ask.Answer.TheVariants as answers
 
--- what a function asks next, or gives, by its number, its arguments and the answers so far; none where it
--- refuses the arguments
-abbrev pub Next : Type 0
-Next = ℕ → List ℕ → List Answer → Option Ask
+-- what an application means: what a function asks next, or gives, by its number, its arguments and the answers
+-- so far, and none where it refuses the arguments; and the most bytes of a value and asks of an activation
+pub record Next : Type 0 where
+  pub says : ℕ → List ℕ → List Answer → Option Ask
+  pub limits : Limits
+
+-- the limits of the program
+abbrev pub small_limits : Limits
+small_limits = record { value = MAX_VALUE_LEN; asks = MAX_ASKS }
 
 -- what a call gives: its value, where it has one, and the queries met on the way
 pub record Evaluation : Type 0 where
@@ -32,10 +38,9 @@ Calls = Call → Evaluation
 abbrev pub no_value : Evaluation
 no_value = record { value = None; met = [] }
 
--- done, with these bytes; too many bytes are no value
-abbrev pub done_with : List ℕ → Evaluation
-done_with bytes =
-    record { value = if nat_le (length bytes) MAX_VALUE_LEN then Some bytes else None; met = [] }
+-- done, with these bytes, of which there may be so many; too many bytes are no value
+abbrev pub done_with : ℕ → List ℕ → Evaluation
+done_with most bytes = record { value = if nat_le (length bytes) most then Some bytes else None; met = [] }
 
 -- these queries were met first
 abbrev pub after_meeting : List Query → Evaluation → Evaluation
@@ -47,22 +52,22 @@ after_value None rest = no_value
 after_value (Some bytes) rest = rest (answers.Value bytes)
 
 -- one ask, and the rest of the activation after its answer
-abbrev pub after_ask : Rows → Calls → Option Ask → (Answer → Evaluation) → Evaluation
-after_ask rows calls None rest = no_value
-after_ask rows calls (Some (asks.Done bytes)) rest = done_with bytes
-after_ask rows calls (Some (asks.Query q)) rest = after_meeting (q ∷ []) (rest (answers.Rows (rows q)))
-after_ask rows calls (Some (asks.Call k)) rest =
+abbrev pub after_ask : ℕ → Rows → Calls → Option Ask → (Answer → Evaluation) → Evaluation
+after_ask most rows calls None rest = no_value
+after_ask most rows calls (Some (asks.Done bytes)) rest = done_with most bytes
+after_ask most rows calls (Some (asks.Query q)) rest = after_meeting (q ∷ []) (rest (answers.Rows (rows q)))
+after_ask most rows calls (Some (asks.Call k)) rest =
     after_meeting (calls k).met (after_value (calls k).value rest)
 
 -- an activation that may make so many asks more, after these answers; being done is an ask too
-unfoldable pub activation : (List Answer → Option Ask) → Rows → Calls → ℕ → List Answer → Evaluation
-activation says rows calls zero given = no_value
-activation says rows calls (suc left) given =
-    after_ask rows calls (says given) (λ a. activation says rows calls left (given ++ a ∷ []))
+unfoldable pub activation : ℕ → (List Answer → Option Ask) → Rows → Calls → ℕ → List Answer → Evaluation
+activation most says rows calls zero given = no_value
+activation most says rows calls (suc left) given =
+    after_ask most rows calls (says given) (λ a. activation most says rows calls left (given ++ a ∷ []))
 
 -- a call, where calls inside it give these
 abbrev pub called_with : Next → Rows → Calls → Calls
-called_with next rows calls k = activation (next k.function k.args) rows calls MAX_ASKS []
+called_with next rows calls k = activation next.limits.value (next.says k.function k.args) rows calls next.limits.asks []
 
 -- a call of a function below f; any other has no value
 unfoldable pub call_below : Next → Rows → ℕ → Calls

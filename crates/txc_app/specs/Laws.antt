@@ -12,9 +12,7 @@ use Rattle.txc_rows.specs.RowTags.{query_tag}
 use Rattle.txc_validity.specs.declared.answer.Found.{Found}
 use Rattle.txc_validity.specs.Answers.{IsAnswer}
 use Rattle.txc_db.specs.History.{History, state_at, tags_at}
-use Rattle.txc_node.specs.declared.value.TheConstants.{MAX_VALUE_LEN}
 use Rattle.txc_node.specs.declared.entry.Entry.{Entry}
-use Rattle.txc_app.specs.declared.app.TheConstants.{MAX_ASKS}
 use Rattle.txc_app.specs.declared.ask.Ask.TheVariants as asks
 use Rattle.txc_app.specs.declared.ask.Answer.{Answer}
 use Rattle.txc_app.specs.declared.ask.Answer.TheVariants as answers
@@ -48,8 +46,8 @@ EventLeaves = (next : Next) (k : Call) (L : History) (t : ℕ) (tags : List Tag)
 -- not too long: the call has this value, and meets the queries met for these answers
 abbrev pub RightAnswersGiveTheValue : Type 0
 RightAnswersGiveTheValue = (next : Next) (k : Call) (s : State) (given : List Answer) (bytes : List ℕ)
-    → AreRight next k s given → length given < MAX_ASKS
-    → next k.function k.args given ≡ Some (asks.Done bytes) → length bytes ≤ MAX_VALUE_LEN
+    → AreRight next k s given → length given < next.limits.asks
+    → next.says k.function k.args given ≡ Some (asks.Done bytes) → length bytes ≤ next.limits.value
     → (eval next k s ≡ Some bytes) × (met next k s ≡ queries_for next k s given)
 
 -- ---- claims
@@ -65,12 +63,13 @@ FoundRowsHold = (L : History) (q : Query) (t horizon : ℕ) (found : Found)
     → IsAnswer (state_at L) q t horizon (length L) found → found.tags ≡ query_tag q ∷ []
     → RowsHold L q found.rows.items (Some found.reach) found.tags
 
--- the call asks this query, and is done with these bytes once it has these rows
+-- the call asks this query, and is done with these bytes once it has these rows: within the limits
 pub record IsDoneAfter (next : Next) (k : Call) (q : Query) (rows : List RowValue) (bytes : List ℕ)
     : Type 0 where
-  pub query : next k.function k.args [] ≡ Some (asks.Query q)
-  pub done : next k.function k.args (answers.Rows rows ∷ []) ≡ Some (asks.Done bytes)
-  pub short : length bytes ≤ MAX_VALUE_LEN
+  pub query : next.says k.function k.args [] ≡ Some (asks.Query q)
+  pub done : next.says k.function k.args (answers.Rows rows ∷ []) ≡ Some (asks.Done bytes)
+  pub short : length bytes ≤ next.limits.value
+  pub few : 2 ≤ next.limits.asks
 
 -- what such a call is done with holds over the reach of the rows
 abbrev pub DoneAfterIsTrue : Type 0

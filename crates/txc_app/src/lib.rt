@@ -5,5 +5,5 @@ mod app;
 mod ask;
 pub mod laws;
 
-pub use app::{App, MAX_ASKS};
+pub use app::{App, Limits, MAX_ASKS, MOST_ASKS};
 pub use ask::{Answer, Ask, Bytes, Rows};

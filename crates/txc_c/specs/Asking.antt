@@ -7,7 +7,7 @@ use Rattle.txc_rows.specs.declared.query.Query.{Query}
 use Rattle.txc_rows.specs.declared.query.Change.{Change}
 use Rattle.txc_rows.specs.declared.query.Change.TheVariants.{Put, Remove}
 use Rattle.txc_rows.specs.States.{answer}
-use Rattle.txc_rows.specs.Values.{RowValue, IsBody}
+use Rattle.txc_rows.specs.Values.{RowValue, AreBytes}
 use Rattle.txc_db.specs.Calls.{IsQueryRefused}
 use Rattle.txc_db.specs.History.{state_at}
 use Rattle.txc_db.specs.declared.error.DbError.{DbError}
@@ -106,7 +106,7 @@ pub record HasToldWritten (bytes : List ℕ) (old : CallerWriting) (number : ℕ
 
 abbrev pub HasFinishedToWrite : List ℕ → CallerWriting → ℕ → Buffer → Buffer → CallerWriting → Type 0
 HasFinishedToWrite bytes old number was is new = HasToldWritten bytes old number was is new
-    ⊎ ((error : CallerError) × (number ≡ error_number error) × IsWriteFinishRefused bytes old new error × (is ≡ was))
+    ⊎ ((error : CallerError) × (number ≡ error_number error) × IsWriteFinishRefused opaque_next.limits.value bytes old new error × (is ≡ was))
 
 abbrev pub HasFinishedWrite : List ℕ → CallerWriting → ℕ → Buffer → Buffer → CallerWriting → Type 0
 HasFinishedWrite bytes old number was is new =
@@ -206,8 +206,8 @@ ChangeComesTo change old number new = Stays NOT_OPEN old number new
 
 -- a put of that row, if it can be one
 abbrev pub PutRowComesTo : RowValue → Site → ℕ → Site → Type 0
-PutRowComesTo row old number new = (Stays BAD_ARGUMENT old number new × ¬ IsBody row.body)
-    ⊎ (Stays NO_MEMORY old number new ⊎ (IsBody row.body × ChangeComesTo (Put row) old number new))
+PutRowComesTo row old number new = (Stays BAD_ARGUMENT old number new × ¬ AreBytes row.body)
+    ⊎ (Stays NO_MEMORY old number new ⊎ (AreBytes row.body × ChangeComesTo (Put row) old number new))
 
 abbrev pub PutComesTo : RowValue → Site → ℕ → Site → Type 0
 PutComesTo row old number new =

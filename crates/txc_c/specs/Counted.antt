@@ -1,10 +1,11 @@
 -- A node whose replies are counted, and what a call leaves of it.
 use Rattle.std.specs.Prelude.{◌≡◌, ℕ, ◌+◌, ◌^◌, ◌<◌, ◌≤◌, true, false, List, [], Option, Some, None}
+use Rattle.txc_node.specs.declared.value.TheConstants.{MAX_VALUE_LEN}
 use Rattle.txc_node.specs.declared.hit.Shown.{Shown}
 use Rattle.txc_node.specs.declared.op.Op.{Op}
 use Rattle.txc_node.specs.declared.reply.Reply.{Reply}
 use Rattle.txc_node.specs.Cache.{Cache, empty_cache}
-use Rattle.txc_node.specs.Counts.{Totals, counts_of, sum_of, counts_for, events_by, closed_by, swept_by, AreCountsOf}
+use Rattle.txc_node.specs.Counts.{Totals, counts_of, sum_of, counts_for, events_by, closed_by, swept_by, trimmed_by, AreCountsOf}
 use Rattle.txc_node.specs.Steps.{function_of, is_refusal, reply_to, after_op}
 
 -- the cache of the node, and the counts of its replies
@@ -30,6 +31,7 @@ pub record AddsReply (function : Option ℕ) (reply : Reply Shown) (old new : To
   pub events : new.events ≡ old.events + events_by reply
   pub closed : new.closed ≡ old.closed + closed_by reply
   pub swept : new.swept ≡ old.swept + swept_by reply
+  pub trimmed : new.trimmed ≡ old.trimmed + trimmed_by reply
 
 -- The totals after a reply: the first 2^64 - 1 of those that are no refusal are counted.
 pub record TotalsAfter (function : Option ℕ) (reply : Reply Shown) (old new : Totals) : Type 0 where
@@ -39,8 +41,8 @@ pub record TotalsAfter (function : Option ℕ) (reply : Reply Shown) (old new : 
 
 -- what a step leaves: the cache after it, and its reply counted
 pub record LeavesCounted (old : Counted) (op : Op) (new : Counted) : Type 0 where
-  pub cache : new.cache ≡ after_op old.cache op
-  pub totals : TotalsAfter (function_of op) (reply_to old.cache op) old.totals new.totals
+  pub cache : new.cache ≡ after_op MAX_VALUE_LEN old.cache op
+  pub totals : TotalsAfter (function_of op) (reply_to MAX_VALUE_LEN old.cache op) old.totals new.totals
 
 -- the handle has a node, which is left so by the one that it had
 abbrev pub HasLeft : Counted → Op → Option Counted → Type 0

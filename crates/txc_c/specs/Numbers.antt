@@ -1,5 +1,6 @@
 -- The numbers that calls return.
 use Rattle.std.specs.Prelude.{ℕ, Option, Some, None}
+use Rattle.txc_node.specs.declared.value.TheConstants.{MAX_VALUE_LEN}
 use Rattle.txc_node.specs.declared.hit.Shown.{Shown}
 use Rattle.txc_node.specs.declared.node.Inserted.{Inserted}
 use Rattle.txc_node.specs.declared.node.Inserted.TheVariants.{Stored, Kept}
@@ -27,10 +28,11 @@ reply_number room (replies.Hit shown) = hit_number room shown
 reply_number room replies.Miss = MISS
 reply_number room (replies.Closed count) = DONE
 reply_number room (replies.Swept count) = DONE
+reply_number room (replies.Trimmed count) = DONE
 reply_number room (replies.Refused refusal) = refusal_number refusal
 
 -- the number of a call: the handle has no node; an argument is none of its kind; or that of the reply
 abbrev pub call_number : ℕ → Option Counted → Option Op → ℕ
 call_number room None asked = CLOSED
 call_number room (Some n) None = BAD_ARGUMENT
-call_number room (Some n) (Some op) = reply_number room (reply_to n.cache op)
+call_number room (Some n) (Some op) = reply_number room (reply_to MAX_VALUE_LEN n.cache op)

@@ -3,12 +3,17 @@ use Rattle.std.specs.Prelude.{◌≢◌, ℕ, List, [], Option, Some, None}
 use mathlib.Core.Path.{subst}
 use Rattle.txc_app.specs.declared.ask.Ask.{Ask}
 use Rattle.txc_app.specs.declared.ask.Ask.TheVariants.{Done}
-use Rattle.txc_app.specs.Eval.{Next}
+use Rattle.txc_app.specs.declared.ask.Answer.{Answer}
+use Rattle.txc_app.specs.Eval.{Next, small_limits}
 
 -- What they ask and give. Its body is none of a proof's business, and no proof can use it: what is proved holds of
 -- whatever stands here.
-pub opaque_next : Next
-opaque_next function args answers = Some (Done [])
+pub opaque_asks : ℕ → List ℕ → List Answer → Option Ask
+opaque_asks function args answers = Some (Done [])
+
+-- what they mean, within small limits
+abbrev pub opaque_next : Next
+opaque_next = record { says = opaque_asks; limits = small_limits }
 
 -- something is asked
 abbrev AsksSome : Option Ask → Type 0
@@ -16,6 +21,6 @@ AsksSome None = ⊥
 AsksSome (Some ask) = Unit {0}
 
 -- but that a function refuses no arguments
-pub takes_all : (function : ℕ) (args : List ℕ) → opaque_next function args [] ≢ None
-unfolding opaque_next
+pub takes_all : (function : ℕ) (args : List ℕ) → opaque_next.says function args [] ≢ None
+unfolding opaque_asks
 takes_all function args is = subst AsksSome is tt

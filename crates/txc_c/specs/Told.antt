@@ -1,5 +1,6 @@
 -- What a call writes for its caller, by the reply.
 use Rattle.std.specs.Prelude.{◌≡◌, ℕ, List, length, Option, Some, None}
+use Rattle.txc_node.specs.declared.value.TheConstants.{MAX_VALUE_LEN}
 use Rattle.txc_node.specs.declared.hit.Shown.{Shown}
 use Rattle.txc_node.specs.declared.node.Inserted.TheVariants.{Stored}
 use Rattle.txc_node.specs.declared.op.Op.{Op}
@@ -15,7 +16,7 @@ use Rattle.txc_crossing.specs.declared.crossing.TxcStored.{TxcStored}
 abbrev pub call_reply : Option Counted → Option Op → Option (Reply Shown)
 call_reply None asked = None
 call_reply (Some n) None = None
-call_reply (Some n) (Some op) = Some (reply_to n.cache op)
+call_reply (Some n) (Some op) = Some (reply_to MAX_VALUE_LEN n.cache op)
 
 -- ---- of a hit; any other reply writes nothing
 

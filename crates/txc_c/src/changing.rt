@@ -21,7 +21,7 @@ fn change_number(kept: Result<(), TxnError>) -> u32
 }
 
 impl Site {
-    /// A row is to stand once the transaction is committed, with a copy of the body.
+    /// A row is to stand once the transaction is committed, with a copy of the body, which may be any bytes.
     pub(crate) fn put(&mut self, alloc: Global, table: u8, id: u32, group: u32, body: &[u8]) -> u32
         ensures { PutComesTo (record { table = table; id = id; group = group; body = body.now })
             self.old result self.new }
@@ -32,7 +32,7 @@ impl Site {
         let Ok(copy) = body.to_vec(alloc) else {
             return NO_MEMORY;
         };
-        let Ok(row) = Row::new(table, id, group, copy) else {
+        let Ok(row) = Row::of_bytes(table, id, group, copy) else {
             return BAD_ARGUMENT;
         };
         match self {

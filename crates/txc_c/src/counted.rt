@@ -1,6 +1,7 @@
 //! A node whose replies are counted.
 ghost use Rattle.std.specs.Prelude.{◌≡◌, ◌≢◌, ◌≤◌, [], Some, None, length, IfOk, IfSome};
 ghost use Rattle.txc_tags.specs.declared.key.TheConstants.{LAST_FUNCTION};
+ghost use Rattle.txc_node.specs.declared.value.TheConstants.{MAX_VALUE_LEN};
 ghost use Rattle.txc_node.specs.declared.node.TheConstants.{MAX_CAPACITY, MAX_RECENT};
 ghost use Rattle.txc_node.specs.declared.op.Op.TheVariants as steps;
 ghost use Rattle.txc_node.specs.declared.reply.Reply.TheVariants as replies;
@@ -151,14 +152,14 @@ impl CountedNode {
         len: &mut usize,
     ) -> u32
         ensures number { result
-            ≡ reply_number (length value.old) (reply_to self.old.cache (steps.Lookup key.now lo hi)) }
+            ≡ reply_number (length value.old) (reply_to MAX_VALUE_LEN self.old.cache (steps.Lookup key.now lo hi)) }
         ensures after { LeavesCounted self.old (steps.Lookup key.now lo hi) self.new }
         ensures reach { reach.new
-            ≡ reach_told (Some (reply_to self.old.cache (steps.Lookup key.now lo hi))) reach.old }
+            ≡ reach_told (Some (reply_to MAX_VALUE_LEN self.old.cache (steps.Lookup key.now lo hi))) reach.old }
         ensures len { len.new
-            ≡ len_told (Some (reply_to self.old.cache (steps.Lookup key.now lo hi))) len.old }
+            ≡ len_told (Some (reply_to MAX_VALUE_LEN self.old.cache (steps.Lookup key.now lo hi))) len.old }
         ensures bytes { value.new
-            ≡ bytes_told (Some (reply_to self.old.cache (steps.Lookup key.now lo hi))) value.old }
+            ≡ bytes_told (Some (reply_to MAX_VALUE_LEN self.old.cache (steps.Lookup key.now lo hi))) value.old }
     {
         let function = Some(key.function());
         match self.node.lookup(key, lo, hi) {
@@ -177,12 +178,12 @@ impl CountedNode {
 
     /// [`NodeCore::insert`], of which it is written what was stored. Only memory may refuse it.
     pub(crate) fn insert(&mut self, entry: Entry, stored: &mut TxcStored) -> u32
-        requires { entry_refusal entry ≡ None }
+        requires { entry_refusal MAX_VALUE_LEN entry ≡ None }
         ensures number { result ≢ NO_MEMORY
-            → result ≡ reply_number 0 (reply_to self.old.cache (steps.Insert entry)) }
+            → result ≡ reply_number 0 (reply_to MAX_VALUE_LEN self.old.cache (steps.Insert entry)) }
         ensures after { result ≢ NO_MEMORY → LeavesCounted self.old (steps.Insert entry) self.new }
         ensures told { result ≢ NO_MEMORY
-            → StoredTold (Some (reply_to self.old.cache (steps.Insert entry))) stored.old stored.new }
+            → StoredTold (Some (reply_to MAX_VALUE_LEN self.old.cache (steps.Insert entry))) stored.old stored.new }
         ensures refused { result ≡ NO_MEMORY → (self.new ≡ self.old) × (stored.new ≡ stored.old) }
     {
         let function = Some(entry.key.function());
@@ -196,10 +197,10 @@ impl CountedNode {
 
     /// [`NodeCore::event`], of which it is written how many entries it closed.
     pub(crate) fn event(&mut self, stamp: Stamp, tags: TagSet, closed: &mut usize) -> u32
-        ensures number { result ≡ reply_number 0 (reply_to self.old.cache (steps.Event stamp tags)) }
+        ensures number { result ≡ reply_number 0 (reply_to MAX_VALUE_LEN self.old.cache (steps.Event stamp tags)) }
         ensures after { LeavesCounted self.old (steps.Event stamp tags) self.new }
         ensures told { closed.new
-            ≡ closed_told (Some (reply_to self.old.cache (steps.Event stamp tags))) closed.old }
+            ≡ closed_told (Some (reply_to MAX_VALUE_LEN self.old.cache (steps.Event stamp tags))) closed.old }
     {
         let Ok(count) = self.node.event(stamp, tags) else {
             return OUT_OF_ORDER;
@@ -211,10 +212,10 @@ impl CountedNode {
 
     /// [`NodeCore::sweep`], of which it is written how many entries it dropped.
     pub(crate) fn sweep(&mut self, horizon: Stamp, swept: &mut usize) -> u32
-        ensures number { result ≡ reply_number 0 (reply_to self.old.cache (steps.Sweep horizon)) }
+        ensures number { result ≡ reply_number 0 (reply_to MAX_VALUE_LEN self.old.cache (steps.Sweep horizon)) }
         ensures after { LeavesCounted self.old (steps.Sweep horizon) self.new }
         ensures told { swept.new
-            ≡ swept_told (Some (reply_to self.old.cache (steps.Sweep horizon))) swept.old }
+            ≡ swept_told (Some (reply_to MAX_VALUE_LEN self.old.cache (steps.Sweep horizon))) swept.old }
     {
         let count = self.node.sweep(horizon);
         *swept = count;

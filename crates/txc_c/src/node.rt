@@ -1,5 +1,6 @@
 //! The exports.
 ghost use Rattle.std.specs.Prelude.{◌≡◌, ◌≢◌, Some, None, length, if◌then◌else◌, IfOk};
+ghost use Rattle.txc_node.specs.declared.value.TheConstants.{MAX_VALUE_LEN};
 ghost use Rattle.txc_node.specs.declared.op.Op.TheVariants as steps;
 ghost use Rattle.txc_node.specs.Steps.{entry_refusal};
 ghost use Rattle.txc_c.specs.Counted.{CallLeaves, HasOpened};
@@ -123,7 +124,7 @@ fn entry_of(
     value: &[u8],
 ) -> Result<Entry, AllocError>
     ensures asked { IfOk result (λ e. insert_asked key.now reach.now tags.now value.now ≡ Some (steps.Insert e)) }
-    ensures can_be { IfOk result (λ e. entry_refusal e ≡ None) }
+    ensures can_be { IfOk result (λ e. entry_refusal MAX_VALUE_LEN e ≡ None) }
 {
     let Some(key) = key.key() else {
         return Err(AllocError);
@@ -160,7 +161,7 @@ fn insert(
         stored.old stored.new }
     ensures no_memory { result ≡ NO_MEMORY
         → (insert_asked key.now reach.now tags.now value.now ≢ None)
-        × (entry_refusal (asked_entry key.now reach.now tags.now value.now) ≡ None) }
+        × (entry_refusal MAX_VALUE_LEN (asked_entry key.now reach.now tags.now value.now) ≡ None) }
     ensures refused { result ≡ NO_MEMORY → (node.new ≡ node.old) × (stored.new ≡ stored.old) }
 {
     if !is_insertion(key, reach, tags) {
@@ -198,7 +199,7 @@ pub extern "C" fn txc_node_insert(
         stored.old stored.new }
     ensures no_memory { result ≡ NO_MEMORY
         → (call_reply (held handle.old) (insert_asked key.now reach.now tags.now value.now) ≢ None)
-        × (entry_refusal (asked_entry key.now reach.now tags.now value.now) ≡ None) }
+        × (entry_refusal MAX_VALUE_LEN (asked_entry key.now reach.now tags.now value.now) ≡ None) }
     ensures refused { result ≡ NO_MEMORY → (held handle.new ≡ held handle.old) × (stored.new ≡ stored.old) }
 {
     let Some(mut node) = handle.take(alloc) else {

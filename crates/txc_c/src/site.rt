@@ -45,7 +45,7 @@ impl Model for IdleObjects {
 
     ghost invariant = { λ o.
         All (λ c. ⟦<Object as Cacheable>⟧.activity c ≡ idle) o.items.items
-        × All (λ c. ⟦<Object as Cacheable>⟧.says c ≡ opaque_next (⟦<Object as Cacheable>⟧.number c)) o.items.items };
+        × All (λ c. ⟦<Object as Cacheable>⟧.says c ≡ opaque_next.says (⟦<Object as Cacheable>⟧.number c)) o.items.items };
 }
 
 impl IdleObjects {

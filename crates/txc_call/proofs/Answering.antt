@@ -7,8 +7,6 @@ use Rattle.txc_tags.specs.Tags.{with_tags}
 use Rattle.txc_rows.specs.declared.query.Query.{Query}
 use Rattle.txc_rows.specs.States.{RowValue, State, answer}
 use Rattle.txc_db.specs.History.{History}
-use Rattle.txc_node.specs.declared.value.TheConstants.{MAX_VALUE_LEN}
-use Rattle.txc_app.specs.declared.app.TheConstants.{MAX_ASKS}
 use Rattle.txc_app.specs.declared.ask.Ask.{Ask}
 use Rattle.txc_app.specs.declared.ask.Ask.TheVariants as asks
 use Rattle.txc_app.specs.declared.ask.Answer.{Answer}
@@ -24,24 +22,24 @@ use Rattle.txc_call.proofs.Claims.{both_hold, weaker}
 
 module _ (next : Next) (k : Call) where
   queries_more : (s : State) (before given : List Answer) (x : Answer)
-      → queries_after next k s before (given ++ x ∷ []) ≡ queries_after next k s before given ++ queries_of next s (next k.function k.args (before ++ given))
-  queries_more s before [] x = rw (append-nil before, append-nil (queries_of next s (next k.function k.args before))) refl
+      → queries_after next k s before (given ++ x ∷ []) ≡ queries_after next k s before given ++ queries_of next s (next.says k.function k.args (before ++ given))
+  queries_more s before [] x = rw (append-nil before, append-nil (queries_of next s (next.says k.function k.args before))) refl
   queries_more s before (y ∷ given) x =
-      ap (λ (qs : List Query). queries_of next s (next k.function k.args before) ++ qs)
+      ap (λ (qs : List Query). queries_of next s (next.says k.function k.args before) ++ qs)
       (queries_more s (before ++ y ∷ []) given x
-      ∙ ap (λ (zs : List Answer). queries_after next k s (before ++ y ∷ []) given ++ queries_of next s (next k.function k.args zs)) (append_assoc before (y ∷ []) given))
-      ∙ sym (append_assoc (queries_of next s (next k.function k.args before)) (queries_after next k s (before ++ y ∷ []) given) (queries_of next s (next k.function k.args (before ++ y ∷ given))))
+      ∙ ap (λ (zs : List Answer). queries_after next k s (before ++ y ∷ []) given ++ queries_of next s (next.says k.function k.args zs)) (append_assoc before (y ∷ []) given))
+      ∙ sym (append_assoc (queries_of next s (next.says k.function k.args before)) (queries_after next k s (before ++ y ∷ []) given) (queries_of next s (next.says k.function k.args (before ++ y ∷ given))))
 
   -- what was given, and one answer more
   pub answers_more : (L : History) (given : List Answer) (ask : Ask) (x : Answer) (r r' : Option Interval) (tags tags' : List Tag)
-      → next k.function k.args given ≡ Some ask → ReachesMeet r r'
+      → next.says k.function k.args given ≡ Some ask → ReachesMeet r r'
       → AnswersHold next L k given r tags → AnswerHolds next L k.function ask x r' tags'
       → AnswersHold next L k (given ++ x ∷ []) (meet r r') (with_tags tags' tags)
   answers_more L given ask x r r' tags tags' asked m h new =
       weaker L (λ (s : State). AreRight next k s given × IsRight next k.function s (Some ask) x) (λ (s : State). AreRight next k s (given ++ x ∷ []))
       (λ (s : State). queries_for next k s given ++ queries_of next s (Some ask)) (λ (s : State). queries_for next k s (given ++ x ∷ [])) (meet r r') (with_tags tags' tags)
       (λ s two. (
-        each_push (λ (before : List Answer) (a : Answer). IsRight next k.function s (next k.function k.args before) a) given x two.0
+        each_push (λ (before : List Answer) (a : Answer). IsRight next k.function s (next.says k.function k.args before) a) given x two.0
             (subst (λ (o : Option Ask). IsRight next k.function s o x) (sym asked) two.1),
         queries_more s [] given x ∙ ap (λ (o : Option Ask). queries_for next k s given ++ queries_of next s o) asked,
       ))
@@ -49,7 +47,7 @@ module _ (next : Next) (k : Call) where
 
   -- what a call is done with, after these answers
   pub done_holds : RightAnswersGiveTheValue → (L : History) (given : List Answer) (bytes : List ℕ) (r : Option Interval) (tags : List Tag)
-      → length given < MAX_ASKS → next k.function k.args given ≡ Some (asks.Done bytes) → length bytes ≤ MAX_VALUE_LEN
+      → length given < next.limits.asks → next.says k.function k.args given ≡ Some (asks.Done bytes) → length bytes ≤ next.limits.value
       → AnswersHold next L k given r tags → ValueHolds next L k bytes r tags
   done_holds law L given bytes r tags few done short =
       weaker L (λ (s : State). AreRight next k s given) (λ (s : State). eval next k s ≡ Some bytes) (λ (s : State). queries_for next k s given) (met next k) r tags

@@ -8,8 +8,7 @@ use Rattle.txc_tags.specs.Keys.{Call}
 use Rattle.txc_rows.specs.declared.query.Query.{Query}
 use Rattle.txc_rows.specs.States.{State}
 use Rattle.txc_db.specs.History.{History}
-use Rattle.txc_node.specs.declared.value.TheConstants.{MAX_VALUE_LEN}
-use Rattle.txc_app.specs.declared.app.TheConstants.{MAX_ASKS}
+use Rattle.txc_app.specs.declared.app.Limits.{Limits}
 use Rattle.txc_app.specs.declared.ask.Ask.{Ask}
 use Rattle.txc_app.specs.declared.ask.Ask.TheVariants as asks
 use Rattle.txc_app.specs.declared.ask.Answer.{Answer}
@@ -57,9 +56,9 @@ call_by_test : (os : Objects) (f : ℕ) (k : Call) (b : Bool) → nat_le f k.fun
 call_by_test os f k true is h = let no : Some (errors.CallOrder f k.function) ≡ None = rw is at h in absurd (cc)
 call_by_test os f k false is h = (grind (arith, nat_tests), there_by_test k.function (activity_of os k.function) (rw is at h))
 
-short_by_test : (bytes : List ℕ) (b : Bool) → nat_le (length bytes) MAX_VALUE_LEN ≡ b → value_refusal bytes ≡ None → length bytes ≤ MAX_VALUE_LEN
-short_by_test bytes true is h = grind (arith, nat_tests)
-short_by_test bytes false is h = let no : Some errors.ValueTooLong ≡ None = rw is at h in absurd (cc)
+short_by_test : (most : ℕ) (bytes : List ℕ) (b : Bool) → nat_le (length bytes) most ≡ b → value_refusal most bytes ≡ None → length bytes ≤ most
+short_by_test most bytes true is h = grind (arith, nat_tests)
+short_by_test most bytes false is h = let no : Some errors.ValueTooLong ≡ None = rw is at h in absurd (cc)
 
 -- ---- a held answer
 
@@ -108,8 +107,8 @@ module _ (next : Next) (top : Call) (law : RightAnswersGiveTheValue) (s : Standi
       → IsOpen next (with_activity os frame.key.function idle) top (asks.Call frame.key) outer
       → KeepsValue outer (unreached frame bytes) (with_activity os frame.key.function idle)
 
-  module _ (outer : List Frame) (asked : ℕ) (frame : Frame) (os : Objects) (goes_on : Onward) (few : AreFew outer) (may : frame.answers < MAX_ASKS) where
-    done_keeps : (bytes : List ℕ) (r : Option Interval) → frame.reach ≡ r → length bytes ≤ MAX_VALUE_LEN → IsOpen next os top (asks.Done bytes) (frame ∷ outer) → GoesOn goes_on frame outer os
+  module _ (outer : List Frame) (asked : ℕ) (frame : Frame) (os : Objects) (goes_on : Onward) (few : AreFew next.limits.asks outer) (may : frame.answers < next.limits.asks) where
+    done_keeps : (bytes : List ℕ) (r : Option Interval) → frame.reach ≡ r → length bytes ≤ next.limits.value → IsOpen next os top (asks.Done bytes) (frame ∷ outer) → GoesOn goes_on frame outer os
         → DoneTransition outer asked frame r bytes (with_activity os frame.key.function idle) goes_on (Ok s) → KeepsFrames (frame ∷ outer) os
     done_keeps bytes (Some r) is short h on leads =
         let e : s ≡ record { frames = outer; asked = asked; need = Some (needs.Insert (entry_of_frame frame bytes r)); objects = with_activity os frame.key.function idle } = cc in
@@ -131,7 +130,7 @@ module _ (next : Next) (top : Call) (law : RightAnswersGiveTheValue) (s : Standi
         (λ none. (refl, none.1))
         (on bytes leads is (closed next os top (asks.Done bytes) frame outer h))
 
-    allowed_keeps : (ask : Ask) → ask_refusal os frame.key.function ask ≡ None → IsOpen next os top ask (frame ∷ outer) → GoesOn goes_on frame outer os
+    allowed_keeps : (ask : Ask) → ask_refusal next.limits os frame.key.function ask ≡ None → IsOpen next os top ask (frame ∷ outer) → GoesOn goes_on frame outer os
         → AllowedTransition outer asked frame ask os goes_on (Ok s) → KeepsFrames (frame ∷ outer) os
     allowed_keeps (asks.Query q) ok h on leads =
         let e : s ≡ record { frames = frame ∷ outer; asked = asked; need = Some (needs.Query q); objects = os } = cc in
@@ -151,14 +150,14 @@ module _ (next : Next) (top : Call) (law : RightAnswersGiveTheValue) (s : Standi
           no_reach = λ none. (refl, none);
         }
     allowed_keeps (asks.Done bytes) ok h on leads =
-        done_keeps bytes frame.reach refl (short_by_test bytes (nat_le (length bytes) MAX_VALUE_LEN) refl ok) h on leads
+        done_keeps bytes frame.reach refl (short_by_test next.limits.value bytes (nat_le (length bytes) next.limits.value) refl ok) h on leads
 
-  ask_keeps : (outer : List Frame) (asked : ℕ) (frame : Frame) (ask : Ask) (os : Objects) (goes_on : Onward) → AreFew outer
-      → IsOpen next os top ask (frame ∷ outer) → GoesOn goes_on frame outer os → AskTransition outer asked frame ask os goes_on (Ok s) → KeepsFrames (frame ∷ outer) os
+  ask_keeps : (outer : List Frame) (asked : ℕ) (frame : Frame) (ask : Ask) (os : Objects) (goes_on : Onward) → AreFew next.limits.asks outer
+      → IsOpen next os top ask (frame ∷ outer) → GoesOn goes_on frame outer os → AskTransition next.limits outer asked frame ask os goes_on (Ok s) → KeepsFrames (frame ∷ outer) os
   ask_keeps outer asked frame ask os goes_on few h on leads =
-      let counted = allowed (count_refusal frame.answers asked) s (UnlessRefused (ask_refusal os frame.key.function ask) (Ok s) (AllowedTransition outer (asked + 1) frame ask os goes_on (Ok s))) leads in
-      let fine = allowed (ask_refusal os frame.key.function ask) s (AllowedTransition outer (asked + 1) frame ask os goes_on (Ok s)) counted.1 in
-      allowed_keeps outer (asked + 1) frame os goes_on few (few_by frame.answers asked (sym counted.0)) ask fine.0 h on fine.1
+      let counted = allowed (count_refusal next.limits.asks frame.answers asked) s (UnlessRefused (ask_refusal next.limits os frame.key.function ask) (Ok s) (AllowedTransition outer (asked + 1) frame ask os goes_on (Ok s))) leads in
+      let fine = allowed (ask_refusal next.limits os frame.key.function ask) s (AllowedTransition outer (asked + 1) frame ask os goes_on (Ok s)) counted.1 in
+      allowed_keeps outer (asked + 1) frame os goes_on few (few_by next.limits.asks frame.answers asked (sym counted.0)) ask fine.0 h on fine.1
 
   -- an answer reaches the innermost frame
   given_keeps : (outer : List Frame) (asked : ℕ) (frame : Frame) (wanted ask : Ask) (x : Answer) (reach : Option Interval) (tags : List Tag) (os : Objects) (goes_on : Onward)
@@ -166,12 +165,12 @@ module _ (next : Next) (top : Call) (law : RightAnswersGiveTheValue) (s : Standi
       → IsWaiting next os top wanted (frame ∷ outer) → (t : ℕ) → InReach t reach → InAll t (frame ∷ outer)
       → next_ask next os frame x ≡ Some ask
       → GoesOn goes_on (given frame reach tags) outer (with_answer os frame.key.function x)
-      → AskTransition outer asked (given frame reach tags) ask (with_answer os frame.key.function x) goes_on (Ok s)
+      → AskTransition next.limits outer asked (given frame reach tags) ask (with_answer os frame.key.function x) goes_on (Ok s)
       → KeepsBeside H reach (frame ∷ outer) os
   given_keeps outer asked frame wanted ask x reach tags os goes_on H right waits t here all asked_next on leads =
       let os' = with_answer os frame.key.function x in
       let h' : IsOpen next os' top ask (given frame reach tags ∷ outer) = resumed next os top wanted ask x frame reach tags outer waits.open_frames
-      (subst (λ (args : List ℕ). next frame.key.function args (answers_in os frame.key.function ++ x ∷ []) ≡ Some ask) (sym waits.open_frames.stack.0.args) asked_next) in
+      (subst (λ (args : List ℕ). next.says frame.key.function args (answers_in os frame.key.function ++ x ∷ []) ≡ Some ask) (sym waits.open_frames.stack.0.args) asked_next) in
       keeps_from
       (λ L. FramesHold next L os' (given frame reach tags ∷ outer)) (λ L. H L × FramesHold next L os (frame ∷ outer))
       (λ t. InAll t (given frame reach tags ∷ outer)) (λ t. InReach t reach × InAll t (frame ∷ outer))
@@ -199,7 +198,7 @@ module _ (next : Next) (top : Call) (law : RightAnswersGiveTheValue) (s : Standi
       let os' : Objects = with_answer os frame.key.function (answers.Value o.value) in
       ⊎_elim
       (λ no. let no' : Ok s ≡ Err no.0 = no.1 in absurd (cc))
-      (λ (three : (ask : Ask) × (next_ask next os frame (answers.Value o.value) ≡ Some ask) × AskTransition outer asked after ask os' goes_on (Ok s)).
+      (λ (three : (ask : Ask) × (next_ask next os frame (answers.Value o.value) ≡ Some ask) × AskTransition next.limits outer asked after ask os' goes_on (Ok s)).
       given_keeps outer asked frame (asks.Call o.key) three.0 (answers.Value o.value) o.reach o.tags os goes_on
       (λ L. ValueHolds next L o.key o.value o.reach o.tags) (λ L. value_answers next L frame.key.function o.key o.value o.reach o.tags up.0)
       waits t here all three.1
@@ -251,18 +250,18 @@ module _ (next : Next) (top : Call) (law : RightAnswersGiveTheValue) (s : Standi
       }
 
   -- one ask of the innermost frame, before any other function continues
-  told_keeps : (outer : List Frame) (asked : ℕ) (frame : Frame) (ask : Ask) (os : Objects) → AreFew outer → IsOpen next os top ask (frame ∷ outer) → FunctionExists os ask
-      → AfterOneAsk outer asked frame ask os (Ok s) → KeepsFrames (frame ∷ outer) os
+  told_keeps : (outer : List Frame) (asked : ℕ) (frame : Frame) (ask : Ask) (os : Objects) → AreFew next.limits.asks outer → IsOpen next os top ask (frame ∷ outer) → FunctionExists os ask
+      → AfterOneAsk next.limits outer asked frame ask os (Ok s) → KeepsFrames (frame ∷ outer) os
   told_keeps outer asked frame ask os few h there leads =
       ask_keeps outer asked frame ask os (stays_held outer asked frame (Ok s)) few h
       (λ bytes leads' none h'. held_keeps outer (asked + 1) (unreached frame bytes) (with_activity os frame.key.function idle)
       (record { open_frames = h'; few = few }) h.rising leads')
-      (asks_there outer asked frame os s ask there leads)
+      (asks_there next.limits outer asked frame os s ask there leads)
 
   begin_keeps : (frames : List Frame) (asked : ℕ) (k : Call) (ask : Ask) (os : Objects)
       → IsWaiting next os top (asks.Call k) frames → IsRising k.function frames → IsSome (activity_of os k.function)
-      → next k.function k.args [] ≡ Some ask → FunctionExists (with_begun os k) ask
-      → AfterOneAsk frames asked (begun_frame k) ask (with_begun os k) (Ok s) → KeepsFrames frames os
+      → next.says k.function k.args [] ≡ Some ask → FunctionExists (with_begun os k) ask
+      → AfterOneAsk next.limits frames asked (begun_frame k) ask (with_begun os k) (Ok s) → KeepsFrames frames os
   begin_keeps frames asked k ask os waits up there asked_first all_there leads =
       let free = free_below k.function frames os up waits.open_frames.free there in
       keeps_from
@@ -278,7 +277,7 @@ module _ (next : Next) (top : Call) (law : RightAnswersGiveTheValue) (s : Standi
   resume_keeps : (outer : List Frame) (asked : ℕ) (frame : Frame) (wanted ask : Ask) (x : HeldAnswer) (os : Objects)
       → IsWaiting next os top wanted (frame ∷ outer) → (t : ℕ) → InReach t x.reach → InAll t (frame ∷ outer)
       → next_ask next os frame x.answer ≡ Some ask → FunctionExists (with_answer os frame.key.function x.answer) ask
-      → AfterOneAsk outer asked (given frame x.reach x.tags) ask (with_answer os frame.key.function x.answer) (Ok s)
+      → AfterOneAsk next.limits outer asked (given frame x.reach x.tags) ask (with_answer os frame.key.function x.answer) (Ok s)
       → KeepsBeside (λ L. HeldAnswerHolds next L os (frame ∷ outer) x) x.reach (frame ∷ outer) os
   resume_keeps outer asked frame wanted ask x os waits t here all asked_next all_there leads =
       let after : Frame = given frame x.reach x.tags in
@@ -288,7 +287,7 @@ module _ (next : Next) (top : Call) (law : RightAnswersGiveTheValue) (s : Standi
       waits t here all asked_next
       (λ bytes leads' none h'. held_keeps outer (asked + 1) (unreached after bytes) (with_activity os' frame.key.function idle)
       (record { open_frames = h'; few = waits.few.1 }) waits.open_frames.rising leads')
-      (asks_there outer asked after os' s ask all_there leads)
+      (asks_there next.limits outer asked after os' s ask all_there leads)
 
   -- the needed function's ask
   abbrev KeepsRun : List Frame → Objects → Need → Type 0
@@ -296,11 +295,11 @@ module _ (next : Next) (top : Call) (law : RightAnswersGiveTheValue) (s : Standi
 
   pub ran_keeps : (frames : List Frame) (asked : ℕ) (os : Objects) (need : Need) (ask : Ask)
       → NeedFits next os top (Some need) frames → (t : ℕ) → InNeed t (Some need) frames → due_ask next os frames need ≡ Some ask
-      → FunctionExists (with_resumed os frames need) ask → AfterRan frames asked os need ask (Ok s) → KeepsRun frames os need
+      → FunctionExists (with_resumed os frames need) ask → AfterRan next.limits frames asked os need ask (Ok s) → KeepsRun frames os need
   ran_keeps frames asked os (needs.Begin k) ask fits t all asks_now there leads =
       ⊎_elim
       (λ no. let no' : Ok s ≡ Err no.0 = no.1 in absurd (cc))
-      (λ (after : AfterOneAsk frames asked (begun_frame k) ask (with_begun os k) (Ok s)).
+      (λ (after : AfterOneAsk next.limits frames asked (begun_frame k) ask (with_begun os k) (Ok s)).
       keeps_from
       (λ L. FramesHold next L os frames) (λ L. NeedHolds next L os (Some (needs.Begin k)) frames)
       (λ t. InAll t frames) (λ t. InNeed t (Some (needs.Begin k)) frames)
@@ -312,7 +311,7 @@ module _ (next : Next) (top : Call) (law : RightAnswersGiveTheValue) (s : Standi
   ran_keeps (frame ∷ outer) asked os (needs.Resume x) ask fits t all asks_now there leads =
       ⊎_elim
       (λ no. let no' : Ok s ≡ Err no.0 = no.1 in absurd (cc))
-      (λ (after : AfterOneAsk outer asked (given frame x.reach x.tags) ask (with_answer os frame.key.function x.answer) (Ok s)).
+      (λ (after : AfterOneAsk next.limits outer asked (given frame x.reach x.tags) ask (with_answer os frame.key.function x.answer) (Ok s)).
       resume_keeps outer asked frame fits.0.0 ask x os fits.0.1 t all.0 all.1 asks_now there after)
       leads
   ran_keeps frames asked os (needs.Lookup k) ask fits t all asks_now there leads = absurd (cc)
@@ -321,7 +320,7 @@ module _ (next : Next) (top : Call) (law : RightAnswersGiveTheValue) (s : Standi
   ran_keeps frames asked os (needs.Value o) ask fits t all asks_now there leads = absurd (cc)
 
   -- what comes of what the innermost frame asks
-  after_ask_keeps : (outer : List Frame) (asked : ℕ) (frame : Frame) (ask : Ask) (os : Objects) → AreFew outer → IsOpen next os top ask (frame ∷ outer) → (t : ℕ) → InAll t outer
+  after_ask_keeps : (outer : List Frame) (asked : ℕ) (frame : Frame) (ask : Ask) (os : Objects) → AreFew next.limits.asks outer → IsOpen next os top ask (frame ∷ outer) → (t : ℕ) → InAll t outer
       → AfterAsk next outer asked frame ask os (Ok s) → KeepsFrames (frame ∷ outer) os
   after_ask_keeps outer asked frame ask os few h t all leads =
       ask_keeps outer asked frame ask os (λ idle_os bytes. AfterValue next outer (asked + 1) (unreached frame bytes) idle_os (Ok s)) few h
@@ -340,7 +339,7 @@ module _ (next : Next) (top : Call) (law : RightAnswersGiveTheValue) (s : Standi
       let os' : Objects = with_answer os frame.key.function (answers.Rows found.rows.items) in
       ⊎_elim
       (λ no. let no' : Ok s ≡ Err no.0 = no.1 in absurd (cc))
-      (λ (three : (ask : Ask) × (next_ask next os frame (answers.Rows found.rows.items) ≡ Some ask) × AskTransition outer asked after ask os' goes_on (Ok s)).
+      (λ (three : (ask : Ask) × (next_ask next os frame (answers.Rows found.rows.items) ≡ Some ask) × AskTransition next.limits outer asked after ask os' goes_on (Ok s)).
       given_keeps outer asked frame (asks.Query q) three.0 (answers.Rows found.rows.items) (Some found.reach) found.tags os goes_on
       (λ L. RowsHold L q found.rows.items (Some found.reach) found.tags) (λ L. rows_answer next L frame.key.function q found.rows.items (Some found.reach) found.tags)
       waits t here all three.1
@@ -355,7 +354,7 @@ module _ (next : Next) (top : Call) (law : RightAnswersGiveTheValue) (s : Standi
   miss_keeps frames asked k os waits up there t all leads =
       ⊎_elim
       (λ no. let no' : Ok s ≡ Err no.0 = no.1 in absurd (cc))
-      (λ (three : (ask : Ask) × (next k.function k.args [] ≡ Some ask) × AfterAsk next frames asked (begun_frame k) ask (with_begun os k) (Ok s)).
+      (λ (three : (ask : Ask) × (next.says k.function k.args [] ≡ Some ask) × AfterAsk next frames asked (begun_frame k) ask (with_begun os k) (Ok s)).
       let free = free_below k.function frames os up waits.open_frames.free there in
       keeps_from
       (λ L. FramesHold next L (with_begun os k) (begun_frame k ∷ frames)) (λ L. FramesHold next L os frames)
@@ -511,16 +510,17 @@ machine_keeps next law seen c os need reply s same is calling common leads =
     (subst (λ (v : Calling). AfterReply next v.frames v.asked os need reply (Ok s)) same leads)
 
 -- what an ask by hand keeps
-pub step_ran_keeps : (next : Next) → RightAnswersGiveTheValue → (seen c new : Calling) (os : Objects) (need : Need) (ask : Ask) → seen ≡ c → seen.need ≡ Some need → IsCalling next os c
+pub step_ran_keeps : (next : Next) (limits : Limits) → next.limits ≡ limits → RightAnswersGiveTheValue → (seen c new : Calling) (os : Objects) (need : Need) (ask : Ask) → seen ≡ c → seen.need ≡ Some need → IsCalling next os c
     → ((t : ℕ) × InCall t c) → due_ask next os c.frames need ≡ Some ask → FunctionExists (with_resumed os c.frames need) ask
-    → new.top ≡ c.top → AfterRan seen.frames seen.asked os need ask (Ok (record { frames = new.frames; asked = new.asked; need = new.need; objects = objects_after os c.frames need ask }))
+    → new.top ≡ c.top → AfterRan limits seen.frames seen.asked os need ask (Ok (record { frames = new.frames; asked = new.asked; need = new.need; objects = objects_after os c.frames need ask }))
     → StepKeeps next os c (objects_after os c.frames need ask) new
-step_ran_keeps next law seen c new os need ask same is calling common asks_now there top leads =
+step_ran_keeps next limits within law seen c new os need ask same is calling common asks_now there top leads =
     let is' : c.need ≡ Some need = subst (λ (v : Calling). v.need ≡ Some need) same is in
     let s : Standing = record { frames = new.frames; asked = new.asked; need = new.need; objects = objects_after os c.frames need ask } in
     let kept = ran_keeps next c.top law s c.frames c.asked os need ask
     (subst (λ (n : Option Need). NeedFits next os c.top n c.frames) is' calling) common.0 (subst (λ (n : Option Need). InNeed common.0 n c.frames) is' common.1) asks_now there
-    (subst (λ (v : Calling). AfterRan v.frames v.asked os need ask (Ok s)) same leads) in
+    (subst (λ (l : Limits). AfterRan l c.frames c.asked os need ask (Ok s)) (sym within)
+    (subst (λ (v : Calling). AfterRan limits v.frames v.asked os need ask (Ok s)) same leads)) in
     record {
       fits = subst (λ (k : Call). NeedFits next (objects_after os c.frames need ask) k new.need new.frames) (sym top) kept.fits;
       holds = λ L hold. kept.holds L (subst (λ (n : Option Need). NeedHolds next L os n c.frames) is' hold);
@@ -619,10 +619,10 @@ module _ (next : Next) (s : Standing) where
       done_counts outer asked frame frame.reach bytes (with_activity os frame.key.function idle) goes_on on leads
 
   ask_counts : (outer : List Frame) (asked : ℕ) (frame : Frame) (ask : Ask) (os : Objects) (goes_on : Onward)
-      → ((idle_os : Objects) (bytes : List ℕ) → goes_on idle_os bytes → Counts (asked + 1)) → AskTransition outer asked frame ask os goes_on (Ok s) → Counts asked
+      → ((idle_os : Objects) (bytes : List ℕ) → goes_on idle_os bytes → Counts (asked + 1)) → AskTransition next.limits outer asked frame ask os goes_on (Ok s) → Counts asked
   ask_counts outer asked frame ask os goes_on on leads =
-      let counted = allowed (count_refusal frame.answers asked) s (UnlessRefused (ask_refusal os frame.key.function ask) (Ok s) (AllowedTransition outer (asked + 1) frame ask os goes_on (Ok s))) leads in
-      let fine = allowed (ask_refusal os frame.key.function ask) s (AllowedTransition outer (asked + 1) frame ask os goes_on (Ok s)) counted.1 in
+      let counted = allowed (count_refusal next.limits.asks frame.answers asked) s (UnlessRefused (ask_refusal next.limits os frame.key.function ask) (Ok s) (AllowedTransition outer (asked + 1) frame ask os goes_on (Ok s))) leads in
+      let fine = allowed (ask_refusal next.limits os frame.key.function ask) s (AllowedTransition outer (asked + 1) frame ask os goes_on (Ok s)) counted.1 in
       allowed_counts outer asked frame ask os goes_on on fine.1
 
   value_counts : (frames : List Frame) (asked : ℕ) (o : Outcome) (os : Objects) → AfterValue next frames asked o os (Ok s) → Counts asked
@@ -635,7 +635,7 @@ module _ (next : Next) (s : Standing) where
       let os' : Objects = with_answer os frame.key.function (answers.Value o.value) in
       ⊎_elim
       (λ no. let no' : Ok s ≡ Err no.0 = no.1 in absurd (cc))
-      (λ (three : (ask : Ask) × (next_ask next os frame (answers.Value o.value) ≡ Some ask) × AskTransition outer asked after ask os' goes_on (Ok s)).
+      (λ (three : (ask : Ask) × (next_ask next os frame (answers.Value o.value) ≡ Some ask) × AskTransition next.limits outer asked after ask os' goes_on (Ok s)).
       ask_counts outer asked after three.0 os' goes_on (λ idle_os bytes leads'. value_counts outer (asked + 1) (unreached after bytes) idle_os leads') three.2)
       leads
 
@@ -659,7 +659,7 @@ module _ (next : Next) (s : Standing) where
   miss_counts frames asked k os leads =
       ⊎_elim
       (λ no. let no' : Ok s ≡ Err no.0 = no.1 in absurd (cc))
-      (λ (three : (ask : Ask) × (next k.function k.args [] ≡ Some ask) × AfterAsk next frames asked (begun_frame k) ask (with_begun os k) (Ok s)).
+      (λ (three : (ask : Ask) × (next.says k.function k.args [] ≡ Some ask) × AfterAsk next frames asked (begun_frame k) ask (with_begun os k) (Ok s)).
       after_ask_counts frames asked (begun_frame k) three.0 (with_begun os k) three.2)
       leads
 

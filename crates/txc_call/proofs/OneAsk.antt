@@ -3,7 +3,7 @@ use Rattle.std.proofs.Common.{◌≡◌, ◌≢◌, inr, ℕ, ◌+◌, ◌<◌, 
 use Rattle.txc_stamp.specs.Interval.{Interval}
 use Rattle.txc_tags.specs.Keys.{Call}
 use Rattle.std.specs.Prelude.{Result, if◌then◌else◌}
-use Rattle.txc_app.specs.declared.app.TheConstants.{MAX_ASKS}
+use Rattle.txc_app.specs.declared.app.Limits.{Limits}
 use Rattle.txc_app.specs.declared.ask.Ask.{Ask}
 use Rattle.txc_app.specs.declared.ask.Ask.TheVariants as asks
 use Rattle.txc_app.specs.Eval.{Next}
@@ -23,7 +23,7 @@ use Rattle.txc_call.specs.Frames.{given, AreFew}
 use Rattle.txc_call.specs.Needs.{NeedFits, ReplyFits}
 use Rattle.txc_call.proofs.Claims.{meets_none}
 use Rattle.txc_call.specs.Running.{value_need, stays_held, is_done, need_after, objects_after, order_refusal, with_ask, form_refusal, AfterNeed, AfterRan, AfterOneAsk, NeedsFunction, FunctionExists}
-use Rattle.txc_call.specs.Turns.{Onward, Standing, Turn, UnlessRefused, ask_refusal, call_refusal, count_refusal, entry_of_frame, needing, outwards, turn_of, unreached, with_answer, value_held, value_refusal, AfterAsk, AfterReply, AllowedTransition, AskTransition, DoneTransition}
+use Rattle.txc_call.specs.Turns.{Onward, Standing, Turn, UnlessRefused, ask_refusal, call_refusal, count_refusal, entry_of_frame, needing, outwards, turn_of, unreached, with_answer, value_held, value_refusal, AfterReply, AllowedTransition, AskTransition, DoneTransition}
 
 -- ---- refusals
 
@@ -66,32 +66,32 @@ module _ (objects : Objects) (f : ℕ) (k : Call) where
       subst (λ (o : Option CallError). UnlessRefused o turn Y) refusal h'
   call_order false is turn X Y h none = let h' : UnlessRefused None turn X = rw is at h in absurd (none h')
 
-module _ (outer : List Frame) (asked : ℕ) (frame : Frame) (objects : Objects) where
+module _ (limits : Limits) (outer : List Frame) (asked : ℕ) (frame : Frame) (objects : Objects) where
   -- ---- what a step gives
 
-  pub one_uncounted : (ask : Ask) (error : CallError) → Some error ≡ count_refusal frame.answers asked → AfterOneAsk outer asked frame ask objects (Err error)
+  pub one_uncounted : (ask : Ask) (error : CallError) → Some error ≡ count_refusal limits.asks frame.answers asked → AfterOneAsk limits outer asked frame ask objects (Err error)
   one_uncounted ask error is =
-      refused_with (count_refusal frame.answers asked) error
-      (UnlessRefused (form_refusal frame.key.function ask) (Err error)
+      refused_with (count_refusal limits.asks frame.answers asked) error
+      (UnlessRefused (form_refusal limits.value frame.key.function ask) (Err error)
       (AllowedTransition outer (asked + 1) frame ask objects (stays_held outer asked frame (Err error)) (Err error))) is
 
-  pub one_refused : (ask : Ask) (error : CallError) → None ≡ count_refusal frame.answers asked → Some error ≡ form_refusal frame.key.function ask
-      → AfterOneAsk outer asked frame ask objects (Err error)
+  pub one_refused : (ask : Ask) (error : CallError) → None ≡ count_refusal limits.asks frame.answers asked → Some error ≡ form_refusal limits.value frame.key.function ask
+      → AfterOneAsk limits outer asked frame ask objects (Err error)
   one_refused ask error counted is =
-      passed_with (count_refusal frame.answers asked) (Err error)
-      (UnlessRefused (form_refusal frame.key.function ask) (Err error)
+      passed_with (count_refusal limits.asks frame.answers asked) (Err error)
+      (UnlessRefused (form_refusal limits.value frame.key.function ask) (Err error)
       (AllowedTransition outer (asked + 1) frame ask objects (stays_held outer asked frame (Err error)) (Err error))) counted
-      (refused_with (form_refusal frame.key.function ask) error
+      (refused_with (form_refusal limits.value frame.key.function ask) error
       (AllowedTransition outer (asked + 1) frame ask objects (stays_held outer asked frame (Err error)) (Err error)) is)
 
-  pub one_allowed : (ask : Ask) (turn : Turn) → None ≡ count_refusal frame.answers asked → None ≡ form_refusal frame.key.function ask
+  pub one_allowed : (ask : Ask) (turn : Turn) → None ≡ count_refusal limits.asks frame.answers asked → None ≡ form_refusal limits.value frame.key.function ask
       → AllowedTransition outer (asked + 1) frame ask objects (stays_held outer asked frame turn) turn
-      → AfterOneAsk outer asked frame ask objects turn
+      → AfterOneAsk limits outer asked frame ask objects turn
   one_allowed ask turn counted may leads =
-      passed_with (count_refusal frame.answers asked) turn
-      (UnlessRefused (form_refusal frame.key.function ask) turn
+      passed_with (count_refusal limits.asks frame.answers asked) turn
+      (UnlessRefused (form_refusal limits.value frame.key.function ask) turn
       (AllowedTransition outer (asked + 1) frame ask objects (stays_held outer asked frame turn) turn)) counted
-      (passed_with (form_refusal frame.key.function ask) turn
+      (passed_with (form_refusal limits.value frame.key.function ask) turn
       (AllowedTransition outer (asked + 1) frame ask objects (stays_held outer asked frame turn) turn) may leads)
 
   -- ---- refused
@@ -105,8 +105,8 @@ module _ (outer : List Frame) (asked : ℕ) (frame : Frame) (objects : Objects) 
       absurd (never error outer (asked + 1) (value_need outer (unreached frame bytes)) (with_activity objects frame.key.function idle) leads)
 
   no_ask : (ask : Ask) (error : CallError) (goes_on : Onward)
-      → UnlessRefused (form_refusal frame.key.function ask) (Err error) (AllowedTransition outer (asked + 1) frame ask objects (stays_held outer asked frame (Err error)) (Err error))
-      → UnlessRefused (ask_refusal objects frame.key.function ask) (Err error) (AllowedTransition outer (asked + 1) frame ask objects goes_on (Err error))
+      → UnlessRefused (form_refusal limits.value frame.key.function ask) (Err error) (AllowedTransition outer (asked + 1) frame ask objects (stays_held outer asked frame (Err error)) (Err error))
+      → UnlessRefused (ask_refusal limits objects frame.key.function ask) (Err error) (AllowedTransition outer (asked + 1) frame ask objects goes_on (Err error))
   no_ask (asks.Query q) error goes_on leads = absurd (never error (frame ∷ outer) (asked + 1) (needs.Query q) objects leads)
   no_ask (asks.Call k) error goes_on leads =
       call_order objects frame.key.function k (nat_le frame.key.function k.function) refl (Err error)
@@ -114,34 +114,34 @@ module _ (outer : List Frame) (asked : ℕ) (frame : Frame) (objects : Objects) 
       (AllowedTransition outer (asked + 1) frame (asks.Call k) objects goes_on (Err error))
       leads (never error (frame ∷ outer) (asked + 1) (needs.Lookup k) objects)
   no_ask (asks.Done bytes) error goes_on leads =
-      unless_map (value_refusal bytes) (Err error)
+      unless_map (value_refusal limits.value bytes) (Err error)
       (AllowedTransition outer (asked + 1) frame (asks.Done bytes) objects (stays_held outer asked frame (Err error)) (Err error))
       (AllowedTransition outer (asked + 1) frame (asks.Done bytes) objects goes_on (Err error))
       (no_done error bytes frame.reach goes_on) leads
 
   -- an ask that fails by hand fails over a registry too
-  pub asks_refused : (ask : Ask) (error : CallError) (goes_on : Onward) → AfterOneAsk outer asked frame ask objects (Err error)
-      → AskTransition outer asked frame ask objects goes_on (Err error)
+  pub asks_refused : (ask : Ask) (error : CallError) (goes_on : Onward) → AfterOneAsk limits outer asked frame ask objects (Err error)
+      → AskTransition limits outer asked frame ask objects goes_on (Err error)
   asks_refused ask error goes_on leads =
-      unless_map (count_refusal frame.answers asked) (Err error)
-      (UnlessRefused (form_refusal frame.key.function ask) (Err error) (AllowedTransition outer (asked + 1) frame ask objects (stays_held outer asked frame (Err error)) (Err error)))
-      (UnlessRefused (ask_refusal objects frame.key.function ask) (Err error) (AllowedTransition outer (asked + 1) frame ask objects goes_on (Err error)))
+      unless_map (count_refusal limits.asks frame.answers asked) (Err error)
+      (UnlessRefused (form_refusal limits.value frame.key.function ask) (Err error) (AllowedTransition outer (asked + 1) frame ask objects (stays_held outer asked frame (Err error)) (Err error)))
+      (UnlessRefused (ask_refusal limits objects frame.key.function ask) (Err error) (AllowedTransition outer (asked + 1) frame ask objects goes_on (Err error)))
       (no_ask ask error goes_on) leads
 
   -- ---- allowed
 
   module _ (s : Standing) where
-    pub counted_of : (ask : Ask) → AfterOneAsk outer asked frame ask objects (Ok s) → count_refusal frame.answers asked ≡ None
+    pub counted_of : (ask : Ask) → AfterOneAsk limits outer asked frame ask objects (Ok s) → count_refusal limits.asks frame.answers asked ≡ None
     counted_of ask leads =
-        (let_by (count_refusal frame.answers asked) s
-        (UnlessRefused (form_refusal frame.key.function ask) (Ok s) (AllowedTransition outer (asked + 1) frame ask objects (stays_held outer asked frame (Ok s)) (Ok s))) leads).0
+        (let_by (count_refusal limits.asks frame.answers asked) s
+        (UnlessRefused (form_refusal limits.value frame.key.function ask) (Ok s) (AllowedTransition outer (asked + 1) frame ask objects (stays_held outer asked frame (Ok s)) (Ok s))) leads).0
 
-    pub allowed_of : (ask : Ask) → AfterOneAsk outer asked frame ask objects (Ok s)
-        → (form_refusal frame.key.function ask ≡ None) × AllowedTransition outer (asked + 1) frame ask objects (stays_held outer asked frame (Ok s)) (Ok s)
+    pub allowed_of : (ask : Ask) → AfterOneAsk limits outer asked frame ask objects (Ok s)
+        → (form_refusal limits.value frame.key.function ask ≡ None) × AllowedTransition outer (asked + 1) frame ask objects (stays_held outer asked frame (Ok s)) (Ok s)
     allowed_of ask leads =
-        let_by (form_refusal frame.key.function ask) s (AllowedTransition outer (asked + 1) frame ask objects (stays_held outer asked frame (Ok s)) (Ok s))
-        ((let_by (count_refusal frame.answers asked) s
-        (UnlessRefused (form_refusal frame.key.function ask) (Ok s) (AllowedTransition outer (asked + 1) frame ask objects (stays_held outer asked frame (Ok s)) (Ok s))) leads).1)
+        let_by (form_refusal limits.value frame.key.function ask) s (AllowedTransition outer (asked + 1) frame ask objects (stays_held outer asked frame (Ok s)) (Ok s))
+        ((let_by (count_refusal limits.asks frame.answers asked) s
+        (UnlessRefused (form_refusal limits.value frame.key.function ask) (Ok s) (AllowedTransition outer (asked + 1) frame ask objects (stays_held outer asked frame (Ok s)) (Ok s))) leads).1)
 
     needs_by : (fs : List Frame) (n : ℕ) (need other : Need) (os : Objects) → Ok s ≡ needing fs n need os → s.need ≡ Some other → need ≡ other
     needs_by fs n need other os is needed =
@@ -162,9 +162,9 @@ module _ (outer : List Frame) (asked : ℕ) (frame : Frame) (objects : Objects) 
 
     -- a call of a function that does not exist
     absent_by : (ask : Ask) (k : Call) (goes_on : Onward) → s.need ≡ Some (needs.Lookup k) → (IsSome (activity_of objects k.function) → ⊥)
-        → count_refusal frame.answers asked ≡ None → form_refusal frame.key.function ask ≡ None
+        → count_refusal limits.asks frame.answers asked ≡ None → form_refusal limits.value frame.key.function ask ≡ None
         → AllowedTransition outer (asked + 1) frame ask objects (stays_held outer asked frame (Ok s)) (Ok s)
-        → AskTransition outer asked frame ask objects goes_on (Err (errors.NoFunction k.function))
+        → AskTransition limits outer asked frame ask objects goes_on (Err (errors.NoFunction k.function))
     absent_by (asks.Query q) k goes_on needed none counted may leads =
         let no = needs_by (frame ∷ outer) (asked + 1) (needs.Query q) (needs.Lookup k) objects leads needed in absurd (cc)
     absent_by (asks.Call j) k goes_on needed none counted may leads =
@@ -174,17 +174,17 @@ module _ (outer : List Frame) (asked : ℕ) (frame : Frame) (objects : Objects) 
         let refusal : Some error ≡ call_refusal objects frame.key.function k =
         call_absent objects frame.key.function k (activity_of objects k.function) refl
         (order_let frame.key.function k (nat_le frame.key.function k.function) refl (subst (λ (c : Call). order_refusal frame.key.function c ≡ None) same may)) none in
-        passed_with (count_refusal frame.answers asked) (Err error)
-        (UnlessRefused (ask_refusal objects frame.key.function (asks.Call j)) (Err error)
+        passed_with (count_refusal limits.asks frame.answers asked) (Err error)
+        (UnlessRefused (ask_refusal limits objects frame.key.function (asks.Call j)) (Err error)
         (AllowedTransition outer (asked + 1) frame (asks.Call j) objects goes_on (Err error))) (sym counted)
-        (refused_with (ask_refusal objects frame.key.function (asks.Call j)) error
+        (refused_with (ask_refusal limits objects frame.key.function (asks.Call j)) error
         (AllowedTransition outer (asked + 1) frame (asks.Call j) objects goes_on (Err error))
         (subst (λ (c : Call). Some error ≡ call_refusal objects frame.key.function c) (sym same) refusal))
     absent_by (asks.Done bytes) k goes_on needed none counted may leads = absurd (done_no_lookup bytes k frame.reach needed leads)
 
     pub asks_absent : (ask : Ask) (k : Call) (goes_on : Onward) → s.need ≡ Some (needs.Lookup k) → (IsSome (activity_of objects k.function) → ⊥)
-        → AfterOneAsk outer asked frame ask objects (Ok s)
-        → AskTransition outer asked frame ask objects goes_on (Err (errors.NoFunction k.function))
+        → AfterOneAsk limits outer asked frame ask objects (Ok s)
+        → AskTransition limits outer asked frame ask objects goes_on (Err (errors.NoFunction k.function))
     asks_absent ask k goes_on needed none leads =
         absent_by ask k goes_on needed none (counted_of ask leads) (allowed_of ask leads).0 (allowed_of ask leads).1
 
@@ -199,7 +199,7 @@ module _ (outer : List Frame) (asked : ℕ) (frame : Frame) (objects : Objects) 
     looks_up_by (asks.Done bytes) k needed leads = absurd (done_no_lookup bytes k frame.reach needed leads)
 
     -- a call leaves the objects and the frames
-    pub looks_up : (ask : Ask) (k : Call) → s.need ≡ Some (needs.Lookup k) → AfterOneAsk outer asked frame ask objects (Ok s)
+    pub looks_up : (ask : Ask) (k : Call) → s.need ≡ Some (needs.Lookup k) → AfterOneAsk limits outer asked frame ask objects (Ok s)
         → (with_ask objects frame.key.function ask ≡ objects) × (s.frames ≡ frame ∷ outer)
     looks_up ask k needed leads = looks_up_by ask k needed (allowed_of ask leads).1
 
@@ -215,27 +215,27 @@ module _ (outer : List Frame) (asked : ℕ) (frame : Frame) (objects : Objects) 
         absurd (stops (subst (λ (st : Standing). NeedsFunction st.need) (sym e) tt))
 
     settled_by : (next : Next) (ask : Ask) → ((k : Call) → s.need ≡ Some (needs.Lookup k) → IsSome (activity_of objects k.function)) → (NeedsFunction s.need → ⊥)
-        → count_refusal frame.answers asked ≡ None → form_refusal frame.key.function ask ≡ None
+        → count_refusal limits.asks frame.answers asked ≡ None → form_refusal limits.value frame.key.function ask ≡ None
         → AllowedTransition outer (asked + 1) frame ask objects (stays_held outer asked frame (Ok s)) (Ok s)
-        → AfterAsk next outer asked frame ask objects (Ok s)
+        → AskTransition limits outer asked frame ask objects (outwards next outer asked frame (Ok s)) (Ok s)
     settled_by next (asks.Query q) there stops counted may leads =
-        passed_with (count_refusal frame.answers asked) (Ok s)
+        passed_with (count_refusal limits.asks frame.answers asked) (Ok s)
         (UnlessRefused None (Ok s) (AllowedTransition outer (asked + 1) frame (asks.Query q) objects (outwards next outer asked frame (Ok s)) (Ok s))) (sym counted) leads
     settled_by next (asks.Call k) there stops counted may leads =
         let e : s ≡ record { frames = frame ∷ outer; asked = asked + 1; need = Some (needs.Lookup k); objects = objects } = cc in
         let here : IsSome (activity_of objects k.function) = there k (ap (λ (st : Standing). st.need) e) in
         let let_call : None ≡ call_refusal objects frame.key.function k = sym (call_there objects frame.key.function k (nat_le frame.key.function k.function) refl here ∙ may) in
-        passed_with (count_refusal frame.answers asked) (Ok s)
+        passed_with (count_refusal limits.asks frame.answers asked) (Ok s)
         (UnlessRefused (call_refusal objects frame.key.function k) (Ok s) (AllowedTransition outer (asked + 1) frame (asks.Call k) objects (outwards next outer asked frame (Ok s)) (Ok s))) (sym counted)
         (passed_with (call_refusal objects frame.key.function k) (Ok s) (AllowedTransition outer (asked + 1) frame (asks.Call k) objects (outwards next outer asked frame (Ok s)) (Ok s)) let_call leads)
     settled_by next (asks.Done bytes) there stops counted may leads =
-        passed_with (count_refusal frame.answers asked) (Ok s)
-        (UnlessRefused (value_refusal bytes) (Ok s) (AllowedTransition outer (asked + 1) frame (asks.Done bytes) objects (outwards next outer asked frame (Ok s)) (Ok s))) (sym counted)
-        (passed_with (value_refusal bytes) (Ok s) (AllowedTransition outer (asked + 1) frame (asks.Done bytes) objects (outwards next outer asked frame (Ok s)) (Ok s)) (sym may)
+        passed_with (count_refusal limits.asks frame.answers asked) (Ok s)
+        (UnlessRefused (value_refusal limits.value bytes) (Ok s) (AllowedTransition outer (asked + 1) frame (asks.Done bytes) objects (outwards next outer asked frame (Ok s)) (Ok s))) (sym counted)
+        (passed_with (value_refusal limits.value bytes) (Ok s) (AllowedTransition outer (asked + 1) frame (asks.Done bytes) objects (outwards next outer asked frame (Ok s)) (Ok s)) (sym may)
         (settled_done next bytes outer frame.reach stops leads))
 
     pub asks_settled : (next : Next) (ask : Ask) → ((k : Call) → s.need ≡ Some (needs.Lookup k) → IsSome (activity_of objects k.function)) → (NeedsFunction s.need → ⊥)
-        → AfterOneAsk outer asked frame ask objects (Ok s) → AfterAsk next outer asked frame ask objects (Ok s)
+        → AfterOneAsk limits outer asked frame ask objects (Ok s) → AskTransition limits outer asked frame ask objects (outwards next outer asked frame (Ok s)) (Ok s)
     asks_settled next ask there stops leads =
         settled_by next ask there stops (counted_of ask leads) (allowed_of ask leads).0 (allowed_of ask leads).1
 
@@ -245,8 +245,8 @@ module _ (outer : List Frame) (asked : ℕ) (frame : Frame) (objects : Objects) 
     pub record IsHeld (ask : Ask) (x : HeldAnswer) : Type 0 where
       pub bytes : List ℕ
       pub is : ask ≡ asks.Done bytes
-      pub counted : None ≡ count_refusal frame.answers asked
-      pub short : None ≡ value_refusal bytes
+      pub counted : None ≡ count_refusal limits.asks frame.answers asked
+      pub short : None ≡ value_refusal limits.value bytes
       pub no_reach : frame.reach ≡ None
       pub some : outer ≢ []
       pub held : x ≡ value_held (unreached frame bytes)
@@ -262,7 +262,7 @@ module _ (outer : List Frame) (asked : ℕ) (frame : Frame) (objects : Objects) 
         (λ none. let no : y ∷ fs ≡ [] = none in absurd (cc), held)
 
     handed_done : (bytes : List ℕ) (x : HeldAnswer) (r : Option Interval) → frame.reach ≡ r → s.need ≡ Some (needs.Resume x)
-        → count_refusal frame.answers asked ≡ None → value_refusal bytes ≡ None
+        → count_refusal limits.asks frame.answers asked ≡ None → value_refusal limits.value bytes ≡ None
         → DoneTransition outer (asked + 1) frame r bytes (with_activity objects frame.key.function idle) (stays_held outer asked frame (Ok s)) (Ok s)
         → IsHeld (asks.Done bytes) x
     handed_done bytes x (Some r) is needed counted short leads =
@@ -282,7 +282,7 @@ module _ (outer : List Frame) (asked : ℕ) (frame : Frame) (objects : Objects) 
           count = ap (λ (st : Standing). st.asked) e;
         }
 
-    handed_by : (ask : Ask) (x : HeldAnswer) → s.need ≡ Some (needs.Resume x) → count_refusal frame.answers asked ≡ None → form_refusal frame.key.function ask ≡ None
+    handed_by : (ask : Ask) (x : HeldAnswer) → s.need ≡ Some (needs.Resume x) → count_refusal limits.asks frame.answers asked ≡ None → form_refusal limits.value frame.key.function ask ≡ None
         → AllowedTransition outer (asked + 1) frame ask objects (stays_held outer asked frame (Ok s)) (Ok s) → IsHeld ask x
     handed_by (asks.Query q) x needed counted may leads =
         let no = needs_by (frame ∷ outer) (asked + 1) (needs.Query q) (needs.Resume x) objects leads needed in absurd (cc)
@@ -290,7 +290,7 @@ module _ (outer : List Frame) (asked : ℕ) (frame : Frame) (objects : Objects) 
         let no = needs_by (frame ∷ outer) (asked + 1) (needs.Lookup k) (needs.Resume x) objects leads needed in absurd (cc)
     handed_by (asks.Done bytes) x needed counted may leads = handed_done bytes x frame.reach refl needed counted may leads
 
-    pub held_for : (ask : Ask) (x : HeldAnswer) → s.need ≡ Some (needs.Resume x) → AfterOneAsk outer asked frame ask objects (Ok s) → IsHeld ask x
+    pub held_for : (ask : Ask) (x : HeldAnswer) → s.need ≡ Some (needs.Resume x) → AfterOneAsk limits outer asked frame ask objects (Ok s) → IsHeld ask x
     held_for ask x needed leads = handed_by ask x needed (counted_of ask leads) (allowed_of ask leads).0 (allowed_of ask leads).1
 
     -- ---- no function begins at once
@@ -314,29 +314,29 @@ module _ (outer : List Frame) (asked : ℕ) (frame : Frame) (objects : Objects) 
         let no = needs_by (frame ∷ outer) (asked + 1) (needs.Lookup j) (needs.Begin k) objects leads needed in absurd (cc)
     begins_none_by (asks.Done bytes) k needed leads = done_begins_none bytes k frame.reach needed leads
 
-    pub begins_none : (ask : Ask) (k : Call) → s.need ≡ Some (needs.Begin k) → AfterOneAsk outer asked frame ask objects (Ok s) → ⊥
+    pub begins_none : (ask : Ask) (k : Call) → s.need ≡ Some (needs.Begin k) → AfterOneAsk limits outer asked frame ask objects (Ok s) → ⊥
     begins_none ask k needed leads = begins_none_by ask k needed (allowed_of ask leads).1
 
     -- ---- all functions exist
 
-    there_by : (ask : Ask) → FunctionExists objects ask → count_refusal frame.answers asked ≡ None → form_refusal frame.key.function ask ≡ None
+    there_by : (ask : Ask) → FunctionExists objects ask → count_refusal limits.asks frame.answers asked ≡ None → form_refusal limits.value frame.key.function ask ≡ None
         → AllowedTransition outer (asked + 1) frame ask objects (stays_held outer asked frame (Ok s)) (Ok s)
-        → AskTransition outer asked frame ask objects (stays_held outer asked frame (Ok s)) (Ok s)
+        → AskTransition limits outer asked frame ask objects (stays_held outer asked frame (Ok s)) (Ok s)
     there_by (asks.Query q) there counted may leads =
-        passed_with (count_refusal frame.answers asked) (Ok s)
+        passed_with (count_refusal limits.asks frame.answers asked) (Ok s)
         (UnlessRefused None (Ok s) (AllowedTransition outer (asked + 1) frame (asks.Query q) objects (stays_held outer asked frame (Ok s)) (Ok s))) (sym counted) leads
     there_by (asks.Call k) there counted may leads =
         let let_call : None ≡ call_refusal objects frame.key.function k = sym (call_there objects frame.key.function k (nat_le frame.key.function k.function) refl there ∙ may) in
-        passed_with (count_refusal frame.answers asked) (Ok s)
+        passed_with (count_refusal limits.asks frame.answers asked) (Ok s)
         (UnlessRefused (call_refusal objects frame.key.function k) (Ok s) (AllowedTransition outer (asked + 1) frame (asks.Call k) objects (stays_held outer asked frame (Ok s)) (Ok s))) (sym counted)
         (passed_with (call_refusal objects frame.key.function k) (Ok s) (AllowedTransition outer (asked + 1) frame (asks.Call k) objects (stays_held outer asked frame (Ok s)) (Ok s)) let_call leads)
     there_by (asks.Done bytes) there counted may leads =
-        passed_with (count_refusal frame.answers asked) (Ok s)
-        (UnlessRefused (value_refusal bytes) (Ok s) (AllowedTransition outer (asked + 1) frame (asks.Done bytes) objects (stays_held outer asked frame (Ok s)) (Ok s))) (sym counted)
-        (passed_with (value_refusal bytes) (Ok s) (AllowedTransition outer (asked + 1) frame (asks.Done bytes) objects (stays_held outer asked frame (Ok s)) (Ok s)) (sym may) leads)
+        passed_with (count_refusal limits.asks frame.answers asked) (Ok s)
+        (UnlessRefused (value_refusal limits.value bytes) (Ok s) (AllowedTransition outer (asked + 1) frame (asks.Done bytes) objects (stays_held outer asked frame (Ok s)) (Ok s))) (sym counted)
+        (passed_with (value_refusal limits.value bytes) (Ok s) (AllowedTransition outer (asked + 1) frame (asks.Done bytes) objects (stays_held outer asked frame (Ok s)) (Ok s)) (sym may) leads)
 
-    pub asks_there : (ask : Ask) → FunctionExists objects ask → AfterOneAsk outer asked frame ask objects (Ok s)
-        → AskTransition outer asked frame ask objects (stays_held outer asked frame (Ok s)) (Ok s)
+    pub asks_there : (ask : Ask) → FunctionExists objects ask → AfterOneAsk limits outer asked frame ask objects (Ok s)
+        → AskTransition limits outer asked frame ask objects (stays_held outer asked frame (Ok s)) (Ok s)
     asks_there ask there leads = there_by ask there (counted_of ask leads) (allowed_of ask leads).0 (allowed_of ask leads).1
 
 -- the objects after what was asked, by a test
@@ -344,19 +344,24 @@ pub with_ask_by : (objects os : Objects) (f g : ℕ) (ask : Ask) (b : Bool) → 
 with_ask_by objects os f g ask b is done after =
     subst (λ (n : ℕ). os ≡ with_ask objects n ask) is (subst (λ (d : Bool). os ≡ (if d then with_activity objects g idle else objects)) done after)
 
+-- the effect of an ask by limits is that by equal ones
+pub at_limits : (one two : Limits) (outer : List Frame) (asked : ℕ) (frame : Frame) (ask : Ask) (objects : Objects) (turn : Turn) → one ≡ two
+    → AfterOneAsk one outer asked frame ask objects turn → AfterOneAsk two outer asked frame ask objects turn
+at_limits one two outer asked frame ask objects turn same = subst (λ (l : Limits). AfterOneAsk l outer asked frame ask objects turn) same
+
 -- an answer reaches the innermost frame, whose function asks this
-pub ran_resume : (frames frames' : List Frame) (asked : ℕ) (x : HeldAnswer) (ask : Ask) (objects : Objects) (r : Result Need CallError) (stack : List Frame) (n : ℕ) → frames ≢ []
+pub ran_resume : (limits : Limits) (frames frames' : List Frame) (asked : ℕ) (x : HeldAnswer) (ask : Ask) (objects : Objects) (r : Result Need CallError) (stack : List Frame) (n : ℕ) → frames ≢ []
     → ((frame : Frame) (outer : List Frame) → frames ≡ frame ∷ outer → frames' ≡ given frame x.reach x.tags ∷ outer)
-    → ((frame : Frame) (outer : List Frame) (os : Objects) → frames' ≡ frame ∷ outer → AfterOneAsk outer asked frame ask os (turn_of r stack n (with_ask os frame.key.function ask)))
-    → AfterRan frames asked objects (needs.Resume x) ask (turn_of r stack n (objects_after objects frames (needs.Resume x) ask))
-ran_resume [] frames' asked x ask objects r stack n some is leads = absurd (some refl)
-ran_resume (frame ∷ outer) frames' asked x ask objects r stack n some is leads =
+    → ((frame : Frame) (outer : List Frame) (os : Objects) → frames' ≡ frame ∷ outer → AfterOneAsk limits outer asked frame ask os (turn_of r stack n (with_ask os frame.key.function ask)))
+    → AfterRan limits frames asked objects (needs.Resume x) ask (turn_of r stack n (objects_after objects frames (needs.Resume x) ask))
+ran_resume limits [] frames' asked x ask objects r stack n some is leads = absurd (some refl)
+ran_resume limits (frame ∷ outer) frames' asked x ask objects r stack n some is leads =
     inr (leads (given frame x.reach x.tags) outer (with_answer objects frame.key.function x.answer) (is frame outer refl))
 
 -- the first of frames that each asked no more than they may
-pub first_few : (fs : List Frame) → fs ≢ [] → AreFew fs → (x : Frame) × (rest : List Frame) × (fs ≡ x ∷ rest) × (x.answers < MAX_ASKS) × ReachesMeet x.reach None
-first_few [] some few = absurd (some refl)
-first_few (x ∷ xs) some few = (x, xs, refl, few.0, meets_none x.reach)
+pub first_few : (most : ℕ) (fs : List Frame) → fs ≢ [] → AreFew most fs → (x : Frame) × (rest : List Frame) × (fs ≡ x ∷ rest) × (x.answers < most) × ReachesMeet x.reach None
+first_few most [] some few = absurd (some refl)
+first_few most (x ∷ xs) some few = (x, xs, refl, few.0, meets_none x.reach)
 
 -- ---- replies
 

@@ -7,8 +7,6 @@ use Rattle.txc_tags.specs.declared.tag.Tag.{Tag}
 use Rattle.txc_tags.specs.Keys.{Call}
 use Rattle.txc_tags.specs.Tags.{with_tags}
 use Rattle.txc_db.specs.History.{History}
-use Rattle.txc_node.specs.declared.value.TheConstants.{MAX_VALUE_LEN}
-use Rattle.txc_app.specs.declared.app.TheConstants.{MAX_ASKS}
 use Rattle.txc_app.specs.declared.ask.Ask.{Ask}
 use Rattle.txc_app.specs.declared.ask.Ask.TheVariants as asks
 use Rattle.txc_app.specs.declared.ask.Answer.{Answer}
@@ -63,7 +61,7 @@ module _ (f : ℕ) (new : Activity) where
       record {
         runs = rw same h.runs;
         args = rw same h.args;
-        asks = ap (λ (xs : List Answer). next x.key.function x.key.args xs) answers ∙ h.asks;
+        asks = ap (λ (xs : List Answer). next.says x.key.function x.key.args xs) answers ∙ h.asks;
         counted = ap (λ (xs : List Answer). length xs) answers ∙ h.counted;
       }
 
@@ -95,13 +93,13 @@ free_below g fs os up free there =
 module _ (next : Next) (os : Objects) (top : Call) where
   -- a frame is opened for the call that is asked for
   pub opened : (k : Call) (ask : Ask) (fs : List Frame) → IsOpen next os top (asks.Call k) fs → IsRising k.function fs → activity_of os k.function ≡ Some idle
-      → next k.function k.args [] ≡ Some ask
+      → next.says k.function k.args [] ≡ Some ask
       → IsOpen next (with_activity os k.function (running (begun k.args))) top ask (begun_frame k ∷ fs)
   opened k ask fs h up free asked =
       let here : activity_of (with_activity os k.function (running (begun k.args))) k.function ≡ Some (running (begun k.args)) = here_after k.function os idle (running (begun k.args)) free in
       let answers = answers_here (with_activity os k.function (running (begun k.args))) k.function (begun k.args) here in
       record {
-        stack = (record { runs = rw here refl; args = rw here refl; asks = ap (λ (xs : List Answer). next k.function k.args xs) answers ∙ asked; counted = ap (λ (xs : List Answer). length xs) answers }, stack_else k.function (running (begun k.args)) next os top (asks.Call k) fs up h.stack);
+        stack = (record { runs = rw here refl; args = rw here refl; asks = ap (λ (xs : List Answer). next.says k.function k.args xs) answers ∙ asked; counted = ap (λ (xs : List Answer). length xs) answers }, stack_else k.function (running (begun k.args)) next os top (asks.Call k) fs up h.stack);
         rising = up;
         free = rw (restored k.function os idle (running (begun k.args)) free) h.free;
       }
@@ -109,12 +107,12 @@ module _ (next : Next) (os : Objects) (top : Call) where
   -- the innermost frame's object may go on
   pub may_resume : (ask : Ask) (frame : Frame) (fs : List Frame) → IsOpen next os top ask (frame ∷ fs) → WantsAnswer (Some ask) → IsAskingAt next os frame.key.function
   may_resume ask frame fs h wants =
-      let asked : next_of (next frame.key.function) (activation_of os frame.key.function) ≡ Some ask = ap (λ (args : List ℕ). next frame.key.function args (answers_in os frame.key.function)) h.stack.0.args ∙ h.stack.0.asks in
+      let asked : next_of (next.says frame.key.function) (activation_of os frame.key.function) ≡ Some ask = ap (λ (args : List ℕ). next.says frame.key.function args (answers_in os frame.key.function)) h.stack.0.args ∙ h.stack.0.asks in
       (h.stack.0.runs, rw asked wants)
 
   -- the innermost frame was given an answer
   pub resumed : (ask ask' : Ask) (x : Answer) (frame : Frame) (reach : Option Interval) (tags : List Tag) (fs : List Frame) → IsOpen next os top ask (frame ∷ fs)
-      → next_of (next frame.key.function) (answered (activation_of os frame.key.function) x) ≡ Some ask'
+      → next_of (next.says frame.key.function) (answered (activation_of os frame.key.function) x) ≡ Some ask'
       → IsOpen next (with_activity os frame.key.function (running (answered (activation_of os frame.key.function) x))) top ask' (given frame reach tags ∷ fs)
   resumed ask ask' x frame reach tags fs h asked =
       let f = frame.key.function in
@@ -128,7 +126,7 @@ module _ (next : Next) (os : Objects) (top : Call) where
           record {
             runs = rw here refl;
             args = rw here h.stack.0.args;
-            asks = ap (λ (xs : List Answer). next f frame.key.args xs) answers ∙ subst (λ (args : List ℕ). next f args (a.answers ++ x ∷ []) ≡ Some ask') h.stack.0.args asked;
+            asks = ap (λ (xs : List Answer). next.says f frame.key.args xs) answers ∙ subst (λ (args : List ℕ). next.says f args (a.answers ++ x ∷ []) ≡ Some ask') h.stack.0.args asked;
             counted = ap (λ (xs : List Answer). length xs) answers ∙ longer;
           },
           stack_else f (running (answered a x)) next os top (asks.Call frame.key) fs h.rising h.stack.1,
@@ -153,7 +151,7 @@ module _ (next : Next) (L : History) (os : Objects) where
   hold_opened k fs up free h =
       let here : activity_of (with_activity os k.function (running (begun k.args))) k.function ≡ Some (running (begun k.args)) = here_after k.function os idle (running (begun k.args)) free in
       let answers = answers_here (with_activity os k.function (running (begun k.args))) k.function (begun k.args) here in
-      (subst (λ (xs : List Answer). AnswersHold next L k xs None []) (sym answers) (λ s. (each_none (λ (before : List Answer) (a : Answer). IsRight next k.function s (next k.function k.args before) a), refl)), hold_else k.function (running (begun k.args)) next L os fs up h)
+      (subst (λ (xs : List Answer). AnswersHold next L k xs None []) (sym answers) (λ s. (each_none (λ (before : List Answer) (a : Answer). IsRight next k.function s (next.says k.function k.args before) a), refl)), hold_else k.function (running (begun k.args)) next L os fs up h)
 
   pub hold_resumed : (top : Call) (ask : Ask) (x : Answer) (frame : Frame) (reach : Option Interval) (tags : List Tag) (fs : List Frame)
       → IsOpen next os top ask (frame ∷ fs) → ReachesMeet frame.reach reach
@@ -169,10 +167,10 @@ module _ (next : Next) (L : History) (os : Objects) where
       )
 
   pub hold_closed : RightAnswersGiveTheValue → (top : Call) (bytes : List ℕ) (frame : Frame) (fs : List Frame) → IsOpen next os top (asks.Done bytes) (frame ∷ fs)
-      → frame.answers < MAX_ASKS → length bytes ≤ MAX_VALUE_LEN → FramesHold next L os (frame ∷ fs)
+      → frame.answers < next.limits.asks → length bytes ≤ next.limits.value → FramesHold next L os (frame ∷ fs)
       → ValueHolds next L frame.key bytes frame.reach frame.tags × FramesHold next L (with_activity os frame.key.function idle) fs
   hold_closed law top bytes frame fs open_ few short h = (
-    done_holds next frame.key law L (answers_in os frame.key.function) bytes frame.reach frame.tags (subst (λ (n : ℕ). n < MAX_ASKS) (sym open_.stack.0.counted) few) open_.stack.0.asks short h.0,
+    done_holds next frame.key law L (answers_in os frame.key.function) bytes frame.reach frame.tags (subst (λ (n : ℕ). n < next.limits.asks) (sym open_.stack.0.counted) few) open_.stack.0.asks short h.0,
     hold_else frame.key.function idle next L os fs open_.rising h.1,
   )
 
@@ -186,15 +184,15 @@ unreached_given frame tags fs all = (ap (λ (r : Option Interval). meet r None) 
 
 -- ---- how often the frames asked
 
-pub few_all : (fs : List Frame) → ((frame : Frame) (rest : List Frame) → fs ≡ frame ∷ rest → frame.answers < MAX_ASKS) → AreFew (drop 1 fs) → AreFew fs
-few_all [] first rest = tt
-few_all (x ∷ fs) first rest = (first x fs refl, rest)
+pub few_all : (most : ℕ) (fs : List Frame) → ((frame : Frame) (rest : List Frame) → fs ≡ frame ∷ rest → frame.answers < most) → AreFew most (drop 1 fs) → AreFew most fs
+few_all most [] first rest = tt
+few_all most (x ∷ fs) first rest = (first x fs refl, rest)
 
-pub few_rest : (fs rest : List Frame) (frame : Frame) → fs ≡ frame ∷ rest → AreFew (drop 1 fs) → AreFew rest
-few_rest fs rest frame is few = subst (λ (st : List Frame). AreFew (drop 1 st)) is few
+pub few_rest : (most : ℕ) (fs rest : List Frame) (frame : Frame) → fs ≡ frame ∷ rest → AreFew most (drop 1 fs) → AreFew most rest
+few_rest most fs rest frame is few = subst (λ (st : List Frame). AreFew most (drop 1 st)) is few
 
-pub few_inside : (fs rest : List Frame) (frame : Frame) → fs ≡ frame ∷ rest → AreFew fs → (frame.answers < MAX_ASKS) × AreFew rest
-few_inside fs rest frame is few = subst AreFew is few
+pub few_inside : (most : ℕ) (fs rest : List Frame) (frame : Frame) → fs ≡ frame ∷ rest → AreFew most fs → (frame.answers < most) × AreFew most rest
+few_inside most fs rest frame is few = subst (AreFew most) is few
 
 pub not_empty : (fs rest : List Frame) (frame : Frame) → fs ≡ frame ∷ rest → fs ≢ []
 not_empty fs rest frame is none = let e : frame ∷ rest ≡ [] = sym is ∙ none in absurd (cc)
@@ -203,7 +201,7 @@ not_empty fs rest frame is none = let e : frame ∷ rest ≡ [] = sym is ∙ non
 
 module _ (next : Next) (os os' : Objects) (top : Call) (fs fs' : List Frame) where
   pub opened_at : (k : Call) (ask : Ask) (f : ℕ) (args : List ℕ) → IsOpen next os top (asks.Call k) fs → IsRising k.function fs → activity_of os k.function ≡ Some idle
-      → f ≡ k.function → args ≡ k.args → next_of (next f) (begun args) ≡ Some ask
+      → f ≡ k.function → args ≡ k.args → next_of (next.says f) (begun args) ≡ Some ask
       → os' ≡ with_activity os f (running (begun args)) → fs' ≡ begun_frame k ∷ fs → IsOpen next os' top ask fs'
   opened_at k ask f args h up free is_f is_args asked objects frames =
       rw (objects, frames, is_f, is_args) (opened next os top k ask fs h up free (rw (is_f, is_args) at asked))
@@ -222,7 +220,7 @@ module _ (next : Next) (os os' : Objects) (top : Call) (fs fs' : List Frame) whe
       rw is_f (may_resume next os top ask frame rest (subst (λ (st : List Frame). IsOpen next os top ask st) at h) wants)
 
   pub resumed_at : (ask ask' : Ask) (x : Answer) (frame : Frame) (rest : List Frame) (f : ℕ) (reach : Option Interval) (tags : List Tag) → fs ≡ frame ∷ rest → f ≡ frame.key.function
-      → IsOpen next os top ask fs → next_of (next f) (answered (activation_of os f) x) ≡ Some ask'
+      → IsOpen next os top ask fs → next_of (next.says f) (answered (activation_of os f) x) ≡ Some ask'
       → os' ≡ with_activity os f (running (answered (activation_of os f) x)) → fs' ≡ given frame reach tags ∷ rest → IsOpen next os' top ask' fs'
   resumed_at ask ask' x frame rest f reach tags at is_f h asked objects frames =
       rw (objects, frames, is_f) (resumed next os top ask ask' x frame reach tags rest (subst (λ (st : List Frame). IsOpen next os top ask st) at h) (rw is_f at asked))

@@ -7,8 +7,7 @@ use Rattle.txc_tags.specs.declared.tag.Tag.{Tag}
 use Rattle.txc_tags.proofs.Offered.{bool_cases}
 use Rattle.txc_rows.specs.Values.{RowValue}
 use Rattle.txc_validity.specs.declared.answer.Found.{Found}
-use Rattle.txc_node.specs.declared.value.TheConstants.{MAX_VALUE_LEN}
-use Rattle.txc_app.specs.declared.app.TheConstants.{MAX_ASKS}
+use Rattle.txc_app.specs.declared.app.Limits.{Limits}
 use Rattle.txc_app.specs.declared.ask.Ask.{Ask}
 use Rattle.txc_app.specs.declared.ask.Ask.TheVariants as asks
 use Rattle.txc_app.specs.declared.ask.Answer.TheVariants as answers
@@ -36,45 +35,45 @@ refused_for o error rest is = subst (λ (p : Option CallError). UnlessRefused p 
 allowed_for : (o : Option CallError) (turn : Turn) (rest : Type 0) → None ≡ o → rest → UnlessRefused o turn rest
 allowed_for o turn rest is holds = subst (λ (p : Option CallError). UnlessRefused p turn rest) is holds
 
-module _ (outer : List Frame) (asked : ℕ) (frame : Frame) (ask : Ask) (objects : Objects) (goes_on : Onward) where
+module _ (limits : Limits) (outer : List Frame) (asked : ℕ) (frame : Frame) (ask : Ask) (objects : Objects) (goes_on : Onward) where
   -- an ask that is one too many
-  pub uncounted : (error : CallError) → Some error ≡ count_refusal frame.answers asked → AskTransition outer asked frame ask objects goes_on (Err error)
+  pub uncounted : (error : CallError) → Some error ≡ count_refusal limits.asks frame.answers asked → AskTransition limits outer asked frame ask objects goes_on (Err error)
   uncounted error is =
-      refused_for (count_refusal frame.answers asked) error
-      (UnlessRefused (ask_refusal objects frame.key.function ask) (Err error) (AllowedTransition outer (asked + 1) frame ask objects goes_on (Err error))) is
+      refused_for (count_refusal limits.asks frame.answers asked) error
+      (UnlessRefused (ask_refusal limits objects frame.key.function ask) (Err error) (AllowedTransition outer (asked + 1) frame ask objects goes_on (Err error))) is
 
   -- an ask that may not be made
-  pub unasked : (error : CallError) → None ≡ count_refusal frame.answers asked → Some error ≡ ask_refusal objects frame.key.function ask
-      → AskTransition outer asked frame ask objects goes_on (Err error)
+  pub unasked : (error : CallError) → None ≡ count_refusal limits.asks frame.answers asked → Some error ≡ ask_refusal limits objects frame.key.function ask
+      → AskTransition limits outer asked frame ask objects goes_on (Err error)
   unasked error counted is =
-      allowed_for (count_refusal frame.answers asked) (Err error)
-      (UnlessRefused (ask_refusal objects frame.key.function ask) (Err error) (AllowedTransition outer (asked + 1) frame ask objects goes_on (Err error))) counted
-      (refused_for (ask_refusal objects frame.key.function ask) error (AllowedTransition outer (asked + 1) frame ask objects goes_on (Err error)) is)
+      allowed_for (count_refusal limits.asks frame.answers asked) (Err error)
+      (UnlessRefused (ask_refusal limits objects frame.key.function ask) (Err error) (AllowedTransition outer (asked + 1) frame ask objects goes_on (Err error))) counted
+      (refused_for (ask_refusal limits objects frame.key.function ask) error (AllowedTransition outer (asked + 1) frame ask objects goes_on (Err error)) is)
 
   -- an ask that is made
-  pub asked_for : (turn : Turn) → None ≡ count_refusal frame.answers asked → None ≡ ask_refusal objects frame.key.function ask
-      → AllowedTransition outer (asked + 1) frame ask objects goes_on turn → AskTransition outer asked frame ask objects goes_on turn
+  pub asked_for : (turn : Turn) → None ≡ count_refusal limits.asks frame.answers asked → None ≡ ask_refusal limits objects frame.key.function ask
+      → AllowedTransition outer (asked + 1) frame ask objects goes_on turn → AskTransition limits outer asked frame ask objects goes_on turn
   asked_for turn counted may leads =
-      allowed_for (count_refusal frame.answers asked) turn
-      (UnlessRefused (ask_refusal objects frame.key.function ask) turn (AllowedTransition outer (asked + 1) frame ask objects goes_on turn)) counted
-      (allowed_for (ask_refusal objects frame.key.function ask) turn (AllowedTransition outer (asked + 1) frame ask objects goes_on turn) may leads)
+      allowed_for (count_refusal limits.asks frame.answers asked) turn
+      (UnlessRefused (ask_refusal limits objects frame.key.function ask) turn (AllowedTransition outer (asked + 1) frame ask objects goes_on turn)) counted
+      (allowed_for (ask_refusal limits objects frame.key.function ask) turn (AllowedTransition outer (asked + 1) frame ask objects goes_on turn) may leads)
 
 -- an ask that is counted was not one too many
-pub few_by : (own all : ℕ) → None ≡ count_refusal own all → own < MAX_ASKS
-few_by own all counted = elim (bool_cases (nat_le MAX_ASKS own)) [
+pub few_by : (most own all : ℕ) → None ≡ count_refusal most own all → own < most
+few_by most own all counted = elim (bool_cases (nat_le most own)) [
   | inl many ↦ let none : None ≡ Some errors.AskLimit = rw many at counted in absurd (cc)
   | inr few ↦ grind (arith, nat_tests)
 ]
 
 -- a value that is not too long
-pub short_by : (bytes : List ℕ) → length bytes ≤ MAX_VALUE_LEN → None ≡ value_refusal bytes
-short_by bytes short =
-    let is : nat_le (length bytes) MAX_VALUE_LEN ≡ true = grind (arith, nat_tests) in
+pub short_by : (most : ℕ) (bytes : List ℕ) → length bytes ≤ most → None ≡ value_refusal most bytes
+short_by most bytes short =
+    let is : nat_le (length bytes) most ≡ true = grind (arith, nat_tests) in
     rw is refl
 
-pub long_by : (bytes : List ℕ) → MAX_VALUE_LEN < length bytes → Some errors.ValueTooLong ≡ value_refusal bytes
-long_by bytes long =
-    let is : nat_le (length bytes) MAX_VALUE_LEN ≡ false = grind (arith, nat_tests) in
+pub long_by : (most : ℕ) (bytes : List ℕ) → most < length bytes → Some errors.ValueTooLong ≡ value_refusal most bytes
+long_by most bytes long =
+    let is : nat_le (length bytes) most ≡ false = grind (arith, nat_tests) in
     rw is refl
 
 -- what `?` returns for an error
@@ -88,12 +87,12 @@ turn_err (Err e) error frames asked objects h = ap (λ (x : CallError). Err x) h
 module _ (next : Next) (asked : ℕ) where
   -- a frame that is done without a reach
   pub done_onward : (outer : List Frame) (frame : Frame) (bytes : List ℕ) (objects : Objects) (turn : Turn)
-      → None ≡ count_refusal frame.answers asked → None ≡ value_refusal bytes → frame.reach ≡ None
+      → None ≡ count_refusal next.limits.asks frame.answers asked → None ≡ value_refusal next.limits.value bytes → frame.reach ≡ None
       → AfterValue next outer (asked + 1) (unreached frame bytes) (with_activity objects frame.key.function idle) turn
       → AfterAsk next outer asked frame (asks.Done bytes) objects turn
   done_onward outer frame bytes objects turn counted short none value =
       let goes_on : Onward = λ after more. AfterValue next outer (asked + 1) (unreached frame more) after turn in
-      asked_for outer asked frame (asks.Done bytes) objects goes_on turn counted short
+      asked_for next.limits outer asked frame (asks.Done bytes) objects goes_on turn counted short
       (subst (λ (reach : Option Interval). DoneTransition outer (asked + 1) frame reach bytes (with_activity objects frame.key.function idle) goes_on turn) (sym none) value)
 
   -- a value that reaches a frame
@@ -153,15 +152,15 @@ module _ (next : Next) (asked : ℕ) where
   value_out (frame ∷ outer) o objects error some is = inl (error, refl, is)
 
 -- a frame that was given an answer stands in its place
-pub given_place : (frames frames' : List Frame) (reach : Option Interval) (tags : List Tag) → frames ≢ []
+pub given_place : (most : ℕ) (frames frames' : List Frame) (reach : Option Interval) (tags : List Tag) → frames ≢ []
     → ((frame : Frame) (outer : List Frame) → frames ≡ frame ∷ outer → frames' ≡ given frame reach tags ∷ outer)
-    → AreFew frames → (length frames' ≡ length frames) × (frames' ≢ []) × AreFew (drop 1 frames')
-given_place [] frames' reach tags some stack few = absurd (some refl)
-given_place (frame ∷ outer) frames' reach tags some stack few =
+    → AreFew most frames → (length frames' ≡ length frames) × (frames' ≢ []) × AreFew most (drop 1 frames')
+given_place most [] frames' reach tags some stack few = absurd (some refl)
+given_place most (frame ∷ outer) frames' reach tags some stack few =
     let is = stack frame outer refl in (
       ap (λ (fs : List Frame). length fs) is,
       λ none. let no : given frame reach tags ∷ outer ≡ [] = sym is ∙ none in absurd (cc),
-      subst (λ (fs : List Frame). AreFew (drop 1 fs)) (sym is) few.1,
+      subst (λ (fs : List Frame). AreFew most (drop 1 fs)) (sym is) few.1,
     )
 
 -- ---- an object that did not begin

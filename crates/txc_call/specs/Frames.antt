@@ -6,7 +6,6 @@ use Rattle.txc_tags.specs.declared.tag.Tag.{Tag}
 use Rattle.txc_tags.specs.Keys.{Call}
 use Rattle.txc_tags.specs.Tags.{with_tags}
 use Rattle.txc_db.specs.History.{History}
-use Rattle.txc_app.specs.declared.app.TheConstants.{MAX_ASKS}
 use Rattle.txc_app.specs.declared.ask.Ask.{Ask}
 use Rattle.txc_app.specs.declared.ask.Ask.TheVariants as asks
 use Rattle.txc_app.specs.declared.ask.Answer.{Answer}
@@ -29,7 +28,7 @@ pub record FrameAsks (next : Next) (objects : Objects) (ask : Ask) (frame : Fram
   pub runs :
       activity_of objects frame.key.function ≡ Some (running (activation_of objects frame.key.function))
   pub args : (activation_of objects frame.key.function).args ≡ frame.key.args
-  pub asks : next frame.key.function frame.key.args (answers_in objects frame.key.function) ≡ Some ask
+  pub asks : next.says frame.key.function frame.key.args (answers_in objects frame.key.function) ≡ Some ask
   pub counted : length (answers_in objects frame.key.function) ≡ frame.answers
 
 -- the innermost frame asks this, each other one the call above it, and the call is at the bottom
@@ -60,8 +59,8 @@ pub record IsOpen (next : Next) (objects : Objects) (top : Call) (ask : Ask) (fr
   pub free : AllIdle (released frames objects)
 
 -- each was given fewer answers than it may ask for, so that its last ask was allowed
-abbrev pub AreFew : List Frame → Type 0
-AreFew frames = AllByRecursion (λ (frame : Frame). frame.answers < MAX_ASKS) frames
+abbrev pub AreFew : ℕ → List Frame → Type 0
+AreFew most frames = AllByRecursion (λ (frame : Frame). frame.answers < most) frames
 
 -- ---- meaning
 

@@ -25,7 +25,7 @@ use Rattle.txc_call.specs.Frames.{answers_in, AreFew, AreUnreached, FramesHold, 
 pub record IsWaiting (next : Next) (objects : Objects) (top : Call) (ask : Ask) (frames : List Frame) :
     Type 0 where
   pub open_frames : IsOpen next objects top ask frames
-  pub few : AreFew frames
+  pub few : AreFew next.limits.asks frames
 
 -- the frames wait for what is needed; where nothing is, no call is open
 abbrev pub NeedFits : Next → Objects → Call → Option Need → List Frame → Type 0
@@ -49,8 +49,8 @@ NeedFits next objects top (Some (needs.Resume x)) frames =
 abbrev pub HeldAnswerHolds : Next → History → Objects → List Frame → HeldAnswer → Type 0
 HeldAnswerHolds next L objects [] x = ⊥
 HeldAnswerHolds next L objects (frame ∷ frames) x = HoldsOver L
-    (λ s. IsRight next frame.key.function s (next frame.key.function frame.key.args (answers_in objects frame.key.function)) x.answer)
-    (λ s. queries_of next s (next frame.key.function frame.key.args (answers_in objects frame.key.function)))
+    (λ s. IsRight next frame.key.function s (next.says frame.key.function frame.key.args (answers_in objects frame.key.function)) x.answer)
+    (λ s. queries_of next s (next.says frame.key.function frame.key.args (answers_in objects frame.key.function)))
     x.reach x.tags
 
 -- all answers so far are right, and so is a held value or answer

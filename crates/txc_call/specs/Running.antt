@@ -3,6 +3,7 @@
 use Rattle.std.specs.Prelude.{◌≡◌, ℕ, ◌+◌, nat_le, Bool, true, false, if◌then◌else◌, List, [], ◌∷◌, Option, Some, None, IsSome}
 use Rattle.txc_tags.specs.Keys.{Call}
 use Rattle.txc_db.specs.History.{History}
+use Rattle.txc_app.specs.declared.app.Limits.{Limits}
 use Rattle.txc_app.specs.declared.ask.Ask.{Ask}
 use Rattle.txc_app.specs.declared.ask.Ask.TheVariants as asks
 use Rattle.txc_app.specs.Eval.{Next}
@@ -39,7 +40,7 @@ need_after frames need reply = need
 
 -- the ask with which the needed function begins, or continues after its answer; none if no function is needed
 abbrev pub due_ask : Next → Objects → List Frame → Need → Option Ask
-due_ask next objects frames (needs.Begin k) = next k.function k.args []
+due_ask next objects frames (needs.Begin k) = next.says k.function k.args []
 due_ask next objects (frame ∷ frames) (needs.Resume x) = next_ask next objects frame x.answer
 due_ask next objects frames need = None
 
@@ -63,11 +64,11 @@ with_ask objects f ask = if is_done ask then with_activity objects f idle else o
 abbrev pub order_refusal : ℕ → Call → Option CallError
 order_refusal f k = if nat_le f k.function then Some (errors.CallOrder f k.function) else None
 
--- the error of an ask of the function f by what it says alone, whichever functions exist
-abbrev pub form_refusal : ℕ → Ask → Option CallError
-form_refusal f (asks.Query q) = None
-form_refusal f (asks.Call k) = order_refusal f k
-form_refusal f (asks.Done bytes) = value_refusal bytes
+-- the error of an ask of the function f by what it says alone, whichever functions exist, where a value has at most so many bytes
+abbrev pub form_refusal : ℕ → ℕ → Ask → Option CallError
+form_refusal most f (asks.Query q) = None
+form_refusal most f (asks.Call k) = order_refusal f k
+form_refusal most f (asks.Done bytes) = value_refusal most bytes
 
 -- a value without a reach is held for the frames around its own, and none of their functions continues
 abbrev pub stays_held : List Frame → ℕ → Frame → Turn → Onward
@@ -75,10 +76,10 @@ stays_held outer asked frame turn after bytes =
     turn ≡ needing outer (asked + 1) (value_need outer (unreached frame bytes)) after
 
 -- the effect of one ask of the innermost frame, before any other function continues
-abbrev pub AfterOneAsk : List Frame → ℕ → Frame → Ask → Objects → Turn → Type 0
-AfterOneAsk outer asked frame ask objects turn =
-    UnlessRefused (count_refusal frame.answers asked) turn
-    (UnlessRefused (form_refusal frame.key.function ask) turn
+abbrev pub AfterOneAsk : Limits → List Frame → ℕ → Frame → Ask → Objects → Turn → Type 0
+AfterOneAsk limits outer asked frame ask objects turn =
+    UnlessRefused (count_refusal limits.asks frame.answers asked) turn
+    (UnlessRefused (form_refusal limits.value frame.key.function ask) turn
     (AllowedTransition outer (asked + 1) frame ask objects (stays_held outer asked frame turn) turn))
 
 -- ---- steps
@@ -116,13 +117,13 @@ NeedsFunction (Some (needs.Begin k)) = Unit {0}
 NeedsFunction (Some (needs.Resume x)) = Unit {0}
 
 -- the effect of the needed function's ask: the call ends because an allocation failed, or goes on as after any ask
-abbrev pub AfterRan : List Frame → ℕ → Objects → Need → Ask → Turn → Type 0
-AfterRan frames asked objects (needs.Begin k) ask turn =
-    UnlessMemory turn (AfterOneAsk frames asked (begun_frame k) ask (with_begun objects k) turn)
-AfterRan (frame ∷ outer) asked objects (needs.Resume x) ask turn =
-    UnlessMemory turn (AfterOneAsk outer asked (given frame x.reach x.tags) ask
+abbrev pub AfterRan : Limits → List Frame → ℕ → Objects → Need → Ask → Turn → Type 0
+AfterRan limits frames asked objects (needs.Begin k) ask turn =
+    UnlessMemory turn (AfterOneAsk limits frames asked (begun_frame k) ask (with_begun objects k) turn)
+AfterRan limits (frame ∷ outer) asked objects (needs.Resume x) ask turn =
+    UnlessMemory turn (AfterOneAsk limits outer asked (given frame x.reach x.tags) ask
     (with_answer objects frame.key.function x.answer) turn)
-AfterRan frames asked objects need ask turn = ⊥
+AfterRan limits frames asked objects need ask turn = ⊥
 
 -- the effect of a need if a registry runs the needed functions at once
 abbrev pub AfterNeed : Next → List Frame → ℕ → Objects → Need → Turn → Type 0

@@ -5,9 +5,8 @@ use Rattle.txc_stamp.specs.Interval.{Interval}
 use Rattle.txc_tags.specs.declared.tag.Tag.{Tag}
 use Rattle.txc_tags.specs.Keys.{Call}
 use Rattle.txc_node.specs.declared.entry.Entry.{Entry}
-use Rattle.txc_node.specs.declared.value.TheConstants.{MAX_VALUE_LEN}
 use Rattle.txc_validity.specs.declared.answer.Found.{Found}
-use Rattle.txc_app.specs.declared.app.TheConstants.{MAX_ASKS}
+use Rattle.txc_app.specs.declared.app.Limits.{Limits}
 use Rattle.txc_app.specs.declared.ask.Ask.{Ask}
 use Rattle.txc_app.specs.declared.ask.Ask.TheVariants as asks
 use Rattle.txc_app.specs.declared.ask.Answer.{Answer}
@@ -48,10 +47,10 @@ needing frames asked need objects =
 
 -- ---- refusals
 
--- why one ask more is refused, after so many of its activation and of the call
-abbrev pub count_refusal : ℕ → ℕ → Option CallError
-count_refusal own all =
-    if nat_le MAX_ASKS own then Some errors.AskLimit
+-- why one ask more is refused, after so many of its activation, which may make so many, and of the call
+abbrev pub count_refusal : ℕ → ℕ → ℕ → Option CallError
+count_refusal most own all =
+    if nat_le most own then Some errors.AskLimit
     else (if nat_le MAX_CALL_ASKS all then Some errors.Budget else None)
 
 -- why the function f may not make the call
@@ -60,15 +59,15 @@ call_refusal objects f k =
     if nat_le f k.function then Some (errors.CallOrder f k.function)
     else (if is_some (activity_of objects k.function) then None else Some (errors.NoFunction k.function))
 
--- why it may not be done with these bytes
-abbrev pub value_refusal : List ℕ → Option CallError
-value_refusal bytes = if nat_le (length bytes) MAX_VALUE_LEN then None else Some errors.ValueTooLong
+-- why it may not be done with these bytes, of which there may be so many
+abbrev pub value_refusal : ℕ → List ℕ → Option CallError
+value_refusal most bytes = if nat_le (length bytes) most then None else Some errors.ValueTooLong
 
 -- why the function f may not ask this
-abbrev pub ask_refusal : Objects → ℕ → Ask → Option CallError
-ask_refusal objects f (asks.Query q) = None
-ask_refusal objects f (asks.Call k) = call_refusal objects f k
-ask_refusal objects f (asks.Done bytes) = value_refusal bytes
+abbrev pub ask_refusal : Limits → Objects → ℕ → Ask → Option CallError
+ask_refusal limits objects f (asks.Query q) = None
+ask_refusal limits objects f (asks.Call k) = call_refusal objects f k
+ask_refusal limits objects f (asks.Done bytes) = value_refusal limits.value bytes
 
 -- refused for the reason, if there is one; else this holds
 abbrev pub UnlessRefused : Option CallError → Turn → Type 0 → Type 0
@@ -116,10 +115,10 @@ AllowedTransition outer asked frame (asks.Done bytes) objects goes_on turn =
     DoneTransition outer asked frame frame.reach bytes (with_activity objects frame.key.function idle) goes_on turn
 
 -- what comes of an ask of the innermost frame: it is counted, then looked at
-abbrev pub AskTransition : List Frame → ℕ → Frame → Ask → Objects → Onward → Turn → Type 0
-AskTransition outer asked frame ask objects goes_on turn =
-    UnlessRefused (count_refusal frame.answers asked) turn
-    (UnlessRefused (ask_refusal objects frame.key.function ask) turn
+abbrev pub AskTransition : Limits → List Frame → ℕ → Frame → Ask → Objects → Onward → Turn → Type 0
+AskTransition limits outer asked frame ask objects goes_on turn =
+    UnlessRefused (count_refusal limits.asks frame.answers asked) turn
+    (UnlessRefused (ask_refusal limits objects frame.key.function ask) turn
     (AllowedTransition outer (asked + 1) frame ask objects goes_on turn))
 
 -- ---- answers
@@ -127,7 +126,7 @@ AskTransition outer asked frame ask objects goes_on turn =
 -- what the frame asks after one answer more
 abbrev pub next_ask : Next → Objects → Frame → Answer → Option Ask
 next_ask next objects frame x =
-    next frame.key.function frame.key.args (answers_in objects frame.key.function ++ x ∷ [])
+    next.says frame.key.function frame.key.args (answers_in objects frame.key.function ++ x ∷ [])
 
 -- the objects, where that of this number was given one answer more
 abbrev pub with_answer : Objects → ℕ → Answer → Objects
@@ -151,7 +150,7 @@ abbrev pub AnswerTransition : Next → List Frame → ℕ → Frame → HeldAnsw
 AnswerTransition next outer asked frame x objects goes_on turn =
     UnlessMemory turn (
     (ask : Ask) × (next_ask next objects frame x.answer ≡ Some ask)
-    × AskTransition outer asked (given frame x.reach x.tags) ask
+    × AskTransition next.limits outer asked (given frame x.reach x.tags) ask
     (with_answer objects frame.key.function x.answer) goes_on turn
     )
 
@@ -173,7 +172,7 @@ outwards next outer asked frame turn after bytes =
 -- what comes of what the innermost frame asks
 abbrev pub AfterAsk : Next → List Frame → ℕ → Frame → Ask → Objects → Turn → Type 0
 AfterAsk next outer asked frame ask objects turn =
-    AskTransition outer asked frame ask objects (outwards next outer asked frame turn) turn
+    AskTransition next.limits outer asked frame ask objects (outwards next outer asked frame turn) turn
 
 -- why a call that no node has does not begin, where its function asks this first
 abbrev pub IsBeginRefusal : ℕ → Option Ask → CallError → Type 0
@@ -187,8 +186,8 @@ with_begun objects k = with_activity objects k.function (running (begun k.args))
 -- what comes of a call that no node has
 abbrev pub AfterMiss : Next → List Frame → ℕ → Call → Objects → Turn → Type 0
 AfterMiss next frames asked k objects turn =
-    ((error : CallError) × (turn ≡ Err error) × IsBeginRefusal k.function (next k.function k.args []) error)
-    ⊎ ((ask : Ask) × (next k.function k.args [] ≡ Some ask)
+    ((error : CallError) × (turn ≡ Err error) × IsBeginRefusal k.function (next.says k.function k.args []) error)
+    ⊎ ((ask : Ask) × (next.says k.function k.args [] ≡ Some ask)
     × AfterAsk next frames asked (begun_frame k) ask (with_begun objects k) turn)
 
 -- what comes of what was found for the query that the innermost frame asked

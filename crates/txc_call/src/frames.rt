@@ -1,7 +1,6 @@
 ghost use Rattle.std.specs.Prelude.{◌≡◌, ◌≢◌, ◌+◌, ◌<◌, ◌≤◌, List, [], ◌∷◌};
 ghost use Rattle.std.specs.Prelude.{IfErr, IfOk, IsSome, MatchOption, OnErr, OnOk, Some};
 ghost use Rattle.std.specs.Result.{result_err};
-ghost use Rattle.txc_app.specs.declared.app.TheConstants.{MAX_ASKS};
 ghost use Rattle.txc_app.specs.declared.ask.Ask.{Ask};
 ghost use Rattle.txc_registry.specs.Activity.{idle, WantsAnswer};
 ghost use Rattle.txc_registry.specs.Objects.{activity_of, numbers_of, with_activity, AllIdle};
@@ -16,7 +15,7 @@ use crate::error::CallError;
 use crate::frame::Frame;
 use crate::stack::Stack;
 use std::alloc::Global;
-use txc_app::{Answer, App, Ask, MAX_ASKS};
+use txc_app::{Answer, App, Ask};
 use txc_registry::{Cacheable, CallFault, Registry};
 use txc_stamp::Reach;
 use txc_tags::{Key, TagSet};
@@ -44,19 +43,19 @@ fn error_of(function: u8, fault: CallFault) -> CallError
 }
 
 impl Frames {
-    /// Counts an ask of the innermost frame.
-    pub(crate) fn count(&mut self) -> Result<(), CallError>
+    /// Counts an ask of the innermost frame, which may make so many.
+    pub(crate) fn count(&mut self, most: usize) -> Result<(), CallError>
         requires { self.old.stack ≢ [] }
         ensures after { OnOk result (self.new.asked ≡ self.old.asked + 1) }
         ensures refused { (frame : Frame) (rest : List Frame) → self.old.stack ≡ frame ∷ rest
-            → result_err result ≡ count_refusal frame.answers self.old.asked }
+            → result_err result ≡ count_refusal most frame.answers self.old.asked }
         ensures same_top { self.new.top ≡ self.old.top }
         ensures same_stack { self.new.stack ≡ self.old.stack }
     {
         let Some(frame) = self.stack.top() else {
             unreachable!()
         };
-        if frame.answers >= MAX_ASKS {
+        if frame.answers >= most {
             return Err(CallError::AskLimit);
         }
         if self.asked >= MAX_CALL_ASKS {
@@ -108,9 +107,9 @@ impl Frames {
         requires there { IsSome (activity_of registry.old key.function) }
         ensures frame { OnOk result (self.new.stack ≡ begun_frame key ∷ self.old.stack) }
         ensures objects { OnOk result (registry.new ≡ with_begun registry.old key) }
-        ensures answer { IfOk result (λ ask. A.next key.function key.args [] ≡ Some ask) }
+        ensures answer { IfOk result (λ ask. A.next.says key.function key.args [] ≡ Some ask) }
         ensures open { IfOk result (λ ask. IsOpen A.next registry.new self.new.top ask self.new.stack) }
-        ensures refused { IfErr result (IsBeginRefusal key.function (A.next key.function key.args [])) }
+        ensures refused { IfErr result (IsBeginRefusal key.function (A.next.says key.function key.args [])) }
         ensures unchanged { OnErr result (registry.new ≡ registry.old) }
         ensures same_stack { OnErr result (self.new.stack ≡ self.old.stack) }
         ensures same_top { self.new.top ≡ self.old.top }
@@ -141,7 +140,7 @@ impl Frames {
         requires open { (ask : Ask)
             × IsOpen A.next registry.old self.old.top ask self.old.stack × WantsAnswer (Some ask) }
         requires some { (frame : Frame) × (rest : List Frame)
-            × (self.old.stack ≡ frame ∷ rest) × (frame.answers < MAX_ASKS) × ReachesMeet frame.reach reach }
+            × (self.old.stack ≡ frame ∷ rest) × (frame.answers < A.next.limits.asks) × ReachesMeet frame.reach reach }
         ensures frame { OnOk result ((frame : Frame) (rest : List Frame) → self.old.stack ≡ frame ∷ rest
             → self.new.stack ≡ given frame reach tags.now ∷ rest) }
         ensures objects { OnOk result ((frame : Frame) (rest : List Frame) → self.old.stack ≡ frame ∷ rest
@@ -160,6 +159,8 @@ impl Frames {
             unreachable!()
         };
         let function = frame.key.function();
+        // The clauses of the limits bound how many answers a frame has.
+        let _limits = A::limits();
         let Ok(()) = self.stack.give(reach, tags) else {
             return Err(CallError::Memory);
         };

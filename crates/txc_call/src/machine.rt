@@ -2,6 +2,8 @@ ghost use Rattle.std.specs.Prelude.{◌≡◌, ◌≢◌, ◌≤◌, ℕ, [], Ma
 ghost use Rattle.std.specs.Prelude.{IsNone, IsSome, None, Some};
 ghost use Rattle.txc_call.specs.declared.need.Need.{Need};
 ghost use Rattle.txc_db.specs.History.{History};
+ghost use Rattle.txc_node.specs.declared.value.TheConstants.{MOST_VALUE_LEN};
+ghost use Rattle.txc_app.specs.declared.app.TheConstants.{MOST_ASKS};
 ghost use Rattle.txc_app.specs.Eval.{Next};
 ghost use Rattle.txc_registry.specs.Objects.{activity_of, numbers_of, AllIdle, Objects};
 ghost use Rattle.txc_call.specs.declared.frames.TheConstants.{MAX_CALL_ASKS};
@@ -26,7 +28,7 @@ use std::alloc::Global;
 use std::marker::Model;
 use std::mem;
 use txc_app::laws::right_answers_give_the_value;
-use txc_app::{App, Ask};
+use txc_app::{App, Ask, Limits};
 use txc_registry::{Cacheable, Registry};
 use txc_tags::Key;
 
@@ -79,19 +81,27 @@ fn advance<A: App, C: Cacheable>(
 }
 
 // Returns the next need after the needed function asked this.
-fn after_ask(frames: &mut Frames, alloc: Global, need: Need, ask: Ask) -> Result<Need, CallError>
+fn after_ask(
+    frames: &mut Frames,
+    limits: Limits,
+    alloc: Global,
+    need: Need,
+    ask: Ask,
+) -> Result<Need, CallError>
+    requires value { limits.value ≤ MOST_VALUE_LEN }
+    requires asks { limits.asks ≤ MOST_ASKS }
     requires runs { NeedsFunction (Some need) }
-    requires fits { (next : Next) × (objects : Objects)
+    requires fits { (next : Next) × (objects : Objects) × (next.limits ≡ limits)
         × NeedFits next objects frames.old.top (Some need) frames.old.stack }
     requires common { (t : ℕ) × InNeed t (Some need) frames.old.stack }
-    ensures answer { (objects : Objects) → AfterRan frames.old.stack frames.old.asked objects need ask
+    ensures answer { (objects : Objects) → AfterRan limits frames.old.stack frames.old.asked objects need ask
         (turn_of result frames.new.stack frames.new.asked (objects_after objects frames.old.stack need ask)) }
     ensures same_top { frames.new.top ≡ frames.old.top }
 {
     match need {
         Need::Begin(key) => {
             frames.enter(alloc, key)?;
-            settle(frames, ask)
+            settle(frames, limits, ask)
         }
         Need::Resume(held) => {
             let HeldAnswer {
@@ -102,7 +112,7 @@ fn after_ask(frames: &mut Frames, alloc: Global, need: Need, ask: Ask) -> Result
             let Ok(()) = frames.stack.give(reach, &tags) else {
                 return Err(CallError::Memory);
             };
-            settle(frames, ask)
+            settle(frames, limits, ask)
         }
         _ => unreachable!(),
     }
@@ -257,16 +267,20 @@ impl CallMachine {
     }
 
     /// Takes the ask of the function that the call needs, before any other function continues. If the ask is not
-    /// allowed, or an allocation fails, every frame is closed.
-    pub fn ran(&mut self, alloc: Global, ask: Ask) -> Result<(), CallError>
+    /// allowed by the limits of the application, or an allocation fails, every frame is closed.
+    pub fn ran(&mut self, limits: Limits, alloc: Global, ask: Ask) -> Result<(), CallError>
+        requires value { limits.value ≤ MOST_VALUE_LEN }
+        requires asks { limits.asks ≤ MOST_ASKS }
         requires runs { NeedsFunction self.old.need }
-        requires fits { (next : Next) × (objects : Objects) × IsCalling next objects self.old }
+        requires fits { (next : Next) × (objects : Objects) × (next.limits ≡ limits)
+            × IsCalling next objects self.old }
         requires common { (t : ℕ) × InCall t self.old }
         ensures answer { (objects : Objects) (need : Need) → self.old.need ≡ Some need
-            → AfterRan self.old.frames self.old.asked objects need ask
+            → AfterRan limits self.old.frames self.old.asked objects need ask
             (turn_after result self.new (objects_after objects self.old.frames need ask)) }
         ensures keeps { OnOk result ((next : Next) (objects : Objects) (need : Need) → self.old.need ≡ Some need
-            → IsCalling next objects self.old → due_ask next objects self.old.frames need ≡ Some ask
+            → next.limits ≡ limits → IsCalling next objects self.old
+            → due_ask next objects self.old.frames need ≡ Some ask
             → FunctionExists (with_resumed objects self.old.frames need) ask
             → StepKeeps next objects self.old (objects_after objects self.old.frames need ask) self.new) }
         ensures open { OnOk result (IsSome self.new.need) }
@@ -277,7 +291,7 @@ impl CallMachine {
         let Some(need) = mem::replace(&mut self.need, None) else {
             unreachable!()
         };
-        match after_ask(&mut self.frames, alloc, need, ask) {
+        match after_ask(&mut self.frames, limits, alloc, need, ask) {
             Ok(next) => {
                 self.need = Some(next);
                 Ok(())

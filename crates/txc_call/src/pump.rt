@@ -36,7 +36,7 @@ fn go_on<A: App, C: Cacheable>(
 ) -> Result<Need, CallError>
     requires open { IsOpen A.next registry.old frames.old.top ask frames.old.stack }
     requires some { frames.old.stack ≢ [] }
-    requires few { AreFew (drop 1 frames.old.stack) }
+    requires few { AreFew A.next.limits.asks (drop 1 frames.old.stack) }
     ensures answer { (frame : Frame) (rest : List Frame) → frames.old.stack ≡ frame ∷ rest
         → AfterAsk A.next rest frames.old.asked frame ask registry.old
         (turn_of result frames.new.stack frames.new.asked registry.new) }
@@ -50,7 +50,8 @@ fn go_on<A: App, C: Cacheable>(
     };
     let function = frame.key.function();
     let done = is_done(&ask);
-    let need = settle(frames, ask)?;
+    let limits = A::limits();
+    let need = settle(frames, limits, ask)?;
     release_done(registry, function, done);
     match need {
         Need::Lookup(key) => {

@@ -1,6 +1,7 @@
 //! The next need after a reply or an ask.
-ghost use Rattle.std.specs.Prelude.{◌≡◌, ◌≢◌, List, [], ◌∷◌, OnErr};
+ghost use Rattle.std.specs.Prelude.{◌≡◌, ◌≢◌, ◌≤◌, List, [], ◌∷◌, OnErr};
 ghost use Rattle.std.specs.Result.{result_err};
+ghost use Rattle.txc_node.specs.declared.value.TheConstants.{MOST_VALUE_LEN};
 ghost use Rattle.txc_registry.specs.Objects.{Objects};
 ghost use Rattle.txc_call.specs.declared.frame.Frame.{Frame};
 ghost use Rattle.txc_call.specs.Needs.{ReplyFits};
@@ -12,7 +13,7 @@ use crate::frame::Frame;
 use crate::frames::Frames;
 use crate::need::{HeldAnswer, Need, Outcome};
 use crate::reply::Reply;
-use txc_app::{Answer, Ask, Rows};
+use txc_app::{Answer, Ask, Limits, Rows};
 use txc_node::{Entry, Shown, Value};
 use txc_tags::Key;
 use txc_validity::Found;
@@ -109,15 +110,16 @@ pub(crate) fn need_after(frames: &Frames, need: Need, reply: Reply) -> Need
 
 /// Returns the need after the innermost frame asked this, before any other function continues. A frame that is done
 /// is closed; if it has a reach, its value is inserted first.
-pub(crate) fn settle(frames: &mut Frames, ask: Ask) -> Result<Need, CallError>
-    requires { frames.old.stack ≢ [] }
+pub(crate) fn settle(frames: &mut Frames, limits: Limits, ask: Ask) -> Result<Need, CallError>
+    requires value { limits.value ≤ MOST_VALUE_LEN }
+    requires some { frames.old.stack ≢ [] }
     ensures answer { (frame : Frame) (rest : List Frame) (objects : Objects) → frames.old.stack ≡ frame ∷ rest
-        → AfterOneAsk rest frames.old.asked frame ask objects
+        → AfterOneAsk limits rest frames.old.asked frame ask objects
         (turn_of result frames.new.stack frames.new.asked (with_ask objects frame.key.function ask)) }
     ensures same_stack { OnErr result (frames.new.stack ≡ frames.old.stack) }
     ensures same_top { frames.new.top ≡ frames.old.top }
 {
-    frames.count()?;
+    frames.count(limits.asks)?;
     match ask {
         Ask::Query(query) => Ok(Need::Query(query)),
         Ask::Call(key) => {
@@ -125,7 +127,7 @@ pub(crate) fn settle(frames: &mut Frames, ask: Ask) -> Result<Need, CallError>
             Ok(Need::Lookup(key))
         }
         Ask::Done(bytes) => {
-            let Some(value) = Value::new(bytes.into_vec()) else {
+            let Some(value) = Value::up_to(limits.value, bytes.into_vec()) else {
                 return Err(CallError::ValueTooLong);
             };
             let Some(frame) = frames.stack.pop() else {

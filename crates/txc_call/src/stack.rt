@@ -1,5 +1,5 @@
 ghost use Rattle.std.specs.Prelude.{◌≡◌, ◌<◌, List, [], ◌∷◌, MatchOption, OnOk, OnErr};
-ghost use Rattle.txc_app.specs.declared.app.TheConstants.{MAX_ASKS};
+ghost use Rattle.txc_app.specs.declared.app.TheConstants.{MOST_ASKS};
 ghost use Rattle.txc_call.specs.declared.frame.Frame.{Frame};
 ghost use Rattle.txc_call.specs.Reaches.{meet, ReachesMeet};
 ghost use Rattle.txc_call.specs.Frames.{given};
@@ -83,7 +83,7 @@ impl Stack {
     /// The innermost frame is given one answer more.
     pub(crate) fn give(&mut self, reach: Option<Reach>, tags: &TagSet) -> Result<(), AllocError>
         requires { (frame : Frame) × (rest : List Frame)
-            × (self.old ≡ frame ∷ rest) × (frame.answers < MAX_ASKS) × ReachesMeet frame.reach reach }
+            × (self.old ≡ frame ∷ rest) × (frame.answers < MOST_ASKS) × ReachesMeet frame.reach reach }
         ensures after { OnOk result ((frame : Frame) (rest : List Frame) → self.old ≡ frame ∷ rest
             → self.new ≡ given frame reach tags.now ∷ rest) }
         ensures unchanged { OnErr result (self.new ≡ self.old) }

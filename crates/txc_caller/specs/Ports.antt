@@ -3,6 +3,7 @@ use Rattle.std.specs.Prelude.{◌≡◌, ◌⊎◌, ◌<◌, ◌≤◌, ℕ, Boo
 use Rattle.std.specs.List.{AllByRecursion}
 use Rattle.txc_tags.specs.Keys.{Call}
 use Rattle.txc_rows.specs.declared.query.Query.{Query as RowQuery}
+use Rattle.txc_rows.specs.declared.store_error.TheConstants.{MOST_MATCHING}
 use Rattle.txc_rows.specs.RowTags.{query_tag}
 use Rattle.txc_validity.specs.declared.answer.Found.{Found}
 use Rattle.txc_validity.specs.Answers.{IsAnswer}
@@ -59,10 +60,11 @@ abbrev pub HasEventRoom : Option ℕ → Name → Type 0
 HasEventRoom (Some events) name = HasCapacity name events
 HasEventRoom None name = ¬ (HasRow name)
 
--- nothing has happened in the database
+-- nothing has happened in the database, and as many versions may match as can be allowed
 pub record IsNewDatabase (d : DatabaseValue) : Type 0 where
   pub history : d.history ≡ []
   pub versions : d.versions ≡ []
+  pub limit : d.most ≡ MOST_MATCHING
   pub horizon : d.horizon ≡ 0
   pub holds : d.holds ≡ []
   pub whole : d.broken ≡ false

@@ -62,6 +62,6 @@ IsStanding next before k t (Refused error) = IsIdle t.core × (t.core.recorded �
 
 -- what the function of this call asks next: first, where it was given no answer yet, or after this answer
 abbrev pub asks_next : Next → Objects → Call → Option Answer → Option Ask
-asks_next next objects k None = next_of (next k.function) (begun k.args)
+asks_next next objects k None = next_of (next.says k.function) (begun k.args)
 asks_next next objects k (Some answer) =
-    next_of (next k.function) (answered (activation_of objects k.function) answer)
+    next_of (next.says k.function) (answered (activation_of objects k.function) answer)

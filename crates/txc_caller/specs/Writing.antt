@@ -2,7 +2,6 @@
 use Rattle.std.specs.Prelude.{◌≡◌, ℕ, ◌≤◌, ◌<◌, List, [], ◌∷◌, ◌++◌, length, Option, Some, None, Result, Ok, Err, IsSome}
 use Rattle.txc_tags.specs.declared.tag.Tag.{Tag}
 use Rattle.txc_tags.specs.Tags.{with_tags}
-use Rattle.txc_node.specs.declared.value.TheConstants.{MAX_VALUE_LEN}
 use Rattle.txc_rows.specs.declared.query.Query.{Query}
 use Rattle.txc_rows.specs.declared.query.Change.{Change}
 use Rattle.txc_rows.specs.RowTags.{query_tag}
@@ -86,11 +85,12 @@ IsWriteCallRefused function old new (errors.Txn (Call (CallOrder inner called)))
 IsWriteCallRefused function old new errors.Memory = IsSome old.inner × (new ≡ old)
 IsWriteCallRefused function old new error = ⊥
 
--- of a value: no function is computed, and nothing has changed; or it is too long, and none is computed any more
-abbrev pub IsWriteFinishRefused : List ℕ → CallerWriting → CallerWriting → CallerError → Type 0
-IsWriteFinishRefused bytes old new errors.NoFunction = (old.inner ≡ None) × (new ≡ old)
-IsWriteFinishRefused bytes old new (errors.Txn (Call ValueTooLong)) = (MAX_VALUE_LEN < length bytes) × (new ≡ without_calls old)
-IsWriteFinishRefused bytes old new error = ⊥
+-- of a value, of which there may be so many bytes: no function is computed, and nothing has changed; or it is too long, and
+-- none is computed any more
+abbrev pub IsWriteFinishRefused : ℕ → List ℕ → CallerWriting → CallerWriting → CallerError → Type 0
+IsWriteFinishRefused most bytes old new errors.NoFunction = (old.inner ≡ None) × (new ≡ old)
+IsWriteFinishRefused most bytes old new (errors.Txn (Call ValueTooLong)) = (most < length bytes) × (new ≡ without_calls old)
+IsWriteFinishRefused most bytes old new error = ⊥
 
 -- ---- the end
 

@@ -257,7 +257,7 @@ fn give<A: App, C: Suppliable, P: CallPorts<A>>(
     ensures acted { HasCallerActed A.next (P.ports ports.old) (P.ports ports.new) txn.old txn.new frames.top result }
     ensures on_miss { IsComputedOnMiss txn.new.core (P.ports ports.old).node (P.ports ports.new).node result.step }
 {
-    let Some(value) = Value::new(bytes) else {
+    let Some(value) = Value::up_to(A::limits().value, bytes) else {
         return feed_to_end(alloc, ports, txn, frames, kept);
     };
     match frames.leave() {

@@ -172,12 +172,12 @@ impl<A: App, C: Suppliable> CallerWrite<A, C> {
     /// if one does.
     pub fn finish(&mut self, bytes: Vec<u8>) -> Result<(), CallerError>
         ensures after { OnOk result (HasGivenValue bytes.items self.old self.new) }
-        ensures refused { IfErr result (IsWriteFinishRefused bytes.items self.old self.new) }
+        ensures refused { IfErr result (IsWriteFinishRefused A.next.limits.value bytes.items self.old self.new) }
     {
         if self.inner.is_none() {
             return Err(CallerError::NoFunction);
         }
-        let Some(value) = Value::new(bytes) else {
+        let Some(value) = Value::up_to(A::limits().value, bytes) else {
             let _given_up = self.give_up();
             let refusal = TxnError::Call(CallError::ValueTooLong);
             return Err(CallerError::Txn(refusal));

@@ -18,7 +18,7 @@ use txc_app::laws::found_rows_give_true_entries;
 use txc_cushion::CushionCore;
 use txc_db::{Answered, DbCore, DbError, HistoryFront};
 use txc_ports::{PortReply, PortRequest};
-use txc_rows::Query;
+use txc_rows::{MOST_MATCHING, Query};
 use txc_shared::{NodeSettings, StoredNode};
 use txc_stamp::Stamp;
 use txc_stream::Pen;
@@ -43,17 +43,19 @@ impl<A: App> Model for PlainPorts<A> {
     ghost invariant = { λ p. AreCallerPorts (record { database = p.database; cushion = p.cushion; node = p.node }) };
 }
 
-// An empty database with room for so many events, or that stores none.
+// An empty database with room for so many events, or that stores none. As many versions may match as can be allowed.
 fn empty_database(alloc: Global, room: Option<usize>) -> Result<DbCore, DbError>
     requires { IfSome room (λ events. (1 ≤ events) × (events ≤ MAX_ROW)) }
     ensures room { IfOk result (λ d. HasEventRoom room d.events) }
     ensures new { IfOk result IsNewDatabase }
     ensures refused { IfErr result IsWant }
 {
-    match room {
-        Some(events) => DbCore::new(alloc, events),
-        None => DbCore::unstored(alloc, Pen::new()),
-    }
+    let mut database = match room {
+        Some(events) => DbCore::new(alloc, events)?,
+        None => DbCore::unstored(alloc, Pen::new())?,
+    };
+    database.allow(MOST_MATCHING);
+    Ok(database)
 }
 
 /// Gives the pins back, one user of each. It takes no memory.

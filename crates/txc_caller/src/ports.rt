@@ -6,7 +6,6 @@ ghost use Rattle.txc_db.specs.DatabaseValue.{after_commit, newest, next_horizon}
 ghost use Rattle.txc_db.specs.History.{state_at};
 ghost use Rattle.txc_db.specs.Steps.{IsBaseRefused};
 ghost use Rattle.txc_rows.specs.RowTags.{query_tag};
-ghost use Rattle.txc_rows.specs.declared.store_error.TheConstants.{MAX_MATCHING};
 ghost use Rattle.txc_validity.specs.Answers.{IsAnswer};
 ghost use Rattle.txc_caller.specs.Ports.{AreGivenBack, CallerSweepTransition, GoesOnByEvents, HasNoEventFor, HasRetired, HasVacuumedPorts, IsBehind, IsKeepRefused, IsLetGo, MayHaveTaken};
 
@@ -116,7 +115,7 @@ impl<A: App> Ports<A> {
             self.old.database.horizon (newest self.old.database) found) }
         ensures tag { IfOk result (λ found. found.tags ≡ query_tag query.now ∷ []) }
         ensures only_if { IsOk result → IsAnswerable self.old.database stamp }
-        ensures few { IsOk result → matching_of self.old.database query.now ≤ MAX_MATCHING }
+        ensures few { IsOk result → matching_of self.old.database query.now ≤ self.old.database.most }
         ensures refused { IfErr result (IsQueryRefused self.old.database query.now stamp) }
     {
         let mut plain = self.slot.take(self.alloc);

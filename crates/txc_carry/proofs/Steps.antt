@@ -14,7 +14,6 @@ use Rattle.txc_rows.specs.declared.query.Query.TheVariants.{ById, Range}
 use Rattle.txc_rows.specs.declared.query.Change.{Change}
 use Rattle.txc_rows.specs.declared.query.Change.TheVariants.{Put}
 use Rattle.txc_rows.specs.declared.store_error.StoreError.TheVariants as store
-use Rattle.txc_rows.specs.declared.store_error.TheConstants.{MAX_MATCHING}
 use Rattle.txc_rows.specs.declared.version.Versioned.{Versioned}
 use Rattle.txc_rows.specs.States.{RowValue, State, IsState, matches, answer}
 use Rattle.txc_rows.specs.Versions.{suits}
@@ -48,11 +47,12 @@ none_gone (unstored number) horizon none gone = absurd (omega (arith, none, gone
 
 -- ---- the first step and the last
 
-pub start_carried : (old new : DatabaseValue) → new.broken ≡ false → new.holds ≡ [] → new.history ≡ [] → new.versions ≡ [] → new.horizon ≡ 0
+pub start_carried : (old new : DatabaseValue) → new.broken ≡ false → new.holds ≡ [] → new.history ≡ [] → new.versions ≡ [] → new.horizon ≡ 0 → new.most ≡ old.most
     → HasCarried old new.events 0 0 new
-start_carried old new whole holds history versions horizon = record {
+start_carried old new whole holds history versions horizon limit = record {
   whole = whole;
   named = refl;
+  limit = limit;
   horizon = horizon;
   holds = holds;
   rows = ap (λ (L : History). state_at L (length L)) history ∙ sym (none_before (newest_state old));
@@ -64,6 +64,7 @@ pub table_carried : (old new : DatabaseValue) (events : Name) (t : ℕ) → IsSo
 table_carried old new events t sound h = record {
   whole = h.whole;
   named = h.named;
+  limit = h.limit;
   horizon = h.horizon;
   holds = h.holds;
   rows = h.rows ∙ table_done old sound t;
@@ -122,6 +123,7 @@ module _ (old new : DatabaseValue) (events : Name) (t f l : ℕ) (rows : List Ro
   range_carried leads = record {
     whole = after_either new (map Put rows) (λ v. v.broken ≡ false) (λ none. h.whole) (λ some. h.whole);
     named = after_either new (map Put rows) (λ v. v.events ≡ events) (λ none. h.named) (λ some. h.named);
+    limit = after_either new (map Put rows) (λ v. v.most ≡ old.most) (λ none. h.limit) (λ some. h.limit);
     horizon = after_either new (map Put rows) (λ v. v.horizon ≡ 0) (λ none. h.horizon) (λ some. h.horizon);
     holds = after_either new (map Put rows) (λ v. v.holds ≡ []) (λ none. h.holds) (λ some. h.holds);
     rows = new_state leads ∙ whole_state;
@@ -181,5 +183,5 @@ read_refused d q stamp whole sound at (Store store.StoreMemory) few r = tt
 read_refused d q stamp whole sound at (Store store.Memory) few r = absurd r.1
 read_refused d q stamp whole sound at e few r = absurd r
 
-pub too_many : (d : DatabaseValue) (t f l : ℕ) → f ≡ l → MAX_MATCHING < matching_of d (Range t f l) → MAX_MATCHING < matching_of d (ById t f)
-too_many d t f l one many = subst (λ (n : ℕ). MAX_MATCHING < n) (one_matching d t f) (subst (λ (last : ℕ). MAX_MATCHING < matching_of d (Range t f last)) (sym one) many)
+pub too_many : (d : DatabaseValue) (t f l : ℕ) → f ≡ l → d.most < matching_of d (Range t f l) → d.most < matching_of d (ById t f)
+too_many d t f l one many = subst (λ (n : ℕ). d.most < n) (one_matching d t f) (subst (λ (last : ℕ). d.most < matching_of d (Range t f last)) (sym one) many)

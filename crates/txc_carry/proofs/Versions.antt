@@ -56,7 +56,8 @@ at_most_one t i (v ∷ vs) apart lives = go (suits (ById t i) v) refl (at_most_o
 not_too_many : (d : DatabaseValue) (capacity : ℕ) → IsSound d → d.horizon ≡ newest d → (e : CarryError) → IsCarryStepRefused d capacity e → IsNotTooMany e
 not_too_many d capacity sound at (TooManyVersions table id) many =
     let one : matching_of d (ById table id) ≤ 1 = at_most_one table id d.versions sound.kept.versions.apart (never_died d sound at) in
-    absurd (omega (arith, many, one))
+    let least = sound.limit.0 in
+    absurd (omega (arith, many, one, least))
 not_too_many d capacity sound at (Old e) r = tt
 not_too_many d capacity sound at (New e) r = tt
 

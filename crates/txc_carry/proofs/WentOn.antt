@@ -19,6 +19,7 @@ module _ (old new : DatabaseValue) (number : ℕ) (room : Option ℕ) (asked : r
     state = state;
     one = ap newest is;
     horizon = ap (λ (d : DatabaseValue). d.horizon) is;
+    limit = ap (λ (d : DatabaseValue). d.most) is;
     holds = ap (λ (d : DatabaseValue). d.holds) is;
   }
 

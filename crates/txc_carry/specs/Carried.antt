@@ -2,7 +2,6 @@
 use Rattle.std.specs.Prelude.{◌≡◌, ⊤, ℕ, ◌<◌, ◌≤◌, Bool, true, false, ◌&&◌, ◌||◌, ◌==◌, nat_lt, [], length, filter}
 use Rattle.std.specs.List.{AllByRecursion}
 use Rattle.txc_rows.specs.declared.query.Query.TheVariants.{ById}
-use Rattle.txc_rows.specs.declared.store_error.TheConstants.{MAX_MATCHING}
 use Rattle.txc_rows.specs.States.{RowValue}
 use Rattle.txc_db.specs.declared.error.DbError.{DbError}
 use Rattle.txc_db.specs.declared.error.DbError.TheVariants as refusals
@@ -17,11 +16,13 @@ use Rattle.txc_carry.specs.declared.error.CarryError.TheVariants.{Old, TooManyVe
 abbrev pub stands_before : ℕ → ℕ → RowValue → Bool
 stands_before table id r = nat_lt r.table table || ((r.table == table) && nat_lt r.id id)
 
--- The new database is whole, has the history of that name, and holds nothing. Its newest state is the rows of the old one's
--- that stand before the table and id, and so are the rows of its versions. It has at most one event for each row.
+-- The new database is whole, has the history of that name, and holds nothing. As many versions may match as of the old one.
+-- Its newest state is the rows of the old one's that stand before the table and id, and so are the rows of its versions. It
+-- has at most one event for each row.
 pub record HasCarried (old : DatabaseValue) (events : Name) (table id : ℕ) (new : DatabaseValue) : Type 0 where
   pub whole : new.broken ≡ false
   pub named : new.events ≡ events
+  pub limit : new.most ≡ old.most
   pub horizon : new.horizon ≡ 0
   pub holds : new.holds ≡ []
   pub rows : newest_state new ≡ filter (stands_before table id) (newest_state old)
@@ -49,7 +50,7 @@ IsPutRefusal old room e = ⊥
 -- new one refused
 abbrev pub IsCarryStepRefused : DatabaseValue → ℕ → CarryError → Type 0
 IsCarryStepRefused old room (Old e) = IsReadRefusal e
-IsCarryStepRefused old room (TooManyVersions table id) = MAX_MATCHING < matching_of old (ById table id)
+IsCarryStepRefused old room (TooManyVersions table id) = old.most < matching_of old (ById table id)
 IsCarryStepRefused old room (New e) = IsPutRefusal old room e
 
 -- that the new database refused as broken is so: it is stored in a row, and is broken from now on

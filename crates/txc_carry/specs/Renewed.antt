@@ -4,7 +4,7 @@ use Rattle.txc_stream.specs.Names.{HasRow}
 use Rattle.txc_db.specs.DatabaseValue.{DatabaseValue, newest, newest_state}
 
 -- no row was asked for, and the database was whole: its newest state is the one event of another history, from which on
--- it can be read
+-- it can be read. As many versions may match as before.
 pub record IsRenewed (room : Option ℕ) (old new : DatabaseValue) : Type 0 where
   pub asked : room ≡ None
   pub was : old.broken ≡ false
@@ -13,4 +13,5 @@ pub record IsRenewed (room : Option ℕ) (old new : DatabaseValue) : Type 0 wher
   pub state : newest_state new ≡ newest_state old
   pub one : newest new ≡ 1
   pub horizon : new.horizon ≡ 1
+  pub limit : new.most ≡ old.most
   pub holds : new.holds ≡ []

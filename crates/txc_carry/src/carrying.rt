@@ -138,7 +138,7 @@ fn newest_stamp(old: &DbCore) -> Result<Stamp, AllocError>
 }
 
 /// A database whose newest state is the old one's: with a row for `room` events; or, where no number is given, with a
-/// history that is not stored.
+/// history that is not stored. As many versions may match a query as of the old one.
 ///
 /// The old one is vacuumed first, so that where no stamp is held each row has one version. Of the room, the new
 /// one's first events put the rows: at most one event for each row, and mostly one for several hundred.
@@ -149,6 +149,7 @@ pub fn carry(alloc: Global, old: &mut DbCore, room: Option<usize>) -> Result<DbC
     ensures whole { IfOk result (λ new. new.broken ≡ false) }
     ensures holds { IfOk result (λ new. new.holds ≡ []) }
     ensures kept { IfOk result (λ new. new.horizon ≡ 0) }
+    ensures limit { IfOk result (λ new. new.most ≡ old.old.most) }
     ensures room { IfOk result (λ new. IsHistoryFor room new.events) }
     ensures few { IfOk result (λ new. length new.history ≤ length (newest_state new)) }
     ensures vacuumed { OnOk result (old.new ≡ after_vacuum old.old) }
@@ -166,10 +167,13 @@ pub fn carry(alloc: Global, old: &mut DbCore, room: Option<usize>) -> Result<DbC
         return Err(CarryError::Old(DbError::Memory));
     };
     match new_database(alloc, room) {
-        Ok(mut new) => match carry_tables(alloc, old, &mut new, stamp) {
-            Ok(()) => Ok(new),
-            Err(refusal) => Err(refusal),
-        },
+        Ok(mut new) => {
+            new.allow(old.allowed());
+            match carry_tables(alloc, old, &mut new, stamp) {
+                Ok(()) => Ok(new),
+                Err(refusal) => Err(refusal),
+            }
+        }
         Err(refusal) => Err(CarryError::New(refusal)),
     }
 }

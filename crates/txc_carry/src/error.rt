@@ -9,9 +9,9 @@ pub enum CarryError {
     /// The old database refused: it is broken, or the memory or the store was refused.
     #[error("the old database refused: {0}")]
     Old(DbError),
-    /// Stamps that are held keep more than [`txc_rows::MAX_MATCHING`] versions of the row with that table and
+    /// Stamps that are held keep more versions than the database allows of the row with that table and
     /// id.
-    #[error("over 1,024 versions of {} are kept", Tag::id(*.0, *.1))]
+    #[error("too many versions of {} are kept", Tag::id(*.0, *.1))]
     TooManyVersions(Table, u32),
     /// The new database refused: it has too little room, another record stood in its row, or the memory or the
     /// store was refused.

@@ -23,7 +23,7 @@ fn begins_in_place(alloc: Global, core: &mut DbCore, room: Option<usize>) -> boo
 }
 
 /// Makes the database one whose newest state is as it was: with a row for `room` events; or, where no number is given,
-/// with a history that is not stored.
+/// with a history that is not stored. As many versions may match a query as before.
 ///
 /// Where no number is given, the rows stay in their store, and the new history begins with one event that puts them all: that takes
 /// a vacuum, and no work for each row. Where it is refused, and where a number is given, the rows are put as [`carry`] does it.
@@ -33,6 +33,7 @@ pub fn renew(alloc: Global, core: &mut DbCore, room: Option<usize>) -> Result<()
     ensures whole { OnOk result (core.new.broken ≡ false) }
     ensures holds { OnOk result (core.new.holds ≡ []) }
     ensures kept { OnOk result (core.new.horizon ≤ 1) }
+    ensures limit { OnOk result (core.new.most ≡ core.old.most) }
     ensures room { OnOk result (IsHistoryFor room core.new.events) }
     ensures few { OnOk result (newest core.new ≤ max 1 (length (newest_state core.new))) }
     ensures left { OnErr result ((core.new ≡ core.old) ⊎ (core.new ≡ after_vacuum core.old)) }

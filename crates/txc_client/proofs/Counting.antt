@@ -8,6 +8,7 @@ use Rattle.txc_validity.specs.declared.answer.Found.{Found}
 use Rattle.txc_node.specs.declared.hit.Shown.{Shown}
 use Rattle.txc_cushion.specs.declared.pin.Pin.{Pin}
 use Rattle.txc_pinset.specs.Members.{PinSetValue, kept, narrowed}
+use Rattle.txc_app.specs.declared.app.Limits.{Limits}
 use Rattle.txc_app.specs.declared.ask.Ask.{Ask}
 use Rattle.txc_app.specs.declared.ask.Ask.TheVariants as asks
 use Rattle.txc_app.specs.Eval.{Next}
@@ -52,8 +53,8 @@ allowed : (x : Option CallError) (s : Standing) (P : Type 0) → UnlessRefused x
 allowed None s P h = (refl, h)
 allowed (Some e) s P h = cc h
 
-within_budget : (own all : ℕ) → count_refusal own all ≡ None → all < MAX_CALL_ASKS
-within_budget own all is = grind (arith, nat_tests)
+within_budget : (most own all : ℕ) → count_refusal most own all ≡ None → all < MAX_CALL_ASKS
+within_budget most own all is = grind (arith, nat_tests)
 
 -- it needs this, one ask later
 asked_once : (asked : ℕ) (s : Standing) → asked < MAX_CALL_ASKS → s.asked ≡ asked + 1 → Counts asked s
@@ -70,13 +71,13 @@ module _ (asked : ℕ) (s : Standing) (less : asked < MAX_CALL_ASKS) (frame : Fr
   allowed_counts (asks.Call k) os leads = let e : s.asked ≡ asked + 1 = cc in asked_once asked s less e
   allowed_counts (asks.Done bytes) os leads = done_counts bytes frame.reach _ leads
 
-ask_counts : (asked : ℕ) (s : Standing) (frame : Frame) (outer : List Frame) (goes_on : Onward)
+ask_counts : (limits : Limits) (asked : ℕ) (s : Standing) (frame : Frame) (outer : List Frame) (goes_on : Onward)
     → ((os : Objects) (bytes : List ℕ) → goes_on os bytes → Counts (asked + 1) s)
-    → (ask : Ask) (os : Objects) → AskTransition outer asked frame ask os goes_on (Ok s) → Counts asked s
-ask_counts asked s frame outer goes_on on ask os leads =
-    let counted = allowed (count_refusal frame.answers asked) s (UnlessRefused (ask_refusal os frame.key.function ask) (Ok s) (AllowedTransition outer (asked + 1) frame ask os goes_on (Ok s))) leads in
-    let fine = allowed (ask_refusal os frame.key.function ask) s (AllowedTransition outer (asked + 1) frame ask os goes_on (Ok s)) counted.1 in
-    allowed_counts asked s (within_budget frame.answers asked counted.0) frame outer goes_on on ask os fine.1
+    → (ask : Ask) (os : Objects) → AskTransition limits outer asked frame ask os goes_on (Ok s) → Counts asked s
+ask_counts limits asked s frame outer goes_on on ask os leads =
+    let counted = allowed (count_refusal limits.asks frame.answers asked) s (UnlessRefused (ask_refusal limits os frame.key.function ask) (Ok s) (AllowedTransition outer (asked + 1) frame ask os goes_on (Ok s))) leads in
+    let fine = allowed (ask_refusal limits os frame.key.function ask) s (AllowedTransition outer (asked + 1) frame ask os goes_on (Ok s)) counted.1 in
+    allowed_counts asked s (within_budget limits.asks frame.answers asked counted.0) frame outer goes_on on ask os fine.1
 
 module _ (next : Next) (s : Standing) where
   value_counts : (frames : List Frame) (asked : ℕ) (o : Outcome) (os : Objects) → AfterValue next frames asked o os (Ok s) → Counts asked s
@@ -87,13 +88,13 @@ module _ (next : Next) (s : Standing) where
       let os' : Objects = with_answer os frame.key.function (answers.Value o.value) in
       ⊎_elim
       (λ no. let no' : Ok s ≡ Err no.0 = no.1 in cc)
-      (λ (three : (ask : Ask) × (next_ask next os frame (answers.Value o.value) ≡ Some ask) × AskTransition outer asked after ask os' goes_on (Ok s)).
-      ask_counts asked s after outer goes_on (λ idle_os bytes on. value_counts outer (asked + 1) (unreached after bytes) idle_os on) three.0 os' three.2)
+      (λ (three : (ask : Ask) × (next_ask next os frame (answers.Value o.value) ≡ Some ask) × AskTransition next.limits outer asked after ask os' goes_on (Ok s)).
+      ask_counts next.limits asked s after outer goes_on (λ idle_os bytes on. value_counts outer (asked + 1) (unreached after bytes) idle_os on) three.0 os' three.2)
       leads
 
   after_ask_counts : (outer : List Frame) (asked : ℕ) (frame : Frame) (ask : Ask) (os : Objects) → AfterAsk next outer asked frame ask os (Ok s) → Counts asked s
   after_ask_counts outer asked frame ask os leads =
-      ask_counts asked s frame outer (λ idle_os bytes. AfterValue next outer (asked + 1) (unreached frame bytes) idle_os (Ok s))
+      ask_counts next.limits asked s frame outer (λ idle_os bytes. AfterValue next outer (asked + 1) (unreached frame bytes) idle_os (Ok s))
       (λ idle_os bytes on. value_counts outer (asked + 1) (unreached frame bytes) idle_os on) ask os leads
 
   rows_count : (frames : List Frame) (asked : ℕ) (found : Found) (os : Objects) → AfterRows next frames asked found os (Ok s) → Counts asked s
@@ -110,7 +111,7 @@ module _ (next : Next) (s : Standing) where
   miss_counts frames asked k os leads =
       ⊎_elim
       (λ no. let no' : Ok s ≡ Err no.0 = no.1 in cc)
-      (λ (three : (ask : Ask) × (next k.function k.args [] ≡ Some ask) × AfterAsk next frames asked (begun_frame k) ask (with_begun os k) (Ok s)).
+      (λ (three : (ask : Ask) × (next.says k.function k.args [] ≡ Some ask) × AfterAsk next frames asked (begun_frame k) ask (with_begun os k) (Ok s)).
       after_ask_counts frames asked (begun_frame k) three.0 (with_begun os k) three.2)
       leads
 

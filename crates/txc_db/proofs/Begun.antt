@@ -24,7 +24,7 @@ module _ (puts : PutsMakeState) (leads : NetLeads) where
   pub beside_begun : (s : State) → (state_event s).tags ≡ tags_between [] (state_after_event [] (state_event s))
   beside_begun s = ap (tags_between []) (sym (leads [] (map Put s) tt).leads)
 
-  module _ (d new : DatabaseValue) (begins : new.history ≡ state_event (newest_state d) ∷ []) (sound : IsSound d) where
+  module _ (d new : DatabaseValue) (begins : new.history ≡ state_event (newest_state d) ∷ []) (same : new.most ≡ d.most) (sound : IsSound d) where
     is_newest : IsState (newest_state d)
     is_newest = sound.kept.each (newest d) sound.kept.kept (omega arith)
 
@@ -38,18 +38,20 @@ module _ (puts : PutsMakeState) (leads : NetLeads) where
         record {
           tagged = subst AreTagged (sym begins) (tagged_one first (beside_begun (newest_state d)));
           kept = subst (λ (L : History). KeepsStates (state_at L) new.horizon (length L) new.versions) (sym begins) (subst (λ (h : ℕ). KeepsStates (state_at (first ∷ [])) h 1 new.versions) (sym low) kept);
+          limit = rw same sound.limit;
           held = rw none tt;
           rising = rw none tt;
         }
 
 pub begun_is : (d new : DatabaseValue) (events : Name) → new.events ≡ events → new.history ≡ state_event (newest_state d) ∷ [] → new.versions ≡ map (counted_from (newest d)) (purged (newest d) d.versions)
-    → new.horizon ≡ 1 → new.holds ≡ [] → new.broken ≡ false → new ≡ begun_anew d events
-begun_is d new events named begins left low none whole =
+    → new.most ≡ d.most → new.horizon ≡ 1 → new.holds ≡ [] → new.broken ≡ false → new ≡ begun_anew d events
+begun_is d new events named begins left same low none whole =
     let first = state_event (newest_state d) ∷ [] in
     let vs = map (counted_from (newest d)) (purged (newest d) d.versions) in
     ap (λ (x : Name). let w : DatabaseValue = record new { events = x } in w) named
     ∙ (ap (λ (x : History). let w : DatabaseValue = record new { events = events; history = x } in w) begins
     ∙ (ap (λ (x : List Versioned). let w : DatabaseValue = record new { events = events; history = first; versions = x } in w) left
-    ∙ (ap (λ (x : ℕ). let w : DatabaseValue = record { events = events; history = first; versions = vs; horizon = x; holds = new.holds; broken = new.broken } in w) low
-    ∙ (ap (λ (x : List ℕ). let w : DatabaseValue = record { events = events; history = first; versions = vs; horizon = 1; holds = x; broken = new.broken } in w) none
-    ∙ ap (λ (x : Bool). let w : DatabaseValue = record { events = events; history = first; versions = vs; horizon = 1; holds = []; broken = x } in w) whole))))
+    ∙ (ap (λ (x : ℕ). let w : DatabaseValue = record new { events = events; history = first; versions = vs; most = x } in w) same
+    ∙ (ap (λ (x : ℕ). let w : DatabaseValue = record { events = events; history = first; versions = vs; most = d.most; horizon = x; holds = new.holds; broken = new.broken } in w) low
+    ∙ (ap (λ (x : List ℕ). let w : DatabaseValue = record { events = events; history = first; versions = vs; most = d.most; horizon = 1; holds = x; broken = new.broken } in w) none
+    ∙ ap (λ (x : Bool). let w : DatabaseValue = record { events = events; history = first; versions = vs; most = d.most; horizon = 1; holds = []; broken = x } in w) whole)))))

@@ -18,6 +18,7 @@ pub hold_sound : (d : DatabaseValue) → IsSound d → IsSound (record d { holds
 hold_sound d s = record {
   tagged = s.tagged;
   kept = s.kept;
+  limit = s.limit;
   held = all_push (IsReadable d.horizon (newest d)) d.holds (newest d) s.held (record { low = s.kept.kept; high = omega arith });
   rising = rises_push d.horizon (newest d) d.holds s.held s.rising;
 }
@@ -44,6 +45,7 @@ pub unpin_sound : (d : DatabaseValue) (stamp : ℕ) → IsSound d → IsSound (r
 unpin_sound d stamp s = record {
   tagged = s.tagged;
   kept = s.kept;
+  limit = s.limit;
   held = all_without (IsReadable d.horizon (newest d)) stamp d.holds s.held;
   rising = rises_without stamp d.holds s.rising;
 }

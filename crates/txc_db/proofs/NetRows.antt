@@ -13,7 +13,6 @@ use Rattle.txc_rows.proofs.Offered.{IsIn, is_in, any_there, any_found, both_true
 use Rattle.txc_rows.proofs.Offered.{same_rows, filter_state}
 use Rattle.txc_db.specs.DatabaseValue.{DatabaseValue}
 use Rattle.txc_db.specs.Calls.{matching_of, row_query, AreFewNamed}
-use Rattle.txc_rows.specs.declared.store_error.TheConstants.{MAX_MATCHING}
 use Rattle.txc_db.specs.NetWith.{found_rows, IsNetWith}
 use Rattle.txc_db.proofs.Settling.{tags_then, flat_then}
 
@@ -188,10 +187,10 @@ settled_has c (d ∷ cs) (inr later) =
     record { change = it.change; one = placed_keeps d it.change (settled cs) it.one; table = it.table; id = it.id }
 
 -- what is so of each key that settles is so of each that a change names
-pub few_named : (d : DatabaseValue) (changes : List Change) → ((x : Change) → IsIn x (settled changes) → matching_of d (row_query x) ≤ MAX_MATCHING) → AreFewNamed d changes
+pub few_named : (d : DatabaseValue) (changes : List Change) → ((x : Change) → IsIn x (settled changes) → matching_of d (row_query x) ≤ d.most) → AreFewNamed d changes
 few_named d changes few c one =
     let it = settled_has c changes (is_in changes c one) in
-    subst (λ (i : ℕ). matching_of d (ById (change_table c) i) ≤ MAX_MATCHING) it.id (subst (λ (t : ℕ). matching_of d (ById t (change_id it.change)) ≤ MAX_MATCHING) it.table (few it.change it.one))
+    subst (λ (i : ℕ). matching_of d (ById (change_table c) i) ≤ d.most) it.id (subst (λ (t : ℕ). matching_of d (ById t (change_id it.change)) ≤ d.most) it.table (few it.change it.one))
 
 -- what is among one more was among them, or is the one
 pub taken_in : (cs : List Change) (i : ℕ) (c x : Change) → slice_get cs i ≡ Some c → IsIn x (take (i + 1) cs) → IsIn x (take i cs) ⊎ (x ≡ c)

@@ -12,7 +12,6 @@ use Rattle.txc_db.specs.Seen.{FrontValue}
 use Rattle.txc_db.specs.History.{state_at}
 use Rattle.txc_db.specs.DatabaseValue.{DatabaseValue, newest, front_of}
 use Rattle.txc_db.specs.Calls.{IsAnswerable, matching_of}
-use Rattle.txc_rows.specs.declared.store_error.TheConstants.{MAX_MATCHING}
 use Rattle.txc_db.specs.Shared.{IsDatabaseOf, MayAnswer, IsQueryAnswer, MayRefuse}
 
 -- the database under the lock is the one that refuses
@@ -28,7 +27,7 @@ pub query_result : (d : DatabaseValue) (events : Name) (q : Query) (stamp : ℕ)
     → IfOk r (λ answered. IsAnswer (state_at d.history) q stamp d.horizon (newest d) answered.answer)
     → IfOk r (λ answered. answered.front ≡ front_of d)
     → (IsOk r → IsAnswerable d stamp)
-    → (IsOk r → matching_of d q ≤ MAX_MATCHING)
+    → (IsOk r → matching_of d q ≤ d.most)
     → IfOk r (MayAnswer events (λ v. IsQueryAnswer v q stamp))
 query_result d events q stamp (Ok answered) one answer front known few = (
   d,

@@ -12,7 +12,7 @@ use Rattle.txc_rows.specs.Uses.{KeepsAgreed, KeepsQuiet}
 use Rattle.txc_stream.specs.Names.{Name}
 use Rattle.txc_db.specs.Facts.{Fact, EventValue, commit}
 use Rattle.txc_db.specs.History.{state_at, AreTagged, pin_event, after_fact}
-use Rattle.txc_db.specs.DatabaseValue.{DatabaseValue, newest, newest_state, IsSound, IsReadable, least}
+use Rattle.txc_db.specs.DatabaseValue.{DatabaseValue, newest, newest_state, IsLimit, IsSound, IsReadable, least}
 use Rattle.txc_db.proofs.Histories.{states_stay, state_before, state_pushed, tagged_pushed}
 use Rattle.txc_db.proofs.HeldStamps.{all_push, rises_push, least_low, least_high, readable_later, readable_from}
 
@@ -26,11 +26,12 @@ pub tagged_empty : AreTagged []
 tagged_empty zero v is = absurd (cc is)
 tagged_empty (suc t) v is = absurd (cc is)
 
-pub new_sound : (events : Name) (vs : List Versioned) → ((states : ℕ → State) → states 0 ≡ [] → KeepsStates states 0 0 vs)
-    → IsSound (record { events = events; history = []; versions = vs; horizon = 0; holds = []; broken = false })
-new_sound events vs keeps = record {
+pub new_sound : (events : Name) (vs : List Versioned) (most : ℕ) → IsLimit most → ((states : ℕ → State) → states 0 ≡ [] → KeepsStates states 0 0 vs)
+    → IsSound (record { events = events; history = []; versions = vs; most = most; horizon = 0; holds = []; broken = false })
+new_sound events vs most limit keeps = record {
   tagged = tagged_empty;
   kept = keeps (state_at []) refl;
+  limit = limit;
   held = tt;
   rising = tt;
 }
@@ -42,6 +43,7 @@ pub pin_sound : KeepsAgreed → KeepsQuiet → NoTagsBetween → (d : DatabaseVa
 pin_sound agreed quiet none d moment stamp is s = record {
   tagged = tagged_pushed d.history (pin_event moment) s.tagged (sym (none (newest_state d)));
   kept = subst (λ (n : ℕ). KeepsStates (state_at (d.history ++ pin_event moment ∷ [])) d.horizon n d.versions) (sym (len ∙ add-one (newest d))) (quiet (state_at (d.history ++ pin_event moment ∷ [])) d.horizon (newest d) d.versions stays (kept_on agreed d (pin_event moment) s));
+  limit = s.limit;
   held = rw len (all_push (IsReadable d.horizon (newest d + 1)) d.holds stamp (readable_later d.horizon (newest d) d.holds s.held) (record { low = let h = s.kept.kept in omega (arith, is, h); high = omega (arith, is) }));
   rising = rw is (rises_push d.horizon (newest d + 1) d.holds (readable_later d.horizon (newest d) d.holds s.held) s.rising);
 }
@@ -68,6 +70,7 @@ pub commit_sound : KeepsAgreed → (d : DatabaseValue) (net : List Change) (e : 
 commit_sound agreed d net e vs is leads tags written s = record {
   tagged = tagged_pushed d.history e s.tagged (tags ∙ ap (λ (f : Fact). tags_between (newest_state d) (after_fact f (newest_state d))) (sym is));
   kept = subst (λ (n : ℕ). KeepsStates (state_at (d.history ++ e ∷ [])) d.horizon n vs) (sym (len ∙ add-one (newest d))) (written (state_at (d.history ++ e ∷ [])) d.horizon (newest d) (kept_on agreed d e s) (commit_leads d net e is leads));
+  limit = s.limit;
   held = rw len (readable_later d.horizon (newest d) d.holds s.held);
   rising = s.rising;
 }
@@ -82,6 +85,7 @@ pub vacuum_sound : (d : DatabaseValue) (horizon : ℕ) (vs : List Versioned) →
 vacuum_sound d horizon vs purged is s = record {
   tagged = s.tagged;
   kept = purged (state_at d.history) d.horizon (newest d) s.kept low high;
+  limit = s.limit;
   held = rw is (readable_from d.horizon (newest d) d.holds s.held);
   rising = s.rising;
 }

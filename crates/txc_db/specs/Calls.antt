@@ -7,7 +7,6 @@ use Rattle.txc_rows.specs.declared.query.Query.TheVariants.{ById}
 use Rattle.txc_rows.specs.declared.query.Change.{Change}
 use Rattle.txc_rows.specs.declared.store_error.StoreError.{StoreError}
 use Rattle.txc_rows.specs.declared.store_error.StoreError.TheVariants as store
-use Rattle.txc_rows.specs.declared.store_error.TheConstants.{MAX_MATCHING}
 use Rattle.txc_rows.specs.Net.{change_table, change_id}
 use Rattle.txc_rows.specs.Versions.{suits}
 use Rattle.txc_db.specs.declared.error.DbError.{DbError}
@@ -98,7 +97,7 @@ matching_of d q = length (filter (suits q) d.versions)
 
 -- the store refused to read the versions that match: there are too many of them, or it refused by itself
 abbrev pub IsStoreRefused : DatabaseValue → Query → StoreError → Type 0
-IsStoreRefused d q store.TooManyRows = MAX_MATCHING < matching_of d q
+IsStoreRefused d q store.TooManyRows = d.most < matching_of d q
 IsStoreRefused d q (store.Store cause) = ⊤
 IsStoreRefused d q store.StoreMemory = ⊤
 IsStoreRefused d q store.Memory = ⊥
@@ -126,7 +125,7 @@ row_query c = ById (change_table c) (change_id c)
 
 -- of no row that the changes name are too many versions kept
 abbrev pub AreFewNamed : DatabaseValue → List Change → Type 0
-AreFewNamed d changes = (c : Change) → Contains changes c → matching_of d (row_query c) ≤ MAX_MATCHING
+AreFewNamed d changes = (c : Change) → Contains changes c → matching_of d (row_query c) ≤ d.most
 
 -- the database is whole, knows the base, and has the tags of the events after it
 pub record IsBase (d : DatabaseValue) (base : ℕ) : Type 0 where
@@ -168,7 +167,7 @@ pub record IsEventBarred (d : DatabaseValue) (base : ℕ) (read : List Tag) (cha
 -- it refused by itself
 abbrev pub IsStoreRefusedIn : DatabaseValue → List Change → StoreError → Type 0
 IsStoreRefusedIn d changes store.TooManyRows =
-    (c : Change) × Contains changes c × (MAX_MATCHING < matching_of d (row_query c))
+    (c : Change) × Contains changes c × (d.most < matching_of d (row_query c))
 IsStoreRefusedIn d changes (store.Store cause) = changes ≢ []
 IsStoreRefusedIn d changes store.StoreMemory = changes ≢ []
 IsStoreRefusedIn d changes store.Memory = ⊥

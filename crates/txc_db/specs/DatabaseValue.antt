@@ -2,6 +2,7 @@
 use Rattle.std.specs.Prelude.{ℕ, ◌+◌, ◌≤◌, Bool, List, [], ◌∷◌, ◌++◌, length, min, ◌==◌, if◌then◌else◌, map, false}
 use Rattle.std.specs.List.{AllByRecursion, list_any}
 use Rattle.txc_stream.specs.Names.{Name}
+use Rattle.txc_rows.specs.declared.store_error.TheConstants.{MAX_MATCHING, MOST_MATCHING}
 use Rattle.txc_rows.specs.declared.version.Versioned.{Versioned}
 use Rattle.txc_rows.specs.States.{State}
 use Rattle.txc_rows.specs.Keeping.{KeepsStates}
@@ -12,16 +13,21 @@ use Rattle.txc_db.specs.Facts.{EventValue}
 use Rattle.txc_db.specs.Seen.{FrontValue}
 use Rattle.txc_db.specs.History.{History, state_at, AreTagged, pin_event, commit_event, state_event}
 
--- what the history of its events is called; the history; the versions that are kept; the horizon; the stamps
--- that are held, one for each hold, the earliest hold first; and whether another record was found in its
--- row
+-- What the history of its events is called; the history; the versions that are kept; how many of them may match a query. The
+-- horizon; the stamps that are held, one for each hold, the earliest hold first; and whether another record was found in
+-- its row.
 pub record DatabaseValue : Type 0 where
   pub events : Name
   pub history : History
   pub versions : List Versioned
+  pub most : ℕ
   pub horizon : ℕ
   pub holds : List ℕ
   pub broken : Bool
+
+-- so many versions may match: 1,024, or more that were allowed
+abbrev pub IsLimit : ℕ → Type 0
+IsLimit most = (MAX_MATCHING ≤ most) × (most ≤ MOST_MATCHING)
 
 -- what a front of the whole history shows
 abbrev pub front_of : DatabaseValue → FrontValue
@@ -65,10 +71,11 @@ pub record IsReadable (horizon newest stamp : ℕ) : Type 0 where
   pub high : stamp ≤ newest
 
 -- what every database keeps: each event stands beside its tags, the versions say each state from the
--- horizon to the newest stamp, and no held stamp is below the horizon
+-- horizon to the newest stamp, as many may match as can be allowed, and no held stamp is below the horizon
 pub record IsSound (d : DatabaseValue) : Type 0 where
   pub tagged : AreTagged d.history
   pub kept : KeepsStates (state_at d.history) d.horizon (newest d) d.versions
+  pub limit : IsLimit d.most
   pub held : AllByRecursion (IsReadable d.horizon (newest d)) d.holds
   pub rising : Rises d.holds
 
@@ -115,12 +122,13 @@ after_commit d changes = where_some (newest_net d changes) d
     (after_event_of d (commit_event (newest_state d) changes) (newest_net d changes))
 
 -- another history begins, with the newest state as its one event. Of the versions those are left that have not died: each
--- is older than the event. Nothing is held.
+-- is older than the event. As many may match as before. Nothing is held.
 abbrev pub begun_anew : DatabaseValue → Name → DatabaseValue
 begun_anew d events = record {
   events = events;
   history = state_event (newest_state d) ∷ [];
   versions = map (counted_from (newest d)) (purged (newest d) d.versions);
+  most = d.most;
   horizon = 1;
   holds = [];
   broken = false;

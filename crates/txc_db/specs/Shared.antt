@@ -4,7 +4,6 @@ use Rattle.txc_tags.specs.declared.tag.Tag.{Tag}
 use Rattle.txc_stream.specs.Names.{Name}
 use Rattle.txc_rows.specs.declared.query.Change.{Change}
 use Rattle.txc_rows.specs.declared.query.Query.{Query}
-use Rattle.txc_rows.specs.declared.store_error.TheConstants.{MAX_MATCHING}
 use Rattle.txc_rows.specs.Net.{net_changes}
 use Rattle.txc_validity.specs.declared.answer.Found.{Found}
 use Rattle.txc_validity.specs.Answers.{IsAnswer}
@@ -35,7 +34,7 @@ MayAnswer events answers a = (d : DatabaseValue) × IsDatabaseOf events d × ans
 -- that history, valid as far as the database's horizon and its newest stamp tell
 pub record IsQueryAnswer (d : DatabaseValue) (q : Query) (stamp : ℕ) (answered : Answered Found) : Type 0 where
   pub known : IsAnswerable d stamp
-  pub few : matching_of d q ≤ MAX_MATCHING
+  pub few : matching_of d q ≤ d.most
   pub front : answered.front ≡ front_of d
   pub answer : let L = answered.front.history
       in IsAnswer (state_at L) q stamp d.horizon (length L) answered.answer

@@ -13,7 +13,6 @@ ghost use Rattle.txc_db.specs.Facts.{commit};
 ghost use Rattle.txc_db.specs.NetWith.{IsNetWith};
 ghost use Rattle.txc_db.specs.Refusals.{IsConflict, NoneMatches};
 ghost use Rattle.txc_db.specs.Calls.{IsLeft, IsBase, AreFewNamed, row_query, matching_of, IsCommittable, IsCommitRefused};
-ghost use Rattle.txc_rows.specs.declared.store_error.TheConstants.{MAX_MATCHING};
 ghost use Rattle.txc_db.specs.Room.{events_room};
 ghost use Rattle.txc_db.specs.Steps.{IsBaseRefused, IsReadRefused, IsNetRefused, IsAppendRefused};
 
@@ -50,12 +49,12 @@ impl DbCore {
         requires { self.old.broken ≡ false }
         ensures same { self.new ≡ self.old }
         ensures rows { IfOk result (λ rows. rows.items ≡ answer (ById table id) (newest_state self.old)) }
-        ensures few { IsOk result → matching_of self.old (ById table id) ≤ MAX_MATCHING }
+        ensures few { IsOk result → matching_of self.old (ById table id) ≤ self.old.most }
         ensures refused { IfErr result (IsReadRefused self.old (ById table id)) }
     {
         let newest = self.told.newest();
         let query = Query::ById(table, id);
-        let versions = self.store.current(&query)?;
+        let versions = self.store.current(&query, self.most)?;
         Ok(rows_at(alloc, &versions, &query, newest)?)
     }
 
@@ -66,7 +65,7 @@ impl DbCore {
         ensures same { self.new ≡ self.old }
         ensures net { OnOk result (IsNetWith (newest_state self.old) change.now
             net.old.changes.items net.new.changes.items net.old.tags net.new.tags) }
-        ensures few { IsOk result → matching_of self.old (row_query change.now) ≤ MAX_MATCHING }
+        ensures few { IsOk result → matching_of self.old (row_query change.now) ≤ self.old.most }
         ensures refused { IfErr result (IsReadRefused self.old (row_query change.now)) }
     {
         let rows = self.rows_now(alloc, change.table(), change.id())?;

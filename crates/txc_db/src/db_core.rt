@@ -9,7 +9,7 @@ ghost use Rattle.txc_db.specs.History.{state_at, tags_at};
 ghost use Rattle.txc_db.specs.Room.{HasCapacity, AreTagsGone};
 ghost use Rattle.txc_db.specs.Refusals.{IsWant};
 ghost use Rattle.txc_db.specs.Calls.{IsLeft, IsHoldable, IsHoldRefused, IsUnpinRefused, IsVacuumRefused, IsPinnable, IsPinRefused, IsAnswerable, matching_of, IsQueryRefused};
-ghost use Rattle.txc_rows.specs.declared.store_error.TheConstants.{MAX_MATCHING};
+ghost use Rattle.txc_rows.specs.declared.store_error.TheConstants.{MAX_MATCHING, MOST_MATCHING};
 
 use crate::error::DbError;
 use crate::event::Event;
@@ -20,11 +20,11 @@ use crate::pinned::Pinned;
 use std::alloc::{AllocError, Global};
 use std::marker::Model;
 use std::sync::Arc;
-use txc_rows::{Query, VersionRows, tags_are_sound, versions_keep_states};
+use txc_rows::{MAX_MATCHING, Query, VersionRows, tags_are_sound, versions_keep_states};
 use txc_stamp::Stamp;
 use txc_stream::{EventRow, MAX_CAPACITY, Pen};
 use txc_tags::TagSet;
-use txc_validity::{Found, answer_at};
+use txc_validity::{Found, answer_at, validity_is_the_largest};
 
 /// A versioned database for one thread: one history of commits and pins, the versions of the rows from the
 /// horizon on, and the stamps that are held.
@@ -37,6 +37,8 @@ use txc_validity::{Found, answer_at};
 /// exactly where the clauses say.
 pub struct DbCore {
     pub(crate) store: VersionRows,
+    // So many versions may match a query.
+    pub(crate) most: usize,
     pub(crate) told: History,
     pub(crate) horizon: Stamp,
     // The earliest hold first, so that they rise.
@@ -49,6 +51,7 @@ impl Drop for DbCore {
     fn drop(self) {
         let DbCore {
             store: _,
+            most: _,
             told: _,
             horizon: _,
             holds: _,
@@ -58,7 +61,8 @@ impl Drop for DbCore {
 }
 
 impl Model for DbCore {
-    ghost use Rattle.std.specs.Prelude.{◌≡◌, ◌≤◌, false};
+    ghost use Rattle.std.specs.Prelude.{◌≡◌, ◌⊎◌, ◌≤◌, false};
+    ghost use Rattle.txc_stream.specs.Names.{HasRow};
     ghost use Rattle.txc_db.specs.DatabaseValue.{DatabaseValue, IsSound};
 
     ghost Value = { DatabaseValue };
@@ -67,6 +71,7 @@ impl Model for DbCore {
       events = d.told.events;
       history = d.told.history;
       versions = d.store;
+      most = d.most;
       horizon = d.horizon;
       holds = d.holds.items;
       broken = d.broken;
@@ -76,10 +81,11 @@ impl Model for DbCore {
       events = d.told.events;
       history = d.told.history;
       versions = d.store;
+      most = d.most;
       horizon = d.horizon;
       holds = d.holds.items;
       broken = d.broken;
-    })) };
+    })) × (HasRow d.told.events ⊎ (d.told.first ≡ d.horizon)) };
 }
 
 impl DbCore {
@@ -91,6 +97,7 @@ impl DbCore {
         requires most { capacity ≤ MAX_CAPACITY }
         ensures history { IfOk result (λ d. (d.history ≡ []) × HasCapacity d.events capacity) }
         ensures kept { IfOk result (λ d. (d.versions ≡ []) × (d.horizon ≡ 0)) }
+        ensures limit { IfOk result (λ d. d.most ≡ MAX_MATCHING) }
         ensures holds { IfOk result (λ d. (d.holds ≡ []) × (d.broken ≡ false)) }
         ensures refused { IfErr result IsWant }
     {
@@ -103,6 +110,7 @@ impl DbCore {
         requires { pen.list ≡ [] }
         ensures history { IfOk result (λ d. (d.history ≡ []) × (d.events ≡ unstored pen.number)) }
         ensures kept { IfOk result (λ d. (d.versions ≡ []) × (d.horizon ≡ 0)) }
+        ensures limit { IfOk result (λ d. d.most ≡ MAX_MATCHING) }
         ensures holds { IfOk result (λ d. (d.holds ≡ []) × (d.broken ≡ false)) }
         ensures refused { IfErr result IsWant }
     {
@@ -117,6 +125,7 @@ impl DbCore {
           events = told.events;
           history = [];
           versions = [];
+          most = MAX_MATCHING;
           horizon = 0;
           holds = [];
           broken = false;
@@ -127,11 +136,29 @@ impl DbCore {
         let store = VersionRows::open_in_memory(alloc)?;
         Ok(DbCore {
             store,
+            most: MAX_MATCHING,
             told,
             horizon: Stamp::ZERO,
             holds: Vec::new(alloc),
             broken: false,
         })
+    }
+
+    /// Lets so many versions match a query, in the place of [`txc_rows::MAX_MATCHING`]. They are counted, and only what the
+    /// answer needs is copied.
+    pub fn allow(&mut self, most: usize)
+        requires least { MAX_MATCHING ≤ most }
+        requires most { most ≤ MOST_MATCHING }
+        ensures { self.new ≡ record self.old { most = most } }
+    {
+        self.most = most;
+    }
+
+    /// How many versions may match a query.
+    pub fn allowed(&self) -> usize
+        ensures { result ≡ self.now.most }
+    {
+        self.most
     }
 
     /// What holds of every database that is whole: each event stands beside its tags, the versions say each
@@ -223,7 +250,7 @@ impl DbCore {
             IsAnswer (state_at self.old.history) query.now stamp self.old.horizon (newest self.old) found) }
         ensures tag { IfOk result (λ found. found.tags ≡ query_tag query.now ∷ []) }
         ensures only_if { IsOk result → IsAnswerable self.old stamp }
-        ensures few { IsOk result → matching_of self.old query.now ≤ MAX_MATCHING }
+        ensures few { IsOk result → matching_of self.old query.now ≤ self.old.most }
         ensures refused { IfErr result (IsQueryRefused self.old query.now stamp) }
     {
         if self.broken {
@@ -236,7 +263,8 @@ impl DbCore {
         if stamp < self.horizon {
             return Err(DbError::SnapshotGone(self.horizon));
         }
-        let versions = self.store.matching(query)?;
+        validity_is_the_largest();
+        let versions = self.store.matching_at(query, stamp, self.most)?;
         // The stamp is kept, so that there is no refusal left but that it is out of memory.
         match answer_at(alloc, &versions, query, stamp, self.horizon, newest) {
             Ok(found) => Ok(found),

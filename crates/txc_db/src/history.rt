@@ -293,7 +293,8 @@ impl History {
     pub(crate) fn forget(&mut self, upto: usize)
         requires { upto ≤ length self.old.history }
         ensures same { self.new ≡ record self.old { first = self.new.first; room = self.new.room } }
-        ensures kept { self.new.first ≤ max self.old.first upto }
+        ensures low { self.new.first ≤ max self.old.first upto }
+        ensures kept { HasRow self.old.events ⊎ (self.new.first ≡ max self.old.first upto) }
     {
         if let Some(window) = &mut self.window {
             window.forget(upto);

@@ -8,7 +8,6 @@ ghost use Rattle.txc_db.specs.History.{state_at};
 ghost use Rattle.txc_db.specs.Seen.{taken_at_start};
 ghost use Rattle.txc_db.specs.DatabaseValue.{DatabaseValue, front_of, after_hold, after_unpin, after_vacuum, after_pin, after_commit, newest, next_horizon, is_held};
 ghost use Rattle.txc_db.specs.Calls.{IsHoldable, IsHoldRefused, IsUnpinRefused, IsVacuumRefused, IsAnswerable, matching_of, IsQueryRefused, IsPinnable, IsPinRefused, IsCommittable};
-ghost use Rattle.txc_rows.specs.declared.store_error.TheConstants.{MAX_MATCHING};
 ghost use Rattle.txc_db.specs.Shared.{IsDatabaseOf, IsSharedCommitRefused};
 ghost use Rattle.txc_db.specs.Locked.{IsLockedLeft, IsCommitLeft, IsRefusalWith, AreAllPosted};
 
@@ -61,6 +60,7 @@ impl<J: Naming> Locked<J> {
     /// The database, whose events are posted from now on.
     pub(crate) fn new(alloc: Global, core: DbCore) -> Result<Locked<J>, AllocError>
         requires { core.events ≡ J.database_history }
+        ensures { IfOk result (λ locked. locked ≡ core) }
     {
         let poster = Poster::new(alloc, core.history().len())?;
         Ok(Locked { core, poster })
@@ -68,7 +68,8 @@ impl<J: Naming> Locked<J> {
 
     /// A feed of the events. Of a history that is not stored it begins after those that are there.
     pub(crate) fn feed(&self) -> Result<Feed<J>, AllocError>
-        ensures { IfOk result (λ feed.
+        ensures shown { IfOk result (λ feed. feed.history ≡ self.now.history) }
+        ensures taken { IfOk result (λ feed.
             feed.taken ≡ taken_at_start J.database_history (length feed.history)) }
     {
         let front = self.core.front()?;
@@ -107,7 +108,7 @@ impl<J: Naming> Locked<J> {
         ensures tag { IfOk result (λ answered. answered.answer.tags ≡ query_tag query.now ∷ []) }
         ensures front { IfOk result (λ answered. answered.front ≡ front_of self.old) }
         ensures only_if { IsOk result → IsAnswerable self.old stamp }
-        ensures few { IsOk result → matching_of self.old query.now ≤ MAX_MATCHING }
+        ensures few { IsOk result → matching_of self.old query.now ≤ self.old.most }
         ensures refused { IfErr result (IsQueryRefused self.old query.now stamp) }
     {
         self.is_named();

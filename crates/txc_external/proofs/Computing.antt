@@ -7,8 +7,6 @@ use Rattle.std.proofs.lemmas.Option.{none-some, cond_some}
 use Rattle.txc_tags.specs.Keys.{Call}
 use Rattle.txc_rows.specs.declared.query.Query.TheVariants.{ById}
 use Rattle.txc_rows.specs.States.{State, answer}
-use Rattle.txc_node.specs.declared.value.TheConstants.{MAX_VALUE_LEN}
-use Rattle.txc_app.specs.declared.app.TheConstants.{MAX_ASKS}
 use Rattle.txc_app.specs.declared.ask.Ask.{Ask}
 use Rattle.txc_app.specs.declared.ask.Ask.TheVariants as asks
 use Rattle.txc_app.specs.declared.ask.Answer.{Answer}
@@ -29,23 +27,23 @@ drop_first n xs ys e = drop-append-le n xs ys (omega arith) ∙ ap (λ zs. zs ++
 
 -- ---- one act of an activation
 
-module _ (says : List Answer → Option Ask) (rows : Rows) (c : Calls) (m : ℕ) (used : List Answer) (v : List ℕ) where
+module _ (most : ℕ) (says : List Answer → Option Ask) (rows : Rows) (c : Calls) (m : ℕ) (used : List Answer) (v : List ℕ) where
   -- an activation that may ask once more has this value
   abbrev Comes : Type 0
-  Comes = (activation says rows c (suc m) used).value ≡ Some v
+  Comes = (activation most says rows c (suc m) used).value ≡ Some v
 
   abbrev rest : Answer → Evaluation
-  rest a = activation says rows c m (used ++ a ∷ [])
+  rest a = activation most says rows c m (used ++ a ∷ [])
 
-  after_this : (o : Option Ask) → says used ≡ o → Comes → (after_ask rows c o rest).value ≡ Some v
+  after_this : (o : Option Ask) → says used ≡ o → Comes → (after_ask most rows c o rest).value ≡ Some v
   unfolding activation
-  after_this o is h = subst (λ (x : Option Ask). (after_ask rows c x rest).value ≡ Some v) is h
+  after_this o is h = subst (λ (x : Option Ask). (after_ask most rows c x rest).value ≡ Some v) is h
 
   never : says used ≡ None → Comes → ⊥
   never is h = none-some v (after_this None is h)
 
   done_is : (bytes : List ℕ) → says used ≡ Some (asks.Done bytes) → Comes → bytes ≡ v
-  done_is bytes is h = (cond_some (nat_le (length bytes) MAX_VALUE_LEN) bytes v (after_this (Some (asks.Done bytes)) is h)).1
+  done_is bytes is h = (cond_some (nat_le (length bytes) most) bytes v (after_this (Some (asks.Done bytes)) is h)).1
 
   value_is : (o : Option (List ℕ)) → (after_value o rest).value ≡ Some v → (w : List ℕ) × (o ≡ Some w) × ((rest (answers.Value w)).value ≡ Some v)
   value_is None h = absurd (none-some v h)
@@ -54,9 +52,9 @@ module _ (says : List Answer → Option Ask) (rows : Rows) (c : Calls) (m : ℕ)
   called : (k : Call) → says used ≡ Some (asks.Call k) → Comes → (w : List ℕ) × ((c k).value ≡ Some w) × ((rest (answers.Value w)).value ≡ Some v)
   called k is h = value_is (c k).value (after_this (Some (asks.Call k)) is h)
 
-nothing_left : (says : List Answer → Option Ask) (rows : Rows) (c : Calls) (used : List Answer) (v : List ℕ) → (activation says rows c zero used).value ≡ Some v → ⊥
+nothing_left : (most : ℕ) (says : List Answer → Option Ask) (rows : Rows) (c : Calls) (used : List Answer) (v : List ℕ) → (activation most says rows c zero used).value ≡ Some v → ⊥
 unfolding activation
-nothing_left says rows c used v h = none-some v h
+nothing_left most says rows c used v h = none-some v h
 
 -- ---- a version table
 
@@ -96,14 +94,14 @@ module _ (D : Snapshots) (k : ℕ) (s : State) (covered : ReadsAreCovered D) (fe
       let left : drop (length (versions before)) (D.tags_of r) ≡ t ∷ after = ap (drop (length (versions before))) (sym is) ∙ drop_first (length (versions before)) before (t ∷ after) long in
       rw left refl
 
-  module _ (acts : List (List ℕ) → Option OwnAct) (says : List Answer → Option Ask) (c : Calls) (u : Results)
+  module _ (most : ℕ) (acts : List (List ℕ) → Option OwnAct) (says : List Answer → Option Ask) (c : Calls) (u : Results)
       (below : (g : Call) (v : List ℕ) → (c g).value ≡ Some v → u g ≡ Some v) where
     -- after these answers the function has come so far
     abbrev Stands : List Answer → (List Answer → Option Ask) → Type 0
     Stands used so = (more : List Answer) → says (used ++ more) ≡ so more
 
     abbrev Gives : ℕ → List Answer → List ℕ → Type 0
-    Gives m used v = (activation says rows c m used).value ≡ Some v
+    Gives m used v = (activation most says rows c m used).value ≡ Some v
 
     abbrev goes_on : ℕ → List (List ℕ) → List ℕ → List Answer → Option Ask
     goes_on n results bytes more = ask_after D acts n (results ++ bytes ∷ []) more
@@ -116,10 +114,10 @@ module _ (D : Snapshots) (k : ℕ) (s : State) (covered : ReadsAreCovered D) (fe
         → (after before : List Tag) (m : ℕ) → before ++ after ≡ D.tags_of r → Gives m (used ++ versions before) v
         → (left : ℕ) × Gives left (used ++ versions (D.tags_of r)) v
     reads r go_on used v at [] before m is h = (m, subst (λ (tags : List Tag). Gives m (used ++ versions tags) v) (sym (append-nil before) ∙ is) h)
-    reads r go_on used v at (t ∷ after) before zero is h = absurd (nothing_left says rows c (used ++ versions before) v h)
+    reads r go_on used v at (t ∷ after) before zero is h = absurd (nothing_left most says rows c (used ++ versions before) v h)
     reads r go_on used v at (t ∷ after) before (suc m) is h =
         let asked : says (used ++ versions before) ≡ Some (asks.Query (ById t.table t.id)) = at (versions before) ∙ next_tag r before t after go_on is in
-        let one = after_this says rows c m (used ++ versions before) v (Some (asks.Query (ById t.table t.id))) asked h in
+        let one = after_this most says rows c m (used ++ versions before) v (Some (asks.Query (ById t.table t.id))) asked h in
         let more : (used ++ versions before) ++ shown t ∷ [] ≡ used ++ versions (before ++ t ∷ []) =
         append_assoc used (versions before) (shown t ∷ []) ∙ ap (λ xs. used ++ xs) (sym (map-append shown before (t ∷ []))) in
         reads r go_on used v at after (before ++ t ∷ []) m (append_assoc before (t ∷ []) after ∙ is) (subst (λ (xs : List Answer). Gives m xs v) more one)
@@ -132,13 +130,13 @@ module _ (D : Snapshots) (k : ℕ) (s : State) (covered : ReadsAreCovered D) (fe
     act : (n : ℕ) → ComputesAfter n → (o : Option OwnAct) (m : ℕ) (results : List (List ℕ)) (used : List Answer) (v : List ℕ)
         → Stands used (λ more. ask_for D o more (goes_on n results)) → Gives m used v
         → after_act (D.find k) u o (λ bytes. computed acts (D.find k) u n (results ++ bytes ∷ [])) ≡ Some v
-    act n go None zero results used v at h = absurd (nothing_left says rows c used v h)
-    act n go None (suc m) results used v at h = absurd (never says rows c m used v (now used (λ more. None) at) h)
-    act n go (Some (done bytes)) zero results used v at h = absurd (nothing_left says rows c used v h)
-    act n go (Some (done bytes)) (suc m) results used v at h = ap Some (done_is says rows c m used v bytes (now used (λ more. Some (asks.Done bytes)) at) h)
-    act n go (Some (call g)) zero results used v at h = absurd (nothing_left says rows c used v h)
+    act n go None zero results used v at h = absurd (nothing_left most says rows c used v h)
+    act n go None (suc m) results used v at h = absurd (never most says rows c m used v (now used (λ more. None) at) h)
+    act n go (Some (done bytes)) zero results used v at h = absurd (nothing_left most says rows c used v h)
+    act n go (Some (done bytes)) (suc m) results used v at h = ap Some (done_is most says rows c m used v bytes (now used (λ more. Some (asks.Done bytes)) at) h)
+    act n go (Some (call g)) zero results used v at h = absurd (nothing_left most says rows c used v h)
     act n go (Some (call g)) (suc m) results used v at h =
-        let it = called says rows c m used v g (now used (λ more. ask_for D (Some (call g)) more (goes_on n results)) at) h in
+        let it = called most says rows c m used v g (now used (λ more. ask_for D (Some (call g)) more (goes_on n results)) at) h in
         let next : Stands (used ++ answers.Value it.0 ∷ []) (goes_on n results it.0) = λ more. ap says (append_assoc used (answers.Value it.0 ∷ []) more) ∙ at (answers.Value it.0 ∷ more) in
         ap (option_and_then (λ bytes. computed acts (D.find k) u n (results ++ bytes ∷ []))) (below g it.0 it.1)
         ∙ go m (results ++ it.0 ∷ []) (used ++ answers.Value it.0 ∷ []) v next it.2
@@ -150,8 +148,8 @@ module _ (D : Snapshots) (k : ℕ) (s : State) (covered : ReadsAreCovered D) (fe
 
     computes : (n : ℕ) → ComputesAfter n
     unfolding ask_after computed
-    computes zero zero results used v at h = absurd (nothing_left says rows c used v h)
-    computes zero (suc m) results used v at h = absurd (never says rows c m used v (now used (λ more. None) at) h)
+    computes zero zero results used v at h = absurd (nothing_left most says rows c used v h)
+    computes zero (suc m) results used v at h = absurd (never most says rows c m used v (now used (λ more. None) at) h)
     computes (suc n) m results used v at h = act n (computes n) (acts results) m results used v at h
 
   calls_below : (own : Functions) (f : ℕ) (g : Call) (v : List ℕ) → (call_below (over_versions D own) rows f g).value ≡ Some v
@@ -162,9 +160,9 @@ module _ (D : Snapshots) (k : ℕ) (s : State) (covered : ReadsAreCovered D) (fe
     where
       go : (b : Bool) → ((g : Call) (v : List ℕ) → (call_below (over_versions D own) rows f g).value ≡ Some v → uncached_below own (D.find k) f g ≡ Some v)
           → (cond b (called_with (over_versions D own) rows (call_below (over_versions D own) rows f) g) (call_below (over_versions D own) rows f g)).value ≡ Some v
-          → cond b (computed (own g.function g.args) (D.find k) (uncached_below own (D.find k) f) MAX_ASKS []) (uncached_below own (D.find k) f g) ≡ Some v
-      go true below e = computes (own g.function g.args) (over_versions D own g.function g.args) (call_below (over_versions D own) rows f) (uncached_below own (D.find k) f) below
-          MAX_ASKS MAX_ASKS [] [] v (λ more. refl) e
+          → cond b (computed (own.acts g.function g.args) (D.find k) (uncached_below own (D.find k) f) own.limits.asks []) (uncached_below own (D.find k) f g) ≡ Some v
+      go true below e = computes own.limits.value (own.acts g.function g.args) ((over_versions D own).says g.function g.args) (call_below (over_versions D own) rows f) (uncached_below own (D.find k) f) below
+          own.limits.asks own.limits.asks [] [] v (λ more. refl) e
       go false below e = below g v e
 
   called_is : (own : Functions) (g : Call) (v : List ℕ) → eval (over_versions D own) g s ≡ Some v → uncached own (D.find k) g ≡ Some v

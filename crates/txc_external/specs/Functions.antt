@@ -5,7 +5,7 @@ use Rattle.std.specs.Str.Parse.{digits_value}
 use Rattle.txc_tags.specs.Keys.{Call}
 use Rattle.txc_rows.specs.declared.query.Query.TheVariants.{ById}
 use Rattle.txc_rows.specs.States.{RowValue}
-use Rattle.txc_app.specs.declared.app.TheConstants.{MAX_ASKS}
+use Rattle.txc_app.specs.declared.app.Limits.{Limits}
 use Rattle.txc_app.specs.declared.ask.Ask.{Ask}
 use Rattle.txc_app.specs.declared.ask.Ask.TheVariants as asks
 use Rattle.txc_app.specs.declared.ask.Answer.{Answer}
@@ -20,9 +20,10 @@ pub data OwnAct : Type 0 where
   done : List ℕ → OwnAct
 
 -- a service's functions: the next act of a function, by its number, its arguments and the results of its reads and
--- calls so far; none if it rejects them
-abbrev pub Functions : Type 0
-Functions = ℕ → List ℕ → List (List ℕ) → Option OwnAct
+-- calls so far, and none if it rejects them; and their limits
+pub record Functions : Type 0 where
+  pub acts : ℕ → List ℕ → List (List ℕ) → Option OwnAct
+  pub limits : Limits
 
 -- the result of each call, if it has one
 abbrev pub Results : Type 0
@@ -45,7 +46,7 @@ computed acts find calls (suc left) results =
 unfoldable pub uncached_below : Functions → (Read → List ℕ) → ℕ → Results
 uncached_below own find zero k = None
 uncached_below own find (suc f) k = if k.function == f
-    then computed (own k.function k.args) find (uncached_below own find f) MAX_ASKS []
+    then computed (own.acts k.function k.args) find (uncached_below own find f) own.limits.asks []
     else uncached_below own find f k
 
 -- the result of a call if reads find this, with no cache and no versions; a function may call those of a lower number
@@ -89,4 +90,7 @@ ask_after D acts (suc left) results given =
 
 -- the service's functions as an application of the cache, whose rows are versions
 abbrev pub over_versions : Snapshots → Functions → Next
-over_versions D own function args given = ask_after D (own function args) MAX_ASKS [] given
+over_versions D own = record {
+  says = λ function args given. ask_after D (own.acts function args) own.limits.asks [] given;
+  limits = own.limits;
+}

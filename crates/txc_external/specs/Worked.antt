@@ -6,7 +6,7 @@ use Rattle.txc_rows.specs.declared.query.Change.TheVariants.{Put}
 use Rattle.txc_rows.specs.States.{State}
 use Rattle.txc_db.specs.Facts.{commit, EventValue}
 use Rattle.txc_db.specs.History.{History, state_at, pin_event}
-use Rattle.txc_app.specs.Eval.{eval}
+use Rattle.txc_app.specs.Eval.{eval, small_limits}
 use Rattle.txc_external.specs.Snapshots.{Read, Tag, Snapshots, ReadsAreCovered, version_row, IsVersionTable}
 use Rattle.txc_external.specs.Functions.{OwnAct, read, call, done, Functions, uncached, over_versions}
 use Rattle.txc_external.specs.Following.{FollowsSnapshots}
@@ -65,7 +65,7 @@ worked_acts (suc zero) (amount ∷ bid ∷ more) = Some (done (amount ++ bid))
 worked_acts (suc (suc f)) results = None
 
 abbrev pub worked_functions : Functions
-worked_functions function args results = worked_acts function results
+worked_functions = record { acts = λ function args results. worked_acts function results; limits = small_limits }
 
 -- a call of function 1
 abbrev pub page : Call

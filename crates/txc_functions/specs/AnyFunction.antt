@@ -17,7 +17,7 @@ number_of (functions.IdsIn f) = 6
 
 -- what it asks, and gives
 abbrev pub says_of : AnyFunction → Says
-says_of f = program (number_of f)
+says_of f = program.says (number_of f)
 
 -- the numbers of all functions, in order
 abbrev pub ALL_NUMBERS : List ℕ

@@ -9,7 +9,7 @@ use Rattle.txc_app.specs.declared.ask.Ask.{Ask}
 use Rattle.txc_app.specs.declared.ask.Ask.TheVariants.{Query, Call, Done}
 use Rattle.txc_app.specs.declared.ask.Answer.{Answer}
 use Rattle.txc_app.specs.declared.ask.Answer.TheVariants.{Rows, Value}
-use Rattle.txc_app.specs.Eval.{Next}
+use Rattle.txc_app.specs.Eval.{Next, small_limits}
 
 -- the table that they ask
 abbrev pub TABLE : ℕ
@@ -90,8 +90,8 @@ abbrev pub refuses : List ℕ → List Answer → Option Ask
 refuses args given = None
 
 -- the functions, by their numbers
-abbrev pub program : Next
-program f =
+abbrev pub functions : ℕ → List ℕ → List Answer → Option Ask
+functions f =
     if f == 0 then body_at
     else (if f == 1 then bodies_in
     else (if f == 2 then bodies_and_body
@@ -100,3 +100,7 @@ program f =
     else (if f == 5 then again
     else (if f == 6 then ids_in
     else refuses))))))
+
+-- what they mean, within the limits of the program
+abbrev pub program : Next
+program = record { says = functions; limits = small_limits }

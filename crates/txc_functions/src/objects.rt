@@ -31,11 +31,11 @@ fn add(
 ) -> Result<(), AllocError>
     requires idle { All (λ o. ⟦<Object as Cacheable>⟧.activity o ≡ idle) objects.old.items }
     requires means { All (λ o. ⟦<Object as Cacheable>⟧.says o
-        ≡ program (⟦<Object as Cacheable>⟧.number o)) objects.old.items }
+        ≡ program.says (⟦<Object as Cacheable>⟧.number o)) objects.old.items }
     requires pools { All (λ o. pool_of o ≡ pool.old) objects.old.items }
     ensures idle { All (λ o. ⟦<Object as Cacheable>⟧.activity o ≡ idle) objects.new.items }
     ensures means { All (λ o. ⟦<Object as Cacheable>⟧.says o
-        ≡ program (⟦<Object as Cacheable>⟧.number o)) objects.new.items }
+        ≡ program.says (⟦<Object as Cacheable>⟧.number o)) objects.new.items }
     ensures pools { All (λ o. pool_of o ≡ pool.old) objects.new.items }
     ensures numbers { OnOk result (map ⟦<Object as Cacheable>⟧.number objects.new.items
         ≡ map ⟦<Object as Cacheable>⟧.number objects.old.items ++ number_of function ∷ []) }
@@ -52,7 +52,7 @@ pub fn object_of_each(alloc: Global, pool: &mut PermitPool) -> Result<Vec<Object
     ensures idle { IfOk result (λ objects.
         All (λ o. ⟦<Object as Cacheable>⟧.activity o ≡ idle) objects.items) }
     ensures means { IfOk result (λ objects. All (λ o. ⟦<Object as Cacheable>⟧.says o
-        ≡ program (⟦<Object as Cacheable>⟧.number o)) objects.items) }
+        ≡ program.says (⟦<Object as Cacheable>⟧.number o)) objects.items) }
     ensures pools { IfOk result (λ objects. All (λ o. pool_of o ≡ pool.old) objects.items) }
     ensures same_pool { pool.new ≡ pool.old }
 {

@@ -1,4 +1,4 @@
-use txc_app::App;
+use txc_app::{App, Limits};
 
 /// The program's application: functions 0 to 6 over table 1.
 pub struct Program;
@@ -7,4 +7,8 @@ impl App for Program {
     ghost use Rattle.txc_functions.specs.Program.{program};
 
     ghost next = { program };
+
+    fn limits() -> Limits {
+        Limits::SMALL
+    }
 }

@@ -2,12 +2,13 @@
 use Rattle.std.proofs.Common.{◌≡◌, ◌∙◌, ℕ, ◌+◌, ◌<◌, List, [], ◌∷◌, ◌++◌, Option, map, length, get_or, take, sym, ap, subst, rules}
 use Rattle.std.proofs.lemmas.List.{append_assoc, map-append, take_more}
 use Rattle.std.proofs.lemmas.List.Elements.{All-append}
-use Rattle.std.specs.Prelude.{All}
+use Rattle.std.specs.Prelude.{All, Result}
 use Rattle.txc_stream.specs.Names.{Name}
 use Rattle.txc_shared.specs.declared.advanced.Advanced.TheVariants as advances
+use Rattle.txc_shared.specs.declared.error.NodeError.{NodeError}
 use Rattle.txc_shared.specs.declared.settings.NodeSettings.{NodeSettings}
 use Rattle.txc_shared.specs.Passes.{PassValue, HasGrown, HasTaken}
-use Rattle.txc_keeper.specs.Keeping.{HasKeptNode, HasTakenEach, HaveKept}
+use Rattle.txc_keeper.specs.Keeping.{HasKeptNode, HasTakenEach, HasTrimmed, HaveKept}
 use Rattle.txc_keeper.specs.Stations.{StationValue, HasNotRefused, IsSamePass}
 use Rattle.txc_keeper.specs.declared.keeper.KeptNode.{KeptNode}
 
@@ -18,12 +19,17 @@ same_settings old new grown = ap (λ (p : PassValue). p.settings) grown.is
 pub same_number : (old new : PassValue) → HasGrown old new → new.pass ≡ old.pass
 same_number old new grown = ap (λ (p : PassValue). p.pass) grown.is
 
-pub same_pass : (old new : StationValue) → HasGrown old.pass new.pass → IsSamePass old new
-same_pass old new grown =
-    record { settings = same_settings old.pass new.pass grown; pass = same_number old.pass new.pass grown }
+pub same_pass : (old new : StationValue) → HasGrown old.pass new.pass → new.budget ≡ old.budget → IsSamePass old new
+same_pass old new grown budget =
+    record { settings = same_settings old.pass new.pass grown; pass = same_number old.pass new.pass grown; budget = budget }
 
 pub same_then : (old mid new : StationValue) → IsSamePass old mid → IsSamePass mid new → IsSamePass old new
-same_then old mid new a b = record { settings = b.settings ∙ a.settings; pass = b.pass ∙ a.pass }
+same_then old mid new a b = record { settings = b.settings ∙ a.settings; pass = b.pass ∙ a.pass; budget = b.budget ∙ a.budget }
+
+-- a trim to the budget of a station is one to that of the station before, which is the same
+pub trimmed_at : (histories : ℕ → Name) (old after new : StationValue) (trimmed : Option (Result ℕ NodeError)) → IsSamePass old after
+    → HasTrimmed histories after after.budget trimmed new → HasTrimmed histories after old.budget trimmed new
+trimmed_at histories old after new trimmed same h = subst (λ (budget : Option ℕ). HasTrimmed histories after budget trimmed new) same.budget h
 
 -- one event more was taken
 pub one_taken_more : (row : Name) (old last new : StationValue) (stamps : List ℕ) (stamp closed : ℕ) → HasTakenEach row old stamps last
@@ -79,6 +85,11 @@ module _ (stations more : List StationValue) (s : StationValue) (added : more �
       ∙ ap (λ (l : List NodeSettings). l ++ s.pass.settings ∷ []) before
       ∙ ap (λ (n : NodeSettings). take i nodes ++ n ∷ []) (own ∙ at)
       ∙ sym (take_more nodes i node within)
+
+  pub all_have_budget : (budget : Option ℕ) → All (λ x. x.budget ≡ budget) stations → s.budget ≡ budget → All (λ x. x.budget ≡ budget) more
+  all_have_budget budget before own =
+      subst (All (λ x. x.budget ≡ budget)) (sym added)
+      (All-append (λ x. x.budget ≡ budget) stations (s ∷ []) before (λ k d within. search rules))
 
   pub none_has_seen : All (λ x. x.pass.records ≡ []) stations → s.pass.records ≡ [] → All (λ x. x.pass.records ≡ []) more
   none_has_seen before own =

@@ -1,23 +1,23 @@
 -- What the keeper of a site that keeps itself did, one keep more.
 use Rattle.std.proofs.Common.{◌≡◌, ℕ, ◌+◌, ◌-◌, ◌^◌, ◌≤◌, min, List, [], ◌∷◌, refl, subst}
-use Rattle.std.specs.Prelude.{Result, Ok, Err, IfOk, IfErr}
+use Rattle.std.specs.Prelude.{Option, Result, Ok, Err, IfOk, IfErr}
 use Rattle.txc_shared.specs.declared.settings.NodeSettings.{NodeSettings}
 use Rattle.txc_stream.specs.Names.{Name}
 use Rattle.txc_keeper.specs.declared.keeping.Keeping.{Keeping}
 use Rattle.txc_keeper.specs.Tending.{OwnKeeperValue, due_at, HasTended, HasTendedSince, IsNewOwnKeeper, IsTendedBy}
 
 -- it has tended so, and the next keep is due at this moment
-abbrev pub HasTendedUntil : Name → (ℕ → Name) → List NodeSettings → (ℕ → Type 0) → Keeping → OwnKeeperValue → ℕ → Type 0
-HasTendedUntil row histories nodes tells keeping own due =
-    (since : HasTendedSince row histories nodes tells keeping own) × (due ≡ due_at keeping.every since.moments)
+abbrev pub HasTendedUntil : Name → (ℕ → Name) → List NodeSettings → Option ℕ → (ℕ → Type 0) → Keeping → OwnKeeperValue → ℕ → Type 0
+HasTendedUntil row histories nodes budget tells keeping own due =
+    (since : HasTendedSince row histories nodes budget tells keeping own) × (due ≡ due_at keeping.every since.moments)
 
-module _ (row : Name) (histories : ℕ → Name) (nodes : List NodeSettings) (tells : ℕ → Type 0) (keeping : Keeping) where
-  pub since_begun : (own : OwnKeeperValue) → IsNewOwnKeeper nodes own → HasTendedUntil row histories nodes tells keeping own 0
+module _ (row : Name) (histories : ℕ → Name) (nodes : List NodeSettings) (budget : Option ℕ) (tells : ℕ → Type 0) (keeping : Keeping) where
+  pub since_begun : (own : OwnKeeperValue) → IsNewOwnKeeper nodes budget own → HasTendedUntil row histories nodes budget tells keeping own 0
   since_begun own new = (record { first = own; moments = []; new = new; kept = refl }, refl)
 
-  pub once_more : (before after : OwnKeeperValue) (due now : ℕ) → HasTendedUntil row histories nodes tells keeping before due → tells now → due ≤ now
+  pub once_more : (before after : OwnKeeperValue) (due now : ℕ) → HasTendedUntil row histories nodes budget tells keeping before due → tells now → due ≤ now
       → HasTended row histories now keeping.age before after
-      → HasTendedUntil row histories nodes tells keeping after (min (now + keeping.every) (2 ^ 64 - 1))
+      → HasTendedUntil row histories nodes budget tells keeping after (min (now + keeping.every) (2 ^ 64 - 1))
   once_more before after due now (since, at) told late kept = (
     record {
       first = since.first;
@@ -28,7 +28,7 @@ module _ (row : Name) (histories : ℕ → Name) (nodes : List NodeSettings) (te
     refl,
   )
 
-  pub told_so : (own : OwnKeeperValue) (due : ℕ) → HasTendedUntil row histories nodes tells keeping own due → IsTendedBy row nodes tells keeping own.tended
+  pub told_so : (own : OwnKeeperValue) (due : ℕ) → HasTendedUntil row histories nodes budget tells keeping own due → IsTendedBy row nodes budget tells keeping own.tended
   told_so own due until = record { histories = histories; own = own; since = until.0; told = refl }
 
 -- what a call that did not refuse, or that refused, says of what it gave

@@ -1,8 +1,8 @@
 -- What a keeper did with the nodes of a site.
 use Rattle.std.specs.Prelude.{◌≡◌, ℕ, List, [], ◌∷◌, length, Option, Some, None, Ok, Err, IfErr, IfOk, Result}
 use Rattle.txc_stream.specs.Names.{Name}
-use Rattle.txc_node.specs.declared.op.Op.TheVariants.{Sweep}
-use Rattle.txc_node.specs.declared.reply.Reply.TheVariants.{Swept}
+use Rattle.txc_node.specs.declared.op.Op.TheVariants.{Sweep, Trim}
+use Rattle.txc_node.specs.declared.reply.Reply.TheVariants.{Swept, Trimmed}
 use Rattle.txc_shared.specs.declared.advanced.Advanced.TheVariants as advances
 use Rattle.txc_shared.specs.declared.error.NodeError.{NodeError}
 use Rattle.txc_shared.specs.Passes.{HasMade, HasTaken}
@@ -43,12 +43,23 @@ HasSwept histories old (Some horizon) (Some result) new =
 HasSwept histories old None None new = new ≡ old
 HasSwept histories old horizon swept new = ⊥
 
+-- the node was trimmed to its budget, and dropped so many entries; or refused the trim; without a budget there was no
+-- trim
+abbrev pub HasTrimmed : (ℕ → Name) → StationValue → Option ℕ → Option (Result ℕ NodeError) → StationValue → Type 0
+HasTrimmed histories old (Some most) (Some result) new =
+    IfOk result (λ count. HasMade old.pass new.pass (Trim most) (Trimmed count) × HasNotRefused old new)
+    × IfErr result (λ error. HasBeenRefused histories IsStepRefused old error new)
+HasTrimmed histories old None None new = new ≡ old
+HasTrimmed histories old budget trimmed new = ⊥
+
 -- what was done with a node at its station, whose pass is the same one, and the room that is left after what the pass
 -- has seen
 pub record HasKeptNode (row : Name) (histories : ℕ → Name) (horizon : Option ℕ) (old : StationValue) (kept : KeptNode) (new : StationValue) : Type 0 where
   pub between : StationValue
+  pub after : StationValue
   pub advanced : HasTakenEvents row histories old kept.taken kept.ended between
-  pub swept : HasSwept histories between horizon kept.swept new
+  pub swept : HasSwept histories between horizon kept.swept after
+  pub trimmed : HasTrimmed histories after old.budget kept.trimmed new
   pub same : IsSamePass old new
   pub left : IsRoomLeft (histories new.pass.settings.number) new.pass.records kept.records_left
 

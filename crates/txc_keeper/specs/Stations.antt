@@ -1,5 +1,5 @@
 -- A keeper's pass through a node, and what the node was asked through it.
-use Rattle.std.specs.Prelude.{◌≡◌, ℕ}
+use Rattle.std.specs.Prelude.{◌≡◌, ℕ, Option}
 use Rattle.txc_stream.specs.Names.{Name}
 use Rattle.txc_shared.specs.declared.error.NodeError.{NodeError}
 use Rattle.txc_shared.specs.Nodes.{NodeValue}
@@ -7,15 +7,18 @@ use Rattle.txc_shared.specs.Passes.{PassValue, IsPassLeft}
 use Rattle.txc_shared.specs.Refusals.{IsRefusedThrough, NodeMayRefuse}
 use Rattle.txc_ledger.specs.Counted.{counted_again}
 
--- the pass, and how often the node has refused what it was asked through it
+-- the pass, how often the node has refused what it was asked through it, and the most bytes of the node's values
+-- after a trim, if there is a budget
 pub record StationValue : Type 0 where
   pub pass : PassValue
   pub refusals : ℕ
+  pub budget : Option ℕ
 
--- it is the same pass through the same node
+-- it is the same pass through the same node, with the same budget
 pub record IsSamePass (old new : StationValue) : Type 0 where
   pub settings : new.pass.settings ≡ old.pass.settings
   pub pass : new.pass.pass ≡ old.pass.pass
+  pub budget : new.budget ≡ old.budget
 
 -- the node was asked, and did not refuse
 abbrev pub HasNotRefused : StationValue → StationValue → Type 0

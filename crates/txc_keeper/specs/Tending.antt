@@ -16,10 +16,11 @@ pub record OwnKeeperValue : Type 0 where
   pub stations : List StationValue
   pub tended : Tended
 
--- it has a new pass through each of these nodes, and has not kept yet
-pub record IsNewOwnKeeper (all : List NodeSettings) (own : OwnKeeperValue) : Type 0 where
+-- it has a new pass through each of these nodes, which have this budget each, and has not kept yet
+pub record IsNewOwnKeeper (all : List NodeSettings) (budget : Option ℕ) (own : OwnKeeperValue) : Type 0 where
   pub nodes : map (λ s. s.pass.settings) own.stations ≡ all
   pub records : All (λ s. s.pass.records ≡ []) own.stations
+  pub budgets : All (λ s. s.budget ≡ budget) own.stations
   pub tended : own.tended ≡ record { keeps = 0; refused = None }
 
 -- what a keeper did, with one keep more
@@ -47,22 +48,22 @@ HaveTended row histories tells keeping first (now ∷ earlier) last = (before : 
     × HasTended row histories now keeping.age before last
 
 -- it began as a new keeper of these nodes, and did nothing but keep
-pub record HasTendedSince (row : Name) (histories : ℕ → Name) (nodes : List NodeSettings) (tells : ℕ → Type 0) (keeping : Keeping) (own : OwnKeeperValue) : Type 0 where
+pub record HasTendedSince (row : Name) (histories : ℕ → Name) (nodes : List NodeSettings) (budget : Option ℕ) (tells : ℕ → Type 0) (keeping : Keeping) (own : OwnKeeperValue) : Type 0 where
   pub first : OwnKeeperValue
   pub moments : List ℕ
-  pub new : IsNewOwnKeeper nodes first
+  pub new : IsNewOwnKeeper nodes budget first
   pub kept : HaveTended row histories tells keeping first moments own
 
 -- such a keeper of these nodes, whatever their histories, did this
-pub record IsTendedBy (row : Name) (nodes : List NodeSettings) (tells : ℕ → Type 0) (keeping : Keeping) (tended : Tended) : Type 0 where
+pub record IsTendedBy (row : Name) (nodes : List NodeSettings) (budget : Option ℕ) (tells : ℕ → Type 0) (keeping : Keeping) (tended : Tended) : Type 0 where
   pub histories : ℕ → Name
   pub own : OwnKeeperValue
-  pub since : HasTendedSince row histories nodes tells keeping own
+  pub since : HasTendedSince row histories nodes budget tells keeping own
   pub told : tended ≡ own.tended
 
 -- The site's own keeper: none where the plan has none. Else it did this, or there was none, since a node gave it no
 -- pass, or for want of memory.
-abbrev pub IsTendedAs : Option Keeping → List NodeSettings → (ℕ → Type 0) → Name → Option (Result Tended SiteError) → Type 0
-IsTendedAs None nodes tells row came = came ≡ None
-IsTendedAs (Some keeping) nodes tells row came = (result : Result Tended SiteError) × (came ≡ Some result)
-    × IfOk result (IsTendedBy row nodes tells keeping) × IfErr result IsKeeperRefused
+abbrev pub IsTendedAs : Option Keeping → List NodeSettings → Option ℕ → (ℕ → Type 0) → Name → Option (Result Tended SiteError) → Type 0
+IsTendedAs None nodes budget tells row came = came ≡ None
+IsTendedAs (Some keeping) nodes budget tells row came = (result : Result Tended SiteError) × (came ≡ Some result)
+    × IfOk result (IsTendedBy row nodes budget tells keeping) × IfErr result IsKeeperRefused

@@ -5,7 +5,7 @@ ghost use Rattle.txc_cushion.specs.Shared.{CushionMayAnswer};
 ghost use Rattle.txc_db.specs.Calls.{IsHoldRefused, IsPinRefused};
 ghost use Rattle.txc_db.specs.History.{event_at, pin_event};
 ghost use Rattle.txc_db.specs.Shared.{MayRefuse};
-ghost use Rattle.txc_keeper.specs.Keeping.{HasKeptNode, HasSwept, HasTakenEvents, HaveKept, ok_of};
+ghost use Rattle.txc_keeper.specs.Keeping.{HasKeptNode, HasSwept, HasTakenEvents, HasTrimmed, HaveKept, ok_of};
 ghost use Rattle.txc_keeper.specs.Keeps.{keep_told, IsKeep, IsNoKeep};
 ghost use Rattle.txc_keeper.specs.Refusals.{IsKeeperRefused};
 ghost use Rattle.txc_keeper.specs.Stations.{IsSamePass};
@@ -45,6 +45,8 @@ pub struct KeptNode {
     pub ended: Ended,
     /// How many entries were swept. None where there was no horizon.
     pub swept: Option<Result<usize, NodeError>>,
+    /// How many entries the trim dropped. None if there is no budget of bytes.
+    pub trimmed: Option<Result<usize, NodeError>>,
     /// How many records there is room for after those that the keeper has seen, where they are stored.
     pub records_left: Option<usize>,
 }
@@ -110,26 +112,43 @@ fn sweep<A: App, J: Naming>(
     }
 }
 
+/// Trims the node, if it has a budget.
+fn trim<A: App, J: Naming>(
+    rt: &impl Wait,
+    alloc: Global,
+    station: &mut Station<'_, A, J>,
+) -> Option<Result<usize, NodeError>>
+    ensures did { HasTrimmed J.node_histories station.old station.old.budget result station.new }
+    ensures same { IsSamePass station.old station.new }
+{
+    match station.budget() {
+        Some(most) => Some(station.trim(rt, alloc, most)),
+        None => None,
+    }
+}
+
 /// Each node with a new pass through it.
 #[tactic(auto, using(crate::proofs::NoPass::no_new_pass))]
 fn stations<'a, A: App, J: Naming>(
     rt: &impl Wait,
     alloc: Global,
     nodes: &'a [SharedNode<A, J>],
+    budget: Option<usize>,
 ) -> Result<Vec<Station<'a, A, J>>, SiteError>
     ensures nodes { IfOk result (λ stations. map (λ s. s.pass.settings) stations.items ≡ nodes.now) }
     ensures records { IfOk result (λ stations. All (λ s. s.pass.records ≡ []) stations.items) }
+    ensures budget { IfOk result (λ stations. All (λ s. s.budget ≡ budget) stations.items) }
     ensures refused { IfErr result IsKeeperRefused }
 {
     let mut stations = Vec::with_capacity(alloc, nodes.len())?;
     for node in nodes {
-        stations.push(Station::new(rt, node)?)?;
+        stations.push(Station::new(rt, node, budget)?)?;
     }
     Ok(stations)
 }
 
 /// Keeps the node of a station.
-#[tactic(auto, using(crate::proofs::NodesKept::same_then))]
+#[tactic(auto, using(crate::proofs::NodesKept::same_then, crate::proofs::NodesKept::trimmed_at))]
 fn keep_node<'a, A: App, J: Naming>(
     rt: &impl Wait,
     alloc: Global,
@@ -141,10 +160,12 @@ fn keep_node<'a, A: App, J: Naming>(
     let mut station = station;
     let (taken, ended) = advance(rt, alloc, &mut station);
     let swept = sweep(rt, alloc, &mut station, horizon);
+    let trimmed = trim(rt, alloc, &mut station);
     let kept = KeptNode {
         taken,
         ended,
         swept,
+        trimmed,
         records_left: records_left(station.pass()),
     };
     (kept, station)
@@ -273,24 +294,28 @@ impl<'a, A: App, J: Naming> Model for Keeper<'a, A, J> {
 }
 
 impl<'a, A: App, J: Naming> Keeper<'a, A, J> {
-    /// A keeper of the ledger and of these nodes, with a pass of its own through each.
+    /// A keeper of the ledger and of these nodes, with a pass of its own through each. With a `budget`, each keep trims
+    /// the values of every node to that many bytes.
     pub fn new(
         rt: &impl Wait,
         alloc: Global,
         ledger: &'a Ledger<J>,
         nodes: &'a [SharedNode<A, J>],
+        budget: Option<usize>,
     ) -> Result<Keeper<'a, A, J>, SiteError>
         ensures nodes { IfOk result (λ keeper. map (λ s. s.pass.settings) keeper ≡ nodes.now) }
         ensures records { IfOk result (λ keeper. All (λ s. s.pass.records ≡ []) keeper) }
+        ensures budget { IfOk result (λ keeper. All (λ s. s.budget ≡ budget) keeper) }
         ensures refused { IfErr result IsKeeperRefused }
     {
-        let stations = stations(rt, alloc, nodes)?;
+        let stations = stations(rt, alloc, nodes, budget)?;
         Ok(Keeper { ledger, stations })
     }
 
     /// Pins the present of the moment `now`, so that transactions find a fresh pin. Takes away the pins that
     /// none may use and whose moment is more than `age` before, and the states below the least that is held.
-    /// Lets each node take the events and drop what it can't show any more. All in milliseconds.
+    /// Lets each node take the events, drop what it can't show any more, and then what exceeds its budget of bytes, if it
+    /// has one. Times are in milliseconds.
     ///
     /// What a part of it refuses stands in the result, and the others are done. An error comes before
     /// anything was done but that a pin was refused.

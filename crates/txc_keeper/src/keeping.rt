@@ -53,12 +53,13 @@ impl<'a, A: App, J: Naming> OwnKeeper<'a, A, J> {
         alloc: Global,
         ledger: &'a Ledger<J>,
         nodes: &'a [SharedNode<A, J>],
+        budget: Option<usize>,
     ) -> Result<Self, SiteError>
-        ensures new { IfOk result (IsNewOwnKeeper nodes.now) }
+        ensures new { IfOk result (IsNewOwnKeeper nodes.now budget) }
         ensures refused { IfErr result IsKeeperRefused }
     {
         Ok(OwnKeeper {
-            keeper: Keeper::new(rt, alloc, ledger, nodes)?,
+            keeper: Keeper::new(rt, alloc, ledger, nodes, budget)?,
             tended: Tended {
                 keeps: 0,
                 refused: None,
@@ -89,24 +90,25 @@ impl<'a, A: App, J: Naming> OwnKeeper<'a, A, J> {
     }
 }
 
-/// Keeps the ledger and these nodes at this clock until the visitors have ended. The moment is what the clock showed
-/// last.
+/// Keeps the ledger and these nodes at this clock until the visitors have ended. With a `budget`, each keep trims the
+/// values of every node to that many bytes. The moment is what the clock showed last.
 #[tactic(auto, using(crate::proofs::Tending::since_begun, crate::proofs::Tending::once_more, crate::proofs::Tending::told_so))]
 pub fn keep_until_ended<A: App, J: Naming, C: Clock, R: Wait>(
     rt: &R,
     alloc: Global,
     ledger: &Ledger<J>,
     nodes: &[SharedNode<A, J>],
+    budget: Option<usize>,
     moment: &Moment,
     keeping: Keeping,
     clock: &C,
     ended: &Signal,
 ) -> Result<Tended, SiteError>
     ensures tended { IfOk result
-        (IsTendedBy J.database_history nodes.now (C.tells clock.now) keeping) }
+        (IsTendedBy J.database_history nodes.now budget (C.tells clock.now) keeping) }
     ensures refused { IfErr result IsKeeperRefused }
 {
-    let mut own = OwnKeeper::new(rt, alloc, ledger, nodes)?;
+    let mut own = OwnKeeper::new(rt, alloc, ledger, nodes, budget)?;
     let mut next = 0;
     for _ in rt.forever() {
         let now = clock.now();

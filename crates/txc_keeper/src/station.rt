@@ -1,7 +1,7 @@
 //! The nodes of a site, as a keeper reaches them.
 ghost use Rattle.std.specs.Prelude.{◌≡◌, [], IfErr, IfOk};
-ghost use Rattle.txc_node.specs.declared.op.Op.TheVariants.{Sweep};
-ghost use Rattle.txc_node.specs.declared.reply.Reply.TheVariants.{Swept};
+ghost use Rattle.txc_node.specs.declared.op.Op.TheVariants.{Sweep, Trim};
+ghost use Rattle.txc_node.specs.declared.reply.Reply.TheVariants.{Swept, Trimmed};
 ghost use Rattle.txc_shared.specs.Passes.{HasMade, HasTaken};
 ghost use Rattle.txc_shared.specs.Refusals.{IsNewPassRefused, IsStepRefused, IsTakingRefused, NodeMayRefuse};
 ghost use Rattle.txc_keeper.specs.Stations.{HasNotRefused, HasBeenRefused, IsSamePass};
@@ -14,12 +14,14 @@ use txc_db::Naming;
 use txc_ledger::Horizon;
 use txc_shared::{Advanced, NodeError, NodePass, SharedNode};
 
-/// A node, and a pass through it. It counts how often the node refused.
+/// A node, a pass through it, and the budget of a trim: the most bytes of the node's values, if there is a limit. It
+/// counts how often the node refused.
 #[derive(Drop)]
 pub(crate) struct Station<'a, A: App, J: Naming> {
     node: &'a SharedNode<A, J>,
     pass: NodePass<J>,
     refusals: u64,
+    budget: Option<usize>,
 }
 
 impl<'a, A: App, J: Naming> Model for Station<'a, A, J> {
@@ -27,7 +29,7 @@ impl<'a, A: App, J: Naming> Model for Station<'a, A, J> {
 
     ghost Value = { StationValue };
 
-    ghost view = { λ s. record { pass = s.pass; refusals = s.refusals } };
+    ghost view = { λ s. record { pass = s.pass; refusals = s.refusals; budget = s.budget } };
 }
 
 impl<'a, A: App, J: Naming> Station<'a, A, J> {
@@ -35,9 +37,11 @@ impl<'a, A: App, J: Naming> Station<'a, A, J> {
     pub(crate) fn new(
         rt: &impl Wait,
         node: &'a SharedNode<A, J>,
+        budget: Option<usize>,
     ) -> Result<Station<'a, A, J>, NodeError>
         ensures settings { IfOk result (λ station. station.pass.settings ≡ node.now) }
         ensures records { IfOk result (λ station. station.pass.records ≡ []) }
+        ensures budget { IfOk result (λ station. station.budget ≡ budget) }
         ensures refused { IfErr result (NodeMayRefuse J.node_histories (IsNewPassRefused node.now)) }
     {
         let pass = node.pass(rt)?;
@@ -45,6 +49,7 @@ impl<'a, A: App, J: Naming> Station<'a, A, J> {
             node,
             pass,
             refusals: 0,
+            budget,
         })
     }
 
@@ -53,6 +58,13 @@ impl<'a, A: App, J: Naming> Station<'a, A, J> {
         ensures { result.now ≡ self.now.pass }
     {
         &self.pass
+    }
+
+    /// Returns the most bytes of the values that a trim leaves in the node, if there is a budget.
+    pub(crate) fn budget(&self) -> Option<usize>
+        ensures { result ≡ self.now.budget }
+    {
+        self.budget
     }
 
     /// Lets the node take the next event.
@@ -87,6 +99,29 @@ impl<'a, A: App, J: Naming> Station<'a, A, J> {
         ensures refused { IfErr result (λ error. HasBeenRefused J.node_histories IsStepRefused self.old error self.new) }
     {
         match self.pass.sweep(rt, alloc, self.node, horizon.stamp()) {
+            Ok(count) => Ok(count),
+            Err(error) => {
+                self.refusals = self.refusals.wrapping_add(1);
+                Err(error)
+            }
+        }
+    }
+
+    /// Keeps the longest prefix of the node's entries whose values have at most `most` bytes in all.
+    #[tactic(auto, using(crate::proofs::NodesKept::same_settings, crate::proofs::NodesKept::same_pass))]
+    pub(crate) fn trim(
+        &mut self,
+        rt: &impl Wait,
+        alloc: Global,
+        most: usize,
+    ) -> Result<usize, NodeError>
+        ensures same { IsSamePass self.old self.new }
+        ensures made { IfOk result (λ count.
+            HasMade self.old.pass self.new.pass (Trim most) (Trimmed count)) }
+        ensures answered { IfOk result (λ count. HasNotRefused self.old self.new) }
+        ensures refused { IfErr result (λ error. HasBeenRefused J.node_histories IsStepRefused self.old error self.new) }
+    {
+        match self.pass.trim(rt, alloc, self.node, most) {
             Ok(count) => Ok(count),
             Err(error) => {
                 self.refusals = self.refusals.wrapping_add(1);

@@ -31,6 +31,7 @@ own (replies.Hit hit) = record { once = record { lookups = omega arith; hits = o
 own replies.Miss = record { once = record { lookups = omega arith; hits = omega arith; stored = omega arith; kept = omega arith; evicted = omega arith }; no_eviction = refl }
 own (replies.Closed count) = none_is_own
 own (replies.Swept count) = none_is_own
+own (replies.Trimmed count) = none_is_own
 own (replies.Refused refusal) = none_is_own
 
 -- these counts or none

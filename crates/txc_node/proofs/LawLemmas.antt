@@ -19,6 +19,7 @@ use Rattle.txc_node.proofs.Best.{best_none, best_skips, best_begins, best_keeps,
 use Rattle.txc_node.proofs.Apart.{recursion_at, remove_is_others, first_apart, after_apart}
 use Rattle.txc_node.proofs.Inserts.{cut_apart, replay_lo}
 use Rattle.txc_node.proofs.Swept.{bounded_of, cache_of, sweep_keeps}
+use Rattle.txc_node.proofs.Trims.{trim_keeps}
 
 -- ---- tests and what they mean
 
@@ -235,6 +236,7 @@ steps_keep_caches = record {
   insert = insert_keeps;
   event = event_keeps;
   sweep = sweep_keeps;
+  trim = trim_keeps;
 }
 
 one_for_each : (es : List Entry) → AreApart es → HasOneForEach es

@@ -22,4 +22,6 @@ pub mod Puts
 pub mod Pairs
 pub mod Sweepings
 pub mod Lasting
+pub mod Weights
+pub mod Trims
 pub mod History

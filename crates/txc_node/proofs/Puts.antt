@@ -213,3 +213,24 @@ pub kept_by : (c : Cache) (e : Entry) (i : Interval) (found : Option Found) (sta
 kept_by c e i found stays h is replayed =
     let old = find (λ o. same_place o e) c.entries in
     h e (entries_under e.key c.entries) old is ∙ ap (λ (r : Interval). let f : Entry = record e { reach = r } in ends_no_earlier c.processed f old) replayed
+
+-- ---- the last entry is taken out
+
+pub last_entry_is : (ps : List (Place × Stored)) (o : Option (Place × Stored)) → o ≡ slice_get ps (length ps - 1) → option_map entry_of o ≡ slice_get (entries_of ps) (length (entries_of ps) - 1)
+last_entry_is ps o is = ap (option_map entry_of) is ∙ sym (get_entry ps (length ps - 1)) ∙ ap (λ n. slice_get (entries_of ps) (n - 1)) (sym (length-map ps entry_of))
+
+pub last_left : (ps : List (Place × Stored)) → entries_of (take (length ps - 1) ps) ≡ take (length (entries_of ps) - 1) (entries_of ps)
+last_left ps = entries_take (length ps - 1) ps ∙ ap (λ n. take (n - 1) (entries_of ps)) (sym (length-map ps entry_of))
+
+none_last : (ps : List (Place × Stored)) → slice_get ps (length ps - 1) ≡ None → take (length ps - 1) ps ≡ ps
+none_last ps none = take_past (length ps - 1) ps none
+
+pub last_tied : (ps : List (Place × Stored)) (x : Place × Stored) (index new : List (Call × List Interval)) → slice_get ps (length ps - 1) ≡ Some x → AreTied ps index
+    → Relists x.0.key (take (length (listed index x.0.key) - 1) (listed index x.0.key)) index new → AreTied (take (length ps - 1) ps) new
+last_tied ps x index new is h relists =
+    let far : length ps - 1 < length ps = slice_get_within ps (length ps - 1) x is in
+    let all : length ps ≡ suc (length ps - 1) = omega (arith, far) in
+    dropped_tied (take (length ps - 1) ps) x index new (subst (λ (qs : List (Place × Stored)). AreTied qs index) (split_at (length ps - 1) ps x all is) h) relists
+
+pub none_tied : (ps : List (Place × Stored)) (index : List (Call × List Interval)) → slice_get ps (length ps - 1) ≡ None → AreTied ps index → AreTied (take (length ps - 1) ps) index
+none_tied ps index none h = subst (λ (qs : List (Place × Stored)). AreTied qs index) (sym (none_last ps none)) h

@@ -1,7 +1,7 @@
 -- The versioned cache, and its steps: a lookup, an insertion and an event. Each step is a function of the
 -- whole cache.
 use Rattle.std.specs.Prelude.{◌≡◌, Option, ℕ, ◌+◌, ◌-◌, ◌<◌, ◌≤◌, Bool, ◌&&◌, nat_lt, nat_le, not, min, List, [], ◌∷◌, ◌++◌, map, length, take, drop, if◌then◌else◌, Some, None, slice_get, false}
-use Rattle.std.specs.List.{find, filter, position, count_by}
+use Rattle.std.specs.List.{find, filter, position, count_by, sum_by, prefix_len, range_with_len}
 use Rattle.std.specs.Option.{option_map}
 use Rattle.txc_stamp.specs.Interval.{Interval, end_at, shown, closed_at}
 use Rattle.txc_tags.specs.declared.tag.Tag.{Tag}
@@ -172,3 +172,29 @@ after_sweep c horizon = record c { entries = filter (λ e. not (has_ended c.proc
 -- how many entries the sweep drops
 abbrev pub swept_count : Cache → ℕ → ℕ
 swept_count c horizon = count_by (has_ended c.processed horizon) c.entries
+
+-- ---- a trim: the first entries stay whose values have at most so many bytes in all
+
+-- the bytes of the values of these entries, in all
+abbrev pub bytes_of : List Entry → ℕ
+bytes_of es = sum_by (λ e. length e.value) es
+
+-- the values of the first n of these entries have at most so many bytes in all
+abbrev pub fits : ℕ → List Entry → ℕ → Bool
+fits most es n = nat_le (bytes_of (take n es)) most
+
+-- how many of these entries stay: the first, the first two, and so on up to the last number that fits
+abbrev pub staying_count : ℕ → List Entry → ℕ
+staying_count most es = prefix_len (fits most es) (range_with_len 1 (length es))
+
+-- the longest prefix that fits
+abbrev pub longest_within : ℕ → List Entry → List Entry
+longest_within most es = take (staying_count most es) es
+
+-- the cache after a trim: exactly these entries stay, in their order
+abbrev pub after_trim : Cache → ℕ → Cache
+after_trim c most = record c { entries = longest_within most c.entries }
+
+-- how many entries the trim drops
+abbrev pub trimmed_count : Cache → ℕ → ℕ
+trimmed_count c most = length c.entries - staying_count most c.entries

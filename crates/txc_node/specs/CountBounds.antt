@@ -24,3 +24,4 @@ pub record AreWithin (t : Totals) : Type 0 where
   pub few : t.events ≤ t.replies
   pub closed : t.closed ≤ t.replies * (2 ^ 64 - 1)
   pub swept : t.swept ≤ t.replies * (2 ^ 64 - 1)
+  pub trimmed : t.trimmed ≤ t.replies * (2 ^ 64 - 1)

@@ -10,13 +10,14 @@ use Rattle.txc_node.specs.declared.reply.Reply.TheVariants as replies
 use Rattle.txc_node.specs.Steps.{function_of}
 
 -- the counts of each function, by its number; how many replies were counted; and in all the events, the
--- entries that they closed, and those that sweeps dropped
+-- entries that they closed, and those that sweeps and trims dropped
 pub record Totals : Type 0 where
   pub functions : List FunctionCounts
   pub replies : ℕ
   pub events : ℕ
   pub closed : ℕ
   pub swept : ℕ
+  pub trimmed : ℕ
 
 abbrev pub none_counted : FunctionCounts
 none_counted = record { lookups = 0; hits = 0; stored = 0; kept = 0; evicted = 0 }
@@ -82,6 +83,11 @@ abbrev pub swept_by : {H : Type 0} → Reply H → ℕ
 swept_by (replies.Swept count) = count
 swept_by _ = 0
 
+-- how many entries a trim dropped
+abbrev pub trimmed_by : {H : Type 0} → Reply H → ℕ
+trimmed_by (replies.Trimmed count) = count
+trimmed_by _ = 0
+
 -- ---- a history
 
 -- what a step of a history counts for the function f
@@ -99,3 +105,4 @@ pub record AreCountsOf (steps : List Record) (t : Totals) : Type 0 where
   pub events : t.events ≡ sum_by (λ s. events_by s.reply) steps
   pub closed : t.closed ≡ sum_by (λ s. closed_by s.reply) steps
   pub swept : t.swept ≡ sum_by (λ s. swept_by s.reply) steps
+  pub trimmed : t.trimmed ≡ sum_by (λ s. trimmed_by s.reply) steps

@@ -1,11 +1,11 @@
 -- What the steps of the cache mean, in the words of their rules.
-use Rattle.std.specs.Prelude.{◌≡◌, ℕ, ◌+◌, ◌-◌, ◌<◌, ◌≤◌, ◌⊎◌, ◌↔◌, true, false, max, length, List, [], ◌∷◌, ◌++◌, Some, None, All, AllPairs, Contains}
+use Rattle.std.specs.Prelude.{◌≡◌, ℕ, ◌+◌, ◌-◌, ◌<◌, ◌≤◌, ◌⊎◌, ◌↔◌, true, false, max, length, take, List, [], ◌∷◌, ◌++◌, Some, None, All, AllPairs, Contains}
 use Rattle.txc_stamp.specs.Interval.{end_at, Spans, closed_at}
 use Rattle.txc_tags.specs.declared.tag.Tag.{Tag}
 use Rattle.txc_tags.specs.Tags.{sets_match}
 use Rattle.txc_tags.specs.Keys.{Call}
 use Rattle.txc_node.specs.declared.entry.Entry.{Entry}
-use Rattle.txc_node.specs.Cache.{Cache, IsCache, empty_cache, found, shown_of, lookup_answer, after_lookup, replayed_reach, replayed_entry, is_kept, evicted_entry, after_insert, entry_after, last_of, after_event, swept_count, after_sweep}
+use Rattle.txc_node.specs.Cache.{Cache, IsCache, empty_cache, found, shown_of, lookup_answer, after_lookup, replayed_reach, replayed_entry, is_kept, evicted_entry, after_insert, entry_after, last_of, after_event, swept_count, after_sweep, bytes_of, trimmed_count, after_trim}
 
 -- ---- lookup
 
@@ -146,6 +146,21 @@ abbrev pub ChangesNoLaterAnswer : Type 0
 ChangesNoLaterAnswer = (c : Cache) (horizon : ℕ) (key : Call) (lo hi : ℕ) → horizon ≤ lo
     → lookup_answer (after_sweep c horizon) key lo hi ≡ lookup_answer c key lo hi
 
+-- ---- trim
+
+-- The entries that a trim leaves stood first, in their order. Their values have at most `most` bytes in all, and with
+-- one entry more they would have more. Each that is not left was counted.
+pub record KeepsTheFirst (c : Cache) (most : ℕ) : Type 0 where
+  pub dropped : List Entry
+  pub first : c.entries ≡ (after_trim c most).entries ++ dropped
+  pub within : bytes_of (after_trim c most).entries ≤ most
+  pub longest : (n : ℕ) → length (after_trim c most).entries < n → n ≤ length c.entries → most < bytes_of (take n c.entries)
+  pub counted : trimmed_count c most ≡ length dropped
+
+-- so does every trim
+abbrev pub TrimKeepsTheFirst : Type 0
+TrimKeepsTheFirst = (c : Cache) (most : ℕ) → KeepsTheFirst c most
+
 -- ---- all steps
 
 -- no two entries have the same key and the same first stamp
@@ -168,3 +183,4 @@ pub record StepsKeepCaches : Type 0 where
   pub insert : (c : Cache) (e : Entry) → IsCache c → IsCache (after_insert c e)
   pub event : (c : Cache) (tags : List Tag) → IsCache c → IsCache (after_event c (c.processed + 1) tags)
   pub sweep : (c : Cache) (horizon : ℕ) → IsCache c → IsCache (after_sweep c horizon)
+  pub trim : (c : Cache) (most : ℕ) → IsCache c → IsCache (after_trim c most)

@@ -1,8 +1,10 @@
+pub mod Values
 pub mod Entries
 pub mod Places
 pub mod Indexed
 pub mod Cache
 pub mod Sweeping
+pub mod Weighed
 pub mod Best
 pub mod Hit
 pub mod Laws

@@ -1,19 +1,18 @@
 -- Steps as values: what a node is asked for, what it answers, and the cache that it leaves.
 use Rattle.std.specs.Prelude.{◌≡◌, ℕ, ◌+◌, Bool, true, false, Option, Some, None, nat_lt, ◌==◌, ◌⊎◌, if◌then◌else◌, length}
-use Rattle.txc_node.specs.declared.value.TheConstants.{MAX_VALUE_LEN}
 use Rattle.txc_node.specs.declared.entry.Entry.{Entry}
 use Rattle.txc_node.specs.declared.entry.EntryError.{EntryError}
 use Rattle.txc_node.specs.declared.entry.EntryError.TheVariants as entries
 use Rattle.txc_node.specs.declared.hit.Hit.{Hit}
 use Rattle.txc_node.specs.declared.hit.Shown.{Shown}
 use Rattle.txc_node.specs.declared.op.Op.{Op}
-use Rattle.txc_node.specs.declared.op.Op.TheVariants.{Insert, Lookup, Event, Sweep}
+use Rattle.txc_node.specs.declared.op.Op.TheVariants.{Insert, Lookup, Event, Sweep, Trim}
 use Rattle.txc_node.specs.declared.refusal.Refusal.{Refusal}
 use Rattle.txc_node.specs.declared.refusal.Refusal.TheVariants.{EmptyRange, BadReach, OutOfOrder, ValueTooLong, Memory}
 use Rattle.txc_node.specs.declared.reply.Reply.{Reply}
 use Rattle.txc_node.specs.declared.reply.Reply.TheVariants as replies
 use Rattle.txc_node.specs.Hit.{seen}
-use Rattle.txc_node.specs.Cache.{Cache, lookup_answer, after_lookup, is_kept, outcome, after_insert, closed_count, after_event, swept_count, after_sweep}
+use Rattle.txc_node.specs.Cache.{Cache, lookup_answer, after_lookup, is_kept, outcome, after_insert, closed_count, after_event, swept_count, after_sweep, trimmed_count, after_trim}
 
 -- the function whose call is looked up or inserted
 abbrev pub function_of : Op → Option ℕ
@@ -21,6 +20,7 @@ function_of (Insert e) = Some e.key.function
 function_of (Lookup key lo hi) = Some key.function
 function_of (Event stamp tags) = None
 function_of (Sweep horizon) = None
+function_of (Trim most) = None
 
 -- ---- replies
 
@@ -31,6 +31,7 @@ is_refusal (replies.Hit hit) = false
 is_refusal replies.Miss = false
 is_refusal (replies.Closed count) = false
 is_refusal (replies.Swept count) = false
+is_refusal (replies.Trimmed count) = false
 is_refusal (replies.Refused refusal) = true
 
 -- the reply, with what its hit shows in the place of the hit
@@ -40,6 +41,7 @@ seen_reply (replies.Hit hit) = replies.Hit (seen hit)
 seen_reply replies.Miss = replies.Miss
 seen_reply (replies.Closed count) = replies.Closed count
 seen_reply (replies.Swept count) = replies.Swept count
+seen_reply (replies.Trimmed count) = replies.Trimmed count
 seen_reply (replies.Refused refusal) = replies.Refused refusal
 
 -- what a lookup replies, by what it finds
@@ -54,19 +56,21 @@ abbrev pub refusal_by : EntryError → Refusal
 refusal_by entries.BadReach = BadReach
 refusal_by entries.ValueTooLong = ValueTooLong
 
--- why there is no such entry: it is known up to a stamp below its first one; or else its value is too long
-abbrev pub entry_refusal : Entry → Option Refusal
-entry_refusal e =
+-- why there is no such entry, where a value has at most so many bytes: it is known up to a stamp below its first one;
+-- or else its value is too long
+abbrev pub entry_refusal : ℕ → Entry → Option Refusal
+entry_refusal longest e =
     if nat_lt e.reach.known e.reach.lo then Some BadReach
-    else (if nat_lt MAX_VALUE_LEN (length e.value) then Some ValueTooLong else None)
+    else (if nat_lt longest (length e.value) then Some ValueTooLong else None)
 
--- Why a step is refused, whatever memory is left: there is no such entry; a lookup's stamps end before they
--- begin; an event is not the next.
-abbrev pub refusal_of : Cache → Op → Option Refusal
-refusal_of c (Insert e) = entry_refusal e
-refusal_of c (Lookup key lo hi) = if nat_lt hi lo then Some EmptyRange else None
-refusal_of c (Event stamp tags) = if stamp == c.processed + 1 then None else Some (OutOfOrder c.processed)
-refusal_of c (Sweep horizon) = None
+-- Why a step is refused where a value has at most so many bytes, whatever memory is left: there is no such entry; a
+-- lookup's stamps end before they begin; an event is not the next.
+abbrev pub refusal_of : ℕ → Cache → Op → Option Refusal
+refusal_of longest c (Insert e) = entry_refusal longest e
+refusal_of longest c (Lookup key lo hi) = if nat_lt hi lo then Some EmptyRange else None
+refusal_of longest c (Event stamp tags) = if stamp == c.processed + 1 then None else Some (OutOfOrder c.processed)
+refusal_of longest c (Sweep horizon) = None
+refusal_of longest c (Trim most) = None
 
 -- ---- steps
 
@@ -76,6 +80,7 @@ step_reply c (Insert e) = replies.Inserted (outcome c e)
 step_reply c (Lookup key lo hi) = found_reply (lookup_answer c key lo hi)
 step_reply c (Event stamp tags) = replies.Closed (closed_count c stamp tags)
 step_reply c (Sweep horizon) = replies.Swept (swept_count c horizon)
+step_reply c (Trim most) = replies.Trimmed (trimmed_count c most)
 
 -- the cache that it leaves
 abbrev pub after_step : Cache → Op → Cache
@@ -83,35 +88,37 @@ after_step c (Insert e) = after_insert c e
 after_step c (Lookup key lo hi) = after_lookup c key lo hi
 after_step c (Event stamp tags) = after_event c stamp tags
 after_step c (Sweep horizon) = after_sweep c horizon
+after_step c (Trim most) = after_trim c most
 
 -- a step is refused, or has its reply
 abbrev pub reply_by : Option Refusal → Reply Shown → Reply Shown
 reply_by None reply = reply
 reply_by (Some refusal) reply = replies.Refused refusal
 
--- what is replied where memory is at hand
-abbrev pub reply_to : Cache → Op → Reply Shown
-reply_to c op = reply_by (refusal_of c op) (step_reply c op)
+-- what is replied where memory is at hand, and a value has at most so many bytes
+abbrev pub reply_to : ℕ → Cache → Op → Reply Shown
+reply_to longest c op = reply_by (refusal_of longest c op) (step_reply c op)
 
 -- a refused step changes nothing
 abbrev pub cache_by : Option Refusal → Cache → Cache → Cache
 cache_by None c next = next
 cache_by (Some refusal) c next = c
 
--- the cache that is left where memory is at hand
-abbrev pub after_op : Cache → Op → Cache
-after_op c op = cache_by (refusal_of c op) c (after_step c op)
+-- the cache that is left then
+abbrev pub after_op : ℕ → Cache → Op → Cache
+after_op longest c op = cache_by (refusal_of longest c op) c (after_step c op)
 
 -- a step that may be refused for memory: an insertion of an entry, where no other is kept in its stead
-abbrev pub MayGrow : Cache → Op → Type 0
-MayGrow c (Insert e) = (entry_refusal e ≡ None) × (is_kept c e ≡ false)
-MayGrow c (Lookup key lo hi) = ⊥
-MayGrow c (Event stamp tags) = ⊥
-MayGrow c (Sweep horizon) = ⊥
+abbrev pub MayGrow : ℕ → Cache → Op → Type 0
+MayGrow longest c (Insert e) = (entry_refusal longest e ≡ None) × (is_kept c e ≡ false)
+MayGrow longest c (Lookup key lo hi) = ⊥
+MayGrow longest c (Event stamp tags) = ⊥
+MayGrow longest c (Sweep horizon) = ⊥
+MayGrow longest c (Trim most) = ⊥
 
 -- The step has this reply, and leaves that cache: those that it has where memory is at hand; or it may
 -- grow, is refused for memory, and changes nothing.
-abbrev pub MayReply : Cache → Op → Reply Shown → Cache → Type 0
-MayReply c op reply next =
-    ((reply ≡ reply_to c op) × (next ≡ after_op c op))
-    ⊎ (MayGrow c op × (reply ≡ replies.Refused Memory) × (next ≡ c))
+abbrev pub MayReply : ℕ → Cache → Op → Reply Shown → Cache → Type 0
+MayReply longest c op reply next =
+    ((reply ≡ reply_to longest c op) × (next ≡ after_op longest c op))
+    ⊎ (MayGrow longest c op × (reply ≡ replies.Refused Memory) × (next ≡ c))

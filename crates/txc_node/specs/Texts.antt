@@ -56,4 +56,5 @@ reply_text (replies.Hit shown) =
 reply_text replies.Miss = codes "miss"
 reply_text (replies.Closed count) = codes "closed " ++ decimal count
 reply_text (replies.Swept count) = codes "swept " ++ decimal count
+reply_text (replies.Trimmed count) = codes "trimmed " ++ decimal count
 reply_text (replies.Refused refusal) = codes "refused " ++ refusal_text refusal

@@ -1,7 +1,7 @@
 //! Counts of replies.
 ghost use Rattle.std.specs.Prelude.{◌≡◌, ℕ, ◌+◌, ◌^◌, ◌<◌, ◌≤◌, List, [], ◌∷◌, ◌++◌, length, IfSome};
 ghost use Rattle.txc_node.specs.Steps.{function_of};
-ghost use Rattle.txc_node.specs.Counts.{none_counted, counts_of, sum_of, counts_if, own_counts, dropped_function, counts_for, events_by, closed_by, swept_by, AreCountsOf};
+ghost use Rattle.txc_node.specs.Counts.{none_counted, counts_of, sum_of, counts_if, own_counts, dropped_function, counts_for, events_by, closed_by, swept_by, trimmed_by, AreCountsOf};
 ghost use Rattle.txc_node.specs.declared.record.Record.{Record};
 ghost use Rattle.txc_node.specs.CountBounds.{HasRoom};
 
@@ -52,6 +52,7 @@ pub struct Counts {
     events: u64,
     closed: u128,
     swept: u128,
+    trimmed: u128,
 }
 
 impl Model for Counts {
@@ -66,6 +67,7 @@ impl Model for Counts {
       events = c.events;
       closed = c.closed;
       swept = c.swept;
+      trimmed = c.trimmed;
     } };
 
     ghost invariant = { λ c. AreWithin (record {
@@ -74,6 +76,7 @@ impl Model for Counts {
       events = c.events;
       closed = c.closed;
       swept = c.swept;
+      trimmed = c.trimmed;
     }) };
 }
 
@@ -130,17 +133,19 @@ fn dropped_function<H>(reply: &Reply<H>) -> Option<u8>
     }
 }
 
-// How many events the reply is to, and how many entries were closed and swept.
-fn totals<H>(reply: &Reply<H>) -> (u64, usize, usize)
+// How many events the reply is to, and how many entries were closed, swept and trimmed.
+fn totals<H>(reply: &Reply<H>) -> (u64, usize, usize, usize)
     ensures events { result.0 ≡ events_by reply.now }
     ensures closed { result.1 ≡ closed_by reply.now }
     ensures swept { result.2 ≡ swept_by reply.now }
+    ensures trimmed { result.3 ≡ trimmed_by reply.now }
     ensures one { result.0 ≤ 1 }
 {
     match reply {
-        Reply::Closed(count) => (1, *count, 0),
-        Reply::Swept(count) => (0, 0, *count),
-        _ => (0, 0, 0),
+        Reply::Closed(count) => (1, *count, 0, 0),
+        Reply::Swept(count) => (0, 0, *count, 0),
+        Reply::Trimmed(count) => (0, 0, 0, *count),
+        _ => (0, 0, 0, 0),
     }
 }
 
@@ -152,6 +157,7 @@ impl Counts {
         ensures events { result.events ≡ 0 }
         ensures closed { result.closed ≡ 0 }
         ensures swept { result.swept ≡ 0 }
+        ensures trimmed { result.trimmed ≡ 0 }
         ensures history { AreCountsOf [] result }
     {
         Counts {
@@ -160,6 +166,7 @@ impl Counts {
             events: 0,
             closed: 0,
             swept: 0,
+            trimmed: 0,
         }
     }
 
@@ -173,6 +180,7 @@ impl Counts {
             events: self.events,
             closed: self.closed,
             swept: self.swept,
+            trimmed: self.trimmed,
         }
     }
 
@@ -186,14 +194,16 @@ impl Counts {
         ensures events { self.new.events ≡ self.old.events + events_by reply.now }
         ensures closed { self.new.closed ≡ self.old.closed + closed_by reply.now }
         ensures swept { self.new.swept ≡ self.old.swept + swept_by reply.now }
+        ensures trimmed { self.new.trimmed ≡ self.old.trimmed + trimmed_by reply.now }
     {
         add_to(&mut self.functions, function, own_counts(reply));
         add_to(&mut self.functions, dropped_function(reply), ONE_EVICTED);
-        let (events, closed, swept) = totals(reply);
+        let (events, closed, swept, trimmed) = totals(reply);
         self.replies += 1;
         self.events += events;
         self.closed += closed as u128;
         self.swept += swept as u128;
+        self.trimmed += trimmed as u128;
     }
 
     /// Counts what a step of a history was answered. It takes no memory.
@@ -206,6 +216,7 @@ impl Counts {
         ensures events { self.new.events ≡ self.old.events + events_by step.now.reply }
         ensures closed { self.new.closed ≡ self.old.closed + closed_by step.now.reply }
         ensures swept { self.new.swept ≡ self.old.swept + swept_by step.now.reply }
+        ensures trimmed { self.new.trimmed ≡ self.old.trimmed + trimmed_by step.now.reply }
         ensures history { (steps : List Record) → AreCountsOf steps self.old
             → AreCountsOf (steps ++ step.now ∷ []) self.new }
     {
@@ -239,5 +250,12 @@ impl Counts {
         ensures { result ≡ self.now.swept }
     {
         self.swept
+    }
+
+    /// Returns how many entries trims dropped.
+    pub fn trimmed(&self) -> u128
+        ensures { result ≡ self.now.trimmed }
+    {
+        self.trimmed
     }
 }

@@ -1,7 +1,8 @@
 //! Entries of the cache.
 ghost use Rattle.std.specs.Prelude.{◌≡◌, ◌<◌, ◌≤◌, ◌↔◌, Ok, Err, IsOk, IfOk, vec_len};
 
-use crate::value::{MAX_VALUE_LEN, Value};
+use crate::refusal::Refusal;
+use crate::value::{MAX_VALUE_LEN, MOST_VALUE_LEN, Value};
 use std::alloc::{AllocError, Global};
 use thiserror::Error;
 use txc_stamp::{Reach, Stamp};
@@ -33,7 +34,8 @@ pub struct Entry {
 
 impl Entry {
     /// A result that holds from `lo` to `known`, and on from there where it is `still` valid, until an
-    /// event matches one of its tags. A reach that is empty is reported before a value that is too long.
+    /// event matches one of its tags. The value has at most [`MAX_VALUE_LEN`] bytes. A reach that is empty is reported
+    /// before a value that is too long. It takes no memory.
     pub fn new(
         key: Key,
         value: Vec<u8>,
@@ -58,6 +60,43 @@ impl Entry {
         };
         let Some(value) = Value::new(value) else {
             return Err(EntryError::ValueTooLong);
+        };
+        Ok(Entry {
+            key,
+            value,
+            reach,
+            tags,
+        })
+    }
+
+    /// Makes an entry as [`Entry::new`] does, with a value of at most `most` bytes. Fails if a node refuses such an
+    /// insertion whatever it holds, with that refusal.
+    pub fn up_to(
+        most: usize,
+        key: Key,
+        value: Vec<u8>,
+        lo: Stamp,
+        known: Stamp,
+        still: bool,
+        tags: TagSet,
+    ) -> Result<Entry, Refusal>
+        requires { most ≤ MOST_VALUE_LEN }
+        ensures answer { IfOk result (λ e. e ≡ record {
+          key = key;
+          value = value.items;
+          reach = record { lo = lo; known = known; still = still };
+          tags = tags;
+        }) }
+        ensures only_if { IsOk result ↔ ((lo ≤ known) × (vec_len value ≤ most)) }
+        ensures bad_reach { (result ≡ Err Refusal.BadReach) ↔ (known < lo) }
+        ensures too_long { (result ≡ Err Refusal.ValueTooLong)
+            ↔ ((lo ≤ known) × (most < vec_len value)) }
+    {
+        let Ok(reach) = Reach::from_stamps(lo, known, still) else {
+            return Err(Refusal::BadReach);
+        };
+        let Some(value) = Value::up_to(most, value) else {
+            return Err(Refusal::ValueTooLong);
         };
         Ok(Entry {
             key,

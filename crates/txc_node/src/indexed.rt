@@ -1,17 +1,18 @@
 //! The entries of a node, with what finds them.
-ghost use Rattle.std.specs.Prelude.{◌≡◌, ◌∷◌, [], length, map, take, not, true, false, OnOk, OnErr, IfOk, IfErr, IfSome, Some, slice_get};
+ghost use Rattle.std.specs.Prelude.{◌≡◌, ◌∷◌, [], ◌-◌, ◌≤◌, length, map, take, not, true, false, OnOk, OnErr, IfOk, IfErr, IfSome, Some, slice_get};
 ghost use Rattle.std.specs.List.{find, filter, count_by};
 ghost use Rattle.std.specs.NonZero.{non_zero_usize_get};
 ghost use Rattle.txc_node.specs.declared.entry.Entry.{Entry};
 ghost use Rattle.txc_node.specs.Places.{place_of, equal_places};
 ghost use Rattle.txc_node.specs.Entries.{others, same_place};
-ghost use Rattle.txc_node.specs.Cache.{is_invalidated, entry_after, has_ended};
+ghost use Rattle.txc_node.specs.Cache.{bytes_of, is_invalidated, entry_after, has_ended, longest_within, staying_count};
 ghost use Rattle.txc_node.specs.Indexed.{IndexesTags, IsFound, IsListed, KeepsListed, entries_under, entry_of, reaches_under, with_first};
 
 use crate::closing::Closing;
 use crate::entry::Entry;
 use crate::keyed::KeyedEntries;
 use crate::leaving::Leaving;
+use crate::node::MOST_CAPACITY;
 use crate::place::Place;
 use crate::stored::{Stored, in_reach, split};
 use crate::sweeping::Sweep;
@@ -143,6 +144,7 @@ fn put(
 impl IndexedEntries {
     /// No entries, and room for `capacity`.
     pub(crate) fn new(alloc: Global, capacity: NonZeroUsize) -> Result<IndexedEntries, AllocError>
+        requires { non_zero_usize_get capacity ≤ MOST_CAPACITY }
         ensures { IfOk result (λ x. x
             ≡ record { entries = []; capacity = non_zero_usize_get capacity }) }
     {
@@ -156,6 +158,13 @@ impl IndexedEntries {
         ensures { result ≡ length self.now.entries }
     {
         self.entries.len()
+    }
+
+    /// Returns the number of bytes of their values in all.
+    pub(crate) fn bytes(&self) -> usize
+        ensures { result ≡ bytes_of self.now.entries }
+    {
+        self.entries.bytes()
     }
 
     /// The entries alone, of a node that ends.
@@ -238,5 +247,29 @@ impl IndexedEntries {
         let sweep = Sweep { processed, horizon };
         self.entries.drop_ended(&mut self.tags, &sweep);
         before - self.len()
+    }
+
+    // Drops the least recently used entry, if there is one.
+    fn drop_last(&mut self)
+        ensures entries { self.new.entries ≡ take (length self.old.entries - 1) self.old.entries }
+        ensures capacity { self.new.capacity ≡ self.old.capacity }
+    {
+        let _len = self.entries.len();
+        let last = self.entries.drop_last();
+        unlist_evicted(&mut self.tags, &last);
+    }
+
+    /// Keeps the longest prefix of the entries whose values have at most `most` bytes in all. Returns how many it
+    /// dropped.
+    pub(crate) fn trim(&mut self, most: usize) -> usize
+        ensures entries { self.new.entries ≡ longest_within most self.old.entries }
+        ensures capacity { self.new.capacity ≡ self.old.capacity }
+        ensures count { result ≡ length self.old.entries - staying_count most self.old.entries }
+    {
+        let held = self.len();
+        while self.bytes() > most {
+            self.drop_last();
+        }
+        held - self.len()
     }
 }

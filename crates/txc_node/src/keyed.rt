@@ -1,26 +1,26 @@
 //! The entries of a node at their places, and by their keys.
-ghost use Rattle.std.specs.Prelude.{List, ◌≡◌, ◌∷◌, [], take, length, not, remove, None, Some, OnOk, OnErr, IfOk, IfErr, slice_get, option_copied};
+ghost use Rattle.std.specs.Prelude.{List, ◌≡◌, ◌-◌, ◌≤◌, ◌∷◌, [], take, length, not, remove, None, Some, OnOk, OnErr, IfOk, IfErr, slice_get, option_copied};
 ghost use Rattle.std.specs.List.{find, filter};
 ghost use Rattle.std.specs.Option.{option_map};
-ghost use Rattle.std.specs.Map.{lookup};
 ghost use Rattle.std.specs.NonZero.{non_zero_usize_get};
 ghost use Rattle.txc_tags.specs.Keys.{Call};
 ghost use Rattle.txc_node.specs.declared.entry.Entry.{Entry};
-ghost use Rattle.txc_node.specs.Places.{place_of, equal_places};
+ghost use Rattle.txc_node.specs.Places.{place_of};
 ghost use Rattle.txc_node.specs.Entries.{is_best, others, same_place};
-ghost use Rattle.txc_node.specs.Cache.{has_ended};
-ghost use Rattle.txc_node.specs.Indexed.{AreOf, Closes, HoldsApart, IndexesTags, IsFound, IsSpared, Relists, StandsUnder, after_at, closed_reach, entries_under, entry_at, entry_of, is_live, listed, reaches_under, stays_live, stored_of, with_first};
+ghost use Rattle.txc_node.specs.Cache.{bytes_of, has_ended};
+ghost use Rattle.txc_node.specs.Indexed.{AreOf, Closes, HoldsApart, IndexesTags, IsFound, IsSpared, Relists, StandsUnder, entries_under, entry_at, entry_of, is_live, listed, reaches_under, stored_of, with_first};
 
 use crate::closing::Closing;
 use crate::entry::Entry;
 use crate::key_index::KeyIndex;
 use crate::leaving::Leaving;
+use crate::node::MOST_CAPACITY;
 use crate::place::Place;
 use crate::stored::{Stored, join, join_some};
 use crate::sweeping::Sweep;
 use crate::tag_index::TagIndex;
 use crate::versions::{Found, Versions};
-use lru::LruCache;
+use crate::weighed::WeighedEntries;
 use std::alloc::{AllocError, AllocFailed, Global};
 use std::fmt;
 use std::marker::Model;
@@ -31,7 +31,7 @@ use txc_tags::Key;
 /// At most so many entries, the most recently used first, that are found by their place and by their key.
 #[derive(Drop)]
 pub(crate) struct KeyedEntries {
-    cache: LruCache<Place, Stored>,
+    cache: WeighedEntries,
     keys: KeyIndex,
 }
 
@@ -48,33 +48,7 @@ impl Model for KeyedEntries {
 impl fmt::Debug for KeyedEntries {
     // The entries alone, since the index is made of them.
     fn fmt<W: fmt::Write>(&self, f: &mut fmt::Formatter<W>) -> fmt::Result {
-        f.debug_map().entries(self.cache.iter()).finish()
-    }
-}
-
-// Closes the entry at a place just below an event that invalidates it. Returns its new reach, and whether a
-// still valid entry stands there now.
-fn close_in(
-    cache: &mut LruCache<Place, Stored>,
-    place: &Place,
-    closing: &Closing<'_>,
-) -> (Option<Reach>, bool)
-    ensures entries { cache.new.entries
-        ≡ after_at closing.now.stamp closing.now.tags.now place.now cache.old.entries }
-    ensures cap { cache.new.cap ≡ cache.old.cap }
-    ensures reach { result.0 ≡ closed_reach closing.now.stamp closing.now.tags.now
-        (lookup (equal_places place.now) cache.old.entries) }
-    ensures live { result.1 ≡ stays_live closing.now.stamp closing.now.tags.now
-        (lookup (equal_places place.now) cache.old.entries) }
-{
-    match cache.peek_mut(place) {
-        None => (None, false),
-        Some(stored) => {
-            if !closing.close(stored) {
-                return (None, stored.reach.is_still());
-            }
-            (Some(stored.reach), false)
-        }
+        self.cache.fmt(f)
     }
 }
 
@@ -92,10 +66,11 @@ fn bring_found(keys: &mut KeyIndex, key: &Key, found: Found)
 impl KeyedEntries {
     /// No entries, and room for `capacity`.
     pub(crate) fn new(alloc: Global, capacity: NonZeroUsize) -> Result<KeyedEntries, AllocError>
+        requires { non_zero_usize_get capacity ≤ MOST_CAPACITY }
         ensures { IfOk result (λ x. x
             ≡ record { entries = []; capacity = non_zero_usize_get capacity }) }
     {
-        let cache = LruCache::sparse(alloc, capacity)?;
+        let cache = WeighedEntries::new(alloc, capacity)?;
         Ok(KeyedEntries {
             cache,
             keys: KeyIndex::new(alloc),
@@ -108,6 +83,13 @@ impl KeyedEntries {
         ensures apart { HoldsApart self.now }
     {
         self.cache.len()
+    }
+
+    /// Returns the number of bytes of their values in all.
+    pub(crate) fn bytes(&self) -> usize
+        ensures { result ≡ bytes_of self.now.entries }
+    {
+        self.cache.bytes()
     }
 
     /// The entries alone, of a node that ends.
@@ -159,7 +141,7 @@ impl KeyedEntries {
     pub(crate) fn first(&self) -> Option<&Stored>
         ensures { option_copied result ≡ option_map stored_of (slice_get self.now.entries 0) }
     {
-        match self.cache.peek_mru() {
+        match self.cache.first() {
             None => None,
             Some((_, stored)) => Some(stored),
         }
@@ -172,7 +154,7 @@ impl KeyedEntries {
         ensures spared { IsSpared closing.now.stamp closing.now.tags.now self.new.entries place.now }
         ensures live { result.1 ≡ is_live self.new.entries place.now }
     {
-        let (closed, is_live) = close_in(&mut self.cache, place, closing);
+        let (closed, is_live) = self.cache.close(place, closing);
         match closed {
             None => (0, is_live),
             Some(reach) => {
@@ -241,6 +223,21 @@ impl KeyedEntries {
             Ok(Some((place, stored))) => {
                 self.keys.drop_last(&place.key);
                 Ok(Some(join(place, stored)))
+            }
+        }
+    }
+
+    /// Takes out the least recently used entry.
+    pub(crate) fn drop_last(&mut self) -> Option<Entry>
+        ensures last { result ≡ slice_get self.old.entries (length self.old.entries - 1) }
+        ensures entries { self.new.entries ≡ take (length self.old.entries - 1) self.old.entries }
+        ensures capacity { self.new.capacity ≡ self.old.capacity }
+    {
+        match self.cache.pop_last() {
+            None => None,
+            Some((place, stored)) => {
+                self.keys.drop_last(&place.key);
+                Some(join(place, stored))
             }
         }
     }

@@ -1,6 +1,6 @@
 //! What the steps of the cache mean, in the words of their rules, each the contract of a function that does
 //! nothing.
-ghost use Rattle.txc_node.specs.Laws.{FindsTheLongest, MissesOnlyWhereNone, MeetsAtAStamp, ShowsNothingBeyond, ClosesExactlyTheHit, ReplaysAsIfItHadBeenThere, TrustsNoLostEvent, InsertsWithinBounds, InsertionKeepsTheLonger, InsertionDropsTheLast, SweepDropsTheEnded, ChangesNoLaterAnswer, StepsKeepCaches};
+ghost use Rattle.txc_node.specs.Laws.{FindsTheLongest, MissesOnlyWhereNone, MeetsAtAStamp, ShowsNothingBeyond, ClosesExactlyTheHit, ReplaysAsIfItHadBeenThere, TrustsNoLostEvent, InsertsWithinBounds, InsertionKeepsTheLonger, InsertionDropsTheLast, SweepDropsTheEnded, ChangesNoLaterAnswer, TrimKeepsTheFirst, StepsKeepCaches};
 ghost use Rattle.txc_node.specs.Examples.{ClosesAtTheMatch, ReplaysWhatIsKept, WaitsForItsEnd, DropsTheLeastRecentlyUsed, PrefersTheLaterBegin};
 
 /// A lookup finds the entry of the key whose span meets the range such that no other such entry ends later,
@@ -53,6 +53,11 @@ pub fn insertion_drops_the_last()
 pub fn sweep_drops_the_ended()
     ensures ended { SweepDropsTheEnded }
     ensures later { ChangesNoLaterAnswer }
+{}
+
+/// A trim keeps the longest prefix of the entries whose values have at most so many bytes in all.
+pub fn trim_keeps_the_first()
+    ensures { TrimKeepsTheFirst }
 {}
 
 /// Every step leaves a cache: one entry for a key and a first stamp, no more than the capacity, and the

@@ -2,15 +2,14 @@
 ghost use Rattle.std.specs.Prelude.{◌≡◌, ◌++◌, ◌∷◌, [], length, MatchOption};
 
 use crate::entry::Entry;
-use crate::place::Place;
-use crate::stored::{Stored, join_some};
-use lru::LruCache;
+use crate::stored::join_some;
+use crate::weighed::WeighedEntries;
 use std::marker::Model;
 
 /// The entries of a node that ends, the most recently used first.
 #[derive(Drop)]
 pub struct Leaving {
-    pub(crate) cache: LruCache<Place, Stored>,
+    pub(crate) cache: WeighedEntries,
 }
 
 impl Model for Leaving {
@@ -37,6 +36,6 @@ impl Leaving {
             ((self.old ≡ []) × (self.new ≡ []))
             (λ e. self.old ≡ self.new ++ e ∷ []) }
     {
-        join_some(self.cache.pop_lru())
+        join_some(self.cache.pop_last())
     }
 }

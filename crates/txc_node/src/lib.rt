@@ -4,10 +4,11 @@
 //! tags it matches.
 //!
 //! A [`NodeCore`] is one list of entries, the most recently used first, the stamp of the last event that it
-//! took, and the tags of the last events. It changes by four steps: [`NodeCore::lookup`],
-//! [`NodeCore::insert`], [`NodeCore::event`] and [`NodeCore::sweep`]; an [`Op`] names a step, and a
-//! [`Reply`] is what it is answered. The capacity counts entries. The orders among entries, the ties, and
-//! the replay of recent events at an insertion are this project's own.
+//! took, and the tags of the last events. It changes by five steps: [`NodeCore::lookup`],
+//! [`NodeCore::insert`], [`NodeCore::event`], [`NodeCore::sweep`] and [`NodeCore::trim`]; an [`Op`] names a
+//! step, and a [`Reply`] is what it is answered. The capacity counts entries, and a trim counts the bytes of
+//! their values. The orders among entries, the ties, the replay of recent events at an insertion, and the trim
+//! are this project's own.
 #![tactic(auto)]
 
 mod bucket;
@@ -36,16 +37,19 @@ mod sweeping;
 mod tag_index;
 mod value;
 mod versions;
+mod weighed;
 
 pub use counts::{Counts, FunctionCounts};
 pub use entry::{Entry, EntryError};
 pub use hit::{Hit, Shown};
 pub use leaving::Leaving;
-pub use node::{EmptyRange, Inserted, MAX_CAPACITY, MAX_RECENT, NodeCore, OutOfOrder};
+pub use node::{
+    EmptyRange, Inserted, MAX_CAPACITY, MAX_RECENT, MOST_CAPACITY, NodeCore, OutOfOrder,
+};
 pub use op::Op;
 pub use record::Record;
 pub use refusal::Refusal;
 pub use reply::Reply;
 pub use search::Search;
-pub use value::{MAX_VALUE_LEN, Value};
+pub use value::{MAX_VALUE_LEN, MOST_VALUE_LEN, Value};
 pub use versions::Found;

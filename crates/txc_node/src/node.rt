@@ -5,7 +5,7 @@ ghost use Rattle.std.specs.Borrow.{sem};
 ghost use Rattle.std.specs.Io.BufRead.{Rests};
 ghost use Rattle.txc_node.specs.contracts.node.NodeCore.{the_row};
 ghost use Rattle.txc_node.specs.declared.entry.Entry.{Entry};
-ghost use Rattle.txc_node.specs.Cache.{ends_no_earlier, shown_of, empty_cache, empty_cache_at, found, lookup_answer, after_lookup, is_kept, after_insert, outcome, after_event, closed_count, after_sweep, swept_count};
+ghost use Rattle.txc_node.specs.Cache.{ends_no_earlier, shown_of, empty_cache, empty_cache_at, found, lookup_answer, after_lookup, is_kept, after_insert, outcome, after_event, closed_count, after_sweep, swept_count, bytes_of, after_trim, trimmed_count};
 ghost use Rattle.txc_node.specs.Hit.{seen};
 ghost use Rattle.txc_node.specs.Indexed.{IsFound, IsSearchOf, shown_as};
 
@@ -26,8 +26,11 @@ use thiserror::Error;
 use txc_stamp::{Reach, Stamp};
 use txc_tags::{Key, TagSet};
 
-/// The most entries that a node may be made for.
+/// The most entries that the settings of a node may ask for.
 pub const MAX_CAPACITY: usize = 65_536;
+
+/// The most entries that any node may be made for.
+pub const MOST_CAPACITY: usize = 1_048_576;
 
 /// The most events whose tags a node may be made to keep.
 pub const MAX_RECENT: usize = 4_096;
@@ -153,7 +156,7 @@ impl NodeCore {
     /// An empty node for at most `capacity` entries, that keeps the tags of the last `recent` events. The
     /// room of these tags is taken now, so that no event needs memory.
     pub fn new(alloc: Global, capacity: usize, recent: usize) -> Result<NodeCore, AllocError>
-        requires capacity { (1 ≤ capacity) × (capacity ≤ MAX_CAPACITY) }
+        requires capacity { (1 ≤ capacity) × (capacity ≤ MOST_CAPACITY) }
         requires recent { (1 ≤ recent) × (recent ≤ MAX_RECENT) }
         ensures { IfOk result (λ n. n ≡ empty_cache capacity recent) }
     {
@@ -168,7 +171,7 @@ impl NodeCore {
         recent: usize,
         from: Stamp,
     ) -> Result<NodeCore, AllocError>
-        requires capacity { (1 ≤ capacity) × (capacity ≤ MAX_CAPACITY) }
+        requires capacity { (1 ≤ capacity) × (capacity ≤ MOST_CAPACITY) }
         requires recent { (1 ≤ recent) × (recent ≤ MAX_RECENT) }
         ensures { IfOk result (λ n. n ≡ empty_cache_at capacity recent from) }
     {
@@ -206,6 +209,13 @@ impl NodeCore {
         ensures { result ≡ length self.now.entries }
     {
         self.entries.len()
+    }
+
+    /// Returns the number of bytes of its entries' values in all.
+    pub fn bytes(&self) -> usize
+        ensures { result ≡ bytes_of self.now.entries }
+    {
+        self.entries.bytes()
     }
 
     /// Whether it holds no entry.
@@ -336,5 +346,14 @@ impl NodeCore {
         ensures answer { result ≡ swept_count self.old horizon }
     {
         self.entries.drop_ended(self.processed, horizon)
+    }
+
+    /// Keeps the longest prefix of the entries whose values have at most `most` bytes in all. Returns how many it
+    /// dropped. It takes no memory.
+    pub fn trim(&mut self, most: usize) -> usize
+        ensures after { self.new ≡ after_trim self.old most }
+        ensures answer { result ≡ trimmed_count self.old most }
+    {
+        self.entries.trim(most)
     }
 }

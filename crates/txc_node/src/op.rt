@@ -17,10 +17,12 @@ pub enum Op {
     Event { stamp: Stamp, tags: TagSet },
     /// Drops the entries whose span ends at the horizon or before it.
     Sweep { horizon: Stamp },
+    /// Keeps the first entries whose values have at most so many bytes in all.
+    Trim { most: usize },
 }
 
 impl Op {
-    /// The function whose call it looks up or inserts; none for an event and a sweep.
+    /// The function whose call it looks up or inserts; none for an event, a sweep and a trim.
     pub fn function(&self) -> Option<u8>
         ensures answer { result ≡ function_of self.now }
         ensures bound { IfSome result (λ f. f ≤ LAST_FUNCTION) }
@@ -30,6 +32,7 @@ impl Op {
             Op::Lookup { key, .. } => Some(key.function()),
             Op::Event { .. } => None,
             Op::Sweep { .. } => None,
+            Op::Trim { .. } => None,
         }
     }
 }

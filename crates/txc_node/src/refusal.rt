@@ -15,7 +15,7 @@ pub enum Refusal {
     BadReach,
     /// An event is not the one after the processed stamp.
     OutOfOrder(Stamp),
-    /// A value has more than [`crate::MAX_VALUE_LEN`] bytes.
+    /// A value has more bytes than it may.
     ValueTooLong,
     /// A growth was refused, which an insertion needs to store its entry.
     Memory,

@@ -23,6 +23,8 @@ pub enum Reply<H> {
     Closed(usize),
     /// How many entries a sweep dropped.
     Swept(usize),
+    /// How many entries a trim dropped.
+    Trimmed(usize),
     /// Why the step was refused.
     Refused(Refusal),
 }
@@ -53,6 +55,7 @@ impl Reply<Hit<'_>> {
             Reply::Miss => Ok(Reply::Miss),
             Reply::Closed(count) => Ok(Reply::Closed(count)),
             Reply::Swept(count) => Ok(Reply::Swept(count)),
+            Reply::Trimmed(count) => Ok(Reply::Trimmed(count)),
             Reply::Refused(refusal) => Ok(Reply::Refused(refusal)),
         }
     }
@@ -115,6 +118,7 @@ impl fmt::Display for Reply<Hit<'_>> {
             Reply::Miss => write!(f, "miss"),
             Reply::Closed(count) => write!(f, "closed {count}"),
             Reply::Swept(count) => write!(f, "swept {count}"),
+            Reply::Trimmed(count) => write!(f, "trimmed {count}"),
             Reply::Refused(refusal) => write!(f, "refused {refusal}"),
         }
     }

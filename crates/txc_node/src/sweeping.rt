@@ -7,11 +7,10 @@ ghost use Rattle.txc_node.specs.Sweeping.{AreStored, AreGoneAt, HasReach, IsGone
 
 use crate::call_key::CallKey;
 use crate::place::Place;
-use crate::stored::Stored;
 use crate::tag_index::TagIndex;
 use crate::versions::Versions;
+use crate::weighed::WeighedEntries;
 use indexmap::IndexMap;
-use lru::LruCache;
 use txc_stamp::{Reach, Stamp};
 use txc_tags::Key;
 
@@ -24,7 +23,7 @@ pub(crate) struct Sweep {
 }
 
 // Takes the entry at a place out, and off those under its tags, if one stands there.
-fn take_out(cache: &mut LruCache<Place, Stored>, index: &mut TagIndex, place: &Place)
+fn take_out(cache: &mut WeighedEntries, index: &mut TagIndex, place: &Place)
     requires stored { AreStored index.old.tables.items cache.old.entries }
     ensures stored { AreStored index.new.tables.items cache.new.entries }
     ensures cap { cache.new.cap ≡ cache.old.cap }
@@ -44,13 +43,7 @@ impl Sweep {
     }
 
     // Takes the entry of a key out that has a reach, if that has ended.
-    fn at_reach(
-        &self,
-        cache: &mut LruCache<Place, Stored>,
-        index: &mut TagIndex,
-        key: &Key,
-        reach: Reach,
-    )
+    fn at_reach(&self, cache: &mut WeighedEntries, index: &mut TagIndex, key: &Key, reach: Reach)
         requires stored { AreStored index.old.tables.items cache.old.entries }
         requires reach { HasReach (entries_of cache.old.entries) key.now reach }
         ensures stored { AreStored index.new.tables.items cache.new.entries }
@@ -67,7 +60,7 @@ impl Sweep {
     // The same at each of the reaches of a key.
     fn at_key(
         &self,
-        cache: &mut LruCache<Place, Stored>,
+        cache: &mut WeighedEntries,
         index: &mut TagIndex,
         key: &Key,
         versions: &Versions,
@@ -89,7 +82,7 @@ impl Sweep {
     // The same at those of the key that is at an index.
     fn at_index(
         &self,
-        cache: &mut LruCache<Place, Stored>,
+        cache: &mut WeighedEntries,
         index: &mut TagIndex,
         keys: &IndexMap<CallKey, Versions>,
         i: usize,
@@ -112,7 +105,7 @@ impl Sweep {
     /// Takes out what it drops, by the reaches of all keys.
     pub(crate) fn at_all(
         &self,
-        cache: &mut LruCache<Place, Stored>,
+        cache: &mut WeighedEntries,
         index: &mut TagIndex,
         keys: &IndexMap<CallKey, Versions>,
     )

@@ -1,33 +1,63 @@
 //! The bytes of a cached result.
 ghost use Rattle.std.specs.Prelude.{◌≡◌, ◌≤◌, ◌↔◌, length, IsSome, IfSome, IfOk, vec_len};
 ghost use Rattle.txc_node.specs.Texts.{digits_of};
+ghost use Rattle.txc_node.specs.Values.{bytes_held};
 
 use std::alloc::{AllocError, Global};
 use std::fmt;
 use std::marker::Model;
+use std::sync::Arc;
 
-/// The most bytes of a value.
+/// The most bytes of a value that [`Value::new`] makes, and of one whose copies don't share them.
 pub const MAX_VALUE_LEN: usize = 1024;
 
-/// The bytes of a cached result, at most [`MAX_VALUE_LEN`].
+/// The most bytes of any value.
+pub const MOST_VALUE_LEN: usize = 1_048_576;
+
+/// The bytes of a value: its own, or those that it shares with its copies.
+#[derive(Debug, Drop)]
+pub(crate) enum Held {
+    Own(Vec<u8>),
+    Shared(Arc<Vec<u8>>),
+}
+
+impl Held {
+    // Holds the bytes: shared if there are more than `MAX_VALUE_LEN` and memory for that is left.
+    fn new(bytes: Vec<u8>) -> Held
+        ensures { bytes_held result ≡ bytes.items }
+    {
+        if bytes.len() <= MAX_VALUE_LEN {
+            return Held::Own(bytes);
+        }
+        let alloc = *bytes.allocator();
+        match Arc::new(alloc, bytes) {
+            Ok(bytes) => Held::Shared(bytes),
+            Err(failed) => Held::Own(failed.value),
+        }
+    }
+}
+
+/// The bytes of a cached result, at most [`MOST_VALUE_LEN`]. If there are more than [`MAX_VALUE_LEN`], its copies share
+/// them, so that a copy costs the same however many there are.
 #[derive(Debug, Drop)]
 pub struct Value {
-    bytes: Vec<u8>,
+    held: Held,
 }
 
 impl Model for Value {
     ghost use Rattle.std.specs.Prelude.{List, ℕ, ◌≤◌, length};
-    ghost use Rattle.txc_node.specs.declared.value.TheConstants.{MAX_VALUE_LEN};
+    ghost use Rattle.txc_node.specs.declared.value.TheConstants.{MOST_VALUE_LEN};
+    ghost use Rattle.txc_node.specs.Values.{bytes_held};
 
     ghost Value = { List ℕ };
 
-    ghost view = { λ v. v.bytes.items };
+    ghost view = { λ v. bytes_held v.held };
 
-    ghost invariant = { λ v. length v.bytes.items ≤ MAX_VALUE_LEN };
+    ghost invariant = { λ v. length (bytes_held v.held) ≤ MOST_VALUE_LEN };
 }
 
 impl Value {
-    /// The bytes as a value; None if there are more than [`MAX_VALUE_LEN`].
+    /// Returns the bytes as a value; none if there are more than [`MAX_VALUE_LEN`]. It takes no memory.
     pub fn new(bytes: Vec<u8>) -> Option<Value>
         ensures only_if { IsSome result ↔ (vec_len bytes ≤ MAX_VALUE_LEN) }
         ensures answer { IfSome result (λ v. v ≡ bytes.items) }
@@ -35,32 +65,46 @@ impl Value {
         if bytes.len() > MAX_VALUE_LEN {
             return None;
         }
-        Some(Value { bytes })
+        Some(Value {
+            held: Held::Own(bytes),
+        })
     }
 
-    /// The bytes.
+    /// Returns the bytes as a value; none if there are more than `most`. If there are more than [`MAX_VALUE_LEN`], it
+    /// takes memory once, by the allocator of the bytes, so that copies share them. If that fails, each copy copies them.
+    pub fn up_to(most: usize, bytes: Vec<u8>) -> Option<Value>
+        requires { most ≤ MOST_VALUE_LEN }
+        ensures only_if { IsSome result ↔ (vec_len bytes ≤ most) }
+        ensures answer { IfSome result (λ v. v ≡ bytes.items) }
+    {
+        if bytes.len() > most {
+            return None;
+        }
+        Some(Value {
+            held: Held::new(bytes),
+        })
+    }
+
+    /// Returns the bytes.
     pub fn bytes(&self) -> &[u8]
         ensures answer { result.now ≡ self.now }
-        ensures bound { length self.now ≤ MAX_VALUE_LEN }
+        ensures bound { length self.now ≤ MOST_VALUE_LEN }
     {
-        &self.bytes
+        match &self.held {
+            Held::Own(bytes) => bytes.as_slice(),
+            Held::Shared(bytes) => bytes.as_slice(),
+        }
     }
 
-    /// Gives the bytes back. It takes no memory.
-    pub fn into_bytes(self) -> Vec<u8>
-        ensures { result.items ≡ self }
-    {
-        let Value { bytes } = self;
-        bytes
-    }
-
-    /// An equal value.
+    /// Returns an equal value. It takes no memory if it shares the bytes.
     pub fn copy(&self, alloc: Global) -> Result<Value, AllocError>
         ensures { IfOk result (λ v. v ≡ self.now) }
     {
-        Ok(Value {
-            bytes: Vec::from_slice(alloc, &self.bytes)?,
-        })
+        let held = match &self.held {
+            Held::Own(bytes) => Held::Own(Vec::from_slice(alloc, bytes.as_slice())?),
+            Held::Shared(bytes) => Held::Shared(Arc::try_clone(bytes)?),
+        };
+        Ok(Value { held })
     }
 }
 

@@ -70,10 +70,10 @@ idle_there (o ∷ os) f free there =
 
 -- an object that runs an activation which wants an answer may go on
 pub asking_there : (next : Next) (objects : Objects) (f : ℕ) (a : Activation)
-    → activity_of objects f ≡ Some (running a) → WantsAnswer (next_of (next f) a) → IsAskingAt next objects f
+    → activity_of objects f ≡ Some (running a) → WantsAnswer (next_of (next.says f) a) → IsAskingAt next objects f
 asking_there next objects f a here wants =
     let run : Option Activity → Activation = λ (o : Option Activity). activation_in (unwrap_or o idle) in
-    subst (λ (o : Option Activity). (o ≡ Some (running (run o))) × WantsAnswer (next_of (next f) (run o)))
+    subst (λ (o : Option Activity). (o ≡ Some (running (run o))) × WantsAnswer (next_of (next.says f) (run o)))
     (sym here) (refl, wants)
 
 numbers_by_head : (f : ℕ) (n : Activity) (o : ℕ × Activity) (os : Objects) (b : Bool)

@@ -24,7 +24,7 @@ activation_of objects f = activation_in (unwrap_or (activity_of objects f) idle)
 abbrev pub IsAskingAt : Next → Objects → ℕ → Type 0
 IsAskingAt next objects f =
     (activity_of objects f ≡ Some (running (activation_of objects f)))
-    × WantsAnswer (next_of (next f) (activation_of objects f))
+    × WantsAnswer (next_of (next.says f) (activation_of objects f))
 
 -- no object runs an activation, or has a permit
 abbrev pub AllIdle : Objects → Type 0

@@ -34,7 +34,7 @@ impl<A: App, C: Cacheable> Model for Registry<A, C> {
 
     // Each object says what the application says of its number, and no two have one number.
     ghost invariant = { λ r.
-        All (λ c. C.says c ≡ A.next (C.number c)) r.objects.items
+        All (λ c. C.says c ≡ A.next.says (C.number c)) r.objects.items
         × IsDistinct eqb (map C.number r.objects.items) };
 }
 
@@ -62,13 +62,13 @@ fn repeated<C: Cacheable>(objects: &Vec<C>) -> Option<u8>
 /// Adds an object to those of a registry to be.
 pub fn enlist<A: App, C: Cacheable>(objects: &mut Vec<C>, object: C) -> Result<(), AllocError>
     requires idle { C.activity object ≡ idle }
-    requires means { C.says object ≡ A.next (C.number object) }
+    requires means { C.says object ≡ A.next.says (C.number object) }
     requires all_idle { All (λ c. C.activity c ≡ idle) objects.old.items }
-    requires all_mean { All (λ c. C.says c ≡ A.next (C.number c)) objects.old.items }
+    requires all_mean { All (λ c. C.says c ≡ A.next.says (C.number c)) objects.old.items }
     ensures after { OnOk result (objects.new.items ≡ objects.old.items ++ object ∷ []) }
     ensures unchanged { OnErr result (objects.new.items ≡ objects.old.items) }
     ensures all_idle { All (λ c. C.activity c ≡ idle) objects.new.items }
-    ensures all_mean { All (λ c. C.says c ≡ A.next (C.number c)) objects.new.items }
+    ensures all_mean { All (λ c. C.says c ≡ A.next.says (C.number c)) objects.new.items }
 {
     objects.push(object)?;
     Ok(())
@@ -78,7 +78,7 @@ impl<A: App, C: Cacheable> Registry<A, C> {
     /// The registry of these objects, which are the application's functions. Two of one number are refused.
     pub fn new(objects: Vec<C>) -> Result<Registry<A, C>, Twice>
         requires idle { All (λ c. C.activity c ≡ idle) objects.items }
-        requires means { All (λ c. C.says c ≡ A.next (C.number c)) objects.items }
+        requires means { All (λ c. C.says c ≡ A.next.says (C.number c)) objects.items }
         ensures answer { IfOk result (λ registry. numbers_of registry ≡ map C.number objects.items) }
         ensures idle { IfOk result (λ registry. AllIdle registry) }
         ensures only_if { OnOk result (IsDistinct eqb (map C.number objects.items)) }
@@ -103,9 +103,9 @@ impl<A: App, C: Cacheable> Registry<A, C> {
     /// Begins an activation of the function, and returns what it asks first.
     pub fn begin(&mut self, f: u8, args: &[u32]) -> Result<Ask, CallFault>
         requires idle { activity_of self.old f ≡ Some idle }
-        ensures answer { IfOk result (λ ask. next_of (A.next f) (begun args.now) ≡ Some ask) }
+        ensures answer { IfOk result (λ ask. next_of (A.next.says f) (begun args.now) ≡ Some ask) }
         ensures after { OnOk result (self.new ≡ with_activity self.old f (running (begun args.now))) }
-        ensures refused { (result ≡ Err CallFault.Args) ↔ (next_of (A.next f) (begun args.now) ≡ None) }
+        ensures refused { (result ≡ Err CallFault.Args) ↔ (next_of (A.next.says f) (begun args.now) ≡ None) }
         ensures unchanged { OnErr result (self.new ≡ self.old) }
     {
         let Some(at) = place(&self.objects, f) else {
@@ -119,7 +119,7 @@ impl<A: App, C: Cacheable> Registry<A, C> {
     pub fn resume(&mut self, f: u8, answer: Answer) -> Result<Ask, CallFault>
         requires asking { IsAskingAt A.next self.old f }
         ensures answer { IfOk result (λ ask.
-            next_of (A.next f) (answered (activation_of self.old f) answer) ≡ Some ask) }
+            next_of (A.next.says f) (answered (activation_of self.old f) answer) ≡ Some ask) }
         ensures after { OnOk result
             (self.new ≡ with_activity self.old f (running (answered (activation_of self.old f) answer))) }
         ensures refused { IfErr result (λ fault. fault ≡ CallFault.Memory) }
@@ -147,7 +147,7 @@ impl<A: App, C: Suppliable> Registry<A, C> {
     /// Hands the function's object what the function asks first at these arguments, as its caller says. What a
     /// registry shows stays. It does nothing where there is no such object.
     pub fn supply_first(&mut self, f: u8, args: Vec<u32>, ask: Ask) -> Result<(), OtherAsk>
-        requires { next_of (A.next f) (begun args.items) ≡ Some ask }
+        requires { next_of (A.next.says f) (begun args.items) ≡ Some ask }
         ensures taken { IsOk result }
         ensures unchanged { self.new ≡ self.old }
     {
@@ -161,7 +161,7 @@ impl<A: App, C: Suppliable> Registry<A, C> {
     /// Hands the function's object what the function asks after this answer, as its caller says. What a registry
     /// shows stays. It does nothing where there is no such object.
     pub fn supply_next(&mut self, f: u8, answer: Answer, ask: Ask) -> Result<(), OtherAsk>
-        requires { next_of (A.next f) (answered (activation_of self.old f) answer) ≡ Some ask }
+        requires { next_of (A.next.says f) (answered (activation_of self.old f) answer) ≡ Some ask }
         ensures taken { IsOk result }
         ensures unchanged { self.new ≡ self.old }
     {

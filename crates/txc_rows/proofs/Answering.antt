@@ -14,7 +14,6 @@ use Rattle.sqlite.proofs.Callers.{reads_as}
 use Rattle.sqlite_trees.proofs.ListLemmas.{map-map, filter-map, filter_same, all_of, pull_back, all_both, all-filter, all-map, all-permutation}
 use Rattle.txc_rows.specs.declared.version.Versioned.{Versioned}
 use Rattle.txc_rows.specs.declared.query.Query.{Query}
-use Rattle.txc_rows.specs.declared.texts.TheConstants.{MOST_READ}
 use Rattle.txc_rows.specs.States.{query_table}
 use Rattle.txc_rows.specs.Versions.{suits}
 use Rattle.txc_rows.specs.Holdable.{IsStorable}
@@ -91,14 +90,14 @@ all_first P zero xs all = tt
 all_first P (suc n) [] all = tt
 all_first P (suc n) (x ∷ xs) all = (all.0, all_first P n xs all.1)
 
-pub listing : (q : Query) (from : ℕ) (placed : List Placed) (rows : List Row) → AllByRecursion (λ x. IsStorable x.version) placed → Lists (is_asked q from) MOST_READ (map version_of placed) rows
-    → IsListing q (left_from from (map version_of placed)) rows
-listing q from placed rows each h =
+pub listing : (q : Query) (from most : ℕ) (placed : List Placed) (rows : List Row) → AllByRecursion (λ x. IsStorable x.version) placed → Lists (is_asked q from) most (map version_of placed) rows
+    → IsListing q most (left_from from (map version_of placed)) rows
+listing q from most placed rows each h =
     let t = query_table q in
     let vs = map version_of placed in
     let all = all-permutation _ (filter (is_asked q from) vs) h.found h.same (of_table q from vs (all-map IsStorable version_of placed each)) in
-    let first : rows ≡ map queried_columns (take MOST_READ h.found) = h.rows_are ∙ take-map queried_columns MOST_READ h.found in
-    let back = read_back t (take MOST_READ h.found) (all_first _ MOST_READ h.found all) in
+    let first : rows ≡ map queried_columns (take most h.found) = h.rows_are ∙ take-map queried_columns most h.found in
+    let back = read_back t (take most h.found) (all_first _ most h.found all) in
     let kept : IsPermutation (filter (suits q) (left_from from vs)) h.found = rw (asked_left q from vs) h.same in
     record {
       each = subst (AllByRecursion (IsShown t)) (sym first) back.1;

@@ -1,5 +1,5 @@
 -- Versions by stamps that are counted from a later one on.
-use Rattle.std.proofs.Common.{◌≡◌, ℕ, zero, suc, ◌+◌, ◌-◌, ◌<◌, ◌≤◌, List, [], ◌∷◌, ◌++◌, map, filter, length, get_or, Bool, true, false, cond, not, nat_le, nat_lt, ◌&&◌, Option, Some, None, is_none, refl, sym, ap, subst, ◌∙◌, arith}
+use Rattle.std.proofs.Common.{◌≡◌, inl, inr, ℕ, zero, suc, ◌+◌, ◌-◌, ◌<◌, ◌≤◌, List, [], ◌∷◌, ◌++◌, map, filter, length, get_or, Bool, true, false, cond, not, nat_le, nat_lt, ◌&&◌, Option, Some, None, is_none, refl, sym, ap, subst, ◌∙◌, arith}
 use Rattle.std.proofs.lemmas.Bool.Decides.{nat_tests}
 use Rattle.std.proofs.lemmas.List.{length-map, map-append}
 use borrow.Author.Tests.{le-leb}
@@ -7,7 +7,7 @@ use Rattle.std.specs.declared.cmp.Ordering.{Ordering}
 use Rattle.std.specs.declared.cmp.Ordering.TheVariants.{Less, Equal, Greater}
 use Rattle.std.specs.Ordering.{is_lt, nat_cmp, ordering_then}
 use Rattle.std.specs.List.{AllByRecursion, Contains}
-use Rattle.std.specs.List.Sorted.{IsSorted}
+use Rattle.std.specs.List.Sorted.{IsPermutation, IsSorted}
 use Rattle.std.proofs.lemmas.List.Sorted.{IsPermutation-map}
 use Rattle.sqlite_trees.proofs.ListLemmas.{map-map, filter-map, filter_same, filter_all, all_of, all_weaker, all-map}
 use Rattle.txc_stamp.specs.declared.stamp.TheConstants.{MOST_STAMP}
@@ -20,9 +20,9 @@ use Rattle.txc_rows.specs.States.{State, is_at}
 use Rattle.txc_rows.specs.Versions.{suits, row_of, is_visible, lives_at, visible_rows, is_current, current, closed, removed, put, after_net, died_by, has_died_by, purged, death_from, counted_from, version_cmp, Follows, Pairwise, IsVersion}
 use Rattle.txc_rows.specs.Holdable.{IsStorable}
 use Rattle.txc_rows.specs.Says.{VersionsSay, AreUpTo}
-use Rattle.txc_rows.specs.Found.{Finds}
+use Rattle.txc_rows.specs.Found.{Finds, FindsAround, IsNearer, IsNeedless}
 use Rattle.txc_rows.specs.Keeping.{KeepsStates, KeepsBegun}
-use Rattle.txc_rows.proofs.Members.{passing}
+use Rattle.txc_rows.proofs.Members.{passing, is_in, contains_it, in_map}
 use Rattle.txc_rows.proofs.StoredRows.{is_lt-nat_cmp}
 use Rattle.txc_rows.proofs.StoredVersions.{none_is}
 use Rattle.txc_rows.proofs.KeepingLemmas.{no_later, keeps_purged}
@@ -73,6 +73,26 @@ module _ (first : ℕ) where
   pub finds_counted : (q : Query) (vs found : List Versioned) → Finds q vs found → Finds q (map (counted_from first) vs) (map (counted_from first) found)
   finds_counted q vs found finds = record {
     same = rw (filter-map (suits q) (counted_from first) vs) (IsPermutation-map (counted_from first) _ _ finds.same);
+    sorted = sorted_counted found finds.sorted;
+  }
+
+  near_counted : (t : ℕ) (w v : Versioned) → IsNearer (t + first) w v → IsNearer t (counted_from first w) (counted_from first v)
+  near_counted t w v it =
+      let died : death_from first v.died ≡ Some (it.0 - first) = ap (death_from first) it.2 in
+      let ended : death_from first w.died ≡ Some (it.1 - first) = ap (death_from first) it.3 in
+      let d = it.0 in
+      let e = it.1 in
+      elim it.4 [
+        | inl early ↦ (d - first, e - first, died, ended, inl (omega (arith, early.0), omega (arith, early.1)))
+        | inr late ↦ (d - first, e - first, died, ended, inr (late.0, late.1, omega (arith, late.2), omega (arith, late.3)))
+      ]
+
+  pub around_counted : (q : Query) (t : ℕ) (vs found : List Versioned) → FindsAround q (t + first) vs found → FindsAround q t (map (counted_from first) vs) (map (counted_from first) found)
+  around_counted q t vs found finds = record {
+    rest = map (counted_from first) finds.rest;
+    all = subst (IsPermutation (filter (suits q) (map (counted_from first) vs))) (map-append (counted_from first) found finds.rest) (rw (filter-map (suits q) (counted_from first) vs) (IsPermutation-map (counted_from first) _ _ finds.all));
+    needless = all-map (IsNeedless t (map (counted_from first) found)) (counted_from first) finds.rest (all_weaker (IsNeedless (t + first) found) _ (λ v it.
+        (counted_from first it.0, contains_it _ (counted_from first it.0) (in_map (counted_from first) it.0 found (is_in found it.0 it.1)), near_counted t it.0 v it.2)) finds.rest finds.needless);
     sorted = sorted_counted found finds.sorted;
   }
 
@@ -230,6 +250,10 @@ module _ (first : ℕ) (store old : List Versioned) (view : map (counted_from fi
   pub found_counted : (q : Query) (found counted : List Versioned) → counted ≡ map (counted_from first) found → Finds q store found → Finds q old counted
   found_counted q found counted is finds =
       subst (λ (vs : List Versioned). Finds q vs counted) view (subst (λ (xs : List Versioned). Finds q (map (counted_from first) store) xs) (sym is) (finds_counted first q store found finds))
+
+  pub near_found : (q : Query) (t at : ℕ) (found counted : List Versioned) → at ≡ t + first → counted ≡ map (counted_from first) found → FindsAround q at store found → FindsAround q t old counted
+  near_found q t at found counted same is finds =
+      subst (λ (vs : List Versioned). FindsAround q t vs counted) view (subst (λ (xs : List Versioned). FindsAround q t (map (counted_from first) store) xs) (sym is) (around_counted first q t store found (subst (λ (s : ℕ). FindsAround q s store found) same finds)))
 
   pub newest_counted : (q : Query) (found counted : List Versioned) → counted ≡ map (counted_from first) found → Finds q (current store) found → Finds q (current old) counted
   newest_counted q found counted is finds =

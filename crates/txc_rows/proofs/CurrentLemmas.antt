@@ -1,14 +1,12 @@
 -- What is found of the versions that have not died.
-use Rattle.std.proofs.Common.{◌≡◌, ◌≢◌, ℕ, ◌+◌, ◌≤◌, List, [], ◌++◌, map, filter, length, false, Option, Some, None, is_none, Ok, Err, Result, Vec, Global, IfOk, refl, ap, subst, ◌∙◌, append-nil, length-append, arith}
+use Rattle.std.proofs.Common.{◌≡◌, ◌≢◌, ℕ, ◌≤◌, List, [], ◌++◌, map, filter, length, false, Option, Some, None, is_none, Ok, Err, Result, Vec, Global, IfOk, refl, ap, subst, ◌∙◌, append-nil, arith}
 use Rattle.std.specs.List.{AllByRecursion}
 use Rattle.std.specs.List.Sorted.{IsPermutation}
 use Rattle.std.proofs.lemmas.List.{length-map}
 use Rattle.std.proofs.lemmas.List.Elements.{filter-append}
-use Rattle.std.proofs.lemmas.List.Sorted.{length_permutation}
 use Rattle.sqlite_trees.proofs.ListLemmas.{IsPermutation-filter, filter_none, all_weaker, all-filter, all-map}
 use Rattle.sqlite.specs.Held.{Held}
 use Rattle.sqlite_trees.specs.declared.memory.MemStore.{MemStore}
-use Rattle.txc_rows.specs.declared.store_error.TheConstants.{MAX_MATCHING}
 use Rattle.txc_rows.specs.declared.store_error.StoreError.{StoreError}
 use Rattle.txc_rows.specs.declared.version.Versioned.{Versioned}
 use Rattle.txc_rows.specs.declared.query.Query.{Query}
@@ -38,7 +36,7 @@ module _ (q : Query) (from : ℕ) where
       dead None alive = absurd (alive refl)
       dead (Some d) alive = refl
 
-  asked_few : (xs : List Placed) → length (asked q from xs) ≤ length xs
+  pub asked_few : (xs : List Placed) → length (asked q from xs) ≤ length xs
   asked_few xs = omega (arith, few_left (suits q) (left_from from (map version_of xs)), few_left (is_left from) (map version_of xs), length-map xs version_of)
 
   module _ (replaced : List Placed) (h : Held MemStore) (old found : List Versioned) (none : old ≡ []) (finding : IsFinding q from (latest_in h) old found) where
@@ -50,9 +48,6 @@ module _ (q : Query) (from : ℕ) where
         let are : current (found ++ asked q from replaced) ≡ current found
         = filter-append is_current found (asked q from replaced) ∙ ap (λ xs. current found ++ xs) (none_current replaced ended) ∙ append-nil (current found) in
         subst (IsPermutation (filter (suits q) (current (left_from from (versions_of replaced h))))) are (both_current q (left_from from (versions_of replaced h)) (found ++ asked q from replaced) all_of)
-
-    pub last_few : length found + length replaced ≤ MAX_MATCHING → length (of_all q from replaced h) ≤ MAX_MATCHING
-    last_few room = omega (arith, room, length_permutation _ _ all_of, length-append found (asked q from replaced), asked_few replaced)
 
 -- ---- the newest state
 

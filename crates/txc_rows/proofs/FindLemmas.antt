@@ -6,7 +6,6 @@ use Rattle.std.specs.List.{AllByRecursion, Contains}
 use Rattle.std.specs.List.Sorted.{IsPermutation, IsSorted}
 use Rattle.std.proofs.lemmas.List.Sorted.{IsPermutation-map, IsPermutation-sym, IsPermutation-trans, IsPermutation-append_left, IsPermutation-append_right, length_permutation}
 use Rattle.sqlite_trees.proofs.ListLemmas.{IsPermutation-filter, filter-map, all-filter, all-permutation}
-use Rattle.txc_rows.specs.declared.store_error.TheConstants.{MAX_MATCHING}
 use Rattle.txc_rows.specs.declared.version.Versioned.{Versioned}
 use Rattle.txc_rows.specs.declared.query.Query.{Query}
 use Rattle.txc_rows.specs.declared.query.Query.TheVariants.{ById}
@@ -34,7 +33,7 @@ module _ (q : Query) (from : ℕ) where
   abbrev pub asked : List Placed → List Versioned
   asked xs = filter (suits q) (left_from from (map version_of xs))
 
-  asked_append : (xs ys : List Placed) → asked (xs ++ ys) ≡ asked xs ++ asked ys
+  pub asked_append : (xs ys : List Placed) → asked (xs ++ ys) ≡ asked xs ++ asked ys
   asked_append xs ys =
       ap (λ vs. filter (suits q) (left_from from vs)) (map-append version_of xs ys)
       ∙ ap (filter (suits q)) (filter-append (is_left from) (map version_of xs) (map version_of ys))
@@ -51,20 +50,23 @@ module _ (q : Query) (from : ℕ) where
         let moved = IsPermutation-trans _ _ _ apart (IsPermutation-append_right old _ _ (IsPermutation-append_left (asked rest) _ _ finding.same)) in
         rw (finding.are, append_assoc old finding.more (asked rest)) moved
 
-    pub found_many : MAX_MATCHING < length old + length (asked here) → MAX_MATCHING < length all
-    found_many many =
+    pub found_many : (most : ℕ) → most < length old + length (asked here) → most < length all
+    found_many most many =
         let apart = ap length (asked_append here rest) ∙ length-append (asked here) (asked rest) in
         omega (arith, many, length_permutation _ _ so_far, length-append old (asked (here ++ rest)), apart)
 
 -- what was read of the table is found
-pub read_finding : (q : Query) (from : ℕ) (placed : List Placed) (old new : List Versioned) (rows : List Row) → IsListing q (left_from from (map version_of placed)) rows → length old ≤ MAX_MATCHING → length rows ≤ MAX_MATCHING - length old
+pub read_finding : (q : Query) (from most : ℕ) (placed : List Placed) (old new : List Versioned) (rows : List Row) → IsListing q (most + 1) (left_from from (map version_of placed)) rows → length rows ≤ most - length old
     → new ≡ old ++ map (version_shown (query_table q)) rows → IsFinding q from placed old new
-read_finding q from placed old new rows listing room few are = record {
+read_finding q from most placed old new rows listing few are = record {
   more = map (version_shown (query_table q)) rows;
-  same = all_shown q (left_from from (map version_of placed)) rows listing (omega (arith, few));
+  same = all_shown q most (left_from from (map version_of placed)) rows listing (omega (arith, few));
   are = are;
-  few = omega (arith, few, room, ap length are, length-append old (map (version_shown (query_table q)) rows), length-map rows (version_shown (query_table q)));
 }
+
+-- as many as were read
+pub read_few : (q : Query) (most : ℕ) (old new : List Versioned) (rows : List Row) → length old ≤ most → length rows ≤ most - length old → new ≡ old ++ map (version_shown (query_table q)) rows → length new ≤ most
+read_few q most old new rows room few are = omega (arith, few, room, ap length are, length-append old (map (version_shown (query_table q)) rows), length-map rows (version_shown (query_table q)))
 
 -- ---- the last versions of one row, with their places
 
@@ -72,17 +74,15 @@ module _ (t i from : ℕ) (latest : List Placed) (rows : List Row) (reads : AreP
   row_asked : asked (ById t i) from latest ≡ map version_of (filter (is_row_left t i from) latest)
   row_asked = asked_left (ById t i) from (map version_of latest) ∙ filter-map (is_asked (ById t i) from) version_of latest
 
-  pub row_finding : (old new : List Versioned) → length old ≤ MAX_MATCHING → length rows ≤ MAX_MATCHING - length old → new ≡ old ++ map version_of (map placed_from rows)
-      → IsFinding (ById t i) from latest old new
-  row_finding old new low few are = record {
-    more = map version_of (map placed_from rows);
-    same = rw row_asked (IsPermutation-map version_of _ _ reads.same);
-    are = are;
-    few = omega (arith, low, few, ap length are, length-append old (map version_of (map placed_from rows)), length-map (map placed_from rows) version_of, length-map rows placed_from);
-  }
+  pub row_finding : (old new : List Versioned) → new ≡ old ++ map version_of (map placed_from rows) → IsFinding (ById t i) from latest old new
+  row_finding old new are = record { more = map version_of (map placed_from rows); same = rw row_asked (IsPermutation-map version_of _ _ reads.same); are = are }
 
-  pub row_many : (old : List Versioned) → length old ≤ MAX_MATCHING → MAX_MATCHING - length old < length rows → MAX_MATCHING < length old + length (asked (ById t i) from latest)
-  row_many old low many =
+  pub row_few : (most : ℕ) (old new : List Versioned) → length old ≤ most → length rows ≤ most - length old → new ≡ old ++ map version_of (map placed_from rows) → length new ≤ most
+  row_few most old new low few are =
+      omega (arith, low, few, ap length are, length-append old (map version_of (map placed_from rows)), length-map (map placed_from rows) version_of, length-map rows placed_from)
+
+  pub row_many : (most : ℕ) (old : List Versioned) → length old ≤ most → most - length old < length rows → most < length old + length (asked (ById t i) from latest)
+  row_many most old low many =
       omega (arith, low, many, ap length row_asked, length-map (filter (is_row_left t i from) latest) version_of, length_permutation _ _ reads.same, length-map rows placed_from)
 
   pub row_among : AreAmong latest (map placed_from rows)
@@ -102,13 +102,16 @@ module _ (q : Query) (from : ℕ) (replaced : List Placed) (h : Held MemStore) w
   found_latest old new none finding =
       found_more q from of_all [] new (latest_in h) replaced (all_asked q from (latest_in h ++ replaced)) (subst (λ vs. IsFinding q from (latest_in h) vs new) none finding)
 
-  pub latest_many : (old : List Versioned) → old ≡ [] → MAX_MATCHING < length old + length (asked q from (latest_in h)) → MAX_MATCHING < length of_all
-  latest_many old none many =
-      found_many q from of_all [] [] (latest_in h) replaced (all_asked q from (latest_in h ++ replaced)) (subst (λ vs. MAX_MATCHING < length vs + length (asked q from (latest_in h))) none many)
+  pub latest_many : (most : ℕ) (old : List Versioned) → old ≡ [] → most < length old + length (asked q from (latest_in h)) → most < length of_all
+  latest_many most old none many =
+      found_many q from of_all [] [] (latest_in h) replaced (all_asked q from (latest_in h ++ replaced)) most (subst (λ vs. most < length vs + length (asked q from (latest_in h))) none many)
 
   module _ (found : List Versioned) (so_far : IsPermutation of_all (found ++ asked q from replaced)) where
-    pub replaced_many : MAX_MATCHING < length found + length (asked q from replaced) → MAX_MATCHING < length of_all
-    replaced_many many = omega (arith, many, length_permutation _ _ so_far, length-append found (asked q from replaced))
+    pub replaced_few : (most : ℕ) → length found + length (asked q from replaced) ≤ most → length of_all ≤ most
+    replaced_few most few = omega (arith, few, length_permutation _ _ so_far, length-append found (asked q from replaced))
+
+    pub replaced_many : (most : ℕ) → most < length found + length (asked q from replaced) → most < length of_all
+    replaced_many most many = omega (arith, many, length_permutation _ _ so_far, length-append found (asked q from replaced))
 
     pub found_both : (all : List Versioned) → IsFinding q from replaced found all → IsPermutation of_all all
     found_both all finding = rw finding.are (IsPermutation-trans _ _ _ so_far (IsPermutation-append_right found _ _ finding.same))

@@ -31,18 +31,18 @@ version_ranks = ranks_by version_total (λ v. v)
 
 -- ---- in the order of the query too, each version follows those before it
 
-abbrev Meets : Versioned → Versioned → Type 0
+abbrev pub Meets : Versioned → Versioned → Type 0
 Meets v w = Follows v w ⊎ Follows w v
 
 turned : (v w : Versioned) → Meets v w → Meets w v
 turned v w (inl h) = inr h
 turned v w (inr h) = inl h
 
-meet : (vs : List Versioned) → Pairwise Follows vs → Pairwise Meets vs
+pub meet : (vs : List Versioned) → Pairwise Follows vs → Pairwise Meets vs
 meet [] h = tt
 meet (v ∷ vs) h = (all_weaker (Follows v) (Meets v) (λ w follows. inl follows) vs h.0, meet vs h.1)
 
-pairs_permute : (xs ys : List Versioned) → IsPermutation xs ys → IsPermutation xs ys × (Pairwise Meets xs → Pairwise Meets ys)
+pub pairs_permute : (xs ys : List Versioned) → IsPermutation xs ys → IsPermutation xs ys × (Pairwise Meets xs → Pairwise Meets ys)
 pairs_permute = along_permutation (λ ps qs. IsPermutation ps qs × (Pairwise Meets ps → Pairwise Meets qs))
     (λ ps. (IsPermutation-refl ps, λ h. h))
     (λ x ps qs h. (IsPermutation-cons x ps qs h.0, λ p. (all-permutation (Meets x) ps qs h.0 p.0, h.1 p.1)))
@@ -72,10 +72,9 @@ follows_on : (v w : Versioned) → IsVersion v → IsVersion w → is_lt (versio
 follows_on v w isv isw h (inl f) = f
 follows_on v w isv isw h (inr f) = record { died = λ a b. let dead = f.died (sym a) (sym b) in let low = ordered_births v w b h in let life = isw.life dead.0 dead.1 in absurd (omega (arith, dead.2)) }
 
-pub found_versions : (vs found : List Versioned) → AreVersions vs → IsPermutation vs found → IsSorted version_cmp found → AreVersions found
-found_versions vs found h same sorted =
-    let each = all-permutation IsVersion vs found same h.each in
-    record { each = each; apart = go found each ((pairs_permute vs found same).1 (meet vs h.apart)) sorted }
+-- where any two meet, those in order are versions
+pub in_order : (found : List Versioned) → AllByRecursion IsVersion found → Pairwise Meets found → IsSorted version_cmp found → AreVersions found
+in_order found each pairs sorted = record { each = each; apart = go found each pairs sorted }
   where
     under : (v : Versioned) → IsVersion v → (ws : List Versioned) → AllByRecursion IsVersion ws → AllByRecursion (Meets v) ws → AllByRecursion (λ w. is_lt (version_cmp w v) ≡ false) ws → AllByRecursion (Follows v) ws
     under v is [] e m l = tt
@@ -84,6 +83,9 @@ found_versions vs found h same sorted =
     go : (ws : List Versioned) → AllByRecursion IsVersion ws → Pairwise Meets ws → IsSorted version_cmp ws → Pairwise Follows ws
     go [] e m s = tt
     go (w ∷ ws) e m s = (under w e.0 ws e.1 m.0 (least_first w ws s), go ws e.1 m.1 (tail_sorted w ws s))
+
+pub found_versions : (vs found : List Versioned) → AreVersions vs → IsPermutation vs found → IsSorted version_cmp found → AreVersions found
+found_versions vs found h same sorted = in_order found (all-permutation IsVersion vs found same h.each) ((pairs_permute vs found same).1 (meet vs h.apart)) sorted
 
 pub finds_versions : (q : Query) (vs found : List Versioned) → AreVersions vs → Finds q vs found → AreVersions found
 finds_versions q vs found h finds = found_versions (filter (suits q) vs) found (kept_versions (suits q) vs h) finds.same finds.sorted

@@ -18,7 +18,7 @@ use Rattle.sqlite.proofs.Callers.{IsPlain}
 use Rattle.sqlite_trees.specs.declared.memory.MemStore.{MemStore}
 use borrow.Author.Tests.{eqb-true}
 use Rattle.txc_rows.specs.declared.query.Query.{Query}
-use Rattle.txc_rows.specs.declared.texts.TheConstants.{MOST_READ, READ_LAST, READ_PLACED, READ_LEFT}
+use Rattle.txc_rows.specs.declared.texts.TheConstants.{READ_LAST, READ_PLACED, READ_LEFT}
 use Rattle.txc_rows.specs.Holdable.{IsStorable}
 use Rattle.txc_rows.specs.declared.placed.Placed.{Placed}
 use Rattle.txc_rows.specs.Placed.{is_left, placed_left, is_row_left, is_touched}
@@ -129,13 +129,13 @@ read_same text params plain old new kept r ok err = go r ok err
     go (Ok rows) shown fails = refused_same old new kept (inl (shown_same text params (state over_memory old) (state over_memory new) rows.items here shown))
     go (Err e) shown fails = refused_same old new kept (query_refused text params (state over_memory old) (state over_memory new) e here fails)
 
-module _ (q : Query) (from : ℕ) (fs : List Term) (text : List ℕ) (is : IsListingOf fs text) (params : Row)
-    (test : (id : ℤ) (x : Placed) → list_all (holds (params ∷ stored id x ∷ [])) fs ≡ is_asked q from x.version) (limit : as_count (eval most_shown (params ∷ [])) ≡ Some MOST_READ) (old new : Held MemStore) (kept : IsKept old) where
+module _ (q : Query) (from most : ℕ) (fs : List Term) (text : List ℕ) (is : IsListingOf fs text) (params : Row)
+    (test : (id : ℤ) (x : Placed) → list_all (holds (params ∷ stored id x ∷ [])) fs ≡ is_asked q from x.version) (limit : as_count (eval most_shown (params ∷ [])) ≡ Some most) (old new : Held MemStore) (kept : IsKept old) where
   pub lists : (r : Result (Vec Row Global) Error) → IfOk r (λ rows. Shown text params (state over_memory old) (state over_memory new) rows.items)
-      → IfErr r (FailsToQuery text params (state over_memory old) (state over_memory new)) → IsReading q from old new r
+      → IfErr r (FailsToQuery text params (state over_memory old) (state over_memory new)) → IsReading q from most old new r
   lists (Ok rows) ok err =
-      let found = selects fs params text (is_asked q from) MOST_READ test limit is (state over_memory old) (state over_memory new) rows.items kept.table.schema kept.table.latest ok in
-      record { same = read_same text params is.plain old new kept (Ok rows) ok err; lists = listing q from (latest_in old) rows.items kept.each found }
+      let found = selects fs params text (is_asked q from) most test limit is (state over_memory old) (state over_memory new) rows.items kept.table.schema kept.table.latest ok in
+      record { same = read_same text params is.plain old new kept (Ok rows) ok err; lists = listing q from most (latest_in old) rows.items kept.each found }
   lists (Err e) ok err = record { same = read_same text params is.plain old new kept (Err e) ok err; lists = tt }
 
 left_rows : (from : ℕ) (old new : Held MemStore) → IsKept old → (rows : List Row) → Shown READ_LEFT.now (number from ∷ []) (state over_memory old) (state over_memory new) rows

@@ -1,32 +1,32 @@
 -- The spots of replaced versions, and what is picked by them.
-use Rattle.std.proofs.Common.{◌≡◌, ◌≢◌, ℕ, ◌+◌, ◌-◌, ◌^◌, ◌<◌, ◌≤◌, zero, suc, get_or, List, [], ◌∷◌, ◌++◌, map, filter, drop, length, length-drop, option_to_list, Bool, true, false, cond, not, ◌&&◌, ◌==◌, nat_le, Some, None, Ok, Err, Result, OnOk, refl, sym, ap, subst, ◌∙◌, append_assoc, append-nil, length-append, arith}
+use Rattle.std.proofs.Common.{◌≡◌, ◌≢◌, ◌⊎◌, inl, inr, ℕ, ◌+◌, ◌-◌, ◌^◌, ◌<◌, ◌≤◌, zero, suc, get_or, List, [], ◌∷◌, ◌++◌, map, filter, drop, length, length-drop, option_to_list, Bool, true, false, cond, not, ◌&&◌, ◌==◌, nat_le, Option, Some, None, refl, sym, ap, subst, ◌∙◌, append_assoc, append-nil, length-append, arith}
 use Rattle.std.proofs.lemmas.Bool.Decides.{nat_tests}
-use borrow.Author.Tests.{leb-true, le-leb, lt-leb}
+use borrow.Author.Tests.{eqb-true, leb-true, le-leb, lt-leb}
 use Rattle.std.specs.declared.cmp.Ordering.{Ordering}
 use Rattle.std.specs.declared.cmp.Ordering.TheVariants.{Less, Equal, Greater}
 use Rattle.std.specs.Ordering.{nat_cmp, ordering_then, is_eq, is_le, is_lt, match_ordering}
 use Rattle.std.specs.List.{slice_get, AllByRecursion}
-use Rattle.std.specs.List.Sorted.{IsPermutation}
+use Rattle.std.specs.List.Sorted.{IsPermutation, IsStrictlySortedBy}
+use Rattle.std.proofs.lemmas.Map.Keys.{sorted_head, sorted_tail}
+use Rattle.std.proofs.lemmas.List.Kept.{IsStrictlySortedBy-filter}
 use Rattle.std.specs.BTreeSet.{insert_key}
 use Rattle.std.specs.Set.{remove_key}
 use Rattle.std.specs.BTreeMap.Range.{range_contains}
 use Rattle.std.specs.declared.ops.Bound.TheVariants.{Included, Excluded}
 use Rattle.std.proofs.lemmas.List.Sorted.{IsPermutation-refl, IsPermutation-sym, IsPermutation-trans, IsPermutation-cons, IsPermutation-middle, IsPermutation-map, length_permutation}
-use Rattle.std.proofs.lemmas.List.{length-map}
-use Rattle.sqlite_trees.proofs.ListLemmas.{filter-map, all_of, all_both, all_weaker, all-filter, all-permutation, filter_all, filter_none, filter_same, IsPermutation-flat_map, IsPermutation-filter}
+use Rattle.sqlite_trees.proofs.ListLemmas.{filter-map, all_both, all_weaker, all-filter, all-permutation, filter_all, filter_none, filter_same, IsPermutation-flat_map, IsPermutation-filter}
 use Rattle.txc_rows.specs.declared.placed.Placed.{Placed}
 use Rattle.txc_rows.specs.declared.replaced.Spot.{Spot}
+use Rattle.txc_rows.specs.declared.replaced.Deaths.{Deaths}
 use Rattle.txc_rows.specs.declared.query.Query.{Query}
 use Rattle.txc_rows.specs.declared.query.Query.TheVariants.{ById, ByGroup, All, Range}
 use Rattle.txc_rows.specs.declared.version.Versioned.{Versioned}
-use Rattle.txc_rows.specs.declared.store_error.TheConstants.{MAX_MATCHING}
 use Rattle.txc_rows.specs.Versions.{suits}
 use Rattle.txc_rows.specs.Holdable.{IsStorable}
-use Rattle.txc_rows.specs.Placed.{version_of, is_left, placed_left}
-use Rattle.txc_rows.specs.Indexed.{version_id, version_group, spot_of, spots_from, FitsSpot, AreIndexed, is_from, is_between, spot_suits, spots_asked, picked}
-use Rattle.txc_rows.specs.Kept.{IsFinding}
-use Rattle.txc_rows.proofs.FindLemmas.{asked}
-use Rattle.txc_rows.proofs.Members.{filters_turned}
+use Rattle.txc_stamp.specs.declared.stamp.TheConstants.{MOST_STAMP}
+use Rattle.txc_rows.specs.Placed.{version_of}
+use Rattle.txc_rows.specs.Indexed.{version_id, version_group, stamp_or_zero, death_of, spot_of, spots_from, FitsSpot, AreIndexed, is_from, dies_within, is_between, dies_between, spot_suits, spots_asked, picked, dead_between, DeathsRise}
+use Rattle.txc_rows.proofs.Members.{both_true, filters_turned, filtered_both, passing}
 
 -- ---- one key more or less
 
@@ -69,19 +69,31 @@ module _ {K : Type 0} (test : K → Bool) where
 -- ---- spots in order
 
 abbrev pub spot_cmp : Spot → Spot → Ordering
-spot_cmp s t = ordering_then (nat_cmp s.table t.table) (ordering_then (nat_cmp s.key t.key) (nat_cmp s.number t.number))
+spot_cmp s t = ordering_then (nat_cmp s.table t.table) (ordering_then (nat_cmp s.key t.key) (ordering_then (nat_cmp s.death t.death) (nat_cmp s.number t.number)))
+
+then_equal : (o p : Ordering) → ordering_then o p ≡ Equal → (o ≡ Equal) × (p ≡ Equal)
+then_equal Less p e = absurd (let f = e in cc)
+then_equal Equal p e = (refl, e)
+then_equal Greater p e = absurd (let f = e in cc)
+
+both_equal : (o p : Ordering) → o ≡ Equal → p ≡ Equal → ordering_then o p ≡ Equal
+both_equal o p e f = rw (e, f) refl
+
+number_equal : (a b : ℕ) → nat_cmp a b ≡ Equal → a ≡ b
+number_equal a b e = grind (arith, nat_tests)
+
+number_itself : (a : ℕ) → nat_cmp a a ≡ Equal
+number_itself a = grind (arith, nat_tests)
 
 pub spot_differs : (s t : Spot) → t.number ≢ s.number → spot_cmp s t ≢ Equal
-spot_differs s t apart = differs s.table s.key s.number t.table t.key t.number apart
-  where
-    differs : (a b c d e f : ℕ) → f ≢ c → ordering_then (nat_cmp a d) (ordering_then (nat_cmp b e) (nat_cmp c f)) ≢ Equal
-    differs a b c d e f apart same = grind (arith, nat_tests)
+spot_differs s t apart same =
+    let keys = then_equal (nat_cmp s.table t.table) _ same in
+    let deaths = then_equal (nat_cmp s.key t.key) _ keys.1 in
+    let numbers = then_equal (nat_cmp s.death t.death) _ deaths.1 in
+    apart (sym (number_equal s.number t.number numbers.1))
 
 pub spot_itself : (s : Spot) → spot_cmp s s ≡ Equal
-spot_itself s = itself s.table s.key s.number
-  where
-    itself : (a b c : ℕ) → ordering_then (nat_cmp a a) (ordering_then (nat_cmp b b) (nat_cmp c c)) ≡ Equal
-    itself a b c = grind (arith, nat_tests)
+spot_itself s = both_equal _ _ (number_itself s.table) (both_equal _ _ (number_itself s.key) (both_equal _ _ (number_itself s.death) (number_itself s.number)))
 
 pub all_differ : (s : Spot) (ss : List Spot) → AllByRecursion (λ t. t.number ≢ s.number) ss → AllByRecursion (λ t. spot_cmp s t ≢ Equal) ss
 all_differ s ss all = all_weaker _ (λ t. spot_cmp s t ≢ Equal) (spot_differs s) ss all
@@ -121,9 +133,9 @@ module _ (key : Placed → ℕ) where
   spots_high n m [] low = tt
   spots_high n m (x ∷ xs) low = (low, spots_high (n + 1) m xs (omega (arith, low)))
 
-  pub spots_fit : (n : ℕ) (xs : List Placed) → AllByRecursion (λ x. key x ≤ 4294967295) xs → n + length xs < 18446744073709551616 → AllByRecursion FitsSpot (spots_from key n xs)
+  pub spots_fit : (n : ℕ) (xs : List Placed) → AllByRecursion (λ x. (key x ≤ 4294967295) × (death_of x.version ≤ MOST_STAMP)) xs → n + length xs < 18446744073709551616 → AllByRecursion FitsSpot (spots_from key n xs)
   spots_fit n [] low fits = tt
-  spots_fit n (x ∷ xs) low fits = ((let l = low.0 in omega (arith, l), omega (arith, fits)), spots_fit (n + 1) xs low.1 (omega (arith, fits)))
+  spots_fit n (x ∷ xs) low fits = ((let l = low.0.0 in omega (arith, l), let l = low.0.1 in omega (arith, l), omega (arith, fits)), spots_fit (n + 1) xs low.1 (omega (arith, fits)))
 
   -- ---- what is picked
 
@@ -233,29 +245,88 @@ shown_indexed first gone xs ids groups low h = record {
 
 -- ---- spots between two
 
-between_grind : (t a b n table key number : ℕ) → n ≤ number → number < 18446744073709551616
-    → (is_le (ordering_then (nat_cmp t table) (ordering_then (nat_cmp a key) (nat_cmp n number))) && not (is_lt (ordering_then (nat_cmp t table) (ordering_then (nat_cmp b key) (nat_cmp 18446744073709551615 number)))))
-    ≡ ((table == t) && (nat_le a key && nat_le key b))
-between_grind t a b n table key number from low = grind (arith, nat_tests)
+inner_low : (l death number : ℕ) → l ≤ death → is_le (ordering_then (nat_cmp l death) (nat_cmp 0 number)) ≡ true
+inner_low l death number low = grind (arith, nat_tests)
 
--- from a number on
-pub between_spots : (t a b n : ℕ) (ss : List Spot) → AllByRecursion FitsSpot (filter (is_from n) ss)
-    → filter (is_from n) (filter (range_contains spot_cmp (Included (record { table = t; key = a; number = n })) (Included (record { table = t; key = b; number = 18446744073709551615 }))) ss) ≡ filter (is_between t a b) (filter (is_from n) ss)
-between_spots t a b n ss fit =
-    filters_turned (is_from n) _ ss
-    ∙ filter_same _ _ (filter (is_from n) ss) (all_both (λ s. n ≤ s.number) FitsSpot _ (λ s from fits. between_grind t a b n s.table s.key s.number from fits.1) (filter (is_from n) ss) (all_from n ss) fit)
+inner_high : (h death number : ℕ) → death ≤ h → number < 18446744073709551616 → is_lt (ordering_then (nat_cmp h death) (nat_cmp 18446744073709551615 number)) ≡ false
+inner_high h death number high most = grind (arith, nat_tests)
 
-none_grind : (t a b table key number : ℕ) → b < a → ((table == t) && (nat_le a key && nat_le key b)) ≡ false
-none_grind t a b table key number low = grind (arith, nat_tests)
+-- the keys between two, whatever comes after them
+keys_between : (t a b table key : ℕ) (q r : Ordering) → is_le q ≡ true → is_lt r ≡ false
+    → (is_le (ordering_then (nat_cmp t table) (ordering_then (nat_cmp a key) q)) && not (is_lt (ordering_then (nat_cmp t table) (ordering_then (nat_cmp b key) r)))) ≡ ((table == t) && (nat_le a key && nat_le key b))
+keys_between t a b table key Less Less low high = absurd (let f = high in cc)
+keys_between t a b table key Less Equal low high = grind (arith, nat_tests)
+keys_between t a b table key Less Greater low high = grind (arith, nat_tests)
+keys_between t a b table key Equal Less low high = absurd (let f = high in cc)
+keys_between t a b table key Equal Equal low high = grind (arith, nat_tests)
+keys_between t a b table key Equal Greater low high = grind (arith, nat_tests)
+keys_between t a b table key Greater r low high = absurd (let f = low in cc)
+
+within_both : (d : Deaths) (s : Spot) → dies_within d s ≡ true → (d.low ≤ s.death) × (s.death ≤ d.high)
+within_both d s e =
+    let both = both_true (nat_le d.low s.death) (nat_le s.death d.high) (both_true (nat_le d.number s.number) (nat_le d.low s.death && nat_le s.death d.high) e).1 in
+    (leb-true d.low s.death both.0, leb-true s.death d.high both.1)
+
+-- those that died between two stamps, of those from a number on
+abbrev pub dies : Deaths → Spot → Bool
+dies d s = nat_le d.low s.death && nat_le s.death d.high
+
+pub within_from : (d : Deaths) (ss : List Spot) → filter (dies_within d) ss ≡ filter (dies d) (filter (is_from d.number) ss)
+within_from d ss = sym (filtered_both (dies d) (is_from d.number) ss)
+
+pub within_fit : (d : Deaths) (ss : List Spot) → AllByRecursion FitsSpot (filter (is_from d.number) ss) → AllByRecursion FitsSpot (filter (dies_within d) ss)
+within_fit d ss fit = subst (AllByRecursion FitsSpot) (sym (within_from d ss)) (all-filter FitsSpot (dies d) (filter (is_from d.number) ss) fit)
+
+pub between_spots : (t a b : ℕ) (d : Deaths) (ss : List Spot) → AllByRecursion FitsSpot (filter (is_from d.number) ss)
+    → filter (dies_within d) (filter (range_contains spot_cmp (Included (record { table = t; key = a; death = d.low; number = 0 })) (Included (record { table = t; key = b; death = d.high; number = 18446744073709551615 }))) ss) ≡ filter (is_between t a b) (filter (dies_within d) ss)
+between_spots t a b d ss fit =
+    filters_turned (dies_within d) _ ss
+    ∙ filter_same _ _ (filter (dies_within d) ss) (all_both (λ s. dies_within d s ≡ true) FitsSpot _ (λ s within fits. let w = within_both d s within in keys_between t a b s.table s.key _ _ (inner_low d.low s.death s.number w.0) (inner_high d.high s.death s.number w.1 fits.2)) (filter (dies_within d) ss) (passing (dies_within d) ss) (within_fit d ss fit))
+
+none_keys : (t a b table key : ℕ) → b < a → ((table == t) && (nat_le a key && nat_le key b)) ≡ false
+none_keys t a b table key low = grind (arith, nat_tests)
+
+none_in : (t a b l h table key death : ℕ) → (b < a) ⊎ (h < l) → l ≤ death → death ≤ h → ((table == t) && (nat_le a key && nat_le key b)) ≡ false
+none_in t a b l h table key death (inl low) from to = none_keys t a b table key low
+none_in t a b l h table key death (inr low) from to = absurd (omega (arith, low, from, to))
 
 both_off : (b : Bool) → b && not b ≡ false
 both_off true = refl
 both_off false = refl
 
-pub none_between : (t a b n : ℕ) (s : Spot) (ss : List Spot) → b < a → filter (is_from n) (filter (range_contains spot_cmp (Included s) (Excluded s)) ss) ≡ filter (is_between t a b) (filter (is_from n) ss)
-none_between t a b n s ss low =
-    filters_turned (is_from n) _ ss
-    ∙ filter_same _ _ (filter (is_from n) ss) (all_of _ (λ x. both_off (is_le (spot_cmp s x)) ∙ sym (none_grind t a b x.table x.key x.number low)) (filter (is_from n) ss))
+pub none_between : (t a b : ℕ) (d : Deaths) (s : Spot) (ss : List Spot) → (b < a) ⊎ (d.high < d.low) → filter (dies_within d) (filter (range_contains spot_cmp (Included s) (Excluded s)) ss) ≡ filter (is_between t a b) (filter (dies_within d) ss)
+none_between t a b d s ss low =
+    filters_turned (dies_within d) _ ss
+    ∙ filter_same _ _ (filter (dies_within d) ss) (all_weaker (λ x. dies_within d x ≡ true) _ (λ x within. let w = within_both d x within in both_off (is_le (spot_cmp s x)) ∙ sym (none_in t a b d.low d.high x.table x.key x.death low w.0 w.1)) (filter (dies_within d) ss) (passing (dies_within d) ss))
+
+-- of one key they stand in the order of their deaths
+same_keys : (t k a b : ℕ) → ((a == t) && (nat_le k b && nat_le b k)) ≡ true → (a ≡ t) × (b ≡ k)
+same_keys t k a b e =
+    let both = both_true (a == t) (nat_le k b && nat_le b k) e in
+    let ends = both_true (nat_le k b) (nat_le b k) both.1 in
+    (eqb-true a t both.0, (let low = leb-true k b ends.0 in let high = leb-true b k ends.1 in omega (arith, low, high)))
+
+less_death : (c f x y : ℕ) → ordering_then (nat_cmp c f) (nat_cmp x y) ≡ Less → c ≤ f
+less_death c f x y less = grind (arith, nat_tests)
+
+rise_of : (t k a b c d e f x y : ℕ) → ((a == t) && (nat_le k b && nat_le b k)) ≡ true → ((d == t) && (nat_le k e && nat_le e k)) ≡ true → ordering_then (nat_cmp a d) (ordering_then (nat_cmp b e) (ordering_then (nat_cmp c f) (nat_cmp x y))) ≡ Less → c ≤ f
+rise_of t k a b c d e f x y here there less =
+    let one = same_keys t k a b here in
+    let two = same_keys t k d e there in
+    let tables : nat_cmp a d ≡ Equal = subst (λ n. nat_cmp a n ≡ Equal) (one.0 ∙ sym two.0) (number_itself a) in
+    let keys : nat_cmp b e ≡ Equal = subst (λ n. nat_cmp b n ≡ Equal) (one.1 ∙ sym two.1) (number_itself b) in
+    less_death c f x y (rw (tables, keys) at less)
+
+pub deaths_rise : (t k : ℕ) (ss : List Spot) → IsStrictlySortedBy spot_cmp ss → AllByRecursion (λ s. is_between t k k s ≡ true) ss → DeathsRise ss
+deaths_rise t k [] sorted all = tt
+deaths_rise t k (s ∷ ss) sorted all = (
+  all_both (λ x. spot_cmp s x ≡ Less) (λ x. is_between t k k x ≡ true) _ (λ x less is. rise_of t k s.table s.key s.death x.table x.key x.death s.number x.number all.0 is less) ss (sorted_head spot_cmp s ss sorted) all.1,
+  deaths_rise t k ss (sorted_tail spot_cmp s ss sorted) all.1,
+)
+
+pub between_rise : (t k : ℕ) (d : Deaths) (ss : List Spot) → IsStrictlySortedBy spot_cmp ss → DeathsRise (filter (is_between t k k) (filter (dies_within d) ss))
+between_rise t k d ss sorted =
+    deaths_rise t k _ (IsStrictlySortedBy-filter spot_cmp (is_between t k k) _ (IsStrictlySortedBy-filter spot_cmp (dies_within d) ss sorted)) (passing (is_between t k k) (filter (dies_within d) ss))
 
 -- ---- what a query looks up
 
@@ -268,57 +339,66 @@ between_all t ss fit = filter_same _ _ ss (all_weaker FitsSpot _ (λ s fits. who
     whole : (a b key : ℕ) → key < 4294967296 → ((a == b) && (nat_le 0 key && nat_le key 4294967295)) ≡ (a == b)
     whole a b key low = grind (arith, nat_tests)
 
-asked_spots : (q : Query) (first : ℕ) (xs : List Placed) (ids groups : List Spot) → AreIndexed first xs ids groups
-    → IsPermutation (filter (λ x. suits q x.version) xs) (picked first xs (filter (spot_suits q) (spots_asked q ids groups)))
-asked_spots q first xs ids groups h = go q
+asked_spots : (q : Query) (d : Deaths) (first : ℕ) (xs : List Placed) (ids groups : List Spot) → AreIndexed first xs ids groups
+    → IsPermutation (filter (λ x. dies_between d.low d.high x.version && suits q x.version) xs) (picked first xs (filter (spot_suits q) (spots_asked q (filter (dies d) ids) (filter (dies d) groups))))
+asked_spots q d first xs ids groups h = go q
   where
     by : (key : Placed → ℕ) (p : Spot → Bool) (P : Placed → Bool) (spots : List Spot) → IsPermutation (spots_from key first xs) spots → ((n : ℕ) (x : Placed) → p (spot_of key n x) ≡ P x)
-        → IsPermutation (filter P xs) (picked first xs (filter p spots))
+        → IsPermutation (filter (λ x. dies_between d.low d.high x.version && P x) xs) (picked first xs (filter p (filter (dies d) spots)))
     by key p P spots same suit =
-        let all : picked first xs (filter p (spots_from key first xs)) ≡ filter P xs = subst (λ n. picked first xs (filter p (spots_from key n xs)) ≡ filter P xs) (omega arith) (picked_all key first p P [] xs suit) in
-        subst (λ ys. IsPermutation ys (picked first xs (filter p spots))) all (IsPermutation-flat_map _ _ _ (IsPermutation-filter p _ _ same))
+        let all : picked first xs (filter (λ s. dies d s && p s) (spots_from key first xs)) ≡ filter (λ x. dies_between d.low d.high x.version && P x) xs
+        = subst (λ n. picked first xs (filter (λ s. dies d s && p s) (spots_from key n xs)) ≡ filter (λ x. dies_between d.low d.high x.version && P x) xs) (omega arith)
+        (picked_all key first (λ s. dies d s && p s) (λ x. dies_between d.low d.high x.version && P x) [] xs (λ n x. ap (λ b. dies_between d.low d.high x.version && b) (suit n x))) in
+        let moved = subst (λ ys. IsPermutation ys (picked first xs (filter (λ s. dies d s && p s) spots))) all (IsPermutation-flat_map _ _ _ (IsPermutation-filter (λ s. dies d s && p s) _ _ same)) in
+        subst (λ ss. IsPermutation (filter (λ x. dies_between d.low d.high x.version && P x) xs) (picked first xs ss)) (sym (filtered_both p (dies d) spots)) moved
 
-    go : (r : Query) → IsPermutation (filter (λ x. suits r x.version) xs) (picked first xs (filter (spot_suits r) (spots_asked r ids groups)))
+    go : (r : Query) → IsPermutation (filter (λ x. dies_between d.low d.high x.version && suits r x.version) xs) (picked first xs (filter (spot_suits r) (spots_asked r (filter (dies d) ids) (filter (dies d) groups))))
     go (ById t i) = by version_id _ _ ids h.by_id (λ n x. between_one t i x.version.row.table x.version.row.id)
     go (ByGroup t g) = by version_group _ _ groups h.by_group (λ n x. between_one t g x.version.row.table x.version.row.group)
     go (All t) = by version_id _ _ ids h.by_id (λ n x. refl)
     go (Range t a b) = by version_id _ _ ids h.by_id (λ n x. refl)
 
-left_asked : (q : Query) (from : ℕ) (xs : List Placed) → map version_of (placed_left from (filter (λ x. suits q x.version) xs)) ≡ asked q from xs
-left_asked q from xs =
-    ap (map version_of) (filters_turned (λ x. is_left from x.version) (λ x. suits q x.version) xs)
-    ∙ sym (ap (filter (suits q)) (filter-map (is_left from) version_of xs) ∙ filter-map (suits q) version_of (placed_left from xs))
+-- ---- the version at a spot
 
-module _ (q : Query) (from first : ℕ) (xs : List Placed) (ids groups : List Spot) (h : AreIndexed first xs ids groups) where
-  abbrev pub found_there : List Placed
-  found_there = placed_left from (picked first xs (filter (spot_suits q) (spots_asked q ids groups)))
+-- a version stands at the spot, and died as it says
+pub record Points (first : ℕ) (xs : List Placed) (s : Spot) : Type 0 where
+  pub version : Placed
+  pub stands : slice_get xs (s.number - first) ≡ Some version
+  pub death : death_of version.version ≡ s.death
 
-  found_same : IsPermutation (asked q from xs) (map version_of found_there)
-  found_same = subst (λ vs. IsPermutation vs (map version_of found_there)) (left_asked q from xs)
-      (IsPermutation-map version_of _ _ (IsPermutation-filter (λ x. is_left from x.version) _ _ (asked_spots q first xs ids groups h)))
+points_from : (key : Placed → ℕ) (first : ℕ) (before xs : List Placed) → AllByRecursion (Points first (before ++ xs)) (spots_from key (first + length before) xs)
+points_from key first before [] = tt
+points_from key first before (x ∷ xs) =
+    let at : first + length (before ++ x ∷ []) ≡ (first + length before) + 1 = omega (arith, length-append before (x ∷ [])) in
+    let here : slice_get (before ++ x ∷ xs) ((first + length before) - first) ≡ Some x = ap (slice_get (before ++ x ∷ xs)) (omega arith) ∙ there key before x xs in
+    let rest = subst (λ ys. AllByRecursion (Points first ys) (spots_from key (first + length (before ++ x ∷ [])) xs)) (append_assoc before (x ∷ []) xs) (points_from key first (before ++ x ∷ []) xs) in
+    (record { version = x; stands = here; death = refl }, subst (λ n. AllByRecursion (Points first (before ++ x ∷ xs)) (spots_from key n xs)) at rest)
 
-  pub index_finds : (old new : List Versioned) → new ≡ old ++ map version_of found_there → length new ≤ MAX_MATCHING → IsFinding q from xs old new
-  index_finds old new are few = record { more = map version_of found_there; same = found_same; are = are; few = few }
+pub all_point : (q : Query) (p : Spot → Bool) (first : ℕ) (xs : List Placed) (ids groups : List Spot) → AreIndexed first xs ids groups → AllByRecursion (Points first xs) (filter (spot_suits q) (spots_asked q (filter p ids) (filter p groups)))
+all_point q p first xs ids groups h = all-filter (Points first xs) (spot_suits q) _ (go q)
+  where
+    each : (key : Placed → ℕ) (spots : List Spot) → IsPermutation (spots_from key first xs) spots → AllByRecursion (Points first xs) (filter p spots)
+    each key spots same =
+        let all = subst (λ n. AllByRecursion (Points first xs) (spots_from key n xs)) (omega arith) (points_from key first [] xs) in
+        all-filter (Points first xs) p spots (all-permutation (Points first xs) _ spots same all)
 
-  pub index_many : (n : ℕ) → MAX_MATCHING < n + length found_there → MAX_MATCHING < n + length (asked q from xs)
-  index_many n many = omega (arith, many, length_permutation _ _ found_same, length-map found_there version_of)
+    go : (r : Query) → AllByRecursion (Points first xs) (spots_asked r (filter p ids) (filter p groups))
+    go (ById t i) = each version_id ids h.by_id
+    go (ByGroup t g) = each version_group groups h.by_group
+    go (All t) = each version_id ids h.by_id
+    go (Range t a b) = each version_id ids h.by_id
 
-  pub spots_suit : AllByRecursion (λ s. first ≤ s.number) (filter (spot_suits q) (spots_asked q ids groups))
-  spots_suit = all-filter (λ s. first ≤ s.number) (spot_suits q) (spots_asked q ids groups) (go q)
-    where
-      high : (key : Placed → ℕ) (spots : List Spot) → IsPermutation (spots_from key first xs) spots → AllByRecursion (λ s. first ≤ s.number) spots
-      high key spots same = all-permutation (λ s. first ≤ s.number) _ spots same (spots_high key first first xs (omega arith))
+stamp_low : (d : Option ℕ) (most : ℕ) → ((k : ℕ) → d ≡ Some k → k ≤ most) → stamp_or_zero d ≤ most
+stamp_low None most low = omega arith
+stamp_low (Some d) most low = low d refl
 
-      go : (r : Query) → AllByRecursion (λ s. first ≤ s.number) (spots_asked r ids groups)
-      go (ById t i) = high version_id ids h.by_id
-      go (ByGroup t g) = high version_group groups h.by_group
-      go (All t) = high version_id ids h.by_id
-      go (Range t a b) = high version_id ids h.by_id
+pub death_low : (v : Versioned) → IsStorable v → death_of v ≤ MOST_STAMP
+death_low v is = stamp_low v.died MOST_STAMP is.died
 
 -- the ids and the groups are numbers of a machine
 module _ (first : ℕ) (xs : List Placed) (ids groups : List Spot) (h : AreIndexed first xs ids groups) (each : AllByRecursion (λ x. IsStorable x.version) xs) where
   fit : (key : Placed → ℕ) (spots : List Spot) → IsPermutation (spots_from key first xs) spots → ((x : Placed) → IsStorable x.version → key x ≤ 4294967295) → AllByRecursion FitsSpot spots
-  fit key spots same low = all-permutation FitsSpot _ spots same (spots_fit key first xs (all_weaker _ _ low xs each) h.fits)
+  fit key spots same low = all-permutation FitsSpot _ spots same (spots_fit key first xs (all_weaker _ _ (λ x is. (low x is, death_low x.version is)) xs each) h.fits)
 
   pub ids_fit : AllByRecursion FitsSpot ids
   ids_fit = fit version_id ids h.by_id (λ x is. is.row.id)
@@ -338,18 +418,23 @@ module _ (first gone : ℕ) (xs : List Placed) (ids groups : List Spot) (low : g
   pub shown_groups_fit : AllByRecursion (λ x. IsStorable x.version) (drop gone xs) → AllByRecursion FitsSpot (from_there groups)
   shown_groups_fit = groups_fit (first + gone) (drop gone xs) (from_there ids) (from_there groups) (shown_indexed first gone xs ids groups low h)
 
-  module _ (q : Query) (from : ℕ) (ss : List Spot) (are : from_there ss ≡ filter (spot_suits q) (spots_asked q (from_there ids) (from_there groups))) where
-    abbrev pub found_shown : List Placed
-    found_shown = placed_left from (picked first xs (from_there ss))
+  module _ (q : Query) (d : Deaths) (same : d.number ≡ first + gone) (ss : List Spot) (are : filter (dies_within d) ss ≡ filter (spot_suits q) (spots_asked q (filter (dies_within d) ids) (filter (dies_within d) groups))) where
+    -- what is picked at them is what died so
+    pub picked_dead : IsPermutation (dead_between q d.low d.high (drop gone xs)) (map version_of (picked first xs (filter (dies_within d) ss)))
+    picked_dead =
+        let number : first + gone ≡ d.number = sym same in
+        let indexed = shown_indexed first gone xs ids groups low h in
+        let spots = asked_spots q d (first + gone) (drop gone xs) (from_there ids) (from_there groups) indexed in
+        let each : (keys : List Spot) → filter (dies_within d) keys ≡ filter (dies d) (from_there keys) = λ keys. within_from d keys ∙ ap (λ n. filter (dies d) (filter (is_from n) keys)) same in
+        let moved : filter (dies_within d) ss ≡ filter (spot_suits q) (spots_asked q (filter (dies d) (from_there ids)) (filter (dies d) (from_there groups)))
+        = are ∙ (ap (λ is. filter (spot_suits q) (spots_asked q is (filter (dies_within d) groups))) (each ids) ∙ ap (λ gs. filter (spot_suits q) (spots_asked q (filter (dies d) (from_there ids)) gs)) (each groups)) in
+        let high : AllByRecursion (λ s. first + gone ≤ s.number) (filter (dies_within d) ss) = subst (AllByRecursion (λ s. first + gone ≤ s.number)) (sym (within_from d ss)) (all-filter (λ s. first + gone ≤ s.number) (dies d) (filter (is_from d.number) ss) (subst (λ n. AllByRecursion (λ s. n ≤ s.number) (filter (is_from d.number) ss)) same (all_from d.number ss))) in
+        let there : picked first xs (filter (dies_within d) ss) ≡ picked (first + gone) (drop gone xs) (filter (dies_within d) ss) = picked_later first gone (first + gone) xs (filter (dies_within d) ss) refl high in
+        let mapped : dead_between q d.low d.high (drop gone xs) ≡ map version_of (filter (λ x. dies_between d.low d.high x.version && suits q x.version) (drop gone xs)) = filter-map (λ v. dies_between d.low d.high v && suits q v) version_of (drop gone xs) in
+        rw (mapped, there, moved) (IsPermutation-map version_of _ _ spots)
 
-    same_found : found_shown ≡ found_there q from (first + gone) (drop gone xs) (from_there ids) (from_there groups) (shown_indexed first gone xs ids groups low h)
-    same_found = ap (placed_left from) (picked_shown first gone xs ss _ are)
-
-    pub shown_finds : (old new : List Versioned) → new ≡ old ++ map version_of found_shown → length new ≤ MAX_MATCHING → IsFinding q from (drop gone xs) old new
-    shown_finds old new is = index_finds q from (first + gone) (drop gone xs) (from_there ids) (from_there groups) (shown_indexed first gone xs ids groups low h) old new (is ∙ ap (λ ys. old ++ map version_of ys) same_found)
-
-    pub shown_many : (n : ℕ) → MAX_MATCHING < n + length found_shown → MAX_MATCHING < n + length (asked q from (drop gone xs))
-    shown_many n many = index_many q from (first + gone) (drop gone xs) (from_there ids) (from_there groups) (shown_indexed first gone xs ids groups low h) n (subst (λ ys. MAX_MATCHING < n + length ys) same_found many)
+    pub within_point : AllByRecursion (Points first xs) (filter (dies_within d) ss)
+    within_point = subst (AllByRecursion (Points first xs)) (sym are) (all_point q (dies_within d) first xs ids groups h)
 
 -- ---- one spot after another
 
@@ -358,23 +443,15 @@ got [] i x low is = absurd (omega (arith, low))
 got (y ∷ ys) zero x low is = ap (λ z. Some z) (sym is)
 got (y ∷ ys) (suc i) x low is = got ys i x (omega (arith, low)) is
 
-module _ (from first n : ℕ) (xs : List Placed) (s : Spot) (ss : List Spot) where
+module _ (d : Deaths) (first : ℕ) (xs : List Placed) (s : Spot) (ss : List Spot) where
   abbrev pub taken : List Spot → List Versioned
-  taken ts = map version_of (placed_left from (picked first xs (filter (is_from n) ts)))
+  taken ts = map version_of (picked first xs (filter (dies_within d) ts))
 
-  pub taken_early : s.number < n → taken (s ∷ ss) ≡ taken ss
-  taken_early low = rw (lt-leb n s.number low) refl
+  pub taken_other : dies_within d s ≡ false → taken (s ∷ ss) ≡ taken ss
+  taken_other off = rw off refl
 
-  pub taken_past : n ≤ s.number → slice_get xs (s.number - first) ≡ None → taken (s ∷ ss) ≡ taken ss
-  taken_past high e = rw (le-leb n s.number high, e) refl
+  pub taken_past : dies_within d s ≡ true → slice_get xs (s.number - first) ≡ None → taken (s ∷ ss) ≡ taken ss
+  taken_past on e = rw (on, e) refl
 
-  pub taken_dead : n ≤ s.number → (x : Placed) → slice_get xs (s.number - first) ≡ Some x → is_left from x.version ≡ false → taken (s ∷ ss) ≡ taken ss
-  taken_dead high x e f = rw (le-leb n s.number high, e, f) refl
-
-  pub taken_left : n ≤ s.number → (x : Placed) → slice_get xs (s.number - first) ≡ Some x → is_left from x.version ≡ true → taken (s ∷ ss) ≡ x.version ∷ taken ss
-  taken_left high x e f = rw (le-leb n s.number high, e, f) refl
-
--- two that a success gives give a third
-pub both_ok : {X E A B C : Type 0} (r : Result X E) → OnOk r A → OnOk r B → (A → B → C) → OnOk r C
-both_ok (Ok x) a b f = f a b
-both_ok (Err e) a b f = tt
+  pub taken_there : dies_within d s ≡ true → (x : Placed) → slice_get xs (s.number - first) ≡ Some x → taken (s ∷ ss) ≡ x.version ∷ taken ss
+  taken_there on x e = rw (on, e) refl

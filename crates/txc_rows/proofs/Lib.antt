@@ -30,6 +30,7 @@ pub mod SweepCalls
 pub mod ViewLemmas
 pub mod Finding
 pub mod Answering
+pub mod AroundLemmas
 pub mod KeepingLemmas
 pub mod Listed
 pub mod FindLemmas
@@ -38,6 +39,9 @@ pub mod CountedLemmas
 pub mod StoreLemmas
 pub mod UsesLemmas
 pub mod IndexLemmas
+pub mod SpotLemmas
+pub mod DeadLemmas
+pub mod NearLemmas
 pub mod StoreAsBox
 pub mod Offered
 pub mod OwnedLemmas

@@ -4,8 +4,6 @@ use Rattle.std.proofs.lemmas.List.{length-map}
 use Rattle.std.specs.List.Sorted.{IsPermutation}
 use Rattle.std.proofs.lemmas.List.Sorted.{length_permutation}
 use Rattle.sqlite.specs.Order.{Row}
-use Rattle.txc_rows.specs.declared.store_error.TheConstants.{MAX_MATCHING}
-use Rattle.txc_rows.specs.declared.texts.TheConstants.{MOST_READ}
 use Rattle.txc_rows.specs.declared.version.Versioned.{Versioned}
 use Rattle.txc_rows.specs.declared.query.Query.{Query}
 use Rattle.txc_rows.specs.States.{query_table}
@@ -13,17 +11,17 @@ use Rattle.txc_rows.specs.Versions.{suits}
 use Rattle.txc_rows.specs.Stored.{version_shown}
 use Rattle.txc_rows.specs.Kept.{IsListing}
 
-module _ (q : Query) (vs : List Versioned) (rows : List Row) (listing : IsListing q vs rows) where
+module _ (q : Query) (most : ℕ) (vs : List Versioned) (rows : List Row) (listing : IsListing q (most + 1) vs rows) where
   abbrev shown_versions : List Versioned
   shown_versions = map (version_shown (query_table q)) rows
 
-  counted : length rows ≡ length (take MOST_READ listing.found)
+  counted : length rows ≡ length (take (most + 1) listing.found)
   counted = sym (length-map rows (version_shown (query_table q))) ∙ ap length listing.first
 
-  pub all_shown : length rows ≤ MAX_MATCHING → IsPermutation (filter (suits q) vs) shown_versions
+  pub all_shown : length rows ≤ most → IsPermutation (filter (suits q) vs) shown_versions
   all_shown few =
-      let all : length listing.found ≤ MOST_READ = omega (arith, counted, length-take MOST_READ listing.found, few) in
-      rw (listing.first, take_all MOST_READ listing.found all) listing.same
+      let all : length listing.found ≤ most + 1 = omega (arith, counted, length-take (most + 1) listing.found, few) in
+      rw (listing.first, take_all (most + 1) listing.found all) listing.same
 
-  pub many_listed : (before : ℕ) → before ≤ MAX_MATCHING → MAX_MATCHING - before < length rows → MAX_MATCHING < before + length (filter (suits q) vs)
-  many_listed before low many = omega (arith, low, many, counted, length-take MOST_READ listing.found, length_permutation _ listing.found listing.same)
+  pub many_listed : (before : ℕ) → before ≤ most → most - before < length rows → most < before + length (filter (suits q) vs)
+  many_listed before low many = omega (arith, low, many, counted, length-take (most + 1) listing.found, length_permutation _ listing.found listing.same)

@@ -20,7 +20,7 @@ use Rattle.txc_rows.proofs.Members.{IsIn, bool_cases, both_true, and_true, not_t
 
 -- ---- what versions say, by `IsIn`
 
-said_each : (t : ℕ) (vs : List Versioned) (s : State) (r : RowValue) → VersionsSay t vs s → IsIn r s → IsIn r (visible_rows t vs)
+pub said_each : (t : ℕ) (vs : List Versioned) (s : State) (r : RowValue) → VersionsSay t vs s → IsIn r s → IsIn r (visible_rows t vs)
 said_each t vs s r says h = is_in (visible_rows t vs) r (says.each r (contains_it s r h))
 
 pub said_only : (t : ℕ) (vs : List Versioned) (s : State) (r : RowValue) → VersionsSay t vs s → IsIn r (visible_rows t vs) → IsIn r s
@@ -40,7 +40,7 @@ pub record Behind (p : Versioned → Bool) (vs : List Versioned) (r : RowValue) 
   pub passes : p version ≡ true
   pub is : r ≡ version.row
 
-behind : (p : Versioned → Bool) (vs : List Versioned) (r : RowValue) → IsIn r (map row_of (filter p vs)) → Behind p vs r
+pub behind : (p : Versioned → Bool) (vs : List Versioned) (r : RowValue) → IsIn r (map row_of (filter p vs)) → Behind p vs r
 behind p vs r h = let it = from_map row_of r (filter p vs) h in let at = from_filter p it.0 vs it.1 in record { version = it.0; stands = at.0; passes = at.1; is = it.2 }
 
 pub in_front : (p : Versioned → Bool) (vs : List Versioned) (r : RowValue) → Behind p vs r → IsIn r (map row_of (filter p vs))
@@ -246,8 +246,10 @@ risen q (r ∷ rs) fit rise = (under rs (λ s k. fit s (inr k)) rise.0, risen q 
     under [] f a = tt
     under (s ∷ ss) f a = (by_id r.table r.id s.table s.id (of_its_table q r (fit r (inl refl)) ∙ sym (of_its_table q s (f s (inl refl)))) a.0, under ss (λ x k. f x (inr k)) a.1)
 
-pub says_answer : SaysAnswer
-says_answer q t vs found s st says from_found to_found rise =
+-- those of the versions that match and are visible are enough
+pub says_seen : (q : Query) (t : ℕ) (vs found : List Versioned) (s : State) → IsState s → VersionsSay t vs s → ((v : Versioned) → Contains found v → Contains vs v)
+    → ((v : Versioned) → Contains vs v → matches q v.row ≡ true → is_visible t v ≡ true → Contains found v) → IdsRise (shown_at q t found) → shown_at q t found ≡ answer q s
+says_seen q t vs found s st says from_found to_found rise =
     same_rows (shown_at q t found) (answer q s) (risen q (shown_at q t found) fits rise) (filter_state (matches q) s st) to back
   where
     p : Versioned → Bool
@@ -266,7 +268,10 @@ says_answer q t vs found s st says from_found to_found rise =
         let it = from_filter (matches q) r s k in
         let b = behind (is_visible t) vs r (said_each t vs s r says it.0) in
         let fit : matches q b.version.row ≡ true = ap (matches q) (sym b.is) ∙ it.1 in
-        in_front (λ v. is_visible t v && matches q v.row) found r (record { version = b.version; stands = is_in found b.version (to_found b.version (contains_it vs b.version b.stands) fit); passes = and_true (is_visible t b.version) (matches q b.version.row) b.passes fit; is = b.is })
+        in_front (λ v. is_visible t v && matches q v.row) found r (record { version = b.version; stands = is_in found b.version (to_found b.version (contains_it vs b.version b.stands) fit b.passes); passes = and_true (is_visible t b.version) (matches q b.version.row) b.passes fit; is = b.is })
+
+pub says_answer : SaysAnswer
+says_answer q t vs found s st says from_found to_found rise = says_seen q t vs found s st says from_found (λ v there fits _. to_found v there fits) rise
 
 -- ---- each kept state
 

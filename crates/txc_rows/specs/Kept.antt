@@ -1,5 +1,5 @@
 -- What a connection over the table of last versions keeps: words that only this crate's private functions promise.
-use Rattle.std.specs.Prelude.{◌≡◌, ◌≤◌, ℕ, Bool, true, false, List, ◌++◌, map, filter, length, take, Result, Vec, OnOk, OnErr, IfOk}
+use Rattle.std.specs.Prelude.{◌≡◌, ◌≤◌, ℕ, Bool, true, false, List, ◌++◌, map, filter, take, Result, Vec, OnOk, OnErr, IfOk}
 use Rattle.std.specs.declared.alloc.Global.{Global}
 use Rattle.sqlite.specs.declared.error.Error.{Error}
 use Rattle.std.specs.List.{AllByRecursion}
@@ -10,10 +10,9 @@ use Rattle.sqlite.specs.Steps.{over_memory}
 use Rattle.sqlite_trees.specs.declared.memory.MemStore.{MemStore}
 use Rattle.txc_rows.specs.declared.version.Versioned.{Versioned}
 use Rattle.txc_rows.specs.declared.query.Query.{Query}
-use Rattle.txc_rows.specs.declared.texts.TheConstants.{MOST_READ}
 use Rattle.txc_rows.specs.States.{query_table}
-use Rattle.txc_rows.specs.declared.store_error.TheConstants.{MAX_MATCHING}
 use Rattle.txc_rows.specs.Versions.{suits}
+use Rattle.txc_rows.specs.Found.{IsNeedless}
 use Rattle.txc_rows.specs.Holdable.{IsStorable}
 use Rattle.txc_rows.specs.Texts.{no_schema, latest_schema}
 use Rattle.txc_rows.specs.declared.placed.Placed.{Placed}
@@ -80,19 +79,19 @@ pub record IsShown (table : ℕ) (r : Row) : Type 0 where
   pub is : r ≡ queried_columns (version_shown table r)
   pub version : IsStorable (version_shown table r)
 
--- the rows show the versions that the query asks for, in any order, up to one more than may match
-pub record IsListing (q : Query) (versions : List Versioned) (rows : List Row) : Type 0 where
+-- the rows show the versions that the query asks for, in any order, and so many at most
+pub record IsListing (q : Query) (most : ℕ) (versions : List Versioned) (rows : List Row) : Type 0 where
   pub each : AllByRecursion (IsShown (query_table q)) rows
   pub found : List Versioned
   pub same : IsPermutation (filter (suits q) versions) found
-  pub first : map (version_shown (query_table q)) rows ≡ take MOST_READ found
+  pub first : map (version_shown (query_table q)) rows ≡ take most found
 
 -- a reading for a query: the rows show the versions of the table that match, of those that did not die before a stamp,
--- or it is refused. The table is as it was.
-pub record IsReading (q : Query) (from : ℕ) (old new : Held MemStore) (outcome : Result (Vec Row Global) Error)
+-- so many at most, or it is refused. The table is as it was.
+pub record IsReading (q : Query) (from most : ℕ) (old new : Held MemStore) (outcome : Result (Vec Row Global) Error)
     : Type 0 where
   pub same : IsSame old new
-  pub lists : IfOk outcome (λ rows. IsListing q (left_from from (map version_of (latest_in old))) rows.items)
+  pub lists : IfOk outcome (λ rows. IsListing q most (left_from from (map version_of (latest_in old))) rows.items)
 
 -- a reading of the versions that did not die before a stamp, or it is refused. The table is as it was.
 pub record IsLeaving (from : ℕ) (old new : Held MemStore) (outcome : Result (Vec Row Global) Error) : Type 0 where
@@ -111,13 +110,19 @@ pub record ArePassing (table : ℕ) (passes : Placed → Bool) (latest : List Pl
   pub each : AllByRecursion (IsPlacedRow table) rows
   pub same : IsPermutation (filter passes latest) (map placed_from rows)
 
--- The versions that a query asks for, of those that did not die before a stamp, were added to the found ones. Of these
--- there are no more than may match.
+-- the versions that a query asks for, of those that did not die before a stamp, were added to the found ones
 pub record IsFinding (q : Query) (from : ℕ) (placed : List Placed) (old new : List Versioned) : Type 0 where
   pub more : List Versioned
   pub same : IsPermutation (filter (suits q) (left_from from (map version_of placed))) more
   pub are : new ≡ old ++ more
-  pub few : length new ≤ MAX_MATCHING
+
+-- Of these versions some were added to the found ones, and those that were not are needless at the stamp.
+pub record AddsAround (t : ℕ) (all old new : List Versioned) : Type 0 where
+  pub more : List Versioned
+  pub rest : List Versioned
+  pub apart : IsPermutation all (more ++ rest)
+  pub are : new ≡ old ++ more
+  pub needless : AllByRecursion (IsNeedless t more) rest
 
 -- ---- a store
 

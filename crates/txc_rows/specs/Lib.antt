@@ -14,6 +14,7 @@ pub mod Stored
 pub mod Indexed
 pub mod Kept
 pub mod Keeping
+pub mod Around
 pub mod Uses
 pub mod Codes
 pub mod Owned

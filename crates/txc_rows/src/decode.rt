@@ -1,9 +1,9 @@
 //! Versions from the rows that the store shows.
 
-ghost use Rattle.std.specs.Prelude.{◌≡◌, ◌≤◌, ◌++◌, IfOk, IfErr, OnOk, Some, map};
+ghost use Rattle.std.specs.Prelude.{◌≡◌, ◌≤◌, ◌+◌, ◌++◌, length, IfOk, IfErr, OnOk, Some, map};
 ghost use Rattle.std.specs.List.{AllByRecursion};
 ghost use Rattle.txc_stamp.specs.declared.stamp.TheConstants.{MOST_STAMP};
-ghost use Rattle.txc_rows.specs.Values.{IsBody};
+ghost use Rattle.txc_rows.specs.Values.{AreBytes};
 ghost use Rattle.txc_rows.specs.Placed.{version_of, AreAmong};
 ghost use Rattle.txc_rows.specs.Stored.{placed_from, version_shown};
 ghost use Rattle.txc_rows.specs.Kept.{IsPlacedRow, IsShown};
@@ -28,10 +28,10 @@ fn death_from(number: Option<u32>) -> Option<Stamp>
 
 /// A row that was stored.
 fn row_from(table: Table, id: u32, group: u32, body: Vec<u8>) -> Row
-    requires { IsBody body.items }
+    requires { AreBytes body.items }
     ensures { result ≡ record { table = table; id = id; group = group; body = body.items } }
 {
-    match Row::new(table, id, group, body) {
+    match Row::of_bytes(table, id, group, body) {
         Ok(row) => row,
         Err(_) => unreachable!(),
     }
@@ -122,6 +122,7 @@ pub(crate) fn add_known(
 ) -> Result<(), StoreError>
     requires { AllByRecursion (IsPlacedRow table) rows.now }
     ensures known { (latest : _) → AreAmong latest known.old.items → AreAmong latest (map placed_from rows.now) → AreAmong latest known.new.items }
+    ensures few { length known.new.items ≤ length known.old.items + length rows.now }
     ensures found { OnOk result (found.new.items ≡ found.old.items ++ map version_of (map placed_from rows.now)) }
     ensures refused { IfErr result (λ e. e ≡ StoreError.Memory) }
 {

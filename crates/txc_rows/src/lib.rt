@@ -21,8 +21,8 @@ mod writes;
 
 pub use laws::{net_changes_are_differences, states_are_maps, tags_are_sound, versions_say_states};
 pub use query::{Change, Query};
-pub use row::{FIRST_BODY_BYTE, LAST_BODY_BYTE, MAX_BODY_LEN, Row, RowError};
-pub use store_error::{MAX_MATCHING, StoreError};
+pub use row::{FIRST_BODY_BYTE, LAST_BODY_BYTE, MAX_BODY_LEN, MAX_BYTES_LEN, Row, RowError};
+pub use store_error::{MAX_MATCHING, MOST_MATCHING, StoreError};
 pub use store_laws::{versions_answer, versions_keep_states};
 pub use version::Versioned;
 pub use version_rows::VersionRows;

@@ -6,7 +6,7 @@ ghost use Rattle.txc_rows.specs.Placed.{is_row_left};
 ghost use Rattle.txc_rows.specs.Kept.{latest_in, ArePassing, IsKept, IsReading, IsSame};
 
 use crate::query::Query;
-use crate::texts::{MOST_READ, READ_GROUP, READ_PLACED, READ_RANGE, READ_ROW, READ_TABLE};
+use crate::texts::{READ_GROUP, READ_PLACED, READ_RANGE, READ_ROW, READ_TABLE};
 use sqlite::{Connection, Error, MemStore, params};
 use std::alloc::Global;
 use txc_tags::Table;
@@ -15,14 +15,12 @@ fn read_table(
     conn: &mut Connection<MemStore>,
     table: Table,
     from: u32,
+    most: u32,
 ) -> Result<Vec<sqlite::Row>, Error>
     requires { IsKept conn.old }
-    ensures { IsReading (All table) from conn.old conn.new result }
+    ensures { IsReading (All table) from most conn.old conn.new result }
 {
-    conn.query_all(
-        READ_TABLE,
-        params![u32::from(table.number()), MOST_READ, from],
-    )
+    conn.query_all(READ_TABLE, params![u32::from(table.number()), most, from])
 }
 
 fn read_row(
@@ -30,14 +28,12 @@ fn read_row(
     table: Table,
     id: u32,
     from: u32,
+    most: u32,
 ) -> Result<Vec<sqlite::Row>, Error>
     requires { IsKept conn.old }
-    ensures { IsReading (ById table id) from conn.old conn.new result }
+    ensures { IsReading (ById table id) from most conn.old conn.new result }
 {
-    conn.query_all(
-        READ_ROW,
-        params![u32::from(table.number()), MOST_READ, from, id],
-    )
+    conn.query_all(READ_ROW, params![u32::from(table.number()), most, from, id])
 }
 
 fn read_group(
@@ -45,13 +41,14 @@ fn read_group(
     table: Table,
     group: u32,
     from: u32,
+    most: u32,
 ) -> Result<Vec<sqlite::Row>, Error>
     requires { IsKept conn.old }
-    ensures { IsReading (ByGroup table group) from conn.old conn.new result }
+    ensures { IsReading (ByGroup table group) from most conn.old conn.new result }
 {
     conn.query_all(
         READ_GROUP,
-        params![u32::from(table.number()), MOST_READ, from, group],
+        params![u32::from(table.number()), most, from, group],
     )
 }
 
@@ -61,31 +58,32 @@ fn read_range(
     first: u32,
     last: u32,
     from: u32,
+    most: u32,
 ) -> Result<Vec<sqlite::Row>, Error>
     requires { IsKept conn.old }
-    ensures { IsReading (Range table first last) from conn.old conn.new result }
+    ensures { IsReading (Range table first last) from most conn.old conn.new result }
 {
     conn.query_all(
         READ_RANGE,
-        params![u32::from(table.number()), MOST_READ, from, first, last],
+        params![u32::from(table.number()), most, from, first, last],
     )
 }
 
-/// The last versions that match, of those that did not die before the stamp, in any order: at most one more of them than
-/// may match.
+/// The last versions that match, of those that did not die before the stamp, in any order, and so many of them at most.
 pub(crate) fn read(
     conn: &mut Connection<MemStore>,
     query: &Query,
     from: u32,
+    most: u32,
 ) -> Result<Vec<sqlite::Row>, Error>
     requires { IsKept conn.old }
-    ensures { IsReading query.now from conn.old conn.new result }
+    ensures { IsReading query.now from most conn.old conn.new result }
 {
     match *query {
-        Query::ById(table, id) => read_row(conn, table, id, from),
-        Query::ByGroup(table, group) => read_group(conn, table, group, from),
-        Query::All(table) => read_table(conn, table, from),
-        Query::Range(table, first, last) => read_range(conn, table, first, last, from),
+        Query::ById(table, id) => read_row(conn, table, id, from, most),
+        Query::ByGroup(table, group) => read_group(conn, table, group, from, most),
+        Query::All(table) => read_table(conn, table, from, most),
+        Query::Range(table, first, last) => read_range(conn, table, first, last, from, most),
     }
 }
 

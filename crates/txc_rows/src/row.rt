@@ -1,15 +1,18 @@
 ghost use Rattle.std.specs.Prelude.{◌≡◌, ◌↔◌, IsTrue, IfOk, IsOk, IsErrOf};
-ghost use Rattle.txc_rows.specs.Values.{RowValue, IsBody, IsRow};
+ghost use Rattle.txc_rows.specs.Values.{RowValue, AreBytes, IsBody, IsRow};
 
 use std::alloc::{AllocError, Global};
 use std::marker::Model;
 use thiserror::Error;
 use txc_tags::Table;
 
-/// The most bytes of a body.
+/// The most bytes of a body that scripts can write.
 pub const MAX_BODY_LEN: usize = 256;
 
-/// The first and the last byte that a body may hold: those that print and are no blank.
+/// The most bytes of any body.
+pub const MAX_BYTES_LEN: usize = 65_536;
+
+/// The first and the last byte that a body of a script may hold: those that print and are no blank.
 pub const FIRST_BODY_BYTE: u8 = 0x21;
 
 pub const LAST_BODY_BYTE: u8 = 0x7e;
@@ -21,6 +24,9 @@ pub enum RowError {
     /// [`LAST_BODY_BYTE`].
     #[error("a body is 1 to {MAX_BODY_LEN} bytes, each from 0x21 to 0x7E")]
     BadBody,
+    /// The body is longer than [`MAX_BYTES_LEN`].
+    #[error("a body is at most {MAX_BYTES_LEN} bytes")]
+    LongBody,
 }
 
 /// A row of a table, with its id in the table, its group and its body.
@@ -55,7 +61,7 @@ fn is_body(body: &[u8]) -> bool
 }
 
 impl Row {
-    /// A row with that body. A body that is refused is dropped.
+    /// A row with a body that scripts can write. A body that is refused is dropped.
     pub fn new(table: Table, id: u32, group: u32, body: Vec<u8>) -> Result<Row, RowError>
         ensures answer { IfOk result (λ r. r
             ≡ record { table = table; id = id; group = group; body = body.items }) }
@@ -64,6 +70,24 @@ impl Row {
     {
         if !is_body(&body) {
             return Err(RowError::BadBody);
+        }
+        Ok(Row {
+            table,
+            id,
+            group,
+            body,
+        })
+    }
+
+    /// A row with a body of any bytes. A body that is refused is dropped.
+    pub fn of_bytes(table: Table, id: u32, group: u32, body: Vec<u8>) -> Result<Row, RowError>
+        ensures answer { IfOk result (λ r. r
+            ≡ record { table = table; id = id; group = group; body = body.items }) }
+        ensures only_if { IsOk result ↔ AreBytes body.items }
+        ensures refused { IsErrOf result RowError.LongBody ↔ (¬ AreBytes body.items) }
+    {
+        if body.len() > MAX_BYTES_LEN {
+            return Err(RowError::LongBody);
         }
         Ok(Row {
             table,

@@ -1,6 +1,6 @@
 //! The store of row versions, by the stamps that are stored.
 
-ghost use Rattle.std.specs.Prelude.{◌≡◌, ℕ, ◌+◌, ◌^◌, ◌<◌, ◌≤◌, [], Ok, IfOk, IfErr, OnOk, OnErr, length, filter, map};
+ghost use Rattle.std.specs.Prelude.{◌≡◌, ◌≢◌, ℕ, ◌+◌, ◌-◌, ◌^◌, None, ◌<◌, ◌≤◌, [], true, false, Ok, IfOk, IfErr, OnOk, OnErr, length, filter, map};
 ghost use Rattle.std.specs.List.{AllByRecursion};
 ghost use Rattle.std.specs.List.Sorted.{IsPermutation, IsSorted};
 ghost use Rattle.txc_rows.specs.Versions.{suits, current, purged, after_net, version_cmp};
@@ -8,9 +8,10 @@ ghost use Rattle.txc_rows.specs.declared.query.Query.TheVariants.{ById};
 ghost use Rattle.txc_rows.specs.Placed.{version_of, left_from, AreAmong, AreSwept, AreWellPlaced};
 ghost use Rattle.txc_rows.specs.Kept.{latest_in, versions_of, IsKept, IsCall, IsSame, IsRoom, IsFinding, IsStore};
 ghost use Rattle.txc_rows.specs.Holdable.{IsStorable};
-ghost use Rattle.txc_rows.specs.Found.{Finds};
+ghost use Rattle.txc_rows.specs.Found.{Finds, FindsAround};
 ghost use Rattle.txc_rows.specs.StoreErrors.{IsStoreRefusal};
-ghost use Rattle.txc_rows.specs.declared.store_error.TheConstants.{MAX_MATCHING};
+ghost use Rattle.txc_rows.specs.declared.store.TheConstants.{MOST_KNOWN};
+ghost use Rattle.txc_rows.specs.declared.store_error.TheConstants.{MAX_MATCHING, MOST_MATCHING};
 
 use crate::counts::Counts;
 use crate::decode::{add_known, add_shown};
@@ -48,7 +49,9 @@ pub struct Store {
 }
 
 impl Model for Store {
-    ghost use Rattle.std.specs.Prelude.{List};
+    ghost use Rattle.std.specs.Prelude.{List, length, ◌+◌, ◌≤◌};
+    ghost use Rattle.txc_rows.specs.declared.store.TheConstants.{MOST_KNOWN};
+    ghost use Rattle.txc_rows.specs.declared.store_error.TheConstants.{MOST_MATCHING};
     ghost use Rattle.txc_rows.specs.declared.version.Versioned.{Versioned};
     ghost use Rattle.txc_rows.specs.Placed.{left_from, AreAmong};
     ghost use Rattle.txc_rows.specs.Kept.{latest_in, versions_of, IsStore};
@@ -57,7 +60,8 @@ impl Model for Store {
 
     ghost view = { λ a. left_from a.kept_from (versions_of a.replaced a.conn) };
 
-    ghost invariant = { λ a. IsStore a.next_place a.replaced a.conn × AreAmong (latest_in a.conn) a.known.items };
+    ghost invariant = { λ a. IsStore a.next_place a.replaced a.conn × AreAmong (latest_in a.conn) a.known.items
+        × (length a.known.items ≤ MOST_KNOWN + MOST_MATCHING) };
 }
 
 /// A connection with the table and no version.
@@ -126,22 +130,26 @@ fn make_room(
     Ok(0)
 }
 
-/// The last versions that match, of those that did not die before the stamp, are added to the found ones.
+/// The last versions that match, of those that did not die before the stamp, are added to the found ones, which may be so
+/// many. That many are read at most, and one more, which shows that too many match.
 fn find(
     conn: &mut Connection<MemStore>,
     query: &Query,
     from: u32,
+    most: usize,
     found: &mut Vec<Versioned>,
 ) -> Result<(), StoreError>
     requires kept { IsKept conn.old }
-    requires few { length found.old.items ≤ MAX_MATCHING }
+    requires few { length found.old.items ≤ most }
+    requires most { most ≤ MOST_MATCHING }
     ensures same { IsSame conn.old conn.new }
     ensures finds { OnOk result (IsFinding query.now from (latest_in conn.old) found.old.items found.new.items) }
+    ensures few { OnOk result (length found.new.items ≤ most) }
     ensures refused { result ≡ Err StoreError.TooManyRows
-        → MAX_MATCHING < length found.old.items + length (filter (suits query.now) (left_from from (map version_of (latest_in conn.old)))) }
+        → most < length found.old.items + length (filter (suits query.now) (left_from from (map version_of (latest_in conn.old)))) }
 {
-    let rows = read(conn, query, from)?;
-    if rows.len() > MAX_MATCHING - found.len() {
+    let rows = read(conn, query, from, most as u32 + 1)?;
+    if rows.len() > most - found.len() {
         return Err(StoreError::TooManyRows);
     }
     add_shown(query.table(), &rows, found)
@@ -149,7 +157,8 @@ fn find(
 
 /// Where many are known, they are known no longer.
 fn forget_many(known: &mut Vec<Placed>)
-    ensures { (latest : _) → AreAmong latest known.old.items → AreAmong latest known.new.items }
+    ensures among { (latest : _) → AreAmong latest known.old.items → AreAmong latest known.new.items }
+    ensures few { length known.new.items < MOST_KNOWN }
 {
     if known.len() < MOST_KNOWN {
         return;
@@ -165,19 +174,24 @@ fn find_row(
     table: Table,
     id: u32,
     from: u32,
+    most: usize,
     found: &mut Vec<Versioned>,
 ) -> Result<(), StoreError>
     requires kept { IsKept conn.old }
     requires known { AreAmong (latest_in conn.old) known.old.items }
-    requires few { length found.old.items ≤ MAX_MATCHING }
+    requires few { length found.old.items ≤ most }
+    requires most { most ≤ MOST_MATCHING }
     ensures same { IsSame conn.old conn.new }
     ensures known { AreAmong (latest_in conn.old) known.new.items }
+    ensures few_known { length known.old.items ≤ MOST_KNOWN + MOST_MATCHING
+        → length known.new.items ≤ MOST_KNOWN + MOST_MATCHING }
     ensures finds { OnOk result (IsFinding (ById table id) from (latest_in conn.old) found.old.items found.new.items) }
+    ensures few { OnOk result (length found.new.items ≤ most) }
     ensures refused { result ≡ Err StoreError.TooManyRows
-        → MAX_MATCHING < length found.old.items + length (filter (suits (ById table id)) (left_from from (map version_of (latest_in conn.old)))) }
+        → most < length found.old.items + length (filter (suits (ById table id)) (left_from from (map version_of (latest_in conn.old)))) }
 {
     let rows = read_placed(conn, table, id, from)?;
-    if rows.len() > MAX_MATCHING - found.len() {
+    if rows.len() > most - found.len() {
         return Err(StoreError::TooManyRows);
     }
     forget_many(known);
@@ -191,21 +205,52 @@ fn find_known(
     alloc: Global,
     query: &Query,
     from: u32,
+    most: usize,
     found: &mut Vec<Versioned>,
 ) -> Result<(), StoreError>
     requires kept { IsKept conn.old }
     requires known { AreAmong (latest_in conn.old) known.old.items }
-    requires few { length found.old.items ≤ MAX_MATCHING }
+    requires few { length found.old.items ≤ most }
+    requires most { most ≤ MOST_MATCHING }
     ensures same { IsSame conn.old conn.new }
     ensures known { AreAmong (latest_in conn.old) known.new.items }
+    ensures few_known { length known.old.items ≤ MOST_KNOWN + MOST_MATCHING
+        → length known.new.items ≤ MOST_KNOWN + MOST_MATCHING }
     ensures finds { OnOk result (IsFinding query.now from (latest_in conn.old) found.old.items found.new.items) }
+    ensures few { OnOk result (length found.new.items ≤ most) }
     ensures refused { result ≡ Err StoreError.TooManyRows
-        → MAX_MATCHING < length found.old.items + length (filter (suits query.now) (left_from from (map version_of (latest_in conn.old)))) }
+        → most < length found.old.items + length (filter (suits query.now) (left_from from (map version_of (latest_in conn.old)))) }
 {
     match *query {
-        Query::ById(table, id) => find_row(conn, known, alloc, table, id, from, found),
-        _ => find(conn, query, from, found),
+        Query::ById(table, id) => find_row(conn, known, alloc, table, id, from, most, found),
+        _ => find(conn, query, from, most, found),
     }
+}
+
+/// Refuses a query of which too many versions match, those that were replaced beside so many last ones. They are counted
+/// where all of them would be too many.
+fn check_few(
+    replaced: &Replaced,
+    query: &Query,
+    from: u32,
+    last: usize,
+    most: usize,
+) -> Result<(), StoreError>
+    requires each { AllByRecursion (λ x. IsStorable x.version) replaced.now }
+    requires ended { AllByRecursion (λ x. x.version.died ≢ None) replaced.now }
+    requires few { last ≤ most }
+    ensures few { OnOk result (last + length (filter (suits query.now) (left_from from (map version_of replaced.now))) ≤ most) }
+    ensures refused { result ≡ Err StoreError.TooManyRows
+        → most < last + length (filter (suits query.now) (left_from from (map version_of replaced.now))) }
+{
+    let room = most - last;
+    if replaced.len() <= room {
+        return Ok(());
+    }
+    if replaced.has_more(query, from as usize, room) {
+        return Err(StoreError::TooManyRows);
+    }
+    Ok(())
 }
 
 /// By id, and then by birth.
@@ -235,14 +280,43 @@ fn find_all(
         → MAX_MATCHING < length (filter (suits query.now) (left_from from (versions_of replaced.now conn.old))) }
 {
     let mut found = Vec::new(alloc);
-    find(conn, query, from, &mut found)?;
-    replaced.find(alloc, query, from, &mut found)?;
+    find(conn, query, from, MAX_MATCHING, &mut found)?;
+    check_few(replaced, query, from, found.len(), MAX_MATCHING)?;
+    replaced.find(alloc, query, from as usize, &mut found)?;
     sort(&mut found)?;
     Ok(found)
 }
 
-/// The versions that match, without some that died. The replaced ones are read where they may be so many that too many
-/// match.
+/// Of the versions that match and did not die before the stamp `from`, those that are not needless at the stamp `at`, by id
+/// and then by birth.
+fn find_around(
+    conn: &mut Connection<MemStore>,
+    replaced: &Replaced,
+    alloc: Global,
+    query: &Query,
+    from: u32,
+    at: usize,
+    most: usize,
+) -> Result<Vec<Versioned>, StoreError>
+    requires kept { IsKept conn.old }
+    requires apart { AreWellPlaced (latest_in conn.old) replaced.now }
+    requires most { most ≤ MOST_MATCHING }
+    requires room { at < 2 ^ 64 - 1 }
+    ensures same { IsSame conn.old conn.new }
+    ensures finds { IfOk result (λ found. FindsAround query.now at (left_from from (versions_of replaced.now conn.old)) found.items) }
+    ensures bound { OnOk result (length (filter (suits query.now) (left_from from (versions_of replaced.now conn.old))) ≤ most) }
+    ensures refused { result ≡ Err StoreError.TooManyRows
+        → most < length (filter (suits query.now) (left_from from (versions_of replaced.now conn.old))) }
+{
+    let mut found = Vec::new(alloc);
+    find(conn, query, from, most, &mut found)?;
+    check_few(replaced, query, from, found.len(), most)?;
+    replaced.find_around(alloc, query, from as usize, at, &mut found)?;
+    sort(&mut found)?;
+    Ok(found)
+}
+
+/// The last versions that match, of those that did not die before the stamp.
 fn find_last(
     conn: &mut Connection<MemStore>,
     known: &mut Vec<Placed>,
@@ -250,24 +324,25 @@ fn find_last(
     alloc: Global,
     query: &Query,
     from: u32,
+    most: usize,
 ) -> Result<Vec<Versioned>, StoreError>
     requires kept { IsKept conn.old }
     requires known { AreAmong (latest_in conn.old) known.old.items }
     requires apart { AreWellPlaced (latest_in conn.old) replaced.now }
+    requires most { most ≤ MOST_MATCHING }
     ensures same { IsSame conn.old conn.new }
     ensures known { AreAmong (latest_in conn.old) known.new.items }
+    ensures few_known { length known.old.items ≤ MOST_KNOWN + MOST_MATCHING
+        → length known.new.items ≤ MOST_KNOWN + MOST_MATCHING }
     ensures finds { IfOk result (λ found. IsPermutation
         (filter (suits query.now) (current (left_from from (versions_of replaced.now conn.old)))) (current found.items)) }
-    ensures bound { OnOk result (length (filter (suits query.now) (left_from from (versions_of replaced.now conn.old))) ≤ MAX_MATCHING) }
+    ensures bound { OnOk result (length (filter (suits query.now) (left_from from (versions_of replaced.now conn.old))) ≤ most) }
     ensures refused { result ≡ Err StoreError.TooManyRows
-        → MAX_MATCHING < length (filter (suits query.now) (left_from from (versions_of replaced.now conn.old))) }
+        → most < length (filter (suits query.now) (left_from from (versions_of replaced.now conn.old))) }
 {
     let mut last = Vec::new(alloc);
-    find_known(conn, known, alloc, query, from, &mut last)?;
-    if replaced.len() <= MAX_MATCHING - last.len() {
-        return Ok(last);
-    }
-    replaced.find(alloc, query, from, &mut last)?;
+    find_known(conn, known, alloc, query, from, most, &mut last)?;
+    check_few(replaced, query, from, last.len(), most)?;
     Ok(last)
 }
 
@@ -279,18 +354,22 @@ fn find_current(
     alloc: Global,
     query: &Query,
     from: u32,
+    most: usize,
 ) -> Result<Vec<Versioned>, StoreError>
     requires kept { IsKept conn.old }
     requires known { AreAmong (latest_in conn.old) known.old.items }
     requires apart { AreWellPlaced (latest_in conn.old) replaced.now }
+    requires most { most ≤ MOST_MATCHING }
     ensures same { IsSame conn.old conn.new }
     ensures known { AreAmong (latest_in conn.old) known.new.items }
+    ensures few_known { length known.old.items ≤ MOST_KNOWN + MOST_MATCHING
+        → length known.new.items ≤ MOST_KNOWN + MOST_MATCHING }
     ensures finds { IfOk result (λ found. Finds query.now (current (left_from from (versions_of replaced.now conn.old))) found.items) }
-    ensures bound { OnOk result (length (filter (suits query.now) (left_from from (versions_of replaced.now conn.old))) ≤ MAX_MATCHING) }
+    ensures bound { OnOk result (length (filter (suits query.now) (left_from from (versions_of replaced.now conn.old))) ≤ most) }
     ensures refused { result ≡ Err StoreError.TooManyRows
-        → MAX_MATCHING < length (filter (suits query.now) (left_from from (versions_of replaced.now conn.old))) }
+        → most < length (filter (suits query.now) (left_from from (versions_of replaced.now conn.old))) }
 {
-    let mut found = find_last(conn, known, replaced, alloc, query, from)?;
+    let mut found = find_last(conn, known, replaced, alloc, query, from, most)?;
     found.retain(|version| version.died.is_none());
     sort(&mut found)?;
     Ok(found)
@@ -329,12 +408,43 @@ impl Store {
         )
     }
 
-    pub(crate) fn current(&mut self, query: &Query) -> Result<Vec<Versioned>, StoreError>
+    /// What of the matching versions is not needless at the stamp.
+    pub(crate) fn matching_at(
+        &mut self,
+        query: &Query,
+        at: usize,
+        most: usize,
+    ) -> Result<Vec<Versioned>, StoreError>
+        requires most { most ≤ MOST_MATCHING }
+        requires room { at < 2 ^ 64 - 1 }
+        ensures same { self.new ≡ self.old }
+        ensures answer { IfOk result (λ found. FindsAround query.now at self.old found.items) }
+        ensures bound { OnOk result (length (filter (suits query.now) self.old) ≤ most) }
+        ensures refused { result ≡ Err StoreError.TooManyRows
+            → most < length (filter (suits query.now) self.old) }
+    {
+        find_around(
+            &mut self.conn,
+            &self.replaced,
+            self.alloc,
+            query,
+            self.kept_from,
+            at,
+            most,
+        )
+    }
+
+    pub(crate) fn current(
+        &mut self,
+        query: &Query,
+        most: usize,
+    ) -> Result<Vec<Versioned>, StoreError>
+        requires most { most ≤ MOST_MATCHING }
         ensures same { self.new ≡ self.old }
         ensures answer { IfOk result (λ found. Finds query.now (current self.old) found.items) }
-        ensures bound { OnOk result (length (filter (suits query.now) self.old) ≤ MAX_MATCHING) }
+        ensures bound { OnOk result (length (filter (suits query.now) self.old) ≤ most) }
         ensures refused { result ≡ Err StoreError.TooManyRows
-            → MAX_MATCHING < length (filter (suits query.now) self.old) }
+            → most < length (filter (suits query.now) self.old) }
     {
         find_current(
             &mut self.conn,
@@ -343,6 +453,7 @@ impl Store {
             self.alloc,
             query,
             self.kept_from,
+            most,
         )
     }
 

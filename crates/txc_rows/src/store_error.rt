@@ -5,14 +5,17 @@ use std::alloc::{AllocError, AllocFailed};
 use std::fmt;
 use thiserror::Error;
 
-/// The most versions that may match a query.
+/// The most versions that may match a query, unless more are allowed.
 pub const MAX_MATCHING: usize = 1024;
+
+/// The most that can be allowed.
+pub const MOST_MATCHING: usize = 65_536;
 
 /// Why a call of the store of row versions was refused. After it the versions are as they were.
 #[derive(Clone, Copy, Debug, PartialEq, Eq, Error)]
 pub enum StoreError {
-    /// More than [`MAX_MATCHING`] versions match the query.
-    #[error("over 1,024 versions match")]
+    /// More versions match the query than may: than [`MAX_MATCHING`], or than the greater number that was allowed.
+    #[error("too many versions match")]
     TooManyRows,
     /// The store refused for another reason than memory. Its transaction was rolled back.
     #[error("the store refused: {0}")]

@@ -1,7 +1,5 @@
 //! The texts of the statements on the table of last versions: of each table, id and group the last one.
 
-use crate::store_error::MAX_MATCHING;
-
 /// The second key finds the versions of a group.
 pub(crate) const MAKE_LATEST: &str =
     "CREATE TABLE latest (place INTEGER NOT NULL, table_number INTEGER NOT NULL, id INTEGER NOT NULL, \
@@ -41,9 +39,6 @@ pub(crate) const READ_LEFT: &str =
      WHERE died IS NULL OR died >= ?1";
 
 // ---- what queries read
-
-/// So many versions are read at most: one more than may match shows that too many do.
-pub(crate) const MOST_READ: u32 = MAX_MATCHING as u32 + 1;
 
 /// Versions of a table that did not die before a stamp, at most so many of them. Each has a test of its own, which
 /// the store answers by a key of the table. They come in no order, since to put them in one each would be read.

@@ -3,10 +3,11 @@
 ghost use Rattle.std.specs.Prelude.{◌≡◌, ℕ, ◌+◌, ◌<◌, ◌≤◌, [], Err, IfOk, IfErr, OnOk, OnErr, length, filter, map};
 ghost use Rattle.txc_rows.specs.Versions.{suits, current, purged, after_net, counted_from};
 ghost use Rattle.txc_rows.specs.States.{State};
-ghost use Rattle.txc_rows.specs.Found.{Finds};
+ghost use Rattle.txc_rows.specs.Found.{Finds, FindsAround};
 ghost use Rattle.txc_rows.specs.Keeping.{KeepsStates, KeepsWritten, KeepsPurged, KeepsBegun, AnswersStates, AnswersNewest};
+ghost use Rattle.txc_rows.specs.Around.{AnswersAround};
 ghost use Rattle.txc_rows.specs.StoreErrors.{IsStoreRefusal};
-ghost use Rattle.txc_rows.specs.declared.store_error.TheConstants.{MAX_MATCHING};
+ghost use Rattle.txc_rows.specs.declared.store_error.TheConstants.{MAX_MATCHING, MOST_MATCHING};
 
 use crate::query::{Change, Query};
 use crate::store::Store;
@@ -144,18 +145,47 @@ impl VersionRows {
         Ok(found)
     }
 
+    /// Of the versions that match, by id and then by birth, those that decide the answer at the stamp and how far it reaches.
+    /// What died long before the stamp is not copied, and of a row that was often replaced after it only the next.
+    ///
+    /// It is refused if more than `most` versions match, also those that it leaves out. They are counted if so many were
+    /// replaced in all.
+    pub fn matching_at(
+        &mut self,
+        query: &Query,
+        stamp: Stamp,
+        most: usize,
+    ) -> Result<Vec<Versioned>, StoreError>
+        requires { most ≤ MOST_MATCHING }
+        ensures same { self.new ≡ self.old }
+        ensures answer { IfOk result (λ found. FindsAround query.now stamp self.old found.items) }
+        ensures bound { OnOk result (length (filter (suits query.now) self.old) ≤ most) }
+        ensures answers { IfOk result (λ found. AnswersAround query.now stamp self.old found.items) }
+        ensures refused { result ≡ Err StoreError.TooManyRows
+            → most < length (filter (suits query.now) self.old) }
+    {
+        let at = stamp.number() as usize + self.first as usize;
+        let mut store = self.slot.take(self.alloc);
+        let answer = store.matching_at(query, at, most);
+        self.slot.put(store);
+        let mut found = answer?;
+        count_all(&mut found, self.first);
+        Ok(found)
+    }
+
     /// The versions that match and have not died, by id and then by birth: those that the newest state has. It is refused
-    /// as [`VersionRows::matching`] is, also where versions that have died make too many.
-    pub fn current(&mut self, query: &Query) -> Result<Vec<Versioned>, StoreError>
+    /// as [`VersionRows::matching_at`] is, also if versions that have died make too many.
+    pub fn current(&mut self, query: &Query, most: usize) -> Result<Vec<Versioned>, StoreError>
+        requires { most ≤ MOST_MATCHING }
         ensures same { self.new ≡ self.old }
         ensures answer { IfOk result (λ found. Finds query.now (current self.old) found.items) }
-        ensures bound { OnOk result (length (filter (suits query.now) self.old) ≤ MAX_MATCHING) }
+        ensures bound { OnOk result (length (filter (suits query.now) self.old) ≤ most) }
         ensures answers { IfOk result (λ found. AnswersNewest query.now self.old found.items) }
         ensures refused { result ≡ Err StoreError.TooManyRows
-            → MAX_MATCHING < length (filter (suits query.now) self.old) }
+            → most < length (filter (suits query.now) self.old) }
     {
         let mut store = self.slot.take(self.alloc);
-        let answer = store.current(query);
+        let answer = store.current(query, most);
         self.slot.put(store);
         let mut found = answer?;
         count_all(&mut found, self.first);

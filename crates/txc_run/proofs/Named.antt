@@ -18,9 +18,9 @@ use Rattle.txc_run.specs.Steps.{MakesForm, MakesLine, Taking}
 -- ---- insertions
 
 pub entry_refused : (e : Entry) (error : EntryError) → ((error ≡ errors.BadReach) → e.reach.known < e.reach.lo) → ((error ≡ errors.ValueTooLong) → (e.reach.lo ≤ e.reach.known) × (MAX_VALUE_LEN < length e.value))
-    → entry_refusal e ≡ Some (refusal_by error)
-entry_refused e errors.BadReach reach long = entry_has_no_reach e (reach refl)
-entry_refused e errors.ValueTooLong reach long = let l = long refl in entry_is_too_long e l.0 l.1
+    → entry_refusal MAX_VALUE_LEN e ≡ Some (refusal_by error)
+entry_refused e errors.BadReach reach long = entry_has_no_reach MAX_VALUE_LEN e (reach refl)
+entry_refused e errors.ValueTooLong reach long = let l = long refl in entry_is_too_long MAX_VALUE_LEN e l.0 l.1
 
 -- ---- the step of a line
 

@@ -1,6 +1,7 @@
 -- A line is one thing.
 use Rattle.std.proofs.Common.{◌≡◌, ◌<◌, lit<, ℕ, List, Some, None, get_or, refl, sym, ap, subst, ◌∙◌}
 use Rattle.std.specs.List.{AllByRecursion}
+use Rattle.txc_node.specs.declared.value.TheConstants.{MAX_VALUE_LEN}
 use Rattle.txc_node.specs.declared.entry.Entry.{Entry}
 use Rattle.txc_node.specs.declared.entry.EntryError.{EntryError}
 use Rattle.txc_node.specs.declared.entry.EntryError.TheVariants as errors
@@ -33,10 +34,10 @@ same_error errors.BadReach errors.ValueTooLong e = cc
 same_error errors.ValueTooLong errors.BadReach e = cc
 
 -- an entry that can be made is not refused
-made_unmade : (line : List ℕ) (op : Op) (e : Entry) (error : EntryError) → NamesStep (IsStepLine line) op → IsStepLine line (Insert e) → entry_refusal e ≡ Some (refusal_by error) → ⊥
+made_unmade : (line : List ℕ) (op : Op) (e : Entry) (error : EntryError) → NamesStep (IsStepLine line) op → IsStepLine line (Insert e) → entry_refusal MAX_VALUE_LEN e ≡ Some (refusal_by error) → ⊥
 made_unmade line op e error h is refused =
     let same : op ≡ Insert e = one_step line op (Insert e) h.0 is in
-    let made : entry_refusal e ≡ None = subst CanBeMade same h.1 in
+    let made : entry_refusal MAX_VALUE_LEN e ≡ None = subst CanBeMade same h.1 in
     let apart : None ≡ Some (refusal_by error) = sym made ∙ refused in
     cc
 
@@ -44,7 +45,7 @@ same_unmade : (line : List ℕ) (a b : EntryError) → IsUnmade (IsStepLine line
 same_unmade line a b h k =
     let steps : Insert h.0 ≡ Insert k.0 = one_step line (Insert h.0) (Insert k.0) h.1 k.1 in
     let same : h.0 ≡ k.0 = cc in
-    let refusals : Some (refusal_by a) ≡ Some (refusal_by b) = sym h.2 ∙ ap entry_refusal same ∙ k.2 in
+    let refusals : Some (refusal_by a) ≡ Some (refusal_by b) = sym h.2 ∙ ap (entry_refusal MAX_VALUE_LEN) same ∙ k.2 in
     same_error a b (cc)
 
 pub one_thing : (F : Type 0) (line : List ℕ) (a b : Line) → IsLine F line a → IsLine F line b → a ≡ b

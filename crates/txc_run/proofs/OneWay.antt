@@ -2,6 +2,7 @@
 use Rattle.std.proofs.Common.{◌≡◌, ◌≢◌, ℕ, ◌+◌, List, [], ◌∷◌, refl, sym, ap, subst, ◌∙◌}
 use Rattle.std.specs.List.{AllByRecursion}
 use Rattle.std.proofs.lemmas.List.Elements.{recursion_from_All}
+use Rattle.txc_node.specs.declared.value.TheConstants.{MAX_VALUE_LEN}
 use Rattle.txc_node.specs.declared.op.Op.{Op}
 use Rattle.txc_node.specs.declared.refusal.Refusal.TheVariants.{Memory}
 use Rattle.txc_node.specs.declared.reply.Reply.TheVariants.{Refused}
@@ -26,9 +27,9 @@ same_given F how c n line Nothing Nothing next other u v h k = record { given = 
 same_given F how c n line (Malformed m) (Malformed l) next other u v h k = record { given = ap Malformed (h.1 ∙ sym k.1); state = h.2 ∙ sym k.2 }
 same_given F how c n line (Replied o r) (Replied p s) next other u v h k =
     let same : p ≡ o = one_step line p o k.0 h.0 in
-    let may : MayReply c o s other = subst (λ (op : Op). MayReply c op s other) same k.1 in
-    let x = replied_one_way c o r next (λ e. u o (ap (Replied o) e)) h.1 in
-    let y = replied_one_way c o s other (λ e. v p (ap (Replied p) e)) may in
+    let may : MayReply MAX_VALUE_LEN c o s other = subst (λ (op : Op). MayReply MAX_VALUE_LEN c op s other) same k.1 in
+    let x = replied_one_way MAX_VALUE_LEN c o r next (λ e. u o (ap (Replied o) e)) h.1 in
+    let y = replied_one_way MAX_VALUE_LEN c o s other (λ e. v p (ap (Replied p) e)) may in
     record { given = ap (λ (op : Op). Replied op r) (sym same) ∙ ap (Replied p) (x.0 ∙ sym y.0); state = x.1 ∙ sym y.1 }
 same_given F how c n line Nothing (Replied p s) next other u v h k = absurd (no_quiet_step line p h.0 k.0)
 same_given F how c n line Nothing (Malformed l) next other u v h k = absurd (k.0.not_quiet h.0)

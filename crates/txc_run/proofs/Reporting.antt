@@ -13,7 +13,7 @@ use Rattle.txc_node.specs.declared.op.Op.{Op}
 use Rattle.txc_node.specs.declared.record.Record.{Record}
 use Rattle.txc_node.specs.declared.reply.Reply.{Reply}
 use Rattle.txc_node.specs.declared.reply.Reply.TheVariants as replies
-use Rattle.txc_node.specs.Counts.{Totals, counts_for, counts_of, sum_of, events_by, closed_by, swept_by}
+use Rattle.txc_node.specs.Counts.{Totals, counts_for, counts_of, sum_of, events_by, closed_by, swept_by, trimmed_by}
 use Rattle.txc_node.specs.Steps.{function_of, is_refusal, seen_reply}
 use Rattle.txc_node.specs.declared.hit.Shown.{Shown}
 use Rattle.txc_node.proofs.History.{counted_more}
@@ -28,6 +28,7 @@ refusal_seen (replies.Hit hit) = refl
 refusal_seen replies.Miss = refl
 refusal_seen (replies.Closed count) = refl
 refusal_seen (replies.Swept count) = refl
+refusal_seen (replies.Trimmed count) = refl
 refusal_seen (replies.Refused refusal) = refl
 
 -- a lent hit counts as what it shows
@@ -36,15 +37,17 @@ record CountsAsSeen (reply : Reply Hit) : Type 0 where
   events : events_by (seen_reply reply) ≡ events_by reply
   closed : closed_by (seen_reply reply) ≡ closed_by reply
   swept : swept_by (seen_reply reply) ≡ swept_by reply
+  trimmed : trimmed_by (seen_reply reply) ≡ trimmed_by reply
 
 counts_seen : (reply : Reply Hit) → CountsAsSeen reply
-counts_seen (replies.Inserted (Stored reach evicted)) = record { counts = λ f function. refl; events = refl; closed = refl; swept = refl }
-counts_seen (replies.Inserted (Kept entry)) = record { counts = λ f function. refl; events = refl; closed = refl; swept = refl }
-counts_seen (replies.Hit hit) = record { counts = λ f function. refl; events = refl; closed = refl; swept = refl }
-counts_seen replies.Miss = record { counts = λ f function. refl; events = refl; closed = refl; swept = refl }
-counts_seen (replies.Closed count) = record { counts = λ f function. refl; events = refl; closed = refl; swept = refl }
-counts_seen (replies.Swept count) = record { counts = λ f function. refl; events = refl; closed = refl; swept = refl }
-counts_seen (replies.Refused refusal) = record { counts = λ f function. refl; events = refl; closed = refl; swept = refl }
+counts_seen (replies.Inserted (Stored reach evicted)) = record { counts = λ f function. refl; events = refl; closed = refl; swept = refl; trimmed = refl }
+counts_seen (replies.Inserted (Kept entry)) = record { counts = λ f function. refl; events = refl; closed = refl; swept = refl; trimmed = refl }
+counts_seen (replies.Hit hit) = record { counts = λ f function. refl; events = refl; closed = refl; swept = refl; trimmed = refl }
+counts_seen replies.Miss = record { counts = λ f function. refl; events = refl; closed = refl; swept = refl; trimmed = refl }
+counts_seen (replies.Closed count) = record { counts = λ f function. refl; events = refl; closed = refl; swept = refl; trimmed = refl }
+counts_seen (replies.Swept count) = record { counts = λ f function. refl; events = refl; closed = refl; swept = refl; trimmed = refl }
+counts_seen (replies.Trimmed count) = record { counts = λ f function. refl; events = refl; closed = refl; swept = refl; trimmed = refl }
+counts_seen (replies.Refused refusal) = record { counts = λ f function. refl; events = refl; closed = refl; swept = refl; trimmed = refl }
 
 -- ---- names
 
@@ -101,9 +104,9 @@ named_more (first ∷ steps) step = ap (before_others (function_of first.op)) (n
 
 pub reported_more : (steps : List Record) (op : Op) (function : Option ℕ) (reply : Reply Hit) (names others : List ℕ) (old new : Totals) → function ≡ function_of op
     → ((f : ℕ) → counts_of new.functions f ≡ sum_of (counts_of old.functions f) (counts_for f function reply))
-    → new.replies ≡ old.replies + 1 → new.events ≡ old.events + events_by reply → new.closed ≡ old.closed + closed_by reply → new.swept ≡ old.swept + swept_by reply
+    → new.replies ≡ old.replies + 1 → new.events ≡ old.events + events_by reply → new.closed ≡ old.closed + closed_by reply → new.swept ≡ old.swept + swept_by reply → new.trimmed ≡ old.trimmed + trimmed_by reply
     → others ≡ with_name function names → IsReportOf steps names old → IsReportOf (steps ++ step_by op (seen_reply reply) ∷ []) others new
-reported_more steps op function reply names others old new of functions counted events closed swept named h =
+reported_more steps op function reply names others old new of functions counted events closed swept trimmed named h =
     let step = step_by op (seen_reply reply) in
     let seen = counts_seen reply in
     record {
@@ -111,7 +114,7 @@ reported_more steps op function reply names others old new of functions counted 
       counts_are = counted_more steps step old new
           (λ f. functions f ∙ ap (sum_of (counts_of old.functions f)) (sym (seen.counts f function) ∙ ap (λ (o : Option ℕ). counts_for f o (seen_reply reply)) of))
           counted (events ∙ ap (λ n. old.events + n) (sym seen.events)) (closed ∙ ap (λ n. old.closed + n) (sym seen.closed))
-          (swept ∙ ap (λ n. old.swept + n) (sym seen.swept)) h.counts_are;
+          (swept ∙ ap (λ n. old.swept + n) (sym seen.swept)) (trimmed ∙ ap (λ n. old.trimmed + n) (sym seen.trimmed)) h.counts_are;
     }
 
 functions_same : (a b : ℕ → FunctionCounts) (names : List ℕ) → ((f : ℕ) → a f ≡ b f) → functions_text a names ≡ functions_text b names

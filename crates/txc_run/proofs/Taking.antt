@@ -2,6 +2,7 @@
 use Rattle.std.proofs.Common.{◌≡◌, ◌++◌, Bool, true, false, List, ℕ, [], ◌∷◌, Option, Some, None, IfNone, IfSome, refl, sym, ap, subst, inr, ◌∙◌}
 use Rattle.std.specs.Prelude.{if◌then◌else◌}
 use Rattle.std.proofs.lemmas.List.{append-nil}
+use Rattle.txc_node.specs.declared.value.TheConstants.{MAX_VALUE_LEN}
 use Rattle.txc_node.specs.Cache.{Cache}
 use Rattle.txc_node.specs.declared.hit.Shown.{Shown}
 use Rattle.txc_node.specs.declared.op.Op.{Op}
@@ -44,7 +45,7 @@ one_counted old new op reply kept counts given h =
 
 -- such a step was made, and its reply taken
 pub taken : {T F : Type 0} (takes : Taking T) (form : LineForm Op) (words : List (List ℕ)) (r : Option Bool) (why : Unanswered F) (c next : Cache) (op : Op) (reply : Reply Shown) (function : Option ℕ) (old new : T) → IsOfForm form words op
-    → MayReply c op reply next → IsFor function op reply → IfSome r (λ refused. (o : Op) → IsFor function o reply → takes old o reply new) → IfSome r (λ refused. refused ≡ is_refusal reply) → IfNone r (why ≡ Memory)
+    → MayReply MAX_VALUE_LEN c op reply next → IsFor function op reply → IfSome r (λ refused. (o : Op) → IsFor function o reply → takes old o reply new) → IfSome r (λ refused. refused ≡ is_refusal reply) → IfNone r (why ≡ Memory)
     → MakesForm takes form words c next old new r why
 taken takes form words (Some refused) why c next op reply function old new is may of after same memory = (op, is, reply, may, after op of, same)
 taken takes form words None why c next op reply function old new is may of after same memory =

@@ -1,6 +1,7 @@
 -- Only private functions need this file: a report in progress.
 use Rattle.std.specs.Prelude.{◌++◌, ◌∷◌, [], List}
 use Rattle.txc_settings.specs.declared.mode.Mode.TheVariants.{Report}
+use Rattle.txc_node.specs.declared.value.TheConstants.{MAX_VALUE_LEN}
 use Rattle.txc_node.specs.declared.hit.Shown.{Shown}
 use Rattle.txc_node.specs.declared.op.Op.{Op}
 use Rattle.txc_node.specs.declared.reply.Reply.{Reply}
@@ -27,7 +28,7 @@ Counts old op reply new =
 abbrev pub counted_script : {F : Type 0} → ScriptKind Counted Op (Reply Shown) F
 counted_script = record {
   asks = λ s. Spells;
-  does = λ s op reply next. MayReply s.node op reply next.node × Counts s.report op reply next.report;
+  does = λ s op reply next. MayReply MAX_VALUE_LEN s.node op reply next.node × Counts s.report op reply next.report;
   breaks_off = λ s line next. Unit {0};
   text = reply_line Report;
   is_refused = is_refusal;

@@ -2,6 +2,7 @@
 use Rattle.std.specs.Prelude.{◌≡◌, ℕ, false, List, [], ◌∷◌, ◌++◌}
 use Rattle.txc_settings.specs.declared.mode.Mode.{Mode}
 use Rattle.txc_settings.specs.declared.mode.Mode.TheVariants.{Node, Report}
+use Rattle.txc_node.specs.declared.value.TheConstants.{MAX_VALUE_LEN}
 use Rattle.txc_node.specs.declared.hit.Shown.{Shown}
 use Rattle.txc_node.specs.declared.op.Op.{Op}
 use Rattle.txc_node.specs.declared.reply.Reply.{Reply}
@@ -38,7 +39,7 @@ MayBreakAtEnd Report = Unit {0}
 abbrev pub node_script : {F : Type 0} → Mode → ScriptKind Cache Op (Reply Shown) F
 node_script mode = record {
   asks = λ c. Spells;
-  does = MayReply;
+  does = MayReply MAX_VALUE_LEN;
   breaks_off = λ c line next. Unit {0};
   text = reply_line mode;
   is_refused = is_refusal;

@@ -1,10 +1,11 @@
 -- What a line is, in the words of a law.
 use Rattle.std.specs.Prelude.{◌≡◌, ⊤, ℕ, List, Some, None}
+use Rattle.txc_node.specs.declared.value.TheConstants.{MAX_VALUE_LEN}
 use Rattle.txc_node.specs.Cache.{Cache}
 use Rattle.txc_node.specs.declared.entry.Entry.{Entry}
 use Rattle.txc_node.specs.declared.entry.EntryError.{EntryError}
 use Rattle.txc_node.specs.declared.op.Op.{Op}
-use Rattle.txc_node.specs.declared.op.Op.TheVariants.{Insert, Lookup, Event, Sweep}
+use Rattle.txc_node.specs.declared.op.Op.TheVariants.{Insert, Lookup, Event, Sweep, Trim}
 use Rattle.txc_node.specs.Steps.{refusal_by, entry_refusal}
 use Rattle.txc_settings.specs.declared.mode.Mode.TheVariants.{Node}
 use Rattle.txc_script.specs.Kinds.{IsMalformed}
@@ -14,10 +15,11 @@ use Rattle.txc_run.specs.NodeScripts.{node_script}
 
 -- an insertion's entry can be made
 abbrev pub CanBeMade : Op → Type 0
-CanBeMade (Insert e) = entry_refusal e ≡ None
+CanBeMade (Insert e) = entry_refusal MAX_VALUE_LEN e ≡ None
 CanBeMade (Lookup key lo hi) = ⊤
 CanBeMade (Event stamp tags) = ⊤
 CanBeMade (Sweep horizon) = ⊤
+CanBeMade (Trim most) = ⊤
 
 -- the step is such a one, and can be made
 abbrev pub NamesStep : (Op → Type 0) → Op → Type 0
@@ -25,7 +27,7 @@ NamesStep Is op = Is op × CanBeMade op
 
 -- there is such an insertion, and its entry cannot be made, for this reason
 abbrev pub IsUnmade : (Op → Type 0) → EntryError → Type 0
-IsUnmade Is error = (e : Entry) × Is (Insert e) × (entry_refusal e ≡ Some (refusal_by error))
+IsUnmade Is error = (e : Entry) × Is (Insert e) × (entry_refusal MAX_VALUE_LEN e ≡ Some (refusal_by error))
 
 -- what a line is: one without a reply, a step, an insertion whose entry cannot be made, or none of these
 pub data Line : Type 0 where

@@ -1,5 +1,6 @@
 -- Only private functions need this file: steps that are made, and their replies, which are taken.
 use Rattle.std.specs.Prelude.{◌≡◌, ℕ, Bool, false, Option, Some, None, List, ⊤}
+use Rattle.txc_node.specs.declared.value.TheConstants.{MAX_VALUE_LEN}
 use Rattle.txc_node.specs.declared.hit.Shown.{Shown}
 use Rattle.txc_node.specs.declared.op.Op.{Op}
 use Rattle.txc_node.specs.declared.reply.Reply.{Reply}
@@ -26,7 +27,7 @@ Taking T = T → Op → Reply Shown → T → Type 0
 abbrev pub MakesStep : {T F : Type 0} → Taking T → (Op → Type 0) → (CommandFault F → Type 0) → Cache → Cache → T → T
     → Option Bool → Unanswered F → Type 0
 MakesStep takes Is IsFault c next old new (Some refused) why = (op : Op) × Is op × (reply : Reply Shown)
-    × MayReply c op reply next × takes old op reply new × (refused ≡ is_refusal reply)
+    × MayReply MAX_VALUE_LEN c op reply next × takes old op reply new × (refused ≡ is_refusal reply)
 MakesStep takes Is IsFault c next old new None (Wrong fault) = IsFault fault × (next ≡ c) × (new ≡ old)
 MakesStep takes Is IsFault c next old new None Memory = ⊤
 

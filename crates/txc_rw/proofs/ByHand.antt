@@ -180,9 +180,9 @@ right_at L right rests (Some reach) tags t h inside = h.holds t inside
 -- it is right at the base
 pub held_at_base : (next : Next) (objects : Objects) (L : History) (c : RwValue) (x : HeldAnswer) (frame : Frame) (outer : List Frame)
     → InCall 1 c.call → RwHolds next L objects c → c.call.need ≡ Some (needs.Resume x) → c.call.frames ≡ frame ∷ outer
-    → IsRight next frame.key.function (state_at L c.base) (next frame.key.function frame.key.args (answers_in objects frame.key.function)) x.answer
+    → IsRight next frame.key.function (state_at L c.base) (next.says frame.key.function frame.key.args (answers_in objects frame.key.function)) x.answer
 held_at_base next objects L c x frame outer at_one h is at =
-    let asked = next frame.key.function frame.key.args (answers_in objects frame.key.function) in
+    let asked = next.says frame.key.function frame.key.args (answers_in objects frame.key.function) in
     let changes : List Change = changes_of (take c.base L) in
     let same : state_at L c.base ≡ state_of changes = reached L c.base in
     let call : CallHolds next (committed changes) objects c.call = h.call changes (λ q there. ap (λ (s : State). answer q s) (sym same)) in

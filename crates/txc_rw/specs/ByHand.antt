@@ -5,6 +5,7 @@ use Rattle.txc_tags.specs.Keys.{Call}
 use Rattle.txc_rows.specs.declared.query.Query.{Query}
 use Rattle.txc_validity.specs.declared.answer.Found.{Found}
 use Rattle.txc_db.specs.declared.error.DbError.{DbError}
+use Rattle.txc_app.specs.declared.app.Limits.{Limits}
 use Rattle.txc_app.specs.declared.ask.Answer.TheVariants as answers
 use Rattle.txc_app.specs.declared.ask.Ask.{Ask as FunctionAsk}
 use Rattle.txc_app.specs.Eval.{Next}
@@ -78,17 +79,18 @@ RwHandTransition (Ok standing) new (Some turn) =
     × RwStandingTransition (Ok (record standing { need = without_node standing.frames standing.need })) new standing.objects turn
 RwHandTransition (Err error) new turn = turn ≡ Some (Ended (Err (refused_call error)))
 
--- the effect of an ask of the function that the call needs
-abbrev pub RwAskTransition : RwValue → Need → FunctionAsk → RwValue → RwHandTurn → Type 0
-RwAskTransition old need ask new turn = (objects : Objects)
-    → (stands : CallTurn) × AfterRan old.call.frames old.call.asked objects need ask stands
+-- the effect of an ask of the function that the call needs, within these limits
+abbrev pub RwAskTransition : Limits → RwValue → Need → FunctionAsk → RwValue → RwHandTurn → Type 0
+RwAskTransition limits old need ask new turn = (objects : Objects)
+    → (stands : CallTurn) × AfterRan limits old.call.frames old.call.asked objects need ask stands
     × RwHandTransition stands new turn
 
--- What comes of an ask of the function that the call needs: a turn or none. All stays but the answers, the call, and the
--- query that the database is asked.
-pub record HasRwAsked (old : RwValue) (ask : FunctionAsk) (new : RwValue) (turn : RwHandTurn) : Type 0 where
+-- What comes of an ask of the function that the call needs, within these limits: a turn or none. All stays but the
+-- answers, the call, and the query that the database is asked.
+pub record HasRwAsked (limits : Limits) (old : RwValue) (ask : FunctionAsk) (new : RwValue) (turn : RwHandTurn)
+    : Type 0 where
   pub turn_fits : IsRwHandTurn new turn
-  pub leads : (need : Need) → old.call.need ≡ Some need → RwAskTransition old need ask new turn
+  pub leads : (need : Need) → old.call.need ≡ Some need → RwAskTransition limits old need ask new turn
   pub answers : new.answers ≡ answers_by_hand old.answers old.call.top turn
   pub goes_on : IsRwUnended turn → new.call.top ≡ old.call.top
   pub same : new ≡ record old { answers = new.answers; call = new.call; reading = new.reading }

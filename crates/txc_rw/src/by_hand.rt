@@ -1,9 +1,11 @@
 //! The steps of a core whose caller runs the functions of its calls.
-ghost use Rattle.std.specs.Prelude.{◌≡◌, ◌≢◌, ◌∷◌, List, IfOk, IsSome, MatchOption, None, Ok, Some};
+ghost use Rattle.std.specs.Prelude.{◌≡◌, ◌≢◌, ◌≤◌, ◌∷◌, List, IfOk, IsSome, MatchOption, None, Ok, Some};
 ghost use Rattle.txc_rows.specs.declared.query.Query.{Query};
 ghost use Rattle.txc_validity.specs.declared.answer.Found.{Found};
 ghost use Rattle.txc_db.specs.declared.error.DbError.{DbError};
 ghost use Rattle.txc_db.specs.History.{History, state_at};
+ghost use Rattle.txc_node.specs.declared.value.TheConstants.{MOST_VALUE_LEN};
+ghost use Rattle.txc_app.specs.declared.app.TheConstants.{MOST_ASKS};
 ghost use Rattle.txc_app.specs.Answering.{IsRight};
 ghost use Rattle.txc_app.specs.declared.ask.Ask.{Ask};
 ghost use Rattle.txc_app.specs.Eval.{Next};
@@ -22,7 +24,7 @@ use crate::rw_core::RwCore;
 use crate::uncached::pass_nodes;
 use std::alloc::Global;
 use std::mem;
-use txc_app::{Answer, Ask};
+use txc_app::{Answer, Ask, Limits};
 use txc_call::{CallMachine, Need, Reply};
 use txc_db::DbError;
 use txc_node::Value;
@@ -136,29 +138,34 @@ impl RwCore {
         None
     }
 
-    /// Takes the ask of the function that the call needs. Returns none if a function is to begin or to continue first.
-    pub fn ran(&mut self, alloc: Global, ask: Ask) -> Option<Turn<Query, Value>>
+    /// Takes the ask of the function that the call needs, within the limits of the function's application. Returns none
+    /// if a function is to begin or to continue first.
+    pub fn ran(&mut self, limits: Limits, alloc: Global, ask: Ask) -> Option<Turn<Query, Value>>
+        requires most_value { limits.value ≤ MOST_VALUE_LEN }
+        requires most_asks { limits.asks ≤ MOST_ASKS }
         requires runs { NeedsFunction self.old.call.need }
         requires none { self.old.reading ≡ None }
-        requires asks { (next : Next) × (objects : Objects) × (need : Need) × (self.old.call.need ≡ Some need)
+        requires asks { (next : Next) × (objects : Objects) × (need : Need) × (next.limits ≡ limits)
+            × (self.old.call.need ≡ Some need)
             × (due_ask next objects self.old.call.frames need ≡ Some ask)
             × FunctionExists (with_resumed objects self.old.call.frames need) ask
             × IsRwByHand next objects self.old }
-        ensures fits { (next : Next) (objects after : Objects) (need : Need) → self.old.call.need ≡ Some need
+        ensures fits { (next : Next) (objects after : Objects) (need : Need) → next.limits ≡ limits
+            → self.old.call.need ≡ Some need
             → due_ask next objects self.old.call.frames need ≡ Some ask
             → FunctionExists (with_resumed objects self.old.call.frames need) ask
             → RwObjectsLeft (objects_after objects self.old.call.frames need ask) result after
             → IsRwByHand next objects self.old → IsRwByHand next after self.new }
         ensures holds { (next : Next) (objects after : Objects) (L : History) (need : Need)
-            → self.old.call.need ≡ Some need
+            → next.limits ≡ limits → self.old.call.need ≡ Some need
             → due_ask next objects self.old.call.frames need ≡ Some ask
             → FunctionExists (with_resumed objects self.old.call.frames need) ask
             → RwObjectsLeft (objects_after objects self.old.call.frames need ask) result after
             → IsRwByHand next objects self.old → RwHolds next L objects self.old
             → RwHolds next L after self.new }
-        ensures asked { HasRwAsked self.old ask self.new result }
+        ensures asked { HasRwAsked limits self.old ask self.new result }
     {
-        match self.machine.ran(alloc, ask) {
+        match self.machine.ran(limits, alloc, ask) {
             Ok(()) => self.asks_by_hand(alloc),
             Err(error) => Some(Turn::Ended(Err(error.into()))),
         }
@@ -193,7 +200,7 @@ impl RwCore {
             (outer : List Frame) → IsRwByHand next objects self.now → RwHolds next L objects self.now
             → self.now.call.need ≡ Some (Need.Resume x) → self.now.call.frames ≡ frame ∷ outer
             → IsRight next frame.key.function (state_at L self.now.base)
-            (next frame.key.function frame.key.args (answers_in objects frame.key.function)) x.answer }
+            (next.says frame.key.function frame.key.args (answers_in objects frame.key.function)) x.answer }
     {
         match self.machine.need() {
             Some(Need::Resume(held)) => Some(&held.answer),

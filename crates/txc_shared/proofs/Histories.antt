@@ -11,6 +11,7 @@ use Rattle.txc_node.specs.declared.op.Op.{Op}
 use Rattle.txc_node.specs.declared.op.Op.TheVariants as ops
 use Rattle.txc_node.specs.declared.record.Record.{Record}
 use Rattle.txc_node.specs.Cache.{Cache, found, after_use, is_kept, entries_with}
+use Rattle.txc_node.specs.declared.value.TheConstants.{MOST_VALUE_LEN}
 use Rattle.txc_node.specs.Steps.{refusal_of, after_step}
 use Rattle.txc_app.proofs.Offered.{each_beginning}
 use Rattle.txc_shared.specs.Histories.{cache_after, IsOfHistory, records_of, IsNext, IsLegal, is_event, events_of}
@@ -36,6 +37,7 @@ of_longer stay L more (ops.Event stamp tags) h =
 of_longer stay L more (ops.Lookup key lo hi) h = h
 of_longer stay L more (ops.Insert e) h = h
 of_longer stay L more (ops.Sweep horizon) h = h
+of_longer stay L more (ops.Trim most) h = h
 
 legal_with_more : TagsStay → (L more : History) (start : Cache) (rs : List Record) → IsLegal L start rs → IsLegal (L ++ more) start rs
 legal_with_more stay L more start rs h = record {
@@ -69,14 +71,15 @@ pub next_stamp : (c : Cache) (stamp : ℕ) (b : Bool) → stamp == c.processed +
 next_stamp c stamp true is none = eqb-true stamp (c.processed + 1) is
 next_stamp c stamp false is none = absurd (cc none)
 
-pub step_processed : (c : Cache) (op : Op) → refusal_of c op ≡ None → (after_step c op).processed ≡ c.processed + cond (is_event op) 1 0
+pub step_processed : (c : Cache) (op : Op) → refusal_of MOST_VALUE_LEN c op ≡ None → (after_step c op).processed ≡ c.processed + cond (is_event op) 1 0
 step_processed c (ops.Lookup key lo hi) can = used_processed c (found c key lo hi) ∙ plus_none c.processed
 step_processed c (ops.Insert e) can = kept_processed c e (is_kept c e) ∙ plus_none c.processed
 step_processed c (ops.Event stamp tags) can = next_stamp c stamp (stamp == c.processed + 1) refl can
 step_processed c (ops.Sweep horizon) can = plus_none c.processed
+step_processed c (ops.Trim most) can = plus_none c.processed
 
 events_from : (c : Cache) (rs : List Record)
-    → ((i : ℕ) (r : Record) → slice_get rs i ≡ Some r → refusal_of (cache_after c (take i rs)) r.op ≡ None)
+    → ((i : ℕ) (r : Record) → slice_get rs i ≡ Some r → refusal_of MOST_VALUE_LEN (cache_after c (take i rs)) r.op ≡ None)
     → (cache_after c rs).processed ≡ c.processed + events_of rs
 events_from c [] h = plus_none c.processed
 events_from c (r ∷ rs) h =

@@ -10,11 +10,11 @@ use Rattle.txc_db.specs.History.{History, tags_at}
 use Rattle.txc_db.specs.Laws.{TagsStay}
 use Rattle.txc_db.specs.Seen.{FrontValue}
 use Rattle.txc_db.specs.declared.answered.Answered.{Answered}
-use Rattle.txc_node.specs.declared.value.TheConstants.{MAX_VALUE_LEN}
+use Rattle.txc_node.specs.declared.value.TheConstants.{MOST_VALUE_LEN}
 use Rattle.txc_node.specs.declared.entry.Entry.{Entry}
 use Rattle.txc_node.specs.declared.hit.Shown.{Shown}
 use Rattle.txc_node.specs.declared.op.Op.{Op}
-use Rattle.txc_node.specs.declared.op.Op.TheVariants.{Insert, Lookup, Event, Sweep}
+use Rattle.txc_node.specs.declared.op.Op.TheVariants.{Insert, Lookup, Event, Sweep, Trim}
 use Rattle.txc_node.specs.declared.record.Record.{Record}
 use Rattle.txc_node.specs.Cache.{Cache, lookup_answer}
 use Rattle.txc_node.specs.Steps.{refusal_of, step_reply, after_step}
@@ -50,19 +50,22 @@ module _ (next : Next) (L : History) (start : Cache) where
 module _ (next : Next) (L : History) where
   pub may_look_up : (c : Cache) (key : Call) (lo hi : ℕ) → lo ≤ hi → MayStep next L c (Lookup key lo hi)
   may_look_up c key lo hi some =
-      let none : refusal_of c (Lookup key lo hi) ≡ None = grind (arith, nat_tests) in
+      let none : refusal_of MOST_VALUE_LEN c (Lookup key lo hi) ≡ None = grind (arith, nat_tests) in
       record { possible = none; event = tt; is_true = tt }
 
-  pub may_insert : (c : Cache) (e : Entry) → e.reach.lo ≤ e.reach.known → length e.value ≤ MAX_VALUE_LEN → IsTrueIn next L e → MayStep next L c (Insert e)
-  may_insert c e some short right = record { possible = entry_is_made e some short; event = tt; is_true = right }
+  pub may_insert : (c : Cache) (e : Entry) → e.reach.lo ≤ e.reach.known → length e.value ≤ MOST_VALUE_LEN → IsTrueIn next L e → MayStep next L c (Insert e)
+  may_insert c e some short right = record { possible = entry_is_made MOST_VALUE_LEN e some short; event = tt; is_true = right }
 
   pub may_take : (c : Cache) (stamp : ℕ) (tags : List Tag) → stamp ≡ c.processed + 1 → stamp ≤ length L → tags ≡ tags_at L stamp → MayStep next L c (Event stamp tags)
   may_take c stamp tags is within right =
-      let none : refusal_of c (Event stamp tags) ≡ None = grind (arith, nat_tests) in
+      let none : refusal_of MOST_VALUE_LEN c (Event stamp tags) ≡ None = grind (arith, nat_tests) in
       record { possible = none; event = (within, right); is_true = tt }
 
   pub may_sweep : (c : Cache) (horizon : ℕ) → MayStep next L c (Sweep horizon)
   may_sweep c horizon = record { possible = refl; event = tt; is_true = tt }
+
+  pub may_trim : (c : Cache) (most : ℕ) → MayStep next L c (Trim most)
+  may_trim c most = record { possible = refl; event = tt; is_true = tt }
 
 -- an event has the same tags in a longer history
 pub tags_in_longer : TagsStay → (L M : History) (number : ℕ) (tags : List Tag) → IsPrefix L M → HasTags L number tags → HasTags M number tags

@@ -14,8 +14,9 @@ use Rattle.txc_node.specs.declared.refusal.Refusal.{Refusal}
 use Rattle.txc_node.specs.declared.refusal.Refusal.TheVariants as refusals
 use Rattle.txc_node.specs.declared.record.Record.{Record}
 use Rattle.txc_node.specs.Entries.{is_best, others}
-use Rattle.txc_node.specs.Cache.{Cache, empty_cache_at, found, shown_of, after_use, is_kept, entries_with, entry_after, after_event}
+use Rattle.txc_node.specs.Cache.{Cache, empty_cache_at, found, shown_of, after_use, is_kept, entries_with, entry_after, after_event, staying_count}
 use Rattle.txc_node.specs.Laws.{FindsTheLongest}
+use Rattle.txc_node.specs.declared.value.TheConstants.{MOST_VALUE_LEN}
 use Rattle.txc_node.specs.Steps.{refusal_of, step_reply, after_step}
 use Rattle.txc_app.specs.Eval.{Next}
 use Rattle.txc_app.specs.Claims.{IsTrueIn}
@@ -154,13 +155,15 @@ true_after event replay next L c (ops.Event stamp tags) h may =
     event_taken event next L c stamp tags (omega (arith, is)) may.event.0 may.event.1 h
 true_after event replay next L c (ops.Sweep horizon) h may =
     with_entries next L c _ h (all_filter (IsShownTrue next L c.processed) _ c.entries h.entries)
+true_after event replay next L c (ops.Trim most) h may =
+    with_entries next L c _ h (all_take (IsShownTrue next L c.processed) (staying_count most c.entries) c.entries h.entries)
 
 run_goes_on : (next : Next) (L : History) (start : Cache) (rs : List Record) (c : Cache) (pass : ℕ) (op : Op) → IsRun L start rs c → MayStep next L c op
     → IsRun L start (rs ++ next_record pass rs op (step_reply c op) ∷ []) (after_step c op)
 run_goes_on next L start rs c pass op h may =
     let r = next_record pass rs op (step_reply c op) in
     let follows : IsNext L start rs r = record {
-      possible = subst (λ (k : Cache). refusal_of k op ≡ None) h.is may.possible;
+      possible = subst (λ (k : Cache). refusal_of MOST_VALUE_LEN k op ≡ None) h.is may.possible;
       reply = ap (λ (k : Cache). step_reply k op) h.is;
       event = may.event;
       turn = refl;

@@ -3,9 +3,10 @@ use Rattle.std.specs.Prelude.{◌≡◌, None, ℕ, ◌≤◌, ◌==◌, List, l
 use Rattle.txc_db.specs.History.{History, tags_at}
 use Rattle.txc_node.specs.Cache.{Cache}
 use Rattle.txc_node.specs.Steps.{refusal_of, step_reply, after_step}
+use Rattle.txc_node.specs.declared.value.TheConstants.{MOST_VALUE_LEN}
 use Rattle.txc_node.specs.declared.hit.Shown.{Shown}
 use Rattle.txc_node.specs.declared.op.Op.{Op}
-use Rattle.txc_node.specs.declared.op.Op.TheVariants.{Insert, Lookup, Event, Sweep}
+use Rattle.txc_node.specs.declared.op.Op.TheVariants.{Insert, Lookup, Event, Sweep, Trim}
 use Rattle.txc_node.specs.declared.reply.Reply.{Reply}
 use Rattle.txc_node.specs.declared.record.Record.{Record}
 use Rattle.txc_app.specs.Each.{EachAfter}
@@ -20,6 +21,7 @@ IsOfHistory L (Event stamp tags) = (stamp ≤ length L) × (tags ≡ tags_at L s
 IsOfHistory L (Lookup key lo hi) = Unit {0}
 IsOfHistory L (Insert e) = Unit {0}
 IsOfHistory L (Sweep horizon) = Unit {0}
+IsOfHistory L (Trim most) = Unit {0}
 
 -- how many of the records a pass made
 abbrev pub records_of : ℕ → List Record → ℕ
@@ -28,7 +30,7 @@ records_of pass rs = count_by (λ (r : Record). r.pass == pass) rs
 -- The record may follow those before it: the cache that they leave does not refuse its step, and replies
 -- so; its event is the history's; and its turn is the number of records that its pass made before.
 pub record IsNext (L : History) (start : Cache) (before : List Record) (r : Record) : Type 0 where
-  pub possible : refusal_of (cache_after start before) r.op ≡ None
+  pub possible : refusal_of MOST_VALUE_LEN (cache_after start before) r.op ≡ None
   pub reply : r.reply ≡ step_reply (cache_after start before) r.op
   pub event : IsOfHistory L r.op
   pub turn : r.turn ≡ records_of r.pass before
@@ -43,6 +45,7 @@ is_event (Event stamp tags) = true
 is_event (Lookup key lo hi) = false
 is_event (Insert e) = false
 is_event (Sweep horizon) = false
+is_event (Trim most) = false
 
 -- how many of the records take an event
 abbrev pub events_of : List Record → ℕ

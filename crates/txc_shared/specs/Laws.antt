@@ -8,6 +8,7 @@ use Rattle.txc_node.specs.declared.hit.Shown.{Shown}
 use Rattle.txc_node.specs.declared.op.Op.{Op}
 use Rattle.txc_node.specs.declared.record.Record.{Record}
 use Rattle.txc_node.specs.Cache.{Cache, empty_cache_at, entry_after, replayed_entry, lookup_answer}
+use Rattle.txc_node.specs.declared.value.TheConstants.{MOST_VALUE_LEN}
 use Rattle.txc_node.specs.Steps.{refusal_of, step_reply, after_step}
 use Rattle.txc_app.specs.Eval.{Next}
 use Rattle.txc_app.specs.Claims.{IsTrueIn}
@@ -38,7 +39,7 @@ NodeBegins = (next : Next) (L : History) (capacity depth from : ℕ)
 -- the step may be made: the cache does not refuse it, its event is the history's, and what it hands in is
 -- true
 pub record MayStep (next : Next) (L : History) (c : Cache) (op : Op) : Type 0 where
-  pub possible : refusal_of c op ≡ None
+  pub possible : refusal_of MOST_VALUE_LEN c op ≡ None
   pub event : IsOfHistory L op
   pub is_true : IsTrueStep next L op
 

@@ -6,7 +6,7 @@ use Rattle.txc_db.specs.Seen.{taken_at_start}
 use Rattle.txc_node.specs.declared.hit.Shown.{Shown}
 use Rattle.txc_node.specs.declared.record.Record.{Record}
 use Rattle.txc_node.specs.declared.reply.Reply.{Reply}
-use Rattle.txc_node.specs.Counts.{own_counts, dropped_function, events_by, closed_by, swept_by}
+use Rattle.txc_node.specs.Counts.{own_counts, dropped_function, events_by, closed_by, swept_by, trimmed_by}
 use Rattle.txc_shared.specs.declared.error.NodeError.{NodeError}
 use Rattle.txc_shared.specs.declared.error.NodeError.TheVariants.{HistoryFull, Memory}
 use Rattle.txc_shared.specs.declared.prepared.Prepared.{Prepared}
@@ -59,6 +59,7 @@ pub record DoCountAlike {H : Type 0} (one : Reply H) (other : Reply Shown) : Typ
   pub events : events_by one ≡ events_by other
   pub closed : closed_by one ≡ closed_by other
   pub swept : swept_by one ≡ swept_by other
+  pub trimmed : trimmed_by one ≡ trimmed_by other
 
 -- no record can be appended: the history is full, or has as many records as are counted
 abbrev pub IsRoomRefused : Name → List Record → NodeError → Type 0

@@ -8,7 +8,7 @@ use Rattle.txc_node.specs.declared.entry.Entry.{Entry}
 use Rattle.txc_node.specs.Cache.{Cache}
 use Rattle.txc_node.specs.declared.record.Record.{Record}
 use Rattle.txc_node.specs.declared.op.Op.{Op}
-use Rattle.txc_node.specs.declared.op.Op.TheVariants.{Insert, Lookup, Event, Sweep}
+use Rattle.txc_node.specs.declared.op.Op.TheVariants.{Insert, Lookup, Event, Sweep, Trim}
 use Rattle.txc_app.specs.Eval.{Next}
 use Rattle.txc_app.specs.Claims.{IsTrueIn}
 use Rattle.txc_shared.specs.Histories.{cache_after, IsLegal}
@@ -58,3 +58,4 @@ IsTrueStep next L (Insert e) = IsTrueIn next L e
 IsTrueStep next L (Lookup key lo hi) = Unit {0}
 IsTrueStep next L (Event stamp tags) = Unit {0}
 IsTrueStep next L (Sweep horizon) = Unit {0}
+IsTrueStep next L (Trim most) = Unit {0}

@@ -3,8 +3,8 @@ ghost use Rattle.std.specs.Prelude.{◌≡◌, ◌+◌, ◌<◌, ◌⊎◌, ◌�
 ghost use Rattle.std.specs.Option.{option_map};
 ghost use mathlib.Core.List.{IsPrefix};
 ghost use Rattle.txc_db.specs.Seen.{taken_at_start};
-ghost use Rattle.txc_node.specs.declared.op.Op.TheVariants.{Lookup, Insert, Sweep};
-ghost use Rattle.txc_node.specs.declared.reply.Reply.TheVariants.{Swept};
+ghost use Rattle.txc_node.specs.declared.op.Op.TheVariants.{Lookup, Insert, Sweep, Trim};
+ghost use Rattle.txc_node.specs.declared.reply.Reply.TheVariants.{Swept, Trimmed};
 ghost use Rattle.txc_node.specs.Counts.{AreCountsOf};
 ghost use Rattle.txc_node.specs.Steps.{found_reply};
 ghost use Rattle.txc_app.specs.Claims.{IsTrueIn, entry_shown};
@@ -314,6 +314,31 @@ impl<A: App, J: Naming> Held<A, J> {
     {
         self.admit(pass)?;
         match self.node.sweep(alloc, pass.pass, horizon) {
+            Ok(count) => {
+                self.show(pass);
+                Ok(count)
+            }
+            Err(refusal) => Err(self.refuse(pass, refusal)),
+        }
+    }
+
+    /// Keeps the longest prefix of the entries whose values have at most `most` bytes in all.
+    pub(crate) fn trim(
+        &mut self,
+        alloc: Global,
+        pass: &mut NodePass<J>,
+        most: usize,
+    ) -> Result<usize, NodeError>
+        ensures named { self.old.name ≡ J.node_histories self.old.settings.number }
+        ensures after { OnOk result (self.new ≡ after_call self.old pass.old.pass (Trim most)) }
+        ensures unchanged { IfErr result (IsNodeLeft self.old self.new) }
+        ensures refused { IfErr result (IsRefusedThrough IsStepRefused self.old pass.old) }
+        ensures longer { HasGrown pass.old pass.new }
+        ensures made { IfOk result (λ count. HasMade pass.old pass.new (Trim most) (Trimmed count)) }
+        ensures left { IfErr result (IsPassLeft (J.node_histories pass.old.settings.number) pass.old pass.new) }
+    {
+        self.admit(pass)?;
+        match self.node.trim(alloc, pass.pass, most) {
             Ok(count) => {
                 self.show(pass);
                 Ok(count)

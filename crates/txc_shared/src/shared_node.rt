@@ -3,8 +3,8 @@ ghost use Rattle.std.specs.Prelude.{◌≡◌, ◌<◌, ◌≤◌, [], Ok, Err, 
 ghost use Rattle.std.specs.Option.{option_map};
 ghost use mathlib.Core.List.{IsPrefix};
 ghost use Rattle.txc_stream.specs.Names.{stored, unstored, HasRow};
-ghost use Rattle.txc_node.specs.declared.op.Op.TheVariants.{Lookup, Sweep};
-ghost use Rattle.txc_node.specs.declared.reply.Reply.TheVariants.{Swept};
+ghost use Rattle.txc_node.specs.declared.op.Op.TheVariants.{Lookup, Sweep, Trim};
+ghost use Rattle.txc_node.specs.declared.reply.Reply.TheVariants.{Swept, Trimmed};
 ghost use Rattle.txc_node.specs.Counts.{AreCountsOf};
 ghost use Rattle.txc_node.specs.Steps.{found_reply};
 ghost use Rattle.txc_app.specs.Claims.{IsTrueIn, entry_shown};
@@ -281,6 +281,27 @@ impl<J: Naming> NodePass<J> {
             (NodeMayRefuse J.node_histories (λ n. IsRefusedThrough IsStepRefused n self.old)) }
     {
         let count = lock_soon(rt, &node.lock).sweep(alloc, self, horizon);
+        self.is_legal();
+        count
+    }
+
+    /// Keeps the longest prefix of the entries whose values have at most `most` bytes in all, and counts the entries that
+    /// it drops.
+    pub fn trim<A: App>(
+        &mut self,
+        rt: &impl Wait,
+        alloc: Global,
+        node: &SharedNode<A, J>,
+        most: usize,
+    ) -> Result<usize, NodeError>
+        ensures longer { HasGrown self.old self.new }
+        ensures legal { IsLegalOver J.database_history self.new.history self.new.settings self.new.records }
+        ensures made { IfOk result (λ count. HasMade self.old self.new (Trim most) (Trimmed count)) }
+        ensures left { IfErr result (IsPassLeft (J.node_histories self.old.settings.number) self.old self.new) }
+        ensures refused { IfErr result
+            (NodeMayRefuse J.node_histories (λ n. IsRefusedThrough IsStepRefused n self.old)) }
+    {
+        let count = lock_soon(rt, &node.lock).trim(alloc, self, most);
         self.is_legal();
         count
     }

@@ -2,10 +2,10 @@
 ghost use Rattle.std.specs.Prelude.{◌≡◌, ◌+◌, ◌<◌, ◌≤◌, ◌⊎◌, ◌↔◌, ◌++◌, ◌∷◌, [], true, false, length, Some, None, Ok, Err, IsOk, IfOk, OnOk, OnErr, IfErr, IfSome, IfNone, IsSome, IsTrue, MatchOption};
 ghost use Rattle.txc_stream.specs.Names.{stored, unstored, HasRow};
 ghost use Rattle.std.specs.Option.{option_map};
-ghost use Rattle.txc_node.specs.Cache.{lookup_answer, outcome, swept_count};
+ghost use Rattle.txc_node.specs.Cache.{lookup_answer, outcome, swept_count, bytes_of, trimmed_count};
 ghost use Rattle.txc_node.specs.Hit.{seen};
 ghost use Rattle.txc_node.specs.Counts.{AreCountsOf};
-ghost use Rattle.txc_node.specs.declared.op.Op.TheVariants.{Insert, Lookup, Sweep};
+ghost use Rattle.txc_node.specs.declared.op.Op.TheVariants.{Insert, Lookup, Sweep, Trim};
 ghost use Rattle.txc_app.specs.Claims.{IsTrueIn, entry_shown};
 ghost use Rattle.txc_shared.specs.Nodes.{NodeValue, start_of, after_call, seeing, next_stamp, IsLonger, HasTags, insertion_of, HasAdvanced, HasTakenAll};
 ghost use Rattle.txc_shared.specs.Histories.{records_of};
@@ -28,7 +28,7 @@ use std::marker::{Model, PhantomData};
 use txc_app::App;
 use txc_app::laws::true_entries_stay;
 use txc_db::{Answered, Event, HistoryFront, states_stay};
-use txc_node::{Counts, Entry, Hit, MAX_CAPACITY, MAX_RECENT, NodeCore, Op, Record, Reply, Shown};
+use txc_node::{Counts, Entry, Hit, MAX_RECENT, MOST_CAPACITY, NodeCore, Op, Record, Reply, Shown};
 use txc_stamp::Stamp;
 use txc_stream::{EventRow, Pen};
 use txc_tags::{Key, TagSet};
@@ -98,7 +98,7 @@ impl<A: App> StoredNode<A> {
         row: EventRow<Record>,
         seen: HistoryFront,
     ) -> Result<StoredNode<A>, AllocError>
-        requires capacity { (1 ≤ settings.capacity) × (settings.capacity ≤ MAX_CAPACITY) }
+        requires capacity { (1 ≤ settings.capacity) × (settings.capacity ≤ MOST_CAPACITY) }
         requires recent { (1 ≤ settings.recent) × (settings.recent ≤ MAX_RECENT) }
         ensures settings { IfOk result (λ n. n.settings ≡ settings) }
         ensures from { IfOk result (λ n. n.from ≡ 0) }
@@ -120,7 +120,7 @@ impl<A: App> StoredNode<A> {
         pen: Pen<Record>,
         seen: HistoryFront,
     ) -> Result<StoredNode<A>, AllocError>
-        requires capacity { (1 ≤ settings.capacity) × (settings.capacity ≤ MAX_CAPACITY) }
+        requires capacity { (1 ≤ settings.capacity) × (settings.capacity ≤ MOST_CAPACITY) }
         requires recent { (1 ≤ settings.recent) × (settings.recent ≤ MAX_RECENT) }
         requires none { pen.list ≡ [] }
         ensures settings { IfOk result (λ n. n.settings ≡ settings) }
@@ -143,7 +143,7 @@ impl<A: App> StoredNode<A> {
         seen: HistoryFront,
         from: Stamp,
     ) -> Result<StoredNode<A>, AllocError>
-        requires capacity { (1 ≤ settings.capacity) × (settings.capacity ≤ MAX_CAPACITY) }
+        requires capacity { (1 ≤ settings.capacity) × (settings.capacity ≤ MOST_CAPACITY) }
         requires recent { (1 ≤ settings.recent) × (settings.recent ≤ MAX_RECENT) }
         requires none { history.records ≡ [] }
         requires seen { from ≤ length seen.history }
@@ -250,6 +250,20 @@ impl<A: App> StoredNode<A> {
         ensures { result ≡ self.now.passes }
     {
         self.log.passes()
+    }
+
+    /// Returns how many entries it holds.
+    pub fn len(&self) -> usize
+        ensures { result ≡ length self.now.cache.entries }
+    {
+        self.core.len()
+    }
+
+    /// Returns the bytes of the values of its entries in all.
+    pub fn bytes(&self) -> usize
+        ensures { result ≡ bytes_of self.now.cache.entries }
+    {
+        self.core.bytes()
     }
 
     /// How many of its records a pass made.
@@ -551,6 +565,32 @@ impl<A: App> StoredNode<A> {
         let prepared = self.log.prepare(alloc, pass, op, &self.core)?;
         let dropped = self.core.sweep(horizon);
         let reply = Reply::Swept(dropped);
+        count_step(&mut self.counts, None, &reply);
+        let next = prepared.answered(reply);
+        if !self.log.append(pass, next) {
+            self.broken = true;
+            return Err(NodeError::Broken);
+        }
+        Ok(dropped)
+    }
+
+    /// Keeps the longest prefix of the entries whose values have at most `most` bytes in all, and counts the entries that
+    /// it drops.
+    pub fn trim(&mut self, alloc: Global, pass: usize, most: usize) -> Result<usize, NodeError>
+        requires { pass < self.old.passes }
+        ensures after { OnOk result (self.new ≡ after_call self.old pass (Trim most)) }
+        ensures answer { IfOk result (λ count. count ≡ trimmed_count self.old.cache most) }
+        ensures only_if { OnOk result (CanRecord self.old) }
+        ensures left { IfErr result (IsNodeLeft self.old self.new) }
+        ensures refused { IfErr result (IsStepRefused self.old) }
+    {
+        nodes_go_on();
+        self.check_whole()?;
+        self.check_room()?;
+        let op = Op::Trim { most };
+        let prepared = self.log.prepare(alloc, pass, op, &self.core)?;
+        let dropped = self.core.trim(most);
+        let reply = Reply::Trimmed(dropped);
         count_step(&mut self.counts, None, &reply);
         let next = prepared.answered(reply);
         if !self.log.append(pass, next) {

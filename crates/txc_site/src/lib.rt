@@ -23,7 +23,7 @@ pub use error::GenerationError;
 pub use generations::{OpeningCommit, Served, with_generations, with_generations_at};
 pub use opening::{Visited, with_clock, with_site};
 pub use returning::{Generation, Returning};
-pub use txc_app::{Answer, App, Ask, Bytes};
+pub use txc_app::{Answer, App, Ask, Bytes, Limits};
 pub use txc_client::KeptPins;
 pub use txc_cushion::Pin;
 pub use txc_db::{Answered, DbError, HistoryFront, Naming};

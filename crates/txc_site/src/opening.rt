@@ -42,9 +42,12 @@ pub struct Visited<O, T> {
 fn new_core(alloc: Global, plan: Plan) -> Result<DbCore, SiteError>
     requires { IsPlan plan }
     ensures room { IfOk result (λ core. IsHistoryFor plan.events core.events) }
+    ensures limit { IfOk result (λ core. core.most ≡ plan.matching) }
     ensures refused { IfErr result IsDatabaseRefused }
 {
-    Ok(new_database(alloc, plan.events)?)
+    let mut core = new_database(alloc, plan.events)?;
+    core.allow(plan.matching);
+    Ok(core)
 }
 
 /// Opens a site as [`with_clock`] does, at a clock that counts how often it was looked at.

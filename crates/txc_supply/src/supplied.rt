@@ -18,10 +18,10 @@ pub struct Supplied<A: App> {
     first: Option<First>,
     next: Option<Next>,
     of: PhantomData<A>,
-    ghost takes_all: { (args : List ℕ) → A.next function args [] ≢ None },
-    ghost first_is: { ForSome first (λ f. A.next function f.args.items [] ≡ Some f.ask) },
+    ghost takes_all: { (args : List ℕ) → A.next.says function args [] ≢ None },
+    ghost first_is: { ForSome first (λ f. A.next.says function f.args.items [] ≡ Some f.ask) },
     ghost next_is: { ForSome next (λ n. ForSome held (λ h.
-        A.next function h.args.items (h.answers.items ++ n.answer ∷ []) ≡ Some n.ask)) },
+        A.next.says function h.args.items (h.answers.items ++ n.answer ∷ []) ≡ Some n.ask)) },
 }
 
 impl<A: App> Supplied<A> {
@@ -31,10 +31,10 @@ impl<A: App> Supplied<A> {
 
     /// The object of the function of this number, which refuses no arguments. It is idle.
     pub fn new(alloc: Global, function: u8) -> Supplied<A>
-        requires { (args : List ℕ) → A.next function args [] ≢ None }
+        requires { (args : List ℕ) → A.next.says function args [] ≢ None }
         ensures idle { ⟦<Supplied<A> as Cacheable>⟧.activity result ≡ idle }
         ensures number { ⟦<Supplied<A> as Cacheable>⟧.number result ≡ function }
-        ensures says { ⟦<Supplied<A> as Cacheable>⟧.says result ≡ A.next function }
+        ensures says { ⟦<Supplied<A> as Cacheable>⟧.says result ≡ A.next.says function }
         ensures nothing { ⟦<Supplied<A> as Suppliable>⟧.supplies result ≡ no_supplies }
     {
         Supplied {
@@ -49,7 +49,7 @@ impl<A: App> Supplied<A> {
 
     // Whether another first ask was handed over for these arguments.
     fn has_other_first(&self, args: &[u32], ask: &Ask) -> bool
-        requires { A.next self.now.function args.now [] ≡ Some ask.now }
+        requires { A.next.says self.now.function args.now [] ≡ Some ask.now }
         ensures { result ≡ false }
     {
         match &self.first {
@@ -60,7 +60,7 @@ impl<A: App> Supplied<A> {
 
     // Whether another ask was handed over for this answer.
     fn has_other_next(&self, answer: &Answer, ask: &Ask) -> bool
-        requires { next_of (A.next self.now.function)
+        requires { next_of (A.next.says self.now.function)
             (answered (activation_in (supplied_activity self.now.held)) answer.now) ≡ Some ask.now }
         ensures { result ≡ false }
     {
@@ -84,7 +84,7 @@ impl<A: App> Cacheable for Supplied<A> {
 
     ghost activity = { λ o. supplied_activity o.held };
 
-    ghost says = { λ o. A.next o.function };
+    ghost says = { λ o. A.next.says o.function };
 
     fn number(&self) -> u8 {
         self.function
@@ -94,13 +94,13 @@ impl<A: App> Cacheable for Supplied<A> {
     fn begin(&mut self, args: &[u32]) -> Result<Ask, CallFault>
         ensures supplied { (ask : AskValue) → (supplies_of self.old.first self.old.next).first ≡ Some (args.now, ask)
             → result ≡ Ok ask }
-        ensures answer { IfOk result (λ ask. next_of (A.next self.old.function) (begun args.now) ≡ Some ask) }
+        ensures answer { IfOk result (λ ask. next_of (A.next.says self.old.function) (begun args.now) ≡ Some ask) }
         ensures after { OnOk result (supplied_activity self.new.held ≡ running (begun args.now)) }
         ensures refused { (result ≡ Err CallFault.Args)
-            ↔ (next_of (A.next self.old.function) (begun args.now) ≡ None) }
+            ↔ (next_of (A.next.says self.old.function) (begun args.now) ≡ None) }
         ensures unchanged { OnErr result (supplied_activity self.new.held ≡ supplied_activity self.old.held) }
         ensures same_number { self.new.function ≡ self.old.function }
-        ensures same_meaning { A.next self.new.function ≡ A.next self.old.function }
+        ensures same_meaning { A.next.says self.new.function ≡ A.next.says self.old.function }
     {
         let Some(First { args: given, ask }) = self.first.take() else {
             return Err(CallFault::Busy);

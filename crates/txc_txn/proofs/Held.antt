@@ -28,13 +28,13 @@ holds_at L right rests (Some reach) tags t h inside = h.holds t inside
 
 pub held_is_right : (next : Next) (objects : Objects) (L : History) (c : CoreValue) (x : HeldAnswer) (frame : Frame) (outer : List Frame) → CoreHolds next L objects c
     → c.call.need ≡ Some (needs.Resume x) → c.call.frames ≡ frame ∷ outer
-    → All (λ p. IsRight next frame.key.function (state_at L p.stamp) (next frame.key.function frame.key.args (answers_in objects frame.key.function)) x.answer) c.pins.members
+    → All (λ p. IsRight next frame.key.function (state_at L p.stamp) (next.says frame.key.function frame.key.args (answers_in objects frame.key.function)) x.answer) c.pins.members
 held_is_right next objects L c x frame outer h is at =
     let right : NeedHolds next L objects (Some (needs.Resume x)) (frame ∷ outer) =
     subst (λ (fs : List Frame). NeedHolds next L objects (Some (needs.Resume x)) fs) at (subst (λ (n : Option Need). NeedHolds next L objects n c.call.frames) is h.meant.right) in
     All-weaker (λ (p : Pin). InCall p.stamp c.call)
-    (λ (p : Pin). IsRight next frame.key.function (state_at L p.stamp) (next frame.key.function frame.key.args (answers_in objects frame.key.function)) x.answer)
-    (λ p inside. holds_at L (λ (s : State). IsRight next frame.key.function s (next frame.key.function frame.key.args (answers_in objects frame.key.function)) x.answer)
-    (λ (s : State). queries_of next s (next frame.key.function frame.key.args (answers_in objects frame.key.function))) x.reach x.tags p.stamp right.0
+    (λ (p : Pin). IsRight next frame.key.function (state_at L p.stamp) (next.says frame.key.function frame.key.args (answers_in objects frame.key.function)) x.answer)
+    (λ p inside. holds_at L (λ (s : State). IsRight next frame.key.function s (next.says frame.key.function frame.key.args (answers_in objects frame.key.function)) x.answer)
+    (λ (s : State). queries_of next s (next.says frame.key.function frame.key.args (answers_in objects frame.key.function))) x.reach x.tags p.stamp right.0
     (subst (λ (n : Option Need). InNeed p.stamp n c.call.frames) is inside).0)
     c.pins.members h.meant.within

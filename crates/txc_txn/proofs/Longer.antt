@@ -101,8 +101,8 @@ module _ (stay : StatesStay) (L M : History) (begins : IsPrefix L M) where
     need_later (Some (needs.Begin k)) frames h = frames_later frames h
     need_later (Some (needs.Resume x)) [] h = absurd h.0
     need_later (Some (needs.Resume x)) (f ∷ frames) h = (
-      claim_later (λ (s : State). IsRight next f.key.function s (next f.key.function f.key.args (answers_in objects f.key.function)) x.answer)
-          (λ (s : State). queries_of next s (next f.key.function f.key.args (answers_in objects f.key.function))) x.reach x.tags h.0,
+      claim_later (λ (s : State). IsRight next f.key.function s (next.says f.key.function f.key.args (answers_in objects f.key.function)) x.answer)
+          (λ (s : State). queries_of next s (next.says f.key.function f.key.args (answers_in objects f.key.function))) x.reach x.tags h.0,
       frames_later (f ∷ frames) h.1,
     )
 

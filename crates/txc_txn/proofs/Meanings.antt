@@ -256,15 +256,15 @@ no_rows next f s (Some (asks.Call k)) (answers.Rows rows) right none = let is = 
 no_rows next f s (Some (asks.Done bytes)) (answers.Rows rows) right none = right
 
 values_after : (next : Next) (k : Call) (s : State) (before given : List Answer)
-    → ((i : ℕ) (x : Answer) → slice_get given i ≡ Some x → IsRight next k.function s (next k.function k.args (before ++ take i given)) x)
+    → ((i : ℕ) (x : Answer) → slice_get given i ≡ Some x → IsRight next k.function s (next.says k.function k.args (before ++ take i given)) x)
     → queries_after next k s before given ≡ [] → AllByRecursion IsValueAnswer given
 values_after next k s before [] right none = tt
 values_after next k s before (a ∷ given) right none =
-    let both = nothing_before (queries_of next s (next k.function k.args before)) (queries_after next k s (before ++ a ∷ []) given) none in
-    let first : IsRight next k.function s (next k.function k.args before) a = subst (λ (xs : List Answer). IsRight next k.function s (next k.function k.args xs) a) (append-nil before) (right 0 a refl) in (
-      no_rows next k.function s (next k.function k.args before) a first both.0,
+    let both = nothing_before (queries_of next s (next.says k.function k.args before)) (queries_after next k s (before ++ a ∷ []) given) none in
+    let first : IsRight next k.function s (next.says k.function k.args before) a = subst (λ (xs : List Answer). IsRight next k.function s (next.says k.function k.args xs) a) (append-nil before) (right 0 a refl) in (
+      no_rows next k.function s (next.says k.function k.args before) a first both.0,
       values_after next k s (before ++ a ∷ []) given
-          (λ i x is. subst (λ (xs : List Answer). IsRight next k.function s (next k.function k.args xs) x) (sym (append_assoc before (a ∷ []) (take i given))) (right (suc i) x is))
+          (λ i x is. subst (λ (xs : List Answer). IsRight next k.function s (next.says k.function k.args xs) x) (sym (append_assoc before (a ∷ []) (take i given))) (right (suc i) x is))
           both.1,
     )
 

@@ -42,7 +42,7 @@ b_too_at_4 h = let it = All-head (λ (r : Recorded). eval program r.key (state_a
 one_right : (s : State) → eval program bodies s ≡ Some (97 ∷ []) → AreRight program bodies_and_9 s (answers.Value (97 ∷ []) ∷ [])
 one_right s is zero x there =
     let same : answers.Value (97 ∷ []) ≡ x = cc there in
-    subst (λ (a : Answer). IsRight program 2 s (program 2 (2 ∷ 9 ∷ []) []) a) same (record { bytes = 97 ∷ []; is = refl; below = omega arith; value = is })
+    subst (λ (a : Answer). IsRight program 2 s (program.says 2 (2 ∷ 9 ∷ []) []) a) same (record { bytes = 97 ∷ []; is = refl; below = omega arith; value = is })
 one_right s is (suc i) x there = cc there
 
 an_a_from_1_to_2 : (t : ℕ) → 1 ≤ t → t ≤ 2 → eval program bodies (state_at worked t) ≡ Some (97 ∷ [])

@@ -9,6 +9,7 @@ use Rattle.txc_node.specs.declared.entry.Entry.{Entry}
 use Rattle.txc_node.specs.declared.hit.Shown.{Shown}
 use Rattle.txc_db.specs.History.{History}
 use Rattle.txc_pinset.specs.Members.{kept}
+use Rattle.txc_app.specs.declared.app.Limits.{Limits}
 use Rattle.txc_app.specs.declared.ask.Ask.{Ask as FunctionAsk}
 use Rattle.txc_app.specs.declared.ask.Ask.TheVariants as asks
 use Rattle.txc_app.specs.Eval.{Next}
@@ -64,6 +65,15 @@ recorded_by_hand recorded (Some turn) k = recorded_after recorded turn k
 abbrev pub FirstExists : Objects → Option Call → Type 0
 FirstExists objects first = ForSome first (λ k. FunctionExists objects (asks.Call k))
 
+-- after a reply to a lookup, a query or an insertion the core asks nothing before a function has run
+abbrev pub RestsAfter : PortReply → HandTurn → Type 0
+RestsAfter (ports.Pin pinned) turn = Unit {0}
+RestsAfter (ports.AddPin pinned added) turn = Unit {0}
+RestsAfter (ports.Unpin unpinned) turn = Unit {0}
+RestsAfter (ports.Lookup hit) turn = IfSome turn (λ t. ¬ (IsAsk t))
+RestsAfter (ports.Query found) turn = IfSome turn (λ t. ¬ (IsAsk t))
+RestsAfter (ports.Insert kept) turn = IfSome turn (λ t. ¬ (IsAsk t))
+
 -- ---- the effect of a step
 
 -- how a call stands, beside what the objects do
@@ -85,10 +95,10 @@ abbrev pub TakeTransition : CoreValue → Need → Reply → CoreValue → HandT
 TakeTransition old need reply new turn = (objects : Objects)
     → HandTransition (needing old.call.frames old.call.asked (need_after old.call.frames need reply) objects) new turn
 
--- the effect of an ask of the function that the call needs
-abbrev pub HandAskTransition : CoreValue → Need → FunctionAsk → CoreValue → HandTurn → Type 0
-HandAskTransition old need ask new turn = (objects : Objects)
-    → (stands : CallTurn) × AfterRan old.call.frames old.call.asked objects need ask stands
+-- the effect of an ask of the function that the call needs, within these limits
+abbrev pub HandAskTransition : Limits → CoreValue → Need → FunctionAsk → CoreValue → HandTurn → Type 0
+HandAskTransition limits old need ask new turn = (objects : Objects)
+    → (stands : CallTurn) × AfterRan limits old.call.frames old.call.asked objects need ask stands
     × HandTransition stands new turn
 
 -- a node's result counts if a member lies in its reach; anything else is a miss
@@ -102,14 +112,20 @@ abbrev pub PresentByHand : CoreValue → CoreValue → HandTurn → Type 0
 PresentByHand old new turn = (objects : Objects) → FirstExists objects (first_call old.pinning)
     → (t : PortTurn) × (turn ≡ Some t) × PresentPinTransition (first_call old.pinning) old objects new objects t
 
+-- the call is as it was, and so is the one that is to begin after the pin
+pub record HasSameCall (old new : CoreValue) : Type 0 where
+  pub call : new.call ≡ old.call
+  pub first : first_call new.pinning ≡ first_call old.pinning
+
 -- The effect of a reply. A pin is to be added; one that is not added loses its hold, and then the call fails for that
 -- reason. The call takes a node's result, and what the database finds; it fails with the database's error.
 abbrev pub HearTransition : CoreValue → PortReply → CoreValue → HandTurn → Type 0
-HearTransition old (ports.Pin (Ok pinned)) new turn = turn ≡ Some (Ask (requests.AddPin pinned))
+HearTransition old (ports.Pin (Ok pinned)) new turn =
+    (turn ≡ Some (Ask (requests.AddPin pinned))) × HasSameCall old new
 HearTransition old (ports.Pin (Err error)) new turn = turn ≡ Some (Ended (Err (refused_request error)))
 HearTransition old (ports.AddPin pinned (Ok added)) new turn = PresentByHand old new turn
 HearTransition old (ports.AddPin pinned (Err error)) new turn = (turn ≡ Some (Ask (requests.Unpin pinned.stamp)))
-    × IsPinningAt new (Dropping pinned.stamp (refused_pin error))
+    × IsPinningAt new (Dropping pinned.stamp (refused_pin error)) × HasSameCall old new
 HearTransition old (ports.Unpin unpinned) new turn = (stamp : ℕ) (error : TxnError)
     → IsPinningAt old (Dropping stamp error) → turn ≡ Some (Ended (Err error))
 HearTransition old (ports.Lookup None) new turn = (k : Call) → old.call.need ≡ Some (needs.Lookup k)
@@ -138,6 +154,7 @@ pub record HasHeard (old : CoreValue) (reply : PortReply) (new : CoreValue) (tur
       → CoreHolds next L after new
   pub turn_fits : IsHandTurn new turn
   pub leads : HearTransition old reply new turn
+  pub rests : RestsAfter reply turn
   pub adds : IfSome turn (AddsOnly reply)
   pub pins : PinsAfter old reply new.pins
   pub taken : new.taken ≡ taken_after old.taken reply
@@ -157,6 +174,7 @@ pub record HasHeard (old : CoreValue) (reply : PortReply) (new : CoreValue) (tur
 pub record HasGoneOnByHand (old : CoreValue) (reply : PortReply) (new : CoreValue) (turn : HandTurn) : Type 0 where
   pub turn_fits : IsHandTurn new turn
   pub leads : HearTransition old reply new turn
+  pub rests : RestsAfter reply turn
   pub adds : IfSome turn (AddsOnly reply)
   pub pins : PinsAfter old reply new.pins
   pub taken : new.taken ≡ taken_after old.taken reply
@@ -169,11 +187,12 @@ pub record HasGoneOnByHand (old : CoreValue) (reply : PortReply) (new : CoreValu
   pub shown : ForSome (front_of_reply reply) (λ front. IsPrefix front.history new.seen.history)
   pub one : IsOneOf old.seen (front_of_reply reply) new.seen
 
--- What comes of an ask of the function that the call needs: a turn or none. No pin is to be added, and none is left to
--- be; all stays but the answers, the call, and its pin of the present.
-pub record HasAskedByHand (old : CoreValue) (ask : FunctionAsk) (new : CoreValue) (turn : HandTurn) : Type 0 where
+-- What comes of an ask of the function that the call needs, within these limits: a turn or none. No pin is to be added,
+-- and none is left to be; all stays but the answers, the call, and its pin of the present.
+pub record HasAskedByHand (limits : Limits) (old : CoreValue) (ask : FunctionAsk) (new : CoreValue) (turn : HandTurn)
+    : Type 0 where
   pub turn_fits : IsHandTurn new turn
-  pub leads : (need : Need) → old.call.need ≡ Some need → HandAskTransition old need ask new turn
+  pub leads : (need : Need) → old.call.need ≡ Some need → HandAskTransition limits old need ask new turn
   pub adds : IfSome turn IsNoAdding
   pub left : left_pin new.pinning ≡ None
   pub recorded : new.recorded ≡ recorded_by_hand old.recorded turn (Some old.call.top)

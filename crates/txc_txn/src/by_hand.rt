@@ -1,11 +1,14 @@
 //! The steps of a core whose caller runs the functions of its calls.
-ghost use Rattle.std.specs.Prelude.{◌≡◌, ◌≢◌, ◌∷◌, [], List, true, false, All, MatchOption, IfSome, IsSome, None, Some, Err};
+ghost use Rattle.std.specs.Prelude.{◌≡◌, ◌≢◌, ◌≤◌, ◌∷◌, [], List, true, false, All, MatchOption, IfSome, IsSome, None, Some, Err};
 ghost use Rattle.std.specs.Option.{ForSome};
 ghost use mathlib.Core.List.{IsPrefix};
 ghost use Rattle.txc_rows.specs.declared.query.Query.{Query};
 ghost use Rattle.txc_tags.specs.Keys.{Call};
+ghost use Rattle.txc_node.specs.declared.entry.Entry.{Entry};
 ghost use Rattle.txc_db.specs.History.{History, state_at};
 ghost use Rattle.txc_pinset.specs.Members.{choice_of};
+ghost use Rattle.txc_node.specs.declared.value.TheConstants.{MOST_VALUE_LEN};
+ghost use Rattle.txc_app.specs.declared.app.TheConstants.{MOST_ASKS};
 ghost use Rattle.txc_app.specs.Answering.{IsRight};
 ghost use Rattle.txc_app.specs.declared.ask.Ask.{Ask};
 ghost use Rattle.txc_app.specs.Eval.{Next};
@@ -24,7 +27,7 @@ use crate::pinning::{PinStep, Pinning};
 use crate::receipt::Left;
 use crate::txn_core::TxnCore;
 use std::alloc::Global;
-use txc_app::{Answer, Ask};
+use txc_app::{Answer, Ask, Limits};
 use txc_call::{CallMachine, Need, Reply};
 use txc_db::DbError;
 use txc_node::Value;
@@ -116,6 +119,9 @@ impl TxnCore {
         ensures goes_on { IsUnended result → open_call (value_of self.new) ≡ Some self.old.machine.top }
         ensures leads { (objects : Objects) → HandTransition (standing_of self.old.machine objects)
             (value_of self.new) result }
+        ensures rests { ((k : Call) → self.old.machine.need ≢ Some (Need.Lookup k))
+            → ((q : Query) → self.old.machine.need ≢ Some (Need.Query q))
+            → ((e : Entry) → self.old.machine.need ≢ Some (Need.Insert e)) → IfSome result (λ turn. ¬ (IsAsk turn)) }
         ensures query { (query : Query) → self.old.machine.need ≡ Some (Need.Query query)
             → self.old.pins.has_present ≡ false → (turn : PortTurn) × (result ≡ Some turn) × IsAsk turn
             × (self.new.machine ≡ self.old.machine) × (self.new.pinning ≡ None) }
@@ -227,6 +233,7 @@ impl TxnCore {
         ensures recorded { self.new.recorded.items
             ≡ recorded_by_hand self.old.recorded.items result (Some self.old.machine.top) }
         ensures goes_on { IsUnended result → open_call (value_of self.new) ≡ Some self.old.machine.top }
+        ensures rests { IfSome result (λ turn. ¬ (IsAsk turn)) }
         ensures leads { (need : Need) → self.old.machine.need ≡ Some need
             → TakeTransition (value_of self.old) need reply (value_of self.new) result }
         ensures same { value_of self.new ≡ record (value_of self.old) {
@@ -258,29 +265,39 @@ impl TxnCore {
         self.heard(alloc, reply)
     }
 
-    /// Takes the ask of the function that the call needs. Returns none if a function is to begin or to continue first.
-    pub fn ran(&mut self, alloc: Global, ask: Ask) -> Option<Turn<PortRequest, Value>>
+    /// Takes the ask of the function that the call needs, within the limits of the function's application. Returns none
+    /// if a function is to begin or to continue first.
+    pub fn ran(
+        &mut self,
+        limits: Limits,
+        alloc: Global,
+        ask: Ask,
+    ) -> Option<Turn<PortRequest, Value>>
+        requires most_value { limits.value ≤ MOST_VALUE_LEN }
+        requires most_asks { limits.asks ≤ MOST_ASKS }
         requires runs { NeedsFunction self.old.machine.need }
         requires none { self.old.pinning ≡ None }
-        requires asks { (next : Next) × (objects : Objects) × (need : Need) × (self.old.machine.need ≡ Some need)
+        requires asks { (next : Next) × (objects : Objects) × (need : Need) × (next.limits ≡ limits)
+            × (self.old.machine.need ≡ Some need)
             × (due_ask next objects self.old.machine.frames need ≡ Some ask)
             × FunctionExists (with_resumed objects self.old.machine.frames need) ask
             × IsCore next objects (value_of self.old) }
-        ensures fits { (next : Next) (objects after : Objects) (need : Need) → self.old.machine.need ≡ Some need
+        ensures fits { (next : Next) (objects after : Objects) (need : Need) → next.limits ≡ limits
+            → self.old.machine.need ≡ Some need
             → due_ask next objects self.old.machine.frames need ≡ Some ask
             → FunctionExists (with_resumed objects self.old.machine.frames need) ask
             → ObjectsLeft (objects_after objects self.old.machine.frames need ask) result after
             → IsCore next objects (value_of self.old) → IsCore next after (value_of self.new) }
         ensures holds { (next : Next) (objects after : Objects) (L : History) (need : Need)
-            → self.old.machine.need ≡ Some need
+            → next.limits ≡ limits → self.old.machine.need ≡ Some need
             → due_ask next objects self.old.machine.frames need ≡ Some ask
             → FunctionExists (with_resumed objects self.old.machine.frames need) ask
             → ObjectsLeft (objects_after objects self.old.machine.frames need ask) result after
             → IsCore next objects (value_of self.old)
             → CoreHolds next L objects (value_of self.old) → CoreHolds next L after (value_of self.new) }
-        ensures asked { HasAskedByHand (value_of self.old) ask (value_of self.new) result }
+        ensures asked { HasAskedByHand limits (value_of self.old) ask (value_of self.new) result }
     {
-        match self.machine.ran(alloc, ask) {
+        match self.machine.ran(limits, alloc, ask) {
             Ok(()) => self.asks(alloc),
             Err(error) => Some(Turn::Ended(Err(error.into()))),
         }
@@ -332,7 +349,7 @@ impl TxnCore {
             (outer : List Frame) → CoreHolds next L objects (value_of self.now)
             → self.now.machine.need ≡ Some (Need.Resume x) → self.now.machine.frames ≡ frame ∷ outer
             → All (λ p. IsRight next frame.key.function (state_at L p.stamp)
-            (next frame.key.function frame.key.args (answers_in objects frame.key.function)) x.answer)
+            (next.says frame.key.function frame.key.args (answers_in objects frame.key.function)) x.answer)
             self.now.pins.members }
     {
         match self.machine.need() {

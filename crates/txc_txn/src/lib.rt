@@ -3,6 +3,7 @@
 
 mod answers;
 mod by_hand;
+mod choosing;
 mod hearing;
 pub mod laws;
 mod pinning;

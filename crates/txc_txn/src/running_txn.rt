@@ -139,7 +139,7 @@ impl<A: App, C: Cacheable> RunningTxn<A, C> {
 impl<A: App, C: Suppliable> RunningTxn<A, C> {
     /// Hands a function's object what the function asks first at these arguments, as its caller says.
     pub fn supply_first(&mut self, f: u8, args: Vec<u32>, ask: Ask) -> Result<(), OtherAsk>
-        requires { next_of (A.next f) (begun args.items) ≡ Some ask }
+        requires { next_of (A.next.says f) (begun args.items) ≡ Some ask }
         ensures taken { IsOk result }
         ensures unchanged { self.new ≡ self.old }
     {
@@ -148,7 +148,7 @@ impl<A: App, C: Suppliable> RunningTxn<A, C> {
 
     /// Hands a function's object what the function asks after this answer, as its caller says.
     pub fn supply_next(&mut self, f: u8, answer: Answer, ask: Ask) -> Result<(), OtherAsk>
-        requires { next_of (A.next f) (answered (activation_of self.old.objects f) answer) ≡ Some ask }
+        requires { next_of (A.next.says f) (answered (activation_of self.old.objects f) answer) ≡ Some ask }
         ensures taken { IsOk result }
         ensures unchanged { self.new ≡ self.old }
     {

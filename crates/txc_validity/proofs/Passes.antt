@@ -8,7 +8,8 @@ use Rattle.txc_rows.specs.declared.query.Query.{Query}
 use Rattle.txc_rows.specs.Versions.{row_of, suits, is_visible, shown_at, AreVersions}
 use Rattle.txc_rows.proofs.Offered.{IsIn}
 use Rattle.txc_validity.specs.Turning.{Turns, IsSteady}
-use Rattle.txc_validity.specs.Validity.{HoldsOn, IsValidity}
+use Rattle.txc_rows.specs.Around.{HoldsOn}
+use Rattle.txc_validity.specs.Validity.{IsValidity}
 use Rattle.txc_validity.proofs.Edges.{IsEdge, edge}
 
 -- the versions that match are visible throughout as they are at t

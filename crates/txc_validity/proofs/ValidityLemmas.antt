@@ -8,9 +8,10 @@ use Rattle.txc_rows.specs.States.{State, answer}
 use Rattle.txc_rows.specs.Versions.{shown_at}
 use Rattle.txc_rows.specs.Keeping.{ShowsAnswers}
 use Rattle.txc_validity.specs.declared.answer.Found.{Found}
-use Rattle.txc_validity.specs.Validity.{HoldsOn, IsValidity}
+use Rattle.txc_rows.specs.Around.{HoldsOn}
+use Rattle.txc_validity.specs.Validity.{IsValidity}
 use Rattle.txc_validity.specs.Answers.{IsAnswer}
-use Rattle.txc_validity.specs.Laws.{SameWithin, DiffersBelow, DiffersAbove, OneValidity, KeptAnswersDecide}
+use Rattle.txc_validity.specs.Laws.{SameWithin, DiffersBelow, DiffersAbove, OneValidity, KeptAnswersDecide, AroundIsValid}
 
 pub same_within : SameWithin
 same_within answers t horizon newest reach is = is.same
@@ -84,4 +85,14 @@ pub answers_found : (states : ℕ → State) (q : Query) (vs : List Versioned) (
 answers_found states q vs t horizon newest found shows rows is = record {
   rows = rows ∙ shows.answers t (let a = is.around.0 in let b = is.low in omega arith) (let a = is.around.1 in let b = is.high in omega arith);
   validity = kept_answers_decide (λ s. shown_at q s vs) (λ s. answer q (states s)) t horizon newest found.reach shows.answers is;
+}
+
+pub around_is_valid : AroundIsValid
+around_is_valid q states t horizon newest vs reach shows is = record {
+  low = is.low;
+  around = is.around;
+  high = is.high;
+  same = (shows.alike reach.lo reach.known is.low is.around.0 is.around.1 is.high).0 is.same;
+  largest = λ first last a b c d holds. is.largest first last a b c d ((shows.alike first last a b c d).1 holds);
+  still = is.still;
 }

@@ -1,7 +1,12 @@
 -- What follows from the definition of a validity.
 use Rattle.std.specs.Prelude.{◌≡◌, ◌≢◌, ℕ, ◌≤◌, ◌<◌, ◌+◌, ◌-◌, List}
 use Rattle.txc_stamp.specs.Interval.{Interval}
+use Rattle.txc_rows.specs.declared.query.Query.{Query}
+use Rattle.txc_rows.specs.declared.version.Versioned.{Versioned}
 use Rattle.txc_rows.specs.Values.{RowValue}
+use Rattle.txc_rows.specs.States.{State, answer}
+use Rattle.txc_rows.specs.Versions.{shown_at}
+use Rattle.txc_rows.specs.Around.{ShowsAround}
 use Rattle.txc_validity.specs.Validity.{IsValidity}
 
 -- every stamp of the reach has the answer of t
@@ -32,3 +37,9 @@ abbrev pub KeptAnswersDecide : Type 0
 KeptAnswersDecide = (answers others : ℕ → List RowValue) (t horizon newest : ℕ) (reach : Interval)
     → ((s : ℕ) → horizon ≤ s → s ≤ newest → answers s ≡ others s)
     → IsValidity answers t horizon newest reach → IsValidity others t horizon newest reach
+
+-- what versions show around a stamp holds as long as the states' answers
+abbrev pub AroundIsValid : Type 0
+AroundIsValid = (q : Query) (states : ℕ → State) (t horizon newest : ℕ) (vs : List Versioned) (reach : Interval)
+    → ShowsAround q states horizon newest t vs → IsValidity (λ s. shown_at q s vs) t horizon newest reach
+    → IsValidity (λ s. answer q (states s)) t horizon newest reach

@@ -2,10 +2,7 @@
 use Rattle.std.specs.Prelude.{◌≡◌, ◌==◌, ℕ, ◌≤◌, List}
 use Rattle.txc_stamp.specs.Interval.{Interval}
 use Rattle.txc_rows.specs.Values.{RowValue}
-
--- each stamp from first to last has the answer of t
-abbrev pub HoldsOn : (ℕ → List RowValue) → ℕ → ℕ → ℕ → Type 0
-HoldsOn answers t first last = (s : ℕ) → first ≤ s → s ≤ last → answers s ≡ answers t
+use Rattle.txc_rows.specs.Around.{HoldsOn}
 
 -- the largest interval of stamps around t, from the horizon to the newest stamp, on which the answer is the
 -- same list; it is known to its last stamp, and still valid where that is the newest

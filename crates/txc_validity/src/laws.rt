@@ -1,11 +1,13 @@
 //! What follows from the definitions. Each is a lemma: it has no code.
-ghost use Rattle.txc_validity.specs.Laws.{SameWithin, DiffersBelow, DiffersAbove, OneValidity, KeptAnswersDecide};
+ghost use Rattle.txc_validity.specs.Laws.{SameWithin, DiffersBelow, DiffersAbove, OneValidity, KeptAnswersDecide, AroundIsValid};
 
-/// A validity has the answer of its stamp throughout and another just outside, and there is only one.
+/// A validity has the answer of its stamp throughout and another just outside, and there is only one. Versions that show the
+/// answers around a stamp have the validity of the answers.
 pub fn validity_is_the_largest()
     ensures within { SameWithin }
     ensures below { DiffersBelow }
     ensures above { DiffersAbove }
     ensures one { OneValidity }
     ensures kept { KeptAnswersDecide }
+    ensures around { AroundIsValid }
 {}

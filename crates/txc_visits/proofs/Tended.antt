@@ -1,33 +1,41 @@
 -- What the own keeper of a site did, by the site's plan.
 use Rattle.std.proofs.Common.{◌≡◌, ℕ, List, Option, Some, None, refl, sym, subst}
-use Rattle.std.specs.Prelude.{Result, IfOk, IfErr}
+use Rattle.std.specs.Prelude.{All, Result, IfOk, IfErr}
 use Rattle.txc_shared.specs.declared.settings.NodeSettings.{NodeSettings}
 use Rattle.txc_stream.specs.Names.{Name}
 use Rattle.txc_keeper.specs.declared.error.SiteError.{SiteError}
 use Rattle.txc_keeper.specs.declared.keeping.Keeping.{Keeping}
 use Rattle.txc_keeper.specs.declared.keeping.Tended.{Tended}
 use Rattle.txc_keeper.specs.Refusals.{IsKeeperRefused}
+use Rattle.txc_keeper.specs.Stations.{StationValue}
 use Rattle.txc_keeper.specs.Tending.{IsTendedAs, IsTendedBy}
 use Rattle.txc_visits.specs.declared.plan.Plan.{Plan}
-use Rattle.txc_visits.specs.Plans.{nodes_of}
+use Rattle.txc_visits.specs.Plans.{nodes_of, share_of}
 use Rattle.txc_visits.specs.Tended.{IsTendedAsPlanned}
 
--- a keeper of these nodes, which are those, is one of those
-pub tended_of : (row : Name) (nodes others : List NodeSettings) (tells : ℕ → Type 0) (keeping : Keeping) (result : Result Tended SiteError) → nodes ≡ others
-    → IfOk result (IsTendedBy row nodes tells keeping) → IfOk result (IsTendedBy row others tells keeping)
-tended_of row nodes others tells keeping result same h = subst (λ (all : List NodeSettings). IfOk result (IsTendedBy row all tells keeping)) same h
+-- a keeper of these nodes with this budget is one of those with that, if they are the same
+pub tended_of : (row : Name) (nodes others : List NodeSettings) (budget share : Option ℕ) (tells : ℕ → Type 0) (keeping : Keeping) (result : Result Tended SiteError)
+    → nodes ≡ others → budget ≡ share → IfOk result (IsTendedBy row nodes budget tells keeping) → IfOk result (IsTendedBy row others share tells keeping)
+tended_of row nodes others budget share tells keeping result same equal h =
+    subst (λ (all : List NodeSettings). IfOk result (IsTendedBy row all share tells keeping)) same
+    (subst (λ (b : Option ℕ). IfOk result (IsTendedBy row nodes b tells keeping)) equal h)
+
+-- the same of a keeper whose stations have this budget
+pub budgets_of : (budget share : Option ℕ) (result : Result (List StationValue) SiteError) → budget ≡ share
+    → IfOk result (λ keeper. All (λ s. s.budget ≡ budget) keeper) → IfOk result (λ keeper. All (λ s. s.budget ≡ share) keeper)
+budgets_of budget share result equal h = subst (λ (b : Option ℕ). IfOk result (λ keeper. All (λ s. s.budget ≡ b) keeper)) equal h
 
 -- what a site's own keeper did, as its plan says
 module _ (plan : Plan) (tells : ℕ → Type 0) (row : Name) where
   pub planned_none : plan.keep ≡ None → IsTendedAsPlanned plan tells row None
   planned_none is =
-      record { tended = subst (λ (keep : Option Keeping). IsTendedAs keep (nodes_of plan) tells row None) (sym is) refl }
+      record { tended = subst (λ (keep : Option Keeping). IsTendedAs keep (nodes_of plan) (share_of plan) tells row None) (sym is) refl }
 
   pub planned_some : (keeping : Keeping) (result : Result Tended SiteError) → plan.keep ≡ Some keeping
-      → IfOk result (IsTendedBy row (nodes_of plan) tells keeping) → IfErr result IsKeeperRefused
+      → IfOk result (IsTendedBy row (nodes_of plan) (share_of plan) tells keeping) → IfErr result IsKeeperRefused
       → IsTendedAsPlanned plan tells row (Some result)
   planned_some keeping result is ok err = record {
-    tended = subst (λ (keep : Option Keeping). IsTendedAs keep (nodes_of plan) tells row (Some result)) (sym is) (result, refl, ok, err);
+    tended = subst (λ (keep : Option Keeping). IsTendedAs keep (nodes_of plan) (share_of plan) tells row (Some result)) (sym is) (result, refl, ok, err);
   }
 
   pub tended_at : (events : Name) (came : Option (Result Tended SiteError)) → events ≡ row → IsTendedAsPlanned plan tells row came

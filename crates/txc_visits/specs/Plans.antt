@@ -1,8 +1,10 @@
 -- Plans of sites.
-use Rattle.std.specs.Prelude.{◌≤◌, ℕ, List, map, IfSome}
+use Rattle.std.specs.Prelude.{◌≤◌, ◌/◌, ℕ, List, Option, map, max, IfSome}
 use Rattle.std.specs.List.{range_with_len}
+use Rattle.std.specs.Option.{option_map}
 use Rattle.txc_node.specs.declared.node.TheConstants.{MAX_CAPACITY, MAX_RECENT}
 use Rattle.txc_permits.specs.declared.pool.TheConstants.{MAX_PERMITS}
+use Rattle.txc_rows.specs.declared.store_error.TheConstants.{MAX_MATCHING, MOST_MATCHING}
 use Rattle.txc_shared.specs.declared.settings.NodeSettings.{NodeSettings}
 use Rattle.txc_stream.specs.declared.row.TheConstants.{MAX_CAPACITY as MAX_ROOM}
 use Rattle.txc_visits.specs.declared.plan.Plan.{Plan}
@@ -15,12 +17,17 @@ IsPlan p =
     × (1 ≤ p.capacity) × (p.capacity ≤ MAX_CAPACITY)
     × (1 ≤ p.recent) × (p.recent ≤ MAX_RECENT)
     × (1 ≤ p.permits) × (p.permits ≤ MAX_PERMITS)
+    × (MAX_MATCHING ≤ p.matching) × (p.matching ≤ MOST_MATCHING)
     × IfSome p.events (λ room. (1 ≤ room) × (room ≤ MAX_ROOM))
     × IfSome p.records (λ room. (1 ≤ room) × (room ≤ MAX_ROOM))
 
 -- how the node of this number is made
 abbrev pub settings_of_node : Plan → ℕ → NodeSettings
 settings_of_node p number = record { number = number; capacity = p.capacity; recent = p.recent }
+
+-- the most bytes of the values that a keep leaves in each node: an equal share of the plan's budget, if it has one
+abbrev pub share_of : Plan → Option ℕ
+share_of p = option_map (λ bytes. bytes / max p.nodes 1) p.bytes
 
 -- how the nodes are made, in order
 abbrev pub nodes_of : Plan → List NodeSettings

@@ -5,8 +5,8 @@ use Rattle.txc_keeper.specs.declared.error.SiteError.{SiteError}
 use Rattle.txc_keeper.specs.declared.keeping.Tended.{Tended}
 use Rattle.txc_keeper.specs.Tending.{IsTendedAs}
 use Rattle.txc_visits.specs.declared.plan.Plan.{Plan}
-use Rattle.txc_visits.specs.Plans.{nodes_of}
+use Rattle.txc_visits.specs.Plans.{nodes_of, share_of}
 
 -- the own keeper of a site of this plan did what the plan says
 pub record IsTendedAsPlanned (plan : Plan) (tells : ℕ → Type 0) (row : Name) (came : Option (Result Tended SiteError)) : Type 0 where
-  pub tended : IsTendedAs plan.keep (nodes_of plan) tells row came
+  pub tended : IsTendedAs plan.keep (nodes_of plan) (share_of plan) tells row came

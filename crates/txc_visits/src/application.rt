@@ -17,7 +17,7 @@ pub trait Application<D: Definition>: App {
 
     /// The functions. Each client asks for them anew.
     fn definitions(alloc: Global) -> Result<Vec<D>, AllocError>
-        ensures meaning { IfOk result (λ all. All (λ d. D.says d ≡ Self.next (D.number d)) all.items) }
+        ensures meaning { IfOk result (λ all. All (λ d. D.says d ≡ Self.next.says (D.number d)) all.items) }
         ensures numbers { IfOk result (λ all. map D.number all.items ≡ numbers) };
 }
 

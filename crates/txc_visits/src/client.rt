@@ -7,7 +7,7 @@ ghost use Rattle.txc_client.specs.Ports.{CountsLeave, HaveGrown, IsCallAt};
 ghost use Rattle.txc_registry.specs.Objects.{AllIdle};
 ghost use Rattle.txc_pages.specs.Pages.{IsLeftByRefused, IsPageRun, IsPageRefused};
 ghost use Rattle.txc_ledger.specs.Counted.{counted_again, counted_on};
-ghost use Rattle.txc_visits.specs.Plans.{nodes_of};
+ghost use Rattle.txc_visits.specs.Plans.{nodes_of, share_of};
 ghost use Rattle.txc_keeper.specs.Refusals.{IsKeeperRefused};
 ghost use Rattle.txc_ledger.specs.Writes.{AreConflicts, IsRunSoOften, IsWritten, IsSiteWriteRefused};
 ghost use Rattle.txc_txn.specs.Core.{Explains};
@@ -240,14 +240,22 @@ impl<'a, A: App, D: Definition, J: Naming> SiteClient<'a, A, D, J> {
         (written, client)
     }
 
-    /// A keeper of the site, with a pass of its own through each node.
+    /// A keeper of the site, with a pass of its own through each node, and with each node's share of the plan's budget.
+    #[tactic(auto, using(crate::proofs::Tended::budgets_of))]
     pub fn keeper(&self, rt: &impl Wait, alloc: Global) -> Result<Keeper<'a, A, J>, SiteError>
         ensures nodes { IfOk result (λ keeper.
             map (λ s. s.pass.settings) keeper ≡ nodes_of self.now.plan) }
         ensures records { IfOk result (λ keeper. All (λ s. s.pass.records ≡ []) keeper) }
+        ensures budget { IfOk result (λ keeper. All (λ s. s.budget ≡ share_of self.now.plan) keeper) }
         ensures refused { IfErr result IsKeeperRefused }
     {
-        Keeper::new(rt, alloc, &self.foundation.ledger, &self.foundation.nodes)
+        Keeper::new(
+            rt,
+            alloc,
+            &self.foundation.ledger,
+            &self.foundation.nodes,
+            self.foundation.plan.share(),
+        )
     }
 
     /// How often it has committed a change.

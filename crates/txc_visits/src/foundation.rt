@@ -3,7 +3,7 @@ ghost use Rattle.std.specs.Prelude.{◌≡◌, ◌≤◌, All, IfErr, IfOk, vec_
 ghost use Rattle.txc_db.specs.Shared.{IsDatabaseOf};
 ghost use Rattle.txc_keeper.specs.Refusals.{IsKeeperRefused};
 ghost use Rattle.txc_keeper.specs.Tending.{IsTendedBy};
-ghost use Rattle.txc_visits.specs.Plans.{nodes_of, IsPlan};
+ghost use Rattle.txc_visits.specs.Plans.{nodes_of, share_of, IsPlan};
 ghost use Rattle.txc_visits.specs.Histories.{AreHistoriesOf};
 
 use crate::numbers::Tally;
@@ -184,7 +184,7 @@ pub(crate) fn keep_until_ended<A: App, J: Naming, C: Clock, R: Wait>(
     ended: &Signal,
 ) -> Result<Tended, SiteError>
     ensures tended { IfOk result
-        (IsTendedBy J.database_history (nodes_of foundation.now.plan) (C.tells clock.now) keeping) }
+        (IsTendedBy J.database_history (nodes_of foundation.now.plan) (share_of foundation.now.plan) (C.tells clock.now) keeping) }
     ensures refused { IfErr result IsKeeperRefused }
 {
     txc_keeper::keep_until_ended(
@@ -192,6 +192,7 @@ pub(crate) fn keep_until_ended<A: App, J: Naming, C: Clock, R: Wait>(
         alloc,
         &foundation.ledger,
         &foundation.nodes,
+        foundation.plan.share(),
         &foundation.moment,
         keeping,
         clock,

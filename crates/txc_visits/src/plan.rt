@@ -1,11 +1,12 @@
 //! How a site is made.
 ghost use Rattle.std.specs.Prelude.{◌≡◌, ◌≤◌, ◌↔◌, IsTrue, IfSome};
 ghost use Rattle.txc_stream.specs.declared.row.TheConstants.{MAX_CAPACITY as MAX_ROOM};
-ghost use Rattle.txc_visits.specs.Plans.{IsPlan};
+ghost use Rattle.txc_visits.specs.Plans.{share_of, IsPlan};
 
 use txc_keeper::Keeping;
 use txc_node::{MAX_CAPACITY, MAX_RECENT};
 use txc_permits::MAX_PERMITS;
+use txc_rows::{MAX_MATCHING, MOST_MATCHING};
 use txc_stream::MAX_CAPACITY as MAX_ROOM;
 
 /// The most nodes of a site.
@@ -19,7 +20,7 @@ pub const MAX_NODES: usize = 64;
 /// that its bounds allow is refused. Where they are stored, their row is never given back. Else the history exists in the
 /// proofs alone: what stands in memory of an event are its tags, until each node has taken it and a keeper has passed it.
 ///
-/// Each lookup, insertion, event taken and sweep is a record of its node. These exist in the
+/// Each lookup, insertion, event taken, sweep and trim is a record of its node. These exist in the
 /// proofs alone, unless the plan asks for `records`; then, once there are as many, the node has nothing and keeps
 /// nothing, and all calls are computed. So a site of `e` events ends
 /// after `e` commits and pins: at ten a second [`Plan::DEFAULT`] lasts 13 years.
@@ -35,6 +36,9 @@ pub struct Plan {
     pub capacity: usize,
     /// How many of the last events a node keeps the tags of, from 1 to [`txc_node::MAX_RECENT`].
     pub recent: usize,
+    /// The budget of the nodes: the most bytes of their values after a keep, an equal share for each node. Between two
+    /// keeps the nodes exceed it by the values that were inserted since. Without a number no node is ever trimmed.
+    pub bytes: Option<usize>,
     /// After how many milliseconds a transaction renews its newest pin, where it may.
     pub renew_after: u64,
     /// For less than how many milliseconds a client keeps its pins from one page to the next, where it reads them so.
@@ -42,6 +46,9 @@ pub struct Plan {
     pub keep_pins: u64,
     /// How many calls of functions may run at once, from 1 to [`txc_permits::MAX_PERMITS`].
     pub permits: u64,
+    /// How many versions may match a query, those that are kept of replaced rows among them: from
+    /// [`txc_rows::MAX_MATCHING`] to [`txc_rows::MOST_MATCHING`].
+    pub matching: usize,
     /// How many commits and pins are stored, where anybody can read them: from 1 to [`txc_stream::MAX_CAPACITY`].
     /// Without a number none is, and there is room for one for each stamp, [`txc_stamp::MOST_STAMP`] of them.
     pub events: Option<usize>,
@@ -64,18 +71,31 @@ fn may_be_stored(room: Option<usize>) -> bool
 }
 
 impl Plan {
-    /// Sixteen nodes of 4,096 entries each. Neither events nor records are stored, and the site does not keep itself.
+    /// Sixteen nodes of 4,096 entries each. As many versions may match a query as can be allowed. Neither events nor records are
+    /// stored, and the site does not keep itself.
     pub const DEFAULT: Plan = Plan {
         nodes: 16,
         capacity: 4096,
         recent: 64,
+        bytes: None,
         renew_after: 5000,
         keep_pins: 0,
         permits: 64,
+        matching: MOST_MATCHING,
         events: None,
         records: None,
         keep: None,
     };
+
+    /// Returns the most bytes of the values that a keep leaves in each node, if the plan has a budget.
+    pub fn share(&self) -> Option<usize>
+        ensures { result ≡ share_of self.now }
+    {
+        match self.bytes {
+            Some(bytes) => Some(bytes / self.nodes.max(1)),
+            None => None,
+        }
+    }
 
     /// Whether each number is within its limits.
     pub fn is_sound(&self) -> bool
@@ -89,6 +109,8 @@ impl Plan {
             && self.recent <= MAX_RECENT
             && 1 <= self.permits
             && self.permits <= MAX_PERMITS
+            && MAX_MATCHING <= self.matching
+            && self.matching <= MOST_MATCHING
             && may_be_stored(self.events)
             && may_be_stored(self.records)
     }

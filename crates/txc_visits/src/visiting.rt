@@ -2,7 +2,7 @@
 ghost use Rattle.std.specs.Prelude.{◌≡◌, ◌<◌, All, IfErr, IfOk, map, vec_len};
 ghost use Rattle.txc_registry.specs.Objects.{numbers_of};
 ghost use Rattle.txc_visits.specs.Histories.{HaveHistoriesBy};
-ghost use Rattle.txc_visits.specs.Plans.{nodes_of, IsPlan};
+ghost use Rattle.txc_visits.specs.Plans.{nodes_of, share_of, IsPlan};
 ghost use Rattle.txc_visits.specs.Sites.{IsVisitRefused, numbers_below, HaveCome, IsClientRefused, IsNewClient};
 ghost use Rattle.txc_visits.specs.Guests.{AreGuests};
 ghost use Rattle.txc_keeper.specs.Refusals.{IsKeeperRefused};
@@ -158,7 +158,7 @@ where
     R: Threads + Wait + Sync,
     requires { AreGuests J.node_histories foundation.now.plan guests.items }
     ensures tended { IfOk result.0
-        (IsTendedBy J.database_history (nodes_of foundation.now.plan) (C.tells clock.now) keeping) }
+        (IsTendedBy J.database_history (nodes_of foundation.now.plan) (share_of foundation.now.plan) (C.tells clock.now) keeping) }
     ensures no_keeper { IfErr result.0 IsKeeperRefused }
     ensures each { IfOk result.1 (λ outputs. vec_len outputs ≡ vec_len guests.entry) }
     ensures gives { IfOk result.1 (λ outputs.
@@ -172,7 +172,7 @@ where
         rt,
         || -> Result<Tended, SiteError>
             ensures { IfOk result
-                (IsTendedBy J.database_history (nodes_of foundation.entry.now.plan) (C.tells clock.entry.now) keeping)
+                (IsTendedBy J.database_history (nodes_of foundation.entry.now.plan) (share_of foundation.entry.now.plan) (C.tells clock.entry.now) keeping)
                 × IfErr result IsKeeperRefused }
         { keep_until_ended(rt, alloc, foundation, keeping, clock, &ended) },
         || -> Result<Vec<V::Output>, OpenError>

@@ -9,12 +9,12 @@ use Rattle.txc_call.proofs.pump.run.Goals as goal
 pub go_on-requires-in-Resume-clause-some : goal.go_on-requires-in-Resume-clause-some
 go_on-requires-in-Resume-clause-some g c =
     let fits = subst (λ (n : Need). NeedFits g.A.App.next c.args.registry.now c.args.frames.now.top (Some n) c.args.frames.now.stack) c.in-Resume.is c.requires.fits in
-    (given_place c.args.frames.now.stack c.resume.new.self.stack c.in-Resume.held.reach c.in-Resume.held.tags fits.1 c.in_ok-ask-in-Resume.ensures.frame fits.0.1.few).1
+    (given_place g.A.App.next.limits.asks c.args.frames.now.stack c.resume.new.self.stack c.in-Resume.held.reach c.in-Resume.held.tags fits.1 c.in_ok-ask-in-Resume.ensures.frame fits.0.1.few).1
 
 pub go_on-requires-in-Resume-clause-few : goal.go_on-requires-in-Resume-clause-few
 go_on-requires-in-Resume-clause-few g c =
     let fits = subst (λ (n : Need). NeedFits g.A.App.next c.args.registry.now c.args.frames.now.top (Some n) c.args.frames.now.stack) c.in-Resume.is c.requires.fits in
-    (given_place c.args.frames.now.stack c.resume.new.self.stack c.in-Resume.held.reach c.in-Resume.held.tags fits.1 c.in_ok-ask-in-Resume.ensures.frame fits.0.1.few).2
+    (given_place g.A.App.next.limits.asks c.args.frames.now.stack c.resume.new.self.stack c.in-Resume.held.reach c.in-Resume.held.tags fits.1 c.in_ok-ask-in-Resume.ensures.frame fits.0.1.few).2
 
 pub returns-in_ok-ask-in-Resume-clause-answer : goal.returns-in_ok-ask-in-Resume-clause-answer
 returns-in_ok-ask-in-Resume-clause-answer g c =

@@ -6,6 +6,9 @@ use Rattle.txc_carry.proofs.renewing.renew.Goals as goal
 pub returns-then-begins_in_place-clause-state : goal.returns-then-begins_in_place-clause-state
 returns-then-begins_in_place-clause-state c = (c.begins_in_place.ensures.begun c.if-begins_in_place.true).state
 
+pub returns-then-begins_in_place-clause-limit : goal.returns-then-begins_in_place-clause-limit
+returns-then-begins_in_place-clause-limit c = (c.begins_in_place.ensures.begun c.if-begins_in_place.true).limit
+
 pub returns-then-begins_in_place-clause-room : goal.returns-then-begins_in_place-clause-room
 returns-then-begins_in_place-clause-room c = renewed_room c.args.room c.args.core.now c.begins_in_place.new.core (c.begins_in_place.ensures.begun c.if-begins_in_place.true)
 
@@ -20,6 +23,9 @@ returns-then-begins_in_place-clause-broken c = λ broken. absurd (true≢false (
 
 pub returns-in-Ok-clause-state : goal.returns-in-Ok-clause-state
 returns-in-Ok-clause-state c = c.in-Ok.ensures.state ∙ ap newest_state (c.begins_in_place.ensures.unchanged c.if-begins_in_place.false)
+
+pub returns-in-Ok-clause-limit : goal.returns-in-Ok-clause-limit
+returns-in-Ok-clause-limit c = c.in-Ok.ensures.limit ∙ ap (λ (d : DatabaseValue). d.most) (c.begins_in_place.ensures.unchanged c.if-begins_in_place.false)
 
 pub returns-in-Ok-clause-broken : goal.returns-in-Ok-clause-broken
 returns-in-Ok-clause-broken c = λ broken.

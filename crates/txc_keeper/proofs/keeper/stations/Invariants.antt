@@ -6,4 +6,5 @@ abbrev pub invariant-loop-node : goal.invariant-loop-node
 invariant-loop-node g l = record {
   nodes : map (λ s. s.pass.settings) l.stations.items ≡ take l.node-index l.nodes;
   records : All (λ s. s.pass.records ≡ []) l.stations.items;
+  budget : All (λ s. s.budget ≡ l.budget) l.stations.items;
 }

@@ -1,4 +1,4 @@
-use Rattle.std.proofs.Common.{◌≡◌, ◌+◌, ◌++◌, ◌∷◌, [], drop, map, sym, ap, subst, ◌∙◌, append_assoc, rules}
+use Rattle.std.proofs.Common.{◌≡◌, ◌+◌, ◌++◌, ◌∷◌, [], drop, map, length, length-append, sym, ap, subst, ◌∙◌, append_assoc, arith, rules}
 use Rattle.std.specs.List.{AllByRecursion, Contains}
 use Rattle.txc_rows.specs.declared.placed.Placed.{Placed}
 use Rattle.txc_rows.specs.Placed.{version_of, AreAmong}
@@ -37,6 +37,7 @@ loop-row-preserved c =
           ap (λ vs. vs ++ map version_of later) finds ∙ append_assoc found (x.version ∷ []) (map version_of later)
           ∙ ap (λ (y : Placed). found ++ y.version ∷ map version_of later) is ∙ ap (λ rs. found ++ map version_of (map placed_from rs)) (sym split) ∙ i.done;
       rest = (subst (AllByRecursion (IsPlacedRow c.args.table)) split i.rest).1;
+      few = omega (arith, i.few, ap length knows, length-append known (x ∷ []));
       known = λ latest before added. subst (AreAmong latest) (sym are) (i.known latest before added);
     }
 

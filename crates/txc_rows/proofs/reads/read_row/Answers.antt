@@ -5,7 +5,7 @@ use Rattle.sqlite.specs.Order.{Row}
 use Rattle.sqlite.specs.State.{Shown, FailsToQuery}
 use Rattle.sqlite.proofs.Callers.{memory_is_clean}
 use Rattle.txc_rows.specs.declared.query.Query.TheVariants.{ById}
-use Rattle.txc_rows.specs.declared.texts.TheConstants.{MOST_READ, READ_ROW}
+use Rattle.txc_rows.specs.declared.texts.TheConstants.{READ_ROW}
 use Rattle.txc_rows.specs.Stored.{number}
 use Rattle.txc_rows.proofs.Commands.{row_filter, row_is}
 use Rattle.txc_rows.proofs.StoredRows.{row_test}
@@ -16,9 +16,9 @@ pub returns : goal.returns
 returns c =
     let old = c.args.conn.now in
     let new = c.query_all.new.self in
-    let given : Row = number c.args.table ∷ number MOST_READ ∷ number c.args.from ∷ number c.args.id ∷ [] in
+    let given : Row = number c.args.table ∷ number c.args.most ∷ number c.args.from ∷ number c.args.id ∷ [] in
     let ok : IfOk c.query_all.result (λ rows. Shown READ_ROW.now given (state over_memory old) (state over_memory new) rows.items)
     = rw (c.params-to_sql.ensures, c.params-to_sql-2.ensures, c.params-to_sql-3.ensures, c.params-to_sql-4.ensures, c.from.ensures, c.number.ensures.answer) at (c.query_all.ensures.ok (memory_is_clean new)) in
     let err : IfErr c.query_all.result (FailsToQuery READ_ROW.now given (state over_memory old) (state over_memory new))
     = rw (c.params-to_sql.ensures, c.params-to_sql-2.ensures, c.params-to_sql-3.ensures, c.params-to_sql-4.ensures, c.from.ensures, c.number.ensures.answer) at (c.query_all.ensures.err (memory_is_clean new)) in
-    lists (ById c.args.table c.args.id) c.args.from row_filter READ_ROW.now row_is given (row_test c.args.table MOST_READ c.args.from c.args.id) refl old new c.requires c.query_all.result ok err
+    lists (ById c.args.table c.args.id) c.args.from c.args.most row_filter READ_ROW.now row_is given (row_test c.args.table c.args.most c.args.from c.args.id) refl old new c.requires c.query_all.result ok err

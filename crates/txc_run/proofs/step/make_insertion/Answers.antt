@@ -1,5 +1,6 @@
 use Rattle.std.proofs.Common.{rules, Err, ap, arith, refl, subst, sym}
 use Rattle.std.specs.Prelude.{None, Some}
+use Rattle.txc_node.specs.declared.value.TheConstants.{MAX_VALUE_LEN}
 use Rattle.txc_node.specs.declared.entry.Entry.{Entry}
 use Rattle.txc_node.specs.declared.op.Op.TheVariants.{Insert}
 use Rattle.txc_node.specs.declared.refusal.Refusal.{Refusal}
@@ -29,7 +30,7 @@ returns-clause-made g c =
     let error = c.in-Err.error in
     let entry : Entry = record { key = row.0; value = row.1.1.1.1.1.0.items; reach = record { lo = row.1.0; known = row.1.1.0; still = row.1.1.1.0 }; tags = row.1.1.1.1.0 } in
     let refused = entry_refused entry error (λ e. c.in-Err.ensures.bad_reach.0 (ap Err e)) (λ e. let l = c.in-Err.ensures.too_long.0 (ap Err e) in (l.0, omega (arith, l.1, row.1.1.1.1.1.0.ok.0))) in
-    let may = subst (λ (x : Refusal). MayReply c.args.node.now (Insert entry) (replies.Refused x) c.args.node.now) (sym c.of_entry.ensures) (insertion_refused c.args.node.now entry (refusal_by error) refused) in
+    let may = subst (λ (x : Refusal). MayReply MAX_VALUE_LEN c.args.node.now (Insert entry) (replies.Refused x) c.args.node.now) (sym c.of_entry.ensures) (insertion_refused MAX_VALUE_LEN c.args.node.now entry (refusal_by error) refused) in
     taken g.T.Taker.takes insert_form (words_left c.args.words) c.take-in-Err.result c.take-in-Err.new.why c.args.node.now c.args.node.now (Insert entry) (replies.Refused c.of_entry.result) None c.args.taker.now c.take-in-Err.new.self
     (record { values = _; say = c.in-Some.ensures.answer; asks = refl }) may (λ h. cc) c.take-in-Err.ensures.after c.take-in-Err.ensures.refusal c.take-in-Err.ensures.memory
 

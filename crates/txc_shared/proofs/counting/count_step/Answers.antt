@@ -10,4 +10,4 @@ returns g c = λ steps step h of alike.
     counted_more steps step old c.count.new.self
     (λ f. counts.functions f ∙ (λ i. sum_of (counts_of old.functions f) (sum_of (counts_if (of i) f (alike.own i)) (counts_if (alike.dropped i) f one_evicted))))
     counts.replies (counts.events ∙ ap (λ n. old.events + n) alike.events) (counts.closed ∙ ap (λ n. old.closed + n) alike.closed)
-    (counts.swept ∙ ap (λ n. old.swept + n) alike.swept) h
+    (counts.swept ∙ ap (λ n. old.swept + n) alike.swept) (counts.trimmed ∙ ap (λ n. old.trimmed + n) alike.trimmed) h

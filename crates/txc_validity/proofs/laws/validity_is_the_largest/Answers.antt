@@ -8,4 +8,5 @@ returns c = record {
   above = ValidityLemmas.differs_above;
   one = ValidityLemmas.one_validity;
   kept = ValidityLemmas.kept_answers_decide;
+  around = ValidityLemmas.around_is_valid;
 }

@@ -14,7 +14,7 @@ loop-definition-preserved g c =
     record {
       idle = c.enlist.ensures.all_idle;
       mean = c.enlist.ensures.all_mean;
-      left = All-rest (λ e. g.D.Definition.says e ≡ g.A.App.next (g.D.Definition.number e)) _ _ _ step before.left;
+      left = All-rest (λ e. g.D.Definition.says e ≡ g.A.App.next.says (g.D.Definition.number e)) _ _ _ step before.left;
       numbers =
           one_listed_more object.number g.D.Definition.number c.loop-definition.objects.items c.enlist.new.objects.items c.new-object.result c.in-Some.definition _ _
           g.A.Application.numbers before.numbers step c.new-object.ensures.number c.in_ok-enlist.ensures.after;

@@ -9,7 +9,7 @@ invariant-loop-definition g l =
     let d = g.D.Definition in
     record {
       idle : All (λ o. c.activity o ≡ idle) l.objects.items;
-      mean : All (λ o. c.says o ≡ g.A.App.next (c.number o)) l.objects.items;
-      left : All (λ e. d.says e ≡ g.A.App.next (d.number e)) l.definition-iterator.rest.items;
+      mean : All (λ o. c.says o ≡ g.A.App.next.says (c.number o)) l.objects.items;
+      left : All (λ e. d.says e ≡ g.A.App.next.says (d.number e)) l.definition-iterator.rest.items;
       numbers : map c.number l.objects.items ++ map d.number l.definition-iterator.rest.items ≡ g.A.Application.numbers;
     }

@@ -38,7 +38,7 @@ use Rattle.txc_c.proofs.handle.Slot.empty.Code as code
 
 -- what stands there where nothing is owned
 nothing_held : Counted
-nothing_held = record { cache = empty_cache 0 0; totals = record { functions = []; replies = 0; events = 0; closed = 0; swept = 0 } }
+nothing_held = record { cache = empty_cache 0 0; totals = record { functions = []; replies = 0; events = 0; closed = 0; swept = 0; trimmed = 0 } }
 
 pub empty_spec : {M : Type 1} → statement M
 empty_spec 𝓤 𝓛 𝓜 𝓡 wired =

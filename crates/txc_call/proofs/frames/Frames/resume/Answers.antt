@@ -1,5 +1,14 @@
+use Rattle.std.proofs.Common.{ap, arith}
+use Rattle.txc_app.specs.declared.app.Limits.{Limits}
 use Rattle.txc_call.proofs.OpenFrames.{released_given, resumed_at}
 use Rattle.txc_call.proofs.frames.Frames.resume.Goals as goal
+
+pub give-requires : goal.give-requires
+give-requires g c =
+    let s = c.requires.some in
+    let same = ap (λ (l : Limits). l.asks) c.limits-limits.ensures.answer in
+    let few = s.3 in
+    (s.0, s.1, s.2, omega (arith, few, same, c.limits-limits.ensures.asks), s.4)
 
 pub returns-in-Ok-resume-clause-open : goal.returns-in-Ok-resume-clause-open
 returns-in-Ok-resume-clause-open g c =

@@ -41,7 +41,7 @@ use Rattle.txc_caller.proofs.ports_slot.PortsSlot.empty.Code as code
 -- what stands there where nothing is owned
 nothing_held : CallerPorts
 nothing_held = record {
-  database = record { events = unstored 0; history = []; versions = []; horizon = 0; holds = []; broken = false };
+  database = record { events = unstored 0; history = []; versions = []; most = 0; horizon = 0; holds = []; broken = false };
   cushion = empty_cushion (record { events = unstored 0; history = [] });
   node = record {
     settings = record { number = 0; capacity = 0; recent = 0 };

@@ -37,4 +37,5 @@ invariant_of-self-else-not-append c =
     let keeps = subst (λ (n : ℕ). KeepsWritten items n c.self.inside.store c.write.new.self) stamp (subst (λ (ns : List Change). KeepsWritten ns c.after-stamp.result c.self.inside.store c.write.new.self) net c.in_ok-write.ensures.keeps) in (
       rw first c.self.invariant.0,
       λ whole. rw (events, list) (commit_sound c.versions_keep_states.ensures.agreed _ items (record { fact = commit items; tags = c.args.net.tags }) c.write.new.self refl leads tags keeps (c.self.invariant.1 whole)),
+      rw (events, first) c.self.invariant.2,
     )

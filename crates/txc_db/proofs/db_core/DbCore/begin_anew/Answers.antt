@@ -1,4 +1,4 @@
-use Rattle.std.proofs.Common.{◌≡◌, ℕ, [], ◌∷◌, ◌∙◌, ap, map, sym, subst, arith}
+use Rattle.std.proofs.Common.{◌≡◌, inr, ℕ, [], ◌∷◌, ◌∙◌, ap, map, sym, subst, arith}
 use Rattle.txc_rows.specs.RowTags.{tags_between}
 use Rattle.txc_rows.specs.Versions.{counted_from, purged}
 use Rattle.txc_rows.specs.Keeping.{KeepsBegun}
@@ -21,7 +21,8 @@ invariant_of-self-2 c =
     let keeps = subst (λ (v : DatabaseValue). KeepsBegun (newest v) v.versions c.begin_at.new.self) c.self.view_is
     (subst (λ (n : ℕ). KeepsBegun n c.self.inside.store c.begin_at.new.self) c.newest-newest.ensures c.in_ok-begin_at.ensures.keeps) in (
       let first = c.begun.ensures.first in let low = c.after-self-inside.ensures in omega (arith, first, low),
-      λ whole. begun_sound c.states_are_maps.ensures.puts c.net_changes_are_differences.ensures.leads c.args.self.now _ begins sound c.after-self-inside.ensures c.clear.ensures.items keeps,
+      λ whole. begun_sound c.states_are_maps.ensures.puts c.net_changes_are_differences.ensures.leads c.args.self.now _ begins (ap (λ (v : DatabaseValue). v.most) c.self.view_is) sound c.after-self-inside.ensures c.clear.ensures.items keeps,
+      inr (c.begun.ensures.first ∙ sym c.after-self-inside.ensures),
     )
 
 pub returns-clause-after : goal.returns-clause-after
@@ -29,7 +30,7 @@ returns-clause-after c =
     let begins = c.begun.ensures.history ∙ ap (λ (e : EventValue). let l : History = e ∷ [] in l) c.of-draft.ensures in
     let left = subst (λ (v : DatabaseValue). c.begin_at.new.self ≡ map (counted_from (newest v)) (purged (newest v) v.versions)) c.self.view_is
     (subst (λ (n : ℕ). c.begin_at.new.self ≡ map (counted_from n) (purged n c.self.inside.store)) c.newest-newest.ensures c.in_ok-begin_at.ensures.after) in
-    begun_is c.args.self.now _ (unstored c.args.pen.number) c.begun.ensures.events begins left c.after-self-inside.ensures c.clear.ensures.items c.if-self.false
+    begun_is c.args.self.now _ (unstored c.args.pen.number) c.begun.ensures.events begins left (ap (λ (v : DatabaseValue). v.most) c.self.view_is) c.after-self-inside.ensures c.clear.ensures.items c.if-self.false
 
 pub returns-clause-state : goal.returns-clause-state
 returns-clause-state c =
@@ -39,8 +40,9 @@ returns-clause-state c =
       events = c.begun.result.events;
       history = c.begun.result.history;
       versions = c.begin_at.new.self;
+      most = c.self.inside.most;
       horizon = c.after-self-inside.result;
       holds = c.clear.new.self.items;
       broken = c.self.inside.broken;
     } in
-    begun_state c.states_are_maps.ensures.puts c.net_changes_are_differences.ensures.leads c.args.self.now new begins sound
+    begun_state c.states_are_maps.ensures.puts c.net_changes_are_differences.ensures.leads c.args.self.now new begins (ap (λ (v : DatabaseValue). v.most) c.self.view_is) sound

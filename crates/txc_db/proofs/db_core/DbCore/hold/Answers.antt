@@ -5,4 +5,5 @@ pub invariant_of-self-2 : goal.invariant_of-self-2
 invariant_of-self-2 c = (
   c.self.invariant.0,
   λ whole. rw (c.in_ok-push.ensures.items, c.newest-newest.ensures) (hold_sound _ (c.self.invariant.1 whole)),
+  c.self.invariant.2,
 )

@@ -9,7 +9,6 @@ use Rattle.txc_rows.specs.RowTags.{tags_of_row}
 use Rattle.txc_rows.specs.Net.{changes_state, net_changes, settled, puts_of}
 use Rattle.txc_db.specs.DatabaseValue.{DatabaseValue, newest, newest_state}
 use Rattle.txc_db.specs.Calls.{row_query, matching_of}
-use Rattle.txc_rows.specs.declared.store_error.TheConstants.{MAX_MATCHING}
 use Rattle.txc_db.specs.Steps.{IsReadRefused}
 use Rattle.txc_db.specs.NetWith.{found_rows, IsNetWith}
 use Rattle.txc_db.proofs.Histories.{is_state}
@@ -25,14 +24,14 @@ loop-change-preserved c =
     let with : IsNetWith (newest_state c.args.self.now) c.change-item.result c.loop-change.net.changes.items c.add_change.new.net.changes.items c.loop-change.net.tags c.add_change.new.net.tags =
     subst (λ (v : DatabaseValue). IsNetWith (newest_state v) c.change-item.result c.loop-change.net.changes.items c.add_change.new.net.changes.items c.loop-change.net.tags c.add_change.new.net.tags) inv.same c.in-Ok.ensures.net in
     let more = net_more (newest_state c.args.self.now) list c.loop-change.change-index c.change-item.result c.loop-change.net.changes.items c.add_change.new.net.changes.items c.loop-change.net.tags c.add_change.new.net.tags at with inv.net inv.tags in
-    let few : matching_of c.args.self.now (row_query c.change-item.result) ≤ MAX_MATCHING = subst (λ (v : DatabaseValue). matching_of v (row_query c.change-item.result) ≤ MAX_MATCHING) inv.same (c.in-Ok.ensures.few refl) in
+    let few : matching_of c.args.self.now (row_query c.change-item.result) ≤ c.args.self.now.most = subst (λ (v : DatabaseValue). matching_of v (row_query c.change-item.result) ≤ v.most) inv.same (c.in-Ok.ensures.few refl) in
     record {
       same = c.add_change.ensures.same ∙ inv.same;
       net = more.0;
       tags = more.1;
       few = λ x one. elim (taken_in list c.loop-change.change-index c.change-item.result x at one) [
         | inl before ↦ inv.few x before
-        | inr last ↦ subst (λ (y : Change). matching_of c.args.self.now (row_query y) ≤ MAX_MATCHING) (sym last) few
+        | inr last ↦ subst (λ (y : Change). matching_of c.args.self.now (row_query y) ≤ c.args.self.now.most) (sym last) few
       ];
     }
 

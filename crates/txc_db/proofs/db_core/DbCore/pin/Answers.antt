@@ -28,6 +28,7 @@ invariant_of-self-2 c =
     let laws = c.versions_keep_states.ensures in (
       rw first c.self.invariant.0,
       λ whole. rw (events, list, holds) (pin_sound laws.agreed laws.quiet c.tags_are_sound.ensures.none _ c.args.now c.after-stamp.result stamp (c.self.invariant.1 whole)),
+      rw (events, first) c.self.invariant.2,
     )
 
 pub lengthen-requires-clause-begins : goal.lengthen-requires-clause-begins

@@ -7,7 +7,6 @@ use Rattle.txc_rows.specs.Keeping.{ShowsAnswers}
 use Rattle.txc_db.specs.History.{state_at}
 use Rattle.txc_db.specs.DatabaseValue.{DatabaseValue, newest_state}
 use Rattle.txc_db.specs.Calls.{matching_of}
-use Rattle.txc_rows.specs.declared.store_error.TheConstants.{MAX_MATCHING}
 use Rattle.txc_db.proofs.db_core.DbCore.rows_now.Goals as goal
 
 pub returns-clause-rows : goal.returns-clause-rows
@@ -21,4 +20,4 @@ returns-clause-rows c =
     ∙ (shows.answers last (omega arith) (omega arith) ∙ ap (λ (v : DatabaseValue). answer query (newest_state v)) c.self.view_is)))
 
 pub returns-clause-few : goal.returns-clause-few
-returns-clause-few c = λ _. subst (λ (v : DatabaseValue). matching_of v (ById c.args.table c.args.id) ≤ MAX_MATCHING) c.self.view_is c.in_ok-versions.ensures.bound
+returns-clause-few c = λ _. subst (λ (v : DatabaseValue). matching_of v (ById c.args.table c.args.id) ≤ v.most) c.self.view_is c.in_ok-versions.ensures.bound

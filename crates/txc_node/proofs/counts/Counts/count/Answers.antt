@@ -16,4 +16,5 @@ invariant_of-self g c =
       few = omega arith;
       closed = omega arith;
       swept = omega arith;
+      trimmed = omega arith;
     }

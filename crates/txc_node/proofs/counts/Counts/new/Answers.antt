@@ -12,6 +12,7 @@ invariant_of-result c = record {
   few = omega arith;
   closed = omega arith;
   swept = omega arith;
+  trimmed = omega arith;
 }
 
 pub returns-clause-functions : goal.returns-clause-functions
@@ -28,4 +29,5 @@ returns-clause-history c = record {
   events = refl;
   closed = refl;
   swept = refl;
+  trimmed = refl;
 }

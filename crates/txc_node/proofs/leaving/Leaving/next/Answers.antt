@@ -30,5 +30,5 @@ popped : (old new : List (Place × Stored)) (o : Option (Place × Stored)) (r : 
 popped old new o r all left is last before whole rest = rw is (rw last (rw whole (rw rest (rw before (taken entry_of old)))))
 
 pub returns : goal.returns
-returns c = popped c.self.inside.cache.entries c.pop_lru.new.self.entries c.pop_lru.result c.join_some.result c.args.self.now _
-    c.join_some.ensures c.pop_lru.ensures.value (ap (λ cache. cache.entries) c.pop_lru.ensures.entries) (sym c.self.view_is) refl
+returns c = popped c.self.inside.cache.entries c.pop_last.new.self.entries c.pop_last.result c.join_some.result c.args.self.now _
+    c.join_some.ensures c.pop_last.ensures.value (ap (λ cache. cache.entries) c.pop_last.ensures.entries) (sym c.self.view_is) refl

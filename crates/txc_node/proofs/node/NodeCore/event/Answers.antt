@@ -1,5 +1,4 @@
 use Rattle.txc_node.specs.contracts.node.NodeCore.{the_view}
-use Rattle.txc_node.specs.Cache.{IsBounded, after_event}
 use Rattle.txc_node.proofs.LawLemmas.{event_bounded}
 use Rattle.txc_node.proofs.node.NodeCore.event.Goals as goal
 

@@ -7,13 +7,13 @@ use Rattle.txc_registry.proofs.registry.Registry.supply_next.Goals as goal
 pub supply_next-requires : goal.supply_next-requires
 supply_next-requires g c =
     let at = sym c.place.ensures ∙ c.in-Some.is in
-    let means = means_here g.C.Cacheable.number g.C.Cacheable.activity c.self.inside.objects.items c.args.f c.in-Some.at c.index_mut-object.result.now at c.index_mut-object.ensures.value g.C.Cacheable.says g.A.App.next c.self.invariant.0 in
+    let means = means_here g.C.Cacheable.number g.C.Cacheable.activity c.self.inside.objects.items c.args.f c.in-Some.at c.index_mut-object.result.now at c.index_mut-object.ensures.value g.C.Cacheable.says g.A.App.next.says c.self.invariant.0 in
     let here = entry_here g.C.Cacheable.number g.C.Cacheable.activity c.self.inside.objects.items c.args.f c.in-Some.at c.index_mut-object.result.now at c.index_mut-object.ensures.value in
     subst (λ (s : Says). next_of s (answered (activation_in (g.C.Cacheable.activity c.index_mut-object.result.now)) c.args.answer) ≡ Some c.args.ask) (sym means)
-    (subst (λ (o : Option Activity). next_of (g.A.App.next c.args.f) (answered (activation_in (unwrap_or o idle)) c.args.answer) ≡ Some c.args.ask) here (rw c.self.view_is c.requires))
+    (subst (λ (o : Option Activity). next_of (g.A.App.next.says c.args.f) (answered (activation_in (unwrap_or o idle)) c.args.answer) ≡ Some c.args.ask) here (rw c.self.view_is c.requires))
 
 pub invariant_of-self : goal.invariant_of-self
-invariant_of-self g c = stays g.C.Cacheable.number g.C.Cacheable.activity c.self.inside.objects.items c.args.f c.in-Some.at c.index_mut-object.result.now (sym c.place.ensures ∙ c.in-Some.is) c.index_mut-object.ensures.value g.C.Cacheable.says g.A.App.next c.supply_next.new.self c.supply_next.ensures.same_number c.supply_next.ensures.same_meaning c.self.invariant
+invariant_of-self g c = stays g.C.Cacheable.number g.C.Cacheable.activity c.self.inside.objects.items c.args.f c.in-Some.at c.index_mut-object.result.now (sym c.place.ensures ∙ c.in-Some.is) c.index_mut-object.ensures.value g.C.Cacheable.says g.A.App.next.says c.supply_next.new.self c.supply_next.ensures.same_number c.supply_next.ensures.same_meaning c.self.invariant
 
 pub returns-clause-unchanged : goal.returns-clause-unchanged
 returns-clause-unchanged g c =

@@ -1,4 +1,4 @@
-use Rattle.std.proofs.Common.{sym, ap, subst, ◌∙◌}
+use Rattle.std.proofs.Common.{sym, ap, subst, ◌∙◌, arith}
 use Rattle.std.proofs.lemmas.Result.{err_from_is_err_and}
 use Rattle.std.specs.List.{AllByRecursion}
 use Rattle.txc_rows.specs.Holdable.{IsStorable}
@@ -7,7 +7,7 @@ use Rattle.txc_rows.proofs.StoreLemmas.{written_store, unwritten_store}
 use Rattle.txc_rows.proofs.store.Store.write.Goals as goal
 
 pub invariant_of-self : goal.invariant_of-self
-invariant_of-self c = ((c.in_err-kept_from.ensures.room c.self.inside.next_place c.self.invariant.0).store, rw (c.replace-known.ensures.after, c.new.ensures.items) tt)
+invariant_of-self c = ((c.in_err-kept_from.ensures.room c.self.inside.next_place c.self.invariant.0).store, rw (c.replace-known.ensures.after, c.new.ensures.items) tt, rw (c.replace-known.ensures.after, c.new.ensures.items) (search arith))
 
 pub returns-in_err-kept_from-clause-unchanged : goal.returns-in_err-kept_from-clause-unchanged
 returns-in_err-kept_from-clause-unchanged c =
@@ -27,7 +27,7 @@ pub invariant_of-self-in_err-written : goal.invariant_of-self-in_err-written
 invariant_of-self-in_err-written c =
     let was = c.self.inside in
     let room = c.in_ok-kept_from.ensures.room was.next_place c.self.invariant.0 in
-    ((unwritten_store was.kept_from c.in_ok-kept_from.kept_from c.number-number.result c.args.stamp was.next_place c.args.net.now was.replaced was.conn c.make_room.new.replaced c.make_room.new.conn c.number-number.ensures.answer room _ c.write_all.new.replaced c.write_all.new.conn _ c.in_err-written.ensures.unchanged c.in_err-written.ensures.call).0, rw (c.replace-known.ensures.after, c.new.ensures.items) tt)
+    ((unwritten_store was.kept_from c.in_ok-kept_from.kept_from c.number-number.result c.args.stamp was.next_place c.args.net.now was.replaced was.conn c.make_room.new.replaced c.make_room.new.conn c.number-number.ensures.answer room _ c.write_all.new.replaced c.write_all.new.conn _ c.in_err-written.ensures.unchanged c.in_err-written.ensures.call).0, rw (c.replace-known.ensures.after, c.new.ensures.items) tt, rw (c.replace-known.ensures.after, c.new.ensures.items) (search arith))
 
 pub returns-in_err-written-clause-unchanged : goal.returns-in_err-written-clause-unchanged
 returns-in_err-written-clause-unchanged c =
@@ -40,7 +40,7 @@ pub invariant_of-self-2 : goal.invariant_of-self-2
 invariant_of-self-2 c =
     let was = c.self.inside in
     let room = c.in_ok-kept_from.ensures.room was.next_place c.self.invariant.0 in
-    (rw c.in_ok-next_place.ensures.next (written_store was.kept_from c.in_ok-kept_from.kept_from c.number-number.result c.args.stamp was.next_place c.args.net.now was.replaced was.conn c.make_room.new.replaced c.make_room.new.conn c.number-number.ensures.answer room c.write_all.new.replaced c.write_all.new.conn _ c.in_ok-written.ensures.call).0, rw (c.replace-known.ensures.after, c.new.ensures.items) tt)
+    (rw c.in_ok-next_place.ensures.next (written_store was.kept_from c.in_ok-kept_from.kept_from c.number-number.result c.args.stamp was.next_place c.args.net.now was.replaced was.conn c.make_room.new.replaced c.make_room.new.conn c.number-number.ensures.answer room c.write_all.new.replaced c.write_all.new.conn _ c.in_ok-written.ensures.call).0, rw (c.replace-known.ensures.after, c.new.ensures.items) tt, rw (c.replace-known.ensures.after, c.new.ensures.items) (search arith))
 
 pub returns-clause-after : goal.returns-clause-after
 returns-clause-after c =

@@ -11,4 +11,4 @@ returns c = on_ok c.name.result _ _ (λ named steps op of h.
     let counted = c.count.ensures in
     subst (λ (t : Totals). IsReportOf (steps ++ step_by op (seen_reply c.args.reply.now) ∷ []) names t) (sym c.name.ensures.unchanged)
     (reported_more steps op c.args.function c.args.reply.now c.args.self.now.functions.keys names c.args.self.now.counts c.count.new.self of
-    counted.functions counted.replies counted.events counted.closed counted.swept named h)) c.name.ensures.after
+    counted.functions counted.replies counted.events counted.closed counted.swept counted.trimmed named h)) c.name.ensures.after

@@ -10,23 +10,23 @@ use Rattle.txc_rw.proofs.Holding.{given_up, holds_moved}
 use Rattle.txc_rw.proofs.rw_core.RwCore.ran.Goals as goal
 
 pub ran-requires-clause-common : goal.ran-requires-clause-common
-ran-requires-clause-common c = (1, subst (λ (w : RwValue). InCall 1 w.call) (sym c.self.view_is) c.requires.asks.6.at_one)
+ran-requires-clause-common c = (1, subst (λ (w : RwValue). InCall 1 w.call) (sym c.self.view_is) c.requires.asks.7.at_one)
 
 pub returns-in-Ok-clause-fits : goal.returns-in-Ok-clause-fits
-returns-in-Ok-clause-fits c = λ next objects after need is asked there left fits.
+returns-in-Ok-clause-fits c = λ next objects after need within is asked there left fits.
     let was : RwValue = record { base = c.self.inside.base; queried = c.self.inside.queried.items; answers = c.self.inside.answers.items; changes = c.self.inside.changes.items; call = c.self.inside.machine; reading = query_of_reading c.self.inside.reading } in
     let same : c.args.self.now ≡ was = sym c.self.view_is in
-    let kept = c.in-Ok.ensures.keeps next objects need (subst (λ (w : RwValue). w.call.need ≡ Some need) same is) (subst (λ (w : RwValue). IsCalling next objects w.call) same fits.call)
+    let kept = c.in-Ok.ensures.keeps next objects need (subst (λ (w : RwValue). w.call.need ≡ Some need) same is) within (subst (λ (w : RwValue). IsCalling next objects w.call) same fits.call)
     (subst (λ (w : RwValue). due_ask next objects w.call.frames need ≡ Some c.args.ask) same asked) (subst (λ (w : RwValue). FunctionExists (with_resumed objects w.call.frames need) c.args.ask) same there) in
     let left' = subst (λ (w : RwValue). RwObjectsLeft (objects_after objects w.call.frames need c.args.ask) c.asks_by_hand.result after) same left in
     let inside = kept.within 1 (subst (λ (w : RwValue). InCall 1 w.call) same fits.at_one) in
     c.asks_by_hand.ensures.fits next (objects_after objects was.call.frames need c.args.ask) after left' kept.fits inside
 
 pub returns-in-Ok-clause-holds : goal.returns-in-Ok-clause-holds
-returns-in-Ok-clause-holds c = λ next objects after L need is asked there left fits h.
+returns-in-Ok-clause-holds c = λ next objects after L need within is asked there left fits h.
     let was : RwValue = record { base = c.self.inside.base; queried = c.self.inside.queried.items; answers = c.self.inside.answers.items; changes = c.self.inside.changes.items; call = c.self.inside.machine; reading = query_of_reading c.self.inside.reading } in
     let same : c.args.self.now ≡ was = sym c.self.view_is in
-    let kept = c.in-Ok.ensures.keeps next objects need (subst (λ (w : RwValue). w.call.need ≡ Some need) same is) (subst (λ (w : RwValue). IsCalling next objects w.call) same fits.call)
+    let kept = c.in-Ok.ensures.keeps next objects need (subst (λ (w : RwValue). w.call.need ≡ Some need) same is) within (subst (λ (w : RwValue). IsCalling next objects w.call) same fits.call)
     (subst (λ (w : RwValue). due_ask next objects w.call.frames need ≡ Some c.args.ask) same asked) (subst (λ (w : RwValue). FunctionExists (with_resumed objects w.call.frames need) c.args.ask) same there) in
     let left' = subst (λ (w : RwValue). RwObjectsLeft (objects_after objects w.call.frames need c.args.ask) c.asks_by_hand.result after) same left in
     let inside = kept.within 1 (subst (λ (w : RwValue). InCall 1 w.call) same fits.at_one) in
@@ -39,9 +39,9 @@ returns-in-Ok-clause-asked c =
     let was : RwValue = record { base = c.self.inside.base; queried = c.self.inside.queried.items; answers = c.self.inside.answers.items; changes = c.self.inside.changes.items; call = c.self.inside.machine; reading = query_of_reading c.self.inside.reading } in
     let same : c.args.self.now ≡ was = sym c.self.view_is in
     let q = c.requires.asks in
-    let calling = (c.in-Ok.ensures.keeps q.0 q.1 q.2 (subst (λ (w : RwValue). w.call.need ≡ Some q.2) same q.3) (subst (λ (w : RwValue). IsCalling q.0 q.1 w.call) same q.6.call)
-    (subst (λ (w : RwValue). due_ask q.0 q.1 w.call.frames q.2 ≡ Some c.args.ask) same q.4) (subst (λ (w : RwValue). FunctionExists (with_resumed q.1 w.call.frames q.2) c.args.ask) same q.5)).fits in
-    let all : HasRwAsked was c.args.ask c.asks_by_hand.new.self c.asks_by_hand.result = record {
+    let calling = (c.in-Ok.ensures.keeps q.0 q.1 q.2 (subst (λ (w : RwValue). w.call.need ≡ Some q.2) same q.4) q.3 (subst (λ (w : RwValue). IsCalling q.0 q.1 w.call) same q.7.call)
+    (subst (λ (w : RwValue). due_ask q.0 q.1 w.call.frames q.2 ≡ Some c.args.ask) same q.5) (subst (λ (w : RwValue). FunctionExists (with_resumed q.1 w.call.frames q.2) c.args.ask) same q.6)).fits in
+    let all : HasRwAsked c.args.limits was c.args.ask c.asks_by_hand.new.self c.asks_by_hand.result = record {
       turn_fits = c.asks_by_hand.ensures.turn;
       leads = λ need is objects. (
         standing_of c.ran.new.self (objects_after objects was.call.frames need c.args.ask),
@@ -53,10 +53,10 @@ returns-in-Ok-clause-asked c =
       goes_on = λ unended. c.asks_by_hand.ensures.goes_on unended ∙ c.in-Ok.ensures.same_top;
       same = c.asks_by_hand.ensures.same;
     } in
-    subst (λ (w : RwValue). HasRwAsked w c.args.ask c.asks_by_hand.new.self c.asks_by_hand.result) c.self.view_is all
+    subst (λ (w : RwValue). HasRwAsked c.args.limits w c.args.ask c.asks_by_hand.new.self c.asks_by_hand.result) c.self.view_is all
 
 pub returns-in-Err-clause-holds : goal.returns-in-Err-clause-holds
-returns-in-Err-clause-holds c = λ next objects after L need is asked there left fits h.
+returns-in-Err-clause-holds c = λ next objects after L need within is asked there left fits h.
     let was : RwValue = record { base = c.self.inside.base; queried = c.self.inside.queried.items; answers = c.self.inside.answers.items; changes = c.self.inside.changes.items; call = c.self.inside.machine; reading = query_of_reading c.self.inside.reading } in
     given_up next L objects was (subst (λ (w : RwValue). RwHolds next L objects w) (sym c.self.view_is) h) after c.ran.new.self was.reading
     c.in-Err.ensures.rest.1 c.in-Err.ensures.rest.0
@@ -66,11 +66,11 @@ returns-in-Err-clause-asked c =
     let was : RwValue = record { base = c.self.inside.base; queried = c.self.inside.queried.items; answers = c.self.inside.answers.items; changes = c.self.inside.changes.items; call = c.self.inside.machine; reading = query_of_reading c.self.inside.reading } in
     let same : c.args.self.now ≡ was = sym c.self.view_is in
     let new : RwValue = record was { call = c.ran.new.self } in
-    let all : HasRwAsked was c.args.ask new (Some (Ended (Err c.into.result))) = record {
+    let all : HasRwAsked c.args.limits was c.args.ask new (Some (Ended (Err c.into.result))) = record {
       turn_fits = (c.in-Err.ensures.rest.0, subst (λ (w : RwValue). w.reading ≡ None) same c.requires.none);
       leads = λ need is objects. (Err c.in-Err.error, c.in-Err.ensures.answer objects need is, ap (λ e. Some (Ended (Err e))) c.into.ensures);
       answers = refl;
       goes_on = λ unended. absurd unended;
       same = refl;
     } in
-    subst (λ (w : RwValue). HasRwAsked w c.args.ask new (Some (Ended (Err c.into.result)))) c.self.view_is all
+    subst (λ (w : RwValue). HasRwAsked c.args.limits w c.args.ask new (Some (Ended (Err c.into.result)))) c.self.view_is all

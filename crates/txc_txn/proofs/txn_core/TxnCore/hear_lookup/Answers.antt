@@ -33,6 +33,7 @@ returns c =
           c.take-in-Err.ensures.holds next objects after L left (λ n is. miss_holds next L n) (c.narrow.ensures.fits next objects h) (c.narrow.ensures.holds next objects L holds);
       turn_fits = search rules;
       leads = leads;
+      rests = c.take-in-Err.ensures.rests;
       adds = search rules;
       pins = search rules;
       taken = search rules;
@@ -54,6 +55,7 @@ returns-in_default c =
       holds = λ next objects after L left right h holds. c.take.ensures.holds next objects after L left (λ n is. miss_holds next L n) h holds;
       turn_fits = search rules;
       leads = leads;
+      rests = c.take.ensures.rests;
       adds = search rules;
       pins = search rules;
       taken = search rules;
@@ -83,6 +85,7 @@ returns-in-Ok c =
           (λ n is. right' n (sym (ap (λ (v : CoreValue). v.call.need) c.narrow.ensures.same) ∙ is)) (c.narrow.ensures.fits next objects h) (c.narrow.ensures.holds next objects L holds);
       turn_fits = search rules;
       leads = leads;
+      rests = c.take-in-Ok.ensures.rests;
       adds = search rules;
       pins = search rules;
       taken = search rules;

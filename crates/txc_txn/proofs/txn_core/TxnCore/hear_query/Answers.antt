@@ -16,6 +16,7 @@ returns-in-Err c = record {
   holds = λ next objects after L left right h holds. c.drop_call.ensures.holds next objects after L holds;
   turn_fits = search rules;
   leads = search rules;
+  rests = λ asking. let no : ⊥ = rw c.drop_call.ensures.answer at asking in no;
   adds = search rules;
   pins = search rules;
   taken = search rules;
@@ -41,6 +42,7 @@ returns c =
           (λ n is. right' n (sym (ap (λ (v : CoreValue). v.call.need) c.narrow.ensures.same) ∙ is)) (c.narrow.ensures.fits next objects h) (c.narrow.ensures.holds next objects L holds);
       turn_fits = search rules;
       leads = leads;
+      rests = c.take.ensures.rests;
       adds = search rules;
       pins = search rules;
       taken = search rules;

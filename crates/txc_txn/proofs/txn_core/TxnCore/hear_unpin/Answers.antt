@@ -9,6 +9,7 @@ returns c = record {
   holds = λ next objects after L left right h holds. c.drop_call.ensures.holds next objects after L holds;
   turn_fits = search rules;
   leads = search rules;
+  rests = tt;
   adds = search rules;
   pins = search rules;
   taken = search rules;

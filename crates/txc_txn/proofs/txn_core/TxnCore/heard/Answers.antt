@@ -14,6 +14,7 @@ returns-in-Insert c =
       holds = λ next objects after L left right h holds. c.take.ensures.holds next objects after L left (λ n is. inserted_holds next L n) h holds;
       turn_fits = search rules;
       leads = leads;
+      rests = rw c.in-Insert.is c.take.ensures.rests;
       adds = search rules;
       pins = search rules;
       taken = search rules;

@@ -10,31 +10,31 @@ use Rattle.txc_txn.proofs.txn_core.TxnCore.ran.Goals as goal
 pub ran-requires-clause-common : goal.ran-requires-clause-common
 ran-requires-clause-common c =
     let q = c.requires.asks in
-    let three = common q.0 q.1 (value_of c.args.self.now) None (λ i d below. tt) q.2 q.3 q.6 in
+    let three = common q.0 q.1 (value_of c.args.self.now) None (λ i d below. tt) q.2 q.4 q.7 in
     (three.0, three.2)
 
 pub asks-requires-clause-fits : goal.asks-requires-clause-fits
 asks-requires-clause-fits c =
     let q = c.requires.asks in
-    let kept = c.in-Ok.ensures.keeps q.0 q.1 q.2 q.3 q.6.call q.4 q.5 in
+    let kept = c.in-Ok.ensures.keeps q.0 q.1 q.2 q.4 q.3 q.7.call q.5 q.6 in
     let after = objects_after q.1 c.args.self.now.machine.frames q.2 c.args.ask in (
       q.0,
       after,
       core_went_on q.0 q.1 (value_of c.args.self.now) None (λ i d below. tt) after c.ran.new.self
-          (λ t here all. kept.within t all) (λ present. refl) (λ none unreached. kept.no_reach unreached) c.requires.none q.2 q.3 kept.fits q.6,
+          (λ t here all. kept.within t all) (λ present. refl) (λ none unreached. kept.no_reach unreached) c.requires.none q.2 q.4 kept.fits q.7,
     )
 
 pub returns-in-Ok-clause-fits : goal.returns-in-Ok-clause-fits
-returns-in-Ok-clause-fits c = λ next objects after need is asked there left h.
-    let kept = c.in-Ok.ensures.keeps next objects need is h.call asked there in
+returns-in-Ok-clause-fits c = λ next objects after need within is asked there left h.
+    let kept = c.in-Ok.ensures.keeps next objects need is within h.call asked there in
     let ran = objects_after objects c.args.self.now.machine.frames need c.args.ask in
     c.asks.ensures.fits next ran after left
     (core_went_on next objects (value_of c.args.self.now) None (λ i d below. tt) ran c.ran.new.self
     (λ t here all. kept.within t all) (λ present. refl) (λ none unreached. kept.no_reach unreached) c.requires.none need is kept.fits h)
 
 pub returns-in-Ok-clause-holds : goal.returns-in-Ok-clause-holds
-returns-in-Ok-clause-holds c = λ next objects after L need is asked there left h holds.
-    let kept = c.in-Ok.ensures.keeps next objects need is h.call asked there in
+returns-in-Ok-clause-holds c = λ next objects after L need within is asked there left h holds.
+    let kept = c.in-Ok.ensures.keeps next objects need is within h.call asked there in
     let ran = objects_after objects c.args.self.now.machine.frames need c.args.ask in
     c.asks.ensures.holds next ran after L left
     (core_went_on next objects (value_of c.args.self.now) None (λ i d below. tt) ran c.ran.new.self

@@ -1,9 +1,11 @@
-use Rattle.std.proofs.Common.{◌≡◌, Some, refl, ap, subst, ◌∙◌}
+use Rattle.std.proofs.Common.{◌≡◌, Some, refl, sym, ap, subst, ◌∙◌}
 use Rattle.txc_tags.specs.Keys.{Call}
 use Rattle.txc_call.specs.Calling.{Calling}
 use Rattle.txc_call.specs.Needs.{reply_reach}
 use Rattle.txc_txn.specs.Core.{value_of}
 use Rattle.txc_txn.specs.ByHand.{standing_of, recorded_by_hand, HandTransition}
+use Rattle.txc_call.specs.declared.need.Need.TheVariants as needs
+use Rattle.txc_txn.proofs.ByHand.{served}
 use Rattle.txc_txn.proofs.Cores.{core_went_on, holds_went_on}
 use Rattle.txc_txn.proofs.txn_core.TxnCore.take.Goals as goal
 
@@ -46,3 +48,12 @@ returns-clause-goes_on c = λ unended.
 pub returns-clause-leads : goal.returns-clause-leads
 returns-clause-leads c = λ need is objects.
     subst (λ (v : Calling). HandTransition (standing_of v objects) (value_of c.asks.new.self) c.asks.result) (c.take.ensures.after need is) (c.asks.ensures.leads objects)
+
+pub returns-clause-rests : goal.returns-clause-rests
+returns-clause-rests c =
+    let r = c.requires.reply in
+    let after = ap (λ (v : Calling). v.need) (c.take.ensures.after r.0 r.1) in
+    c.asks.ensures.rests
+    (λ k is. let one = sym after ∙ is in served c.args.self.now.machine.frames r.0 c.args.reply (needs.Lookup k) r.2 tt (cc one))
+    (λ q is. let one = sym after ∙ is in served c.args.self.now.machine.frames r.0 c.args.reply (needs.Query q) r.2 tt (cc one))
+    (λ e is. let one = sym after ∙ is in served c.args.self.now.machine.frames r.0 c.args.reply (needs.Insert e) r.2 tt (cc one))
