@@ -3,7 +3,7 @@
 
 usage: scripts/boundary.py [--all] [--proved | --library FOLDER] [--rows FOLDER] [COUNT]
   --all      by each compiler of C that the machine has, and not by the first one alone; and once more under the sanitizers of addresses,
-             leaks and undefined behaviour, where the library is not given
+             leaks and undefined behaviour, and under that of threads, where the library is not given
   --proved   of the proved library, by `make library`; else of one that is compiled for it with no proof
   --library  of the one that scripts/library.py has made in this folder
   --rows     plays also NAME.in of this folder for each NAME.mode that is node or report, whose replies are NAME.out
@@ -13,8 +13,8 @@ usage: scripts/boundary.py [--all] [--proved | --library FOLDER] [--rows FOLDER]
              compiled for it with no proof
 
 The header's sizes, places and numbers are those of the sources; the examples, and the random scripts, are answered byte for byte as
-`txcache` does; the same with every allocation refused in its turn; odd uses. Then the tests of the bindings for Rust and Python. The
-last line is `N passed, M failed`; what the machine lacks is skipped by its name.
+`txcache` does; the same with every allocation refused in its turn; odd uses; threads that share a site, beside a plain model. Then the tests of the
+bindings for Rust and Python. The last line is `N passed, M failed`; what the machine lacks is skipped by its name.
 """
 
 import argparse
@@ -36,10 +36,17 @@ import worlds
 ROOT = os.path.dirname(os.path.dirname(os.path.abspath(__file__)))
 C = f"{ROOT}/bindings/c"
 SANITIZERS = ["-fsanitize=address,undefined", "-fno-sanitize-recover=all", "-g", "-O1"]
+OF_THREADS = ["-fsanitize=thread", "-g", "-O1"]
 WARNINGS = ["-std=c11", "-Wall", "-Wextra", "-Werror"]
 COMPILERS = ("gcc", "clang")
 # How many random scripts of each kind are played, by default and with --all.
 SCRIPTS, ALL_SCRIPTS = 200, 2000
+# The programs in C, and those of them in which allocations are refused.
+PROGRAMS = ("tests/play.c", "tests/play_site.c", "tests/odd.c", "tests/odd_site.c", "tests/odd_many.c", "tests/threads_site.c", "example.c", "page.c",
+            "threads.c")
+REFUSING = ("tests/play.c", "tests/odd_site.c", "tests/odd_many.c")
+# The least share of a site's acts that are between another's call and its end.
+BETWEEN = 1 / 3
 
 
 def seed():
@@ -173,17 +180,21 @@ def replies(program, capacity, recent, mode, file):
 
 
 def libraries(given, room):
-    """The library's archive; and with --all, where it is compiled here, one for the sanitizers, which is under that of addresses too."""
+    """The library's archives, by the names of what watches them: "" of nothing; and with --all, where it is compiled here, those for the sanitizers."""
     if given.library:
-        return [f"{given.library}/lib{library.CRATE}.a"]
+        return {"": f"{given.library}/lib{library.CRATE}.a"}
     if given.proved:
-        return [library.library(False, f"{room}/library")[0]]
+        return {"": library.library(False, f"{room}/library")[0]}
     os.makedirs(f"{room}/compiled")
     text = library.exported(f"{room}/compiled")
-    archives = [library.make([library.object_of(text, f"{room}/plain.o")], f"{room}/library")[0]]
+    archives = {"": library.make([library.object_of(text, f"{room}/plain.o")], f"{room}/library")[0]}
     if given.all:
-        watched = library.object_of(text, f"{room}/watched.o", ["-O1", "-fsanitize=address"])
-        archives.append(library.make([watched], f"{room}/watched", is_shared=False)[0])
+        # what the toolchain compiles for the sanitizer of addresses is compiled for that of threads
+        with open(text, encoding="utf-8") as it, open(f"{text}.threads.ll", "w", encoding="utf-8") as to:
+            to.write(it.read().replace("sanitize_address", "sanitize_thread"))
+        for name, of, flags in (("addresses", text, "-fsanitize=address"), ("threads", f"{text}.threads.ll", "-fsanitize=thread")):
+            watched = library.object_of(of, f"{room}/{name}.o", ["-O1", flags])
+            archives[name] = library.make([watched], f"{room}/{name}", is_shared=False)[0]
     return archives
 
 
@@ -191,6 +202,8 @@ def try_worlds(trial, what, room, said_before, program, played):
     """Plays a site's scripts, and compares what it says with what `txcache` replies. Where a site said the same before, it is not asked again."""
     ran = subprocess.run([f"{room}/play_site", f"{room}/worlds"], stdout=subprocess.PIPE, stderr=subprocess.PIPE, text=True)
     got = dict(re.findall(r"^== (\S+)\n(.*?)(?=^== |\Z)", ran.stdout, re.M | re.S))
+    acts, between = map(int, re.findall(r"\d+", got.pop("acts", "acts 0 between 0")))
+    trial.note(f"{what}: {between} of {acts} acts between another's call and its end", between >= BETWEEN * acts > 0)
     for it in played:
         if said_before.get(it[-1], ("",))[0] != got.get(it[-1], ""):
             said_before[it[-1]] = got.get(it[-1], ""), worlds.unlike(program, it, got.get(it[-1], ""))
@@ -202,12 +215,22 @@ def try_worlds(trial, what, room, said_before, program, played):
 
 def build_c(trial, room, compiler, name, flags, archive):
     """Builds each program in C over the archive, and returns whether all were built."""
-    for file in ("tests/play.c", "tests/play_site.c", "tests/odd.c", "tests/odd_site.c", "example.c", "page.c"):
-        wrap = ["-Wl,--wrap=malloc", "-Wl,--wrap=realloc"] if file in ("tests/play.c", "tests/odd_site.c") else []
-        words = [compiler, *WARNINGS, *flags, "-I", C, f"{C}/{file}", archive, *wrap, "-o", f"{room}/{os.path.basename(file)[:-2]}"]
+    for file in PROGRAMS:
+        wrap = ["-Wl,--wrap=malloc", "-Wl,--wrap=realloc"] if file in REFUSING else []
+        words = [compiler, *WARNINGS, *flags, "-pthread", "-I", C, f"{C}/{file}", archive, *wrap, "-o", f"{room}/{os.path.basename(file)[:-2]}"]
         if trial.ran(f"{compiler}: {file}{name}", words).returncode:
             return False
     return True
+
+
+def try_threads(trial, room, compiler, archive):
+    """Has eight threads share a site under the sanitizer of threads: nothing is to be found; and without their lock, something."""
+    program = f"{room}/threads_watched"
+    words = [compiler, *WARNINGS, *OF_THREADS, "-pthread", "-I", C, f"{C}/tests/threads_site.c", archive, "-o", program]
+    if not trial.ran(f"{compiler}: tests/threads_site.c under the sanitizer of threads", words).returncode:
+        trial.ran(f"{compiler} under the sanitizer of threads", [program])
+        ran = subprocess.run([program, "--no-lock"], stdout=subprocess.PIPE, stderr=subprocess.STDOUT, text=True, errors="replace", timeout=600)
+        trial.note(f"{compiler} under the sanitizer of threads: without the lock it is reported", "WARNING: ThreadSanitizer: data race" in ran.stdout, ran.stdout)
 
 
 def try_refusals(trial, room, name, played):
@@ -228,13 +251,13 @@ def try_c(trial, room, compiler, archives, played, wanted, of_sites):
     trial.ran(f"{compiler}: {count} sizes, places and numbers of the header", [compiler, *WARNINGS, "-I", C, "-fsyntax-only", f"{room}/asserts.c"])
     with open(f"{room}/list", "w", encoding="utf-8") as it:
         it.writelines(f"{capacity} {recent} {mode} {file}\n" for capacity, recent, mode, file, _ in played)
-    for (name, flags), archive in zip((("", ["-O2"]), (" under sanitizers", SANITIZERS)), archives):
-        if not build_c(trial, room, compiler, name, flags, archive):
+    for name, flags, archive in (("", ["-O2"], archives[""]), (" under sanitizers", SANITIZERS, archives.get("addresses"))):
+        if not archive or not build_c(trial, room, compiler, name, flags, archive):
             continue
-        trial.ran(f"{compiler}{name}", [f"{room}/odd"])
-        trial.ran(f"{compiler}{name}", [f"{room}/odd_site"])
-        trial.ran(f"{compiler}: the example{name}", [f"{room}/example"])
-        trial.ran(f"{compiler}: the page{name}", [f"{room}/page"])
+        for program in ("odd", "odd_site", "odd_many", "threads_site"):
+            trial.ran(f"{compiler}{name}", [f"{room}/{program}"])
+        for program in ("example", "page", "threads"):
+            trial.ran(f"{compiler}: the example {program}{name}", [f"{room}/{program}"])
         ran = subprocess.run([f"{room}/play", f"{room}/list"], stdout=subprocess.PIPE, stderr=subprocess.PIPE, text=True, errors="replace")
         got = dict(re.findall(r"^== (\w+ \S+)\n(.*?)(?=^== |\Z)", ran.stdout, re.M | re.S))
         other = [it for *_, mode, file, _ in played if got.get(it := f"{mode} {file}") != wanted[it]]
@@ -243,6 +266,8 @@ def try_c(trial, room, compiler, archives, played, wanted, of_sites):
         try_worlds(trial, f"{compiler}{name}", room, *of_sites)
         # under the sanitizers a tenth of them
         try_refusals(trial, room, f"{compiler}{name}", played[::10 if name else 1])
+    if "threads" in archives:
+        try_threads(trial, room, compiler, archives["threads"])
 
 
 def python_of_tests():
@@ -259,7 +284,7 @@ def try_bindings(trial, folder):
         with tempfile.TemporaryDirectory(prefix="cargo-") as target:
             words = ["cargo", "--quiet", "test", "--offline", "--target-dir", target]
             trial.ran("Rust: tests", words, cwd=f"{ROOT}/bindings/rust", env=where)
-            for example in ("page", "transaction"):
+            for example in ("page", "transaction", "threads"):
                 words = ["cargo", "--quiet", "run", "--offline", "--example", example, "--target-dir", target]
                 trial.ran(f"Rust: the example {example}", words, cwd=f"{ROOT}/bindings/rust", env=where)
     else:
@@ -268,7 +293,7 @@ def try_bindings(trial, folder):
         python = python_of_tests()
         ran = trial.ran("Python: tests", [python, "-m", "unittest", "-q"], cwd=f"{ROOT}/bindings/python", env=where)
         print("".join(f"{it}\n" for it in sorted(set(re.findall(r"^skipped: .*$", ran.stdout, re.M)))), end="")
-        for example in ("example.py", "page.py"):
+        for example in ("example.py", "page.py", "threads.py"):
             trial.ran(f"Python: {example}", [python, example], cwd=f"{ROOT}/bindings/python", env=where)
     else:
         print("skipped: Python, since there is no libtxc_c.so")

@@ -68,8 +68,6 @@ class Transactions(unittest.TestCase):
 
     def test_what_is_refused(self):
         with self.site.read(now=0, staleness=0) as page:
-            self.assertRaises(Refused, self.site.write)
-            self.assertRaises(Refused, lambda: self.site.keep(0, 0))
             self.assertRaises(Refused, lambda: page.rows(Query.all(1)))
         with self.site.write() as write:
             self.assertRaises(Refused, lambda: write.put(1, 1, 7, bytes(65_537)))

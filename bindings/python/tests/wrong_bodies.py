@@ -25,7 +25,28 @@ class Wrong(NamedTuple):
     test: str
 
 
+def of_each_store(test: str) -> str:
+    return f"tests.test_cache -k {test}"
+
+
+def of_many(name: str, text: str, put: str, test: str, file: str = "site.py") -> Wrong:
+    return Wrong(name, file, text, put, f"tests.test_many -k {test}")
+
+
 WRONG = [
+    of_many("a finaliser that waits", "self._site._forgotten.append(self._number)", "self._abort()", "test_a_finaliser"),
+    of_many("what is collected stays open", "self._site._forgotten.append(self._number)", "pass", "test_what_is_collected"),
+    of_many("a child that uses its parent's site", "return self._born == _forks", "return True", "test_a_forked_child"),
+    of_many("another thread asks in mid-call", "if self._thread != threading.get_ident():", "if False:", "test_another_thread"),
+    of_many("a function asks on that was given up", "            if self._is_given_up:\n", "            if False:\n", "test_no_function_asks"),
+    of_many("a refused call gives nothing up", "if self._depth and number != BAD_ARGUMENT:", "if False:", "test_no_function_asks"),
+    of_many("a bad argument gives all up", "if self._depth and number != BAD_ARGUMENT:", "if self._depth:", "test_a_bad_argument"),
+    of_many("a function asks on that has ended", "            asking._transaction = None\n", "", "test_a_function_that_has_ended"),
+    of_many("a block that fails stays open", "            self._abort()\n            return\n        stamp =", "            return\n        stamp =", "test_what_ends_by_an_exception"),
+    of_many("a commit that fails stays open", "            self._abort()\n            raise\n", "            raise\n", "test_writers_within_writers"),
+    of_many("a lock that is held beside a function", "            given = bytes(function(asking, *args))\n", "            with self._site._lock:\n                given = bytes(function(asking, *args))\n",
+            "test_nobody_waits"),
+    of_many("a library of another header", "if number != ABI:", "if False:", "Abi", "_library.py"),
     Wrong("followed from xmax alone", "postgres.py", "running=\",\".join(map(str, last.running))", "running=\"\"",
           "tests.test_postgres -k test_a_transaction_that_was_open_at_the_last_look_follows_once"),
     Wrong("a snapshot before its lock", "postgres.py", "READ ONLY; {self.settings}{lock}", "READ ONLY; SELECT 1; {self.settings}{lock}",
@@ -69,6 +90,36 @@ WRONG = [
     Wrong("a snapshot that is held for ever", "_follower.py", "            self._let_old_go()\n", "", "tests.test_follower -k test_none_is_held"),
     Wrong("a shared value", "_values.py", "return pickle.loads(data[1:])", "return globals().setdefault('_known', {}).setdefault(data, pickle.loads(data[1:]))",
           "tests.test_keys -k test_no_two_get_one_object"),
+    Wrong("a snapshot closed that a page may read", "cache.py", "        return max(state.first, found)\n", "        return state.first\n",
+          of_each_store("test_a_page_begins_where")),
+    Wrong("a pin within a step", "cache.py",
+          "        self._versions.touch(self._places.all_of(step.tags), step.number)\n        stamp = self._versions.pin(_us(step.moment))\n",
+          "        stamp = self._versions.pin(_us(step.moment))\n        self._versions.touch(self._places.all_of(step.tags), step.number)\n", of_each_store("test_hits_and_changes")),
+    Wrong("a tag of a step is forgotten", "cache.py", "self._places.all_of(step.tags)", "self._places.all_of(sorted(step.tags)[:-1])", of_each_store("test_hits_and_changes")),
+    Wrong("what asks nothing is computed on each page", "cache.py", "        if not frame.asks:\n", "        if False:\n", of_each_store("test_functions_and_their_levels")),
+    Wrong("a query in the newest snapshot", "cache.py", "        number = self._numbers.get(stamp) if stamp is not None else None\n",
+          "        number = max(self._follower.numbers, default=None)\n", of_each_store("test_a_page_is_of_one_moment")),
+    Wrong("after= by the newest held", "cache.py", "found = next((it.stamp for it in self._state.pins if self.store.sees(it.mark, token)), None)",
+          "found = self._state.pins[-1].stamp",
+          of_each_store("test_tokens")),
+    Wrong("a wait for a snapshot that one may not read", "cache.py", "and may_read(it.stamp)), None)", "), None)", of_each_store("test_nobody_waits")),
+    Wrong("nobody waits", "cache.py", "                found.ended.wait()", "                pass", of_each_store("test_who_asks")),
+    Wrong("an audit in another snapshot", "cache.py", "self.cache._follower.snapshot(self.receipt.snapshot)", "self.cache._follower.snapshot(self.cache._follower.numbers[-1])",
+          of_each_store("test_an_audit_is_of_the_receipts_snapshot")),
+    Wrong("a place of the version table forgotten", "_versions.py", "found = self._numbers.setdefault(slot, len(self._numbers))", "found = len(self._numbers); self._numbers[slot] = found",
+          "tests.test_cache -k test_places"),
+    Wrong("a failed step goes on", "cache.py", "            self._is_to_be_cold = True  # until", "            self._is_to_be_cold = False  # until", of_each_store("test_a_step_that_fails_midway")),
+    Wrong("an error that was shown is forgotten", "cache.py", "self._has_shown |= not isinstance(found, SnapshotLost)", "pass", of_each_store("test_an_error_shown")),
+    Wrong("a caught failure goes on", "cache.py", "        if self._failed is not None:\n", "        if False:\n", of_each_store("test_errors")),
+    Wrong("keys of callers stay", "_forms.py", "                left += self._callers.get(it, ())\n", "", of_each_store("test_what_a_key_asks -k test_clearing")),
+    Wrong("the tables of a query stay", "cache.py", "        if touched - tables:\n", "        if False:\n", of_each_store("test_tables_of_a_query")),
+    Wrong("a cold begin under the same number", "cache.py", "_State((), self._state.era + 1)", "_State((), self._state.era)", of_each_store("test_cold_leaves_nothing_behind")),
+    Wrong("a cold step's pin before its number", "cache.py", "            self._state = _State((), self._state.era + 1)\n        self._versions.touch(self._places.all_of(step.tags), step.number)\n"
+          "        stamp = self._versions.pin(_us(step.moment))\n", "            pass\n        self._versions.touch(self._places.all_of(step.tags), step.number)\n"
+          "        stamp = self._versions.pin(_us(step.moment))\n        self._state = _State((), self._state.era + 1) if step.cold else self._state\n",
+          of_each_store("test_a_page_that_begins_within_a_cold_step")),
+    Wrong("a page of a number that is no more", "cache.py", "if self._state.era == state.era and self", "if self", of_each_store("test_a_page_is_not_begun_under")),
+    Wrong("a child that goes on with its parent's", "cache.py", "os.register_at_fork(after_in_child=_after_fork_in_child)", "", of_each_store("test_after_a_fork")),
 ]
 
 

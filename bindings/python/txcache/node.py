@@ -113,8 +113,10 @@ class Key:
     def __init__(self, function, *args):
         if len(args) > MAX_ARGS:
             raise Refused(_REFUSALS[_BAD_ARGUMENT])
-        self.function, self.args = _number(function, LAST_FUNCTION), tuple(_number(it, 2**32 - 1) for it in args)
-        self._key = _Key(self.function, len(args), (c.c_uint32 * MAX_ARGS)(*args))
+        for it in args:
+            _number(it, 2**32 - 1)
+        self.function, self.args = _number(function, LAST_FUNCTION), args
+        self._key = _Key(function, len(args), args)
 
     def __eq__(self, other):
         return isinstance(other, Key) and (self.function, self.args) == (other.function, other.args)

@@ -6,9 +6,12 @@ pub mod Life
 pub mod SiteHeld
 pub mod Exports
 pub mod Opaque
+pub mod Opened
+pub mod Settings
 pub mod Sites
 pub mod Receipts
 pub mod Turning
 pub mod Telling
 pub mod Asking
+pub mod Listing
 pub mod Keeping

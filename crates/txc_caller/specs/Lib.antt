@@ -1,7 +1,7 @@
 pub mod Ports
-pub mod Standing
-pub mod Given
 pub mod Looking
-pub mod Acting
+pub mod Telling
 pub mod Reading
+pub mod Serving
 pub mod Writing
+pub mod Pinning

@@ -1,6 +1,7 @@
 -- The plain ports of a caller: a database, a pincushion and one node.
 use Rattle.std.specs.Prelude.{◌≡◌, ◌⊎◌, ◌<◌, ◌≤◌, ℕ, Bool, true, false, List, Option, Some, None, Result, Ok, Err, [], ◌∷◌, ◌++◌}
 use Rattle.std.specs.List.{AllByRecursion}
+use mathlib.Core.List.{IsPrefix}
 use Rattle.txc_tags.specs.Keys.{Call}
 use Rattle.txc_rows.specs.declared.query.Query.{Query as RowQuery}
 use Rattle.txc_rows.specs.declared.store_error.TheConstants.{MOST_MATCHING}
@@ -40,6 +41,11 @@ use Rattle.txc_ports.specs.declared.request.PortRequest.TheVariants as requests
 use Rattle.txc_ports.specs.declared.reply.PortReply.{PortReply}
 use Rattle.txc_ports.specs.Exchanges.{Exchange, IsExchange}
 use Rattle.txc_ports.specs.Exchanges as exchanges
+
+-- it is of the same row, and its history has only grown
+pub record HasGrown (old new : DatabaseValue) : Type 0 where
+  pub events : new.events ≡ old.events
+  pub longer : IsPrefix old.history new.history
 
 -- the database, the pincushion and the node
 pub record CallerPorts : Type 0 where
@@ -242,10 +248,10 @@ CallerExchangeTransition seen old new (exchanges.Insert node entry kept) =
     (new ≡ record old { node = new.node }) × CallerInsertTransition seen entry old.node new.node kept
 
 -- The reply is one to the request, and right in the history that it shows, which is of the row; and so much comes of
--- the request. The row stays.
+-- the request. The history only grows.
 pub record HasAskedPorts (next : Next) (seen : FrontValue) (request : PortRequest) (old new : CallerPorts)
     (reply : PortReply) : Type 0 where
   pub answer : IsReplyTo next request reply
   pub row : IsOfRow old.database.events reply
   pub leads : IsExchange (CallerExchangeTransition seen old new) request reply
-  pub events : new.database.events ≡ old.database.events
+  pub grown : HasGrown old.database new.database

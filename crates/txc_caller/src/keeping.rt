@@ -1,18 +1,18 @@
-//! What keeps a caller small, with no transaction open.
+//! What keeps a caller small, whatever is open.
 ghost use Rattle.std.specs.Prelude.{◌≡◌, IfErr, IfOk, OnErr, OnOk, length};
 ghost use Rattle.txc_cushion.specs.Cushion.{retired};
 ghost use Rattle.txc_db.specs.DatabaseValue.{next_horizon};
-ghost use Rattle.txc_caller.specs.Ports.{CallerSweepTransition, GoesOnByEvents, HasRetired, HasVacuumedPorts, IsKeepRefused};
+ghost use Rattle.txc_caller.specs.Ports.{CallerSweepTransition, GoesOnByEvents, HasGrown, HasRetired, HasVacuumedPorts, IsKeepRefused};
+ghost use Rattle.txc_caller.specs.Reading.{KeepsCaller};
 
 use crate::caller::Caller;
 use std::alloc::{AllocError, Global};
 use txc_app::App;
 use txc_db::DbError;
-use txc_registry::Suppliable;
 use txc_shared::NodeError;
 use txc_stamp::Stamp;
 
-impl<A: App, C: Suppliable> Caller<A, C> {
+impl<A: App> Caller<A> {
     /// Retires the pins that no transaction uses and that are more than `age` before `now`, both in milliseconds: takes
     /// them out, and their holds away. It answers how many they were.
     pub fn retire(&mut self, alloc: Global, now: u64, age: u64) -> Result<usize, AllocError>
@@ -20,6 +20,8 @@ impl<A: App, C: Suppliable> Caller<A, C> {
         ensures answer { IfOk result (λ count. count ≡ length (retired self.old.ports.cushion now age)) }
         ensures same { self.new ≡ record self.old { ports = self.new.ports } }
         ensures unchanged { OnErr result (self.new ≡ self.old) }
+        ensures caller { KeepsCaller self.old self.new }
+        ensures grown { HasGrown self.old.ports.database self.new.ports.database }
     {
         self.ports.retire(alloc, now, age)
     }
@@ -33,6 +35,8 @@ impl<A: App, C: Suppliable> Caller<A, C> {
         ensures refused { IfErr result (IsKeepRefused self.old.ports.database self.old.ports.node) }
         ensures unchanged { OnErr result (self.new.ports ≡ record self.old.ports { node = self.new.ports.node }) }
         ensures same { self.new ≡ record self.old { ports = self.new.ports } }
+        ensures caller { KeepsCaller self.old self.new }
+        ensures grown { HasGrown self.old.ports.database self.new.ports.database }
     {
         self.ports.vacuum(alloc)
     }
@@ -41,6 +45,8 @@ impl<A: App, C: Suppliable> Caller<A, C> {
     pub fn sweep(&mut self, alloc: Global, horizon: Stamp) -> Result<usize, NodeError>
         ensures leads { CallerSweepTransition horizon self.old.ports.node self.new.ports.node result }
         ensures same { self.new ≡ record self.old { ports = record self.old.ports { node = self.new.ports.node } } }
+        ensures caller { KeepsCaller self.old self.new }
+        ensures grown { HasGrown self.old.ports.database self.new.ports.database }
     {
         self.ports.sweep(alloc, horizon)
     }

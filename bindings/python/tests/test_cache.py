@@ -1,0 +1,981 @@
+"""Pages over both stores: with the site of the library, and with a plain model of it (tests/model.py)."""
+
+import gc
+import logging
+import os
+import pickle
+import random
+import shutil
+import sqlite3
+import tempfile
+import threading
+import time
+import unittest
+import weakref
+
+from txcache import _driver
+from txcache._store import db_of
+from txcache._versions import MAX_PLACES, Places, Versions
+from txcache.cache import TxCache
+from txcache.errors import AuditError, NotInstalled, NotSeen, SnapshotLost
+from txcache.sqlite import SqliteStore
+
+from . import model
+from .server import server
+
+TOLD = {"items": ["id", "seller"], "bids": ["id", "item"], "accounts": ["id", "pair"]}
+TABLES = ["CREATE TABLE items (id INTEGER PRIMARY KEY, seller INTEGER, top INTEGER)", "CREATE TABLE bids (id INTEGER PRIMARY KEY, item INTEGER, price INTEGER)",
+          "CREATE TABLE accounts (id INTEGER PRIMARY KEY, pair INTEGER, balance INTEGER)",
+          "INSERT INTO items VALUES (7, 1, 110), (8, 1, 0)", "INSERT INTO bids VALUES (1, 7, 110), (2, 7, 90)",
+          "INSERT INTO accounts VALUES (0, 0, 100), (1, 0, 100), (2, 1, 100), (3, 1, 100)"]
+
+
+class OfSqlite:
+    """A database of SQLite for each test."""
+
+    def make(self):
+        self.room = tempfile.mkdtemp(prefix="txcache-cache-")
+        self.addCleanup(shutil.rmtree, self.room)
+        self.it = self.writer()
+        for text in TABLES:
+            self.it.execute(text)
+        self.new_store().install()
+
+    def new_store(self, told=None):
+        return SqliteStore(f"{self.room}/a.db", told or TOLD)
+
+    def writer(self):
+        link = sqlite3.connect(f"{self.room}/a.db", isolation_level=None, timeout=20, check_same_thread=False)
+        self.addCleanup(link.close)
+        return link
+
+    def write(self, *texts, link=None):
+        link = link or self.it
+        link.execute("BEGIN IMMEDIATE")
+        for text in texts:
+            link.execute(text)
+        link.execute("COMMIT")
+
+    def cursor(self):
+        return self.it.cursor()
+
+
+class OfPostgres:
+    """A database of PostgreSQL for each test."""
+
+    number = 0
+
+    def make(self):
+        OfPostgres.number += 1
+        self.server, self.base = server(), f"c{OfPostgres.number}"
+        top = _driver.Link(self.server.dsn("postgres"))
+        top.ask(f"CREATE DATABASE {self.base}")
+        top.close()
+        self.it = self.writer()
+        for text in TABLES:
+            self.it.ask(text)
+        self.new_store().install()
+
+    def new_store(self, told=None):
+        from txcache.postgres import PostgresStore
+
+        return PostgresStore(self.server.dsn(self.base), told or TOLD, lock_timeout=0.3)
+
+    def writer(self):
+        link = _driver.Link(self.server.dsn(self.base))
+        self.addCleanup(link.close)
+        return link
+
+    def write(self, *texts, link=None):
+        (link or self.it).ask(f"BEGIN; {'; '.join(texts)}; COMMIT")
+
+    def cursor(self):
+        return self.it._connection.cursor()
+
+
+class Case(unittest.TestCase):
+    versions = Versions
+
+    def setUp(self):
+        logging.getLogger("txcache").setLevel(logging.CRITICAL)
+        self.addCleanup(logging.getLogger("txcache").setLevel, logging.NOTSET)
+        self.make()
+
+    def open(self, **more):
+        words = {"thread": False, "refresh": 0.001, "versions": self.versions, **more}
+        self.cache = TxCache(self.new_store(words.pop("told", None)), **words)
+        self.addCleanup(self.cache.close)
+        self.functions(self.cache)
+        return self.cache
+
+    def functions(self, cache):
+        @cache.cacheable
+        def bids(db, item):
+            return [row["price"] for row in db.rows("bids", item=item)]
+
+        @cache.cacheable
+        def highest(db, item):
+            return max(bids(item), default=None)
+
+        @cache.cacheable
+        def balance(db, number):
+            return db.row("accounts", id=number)["balance"]
+
+        @cache.cacheable
+        def pair(db, number):
+            return sum(row["balance"] for row in db.rows("accounts", pair=number))
+
+        @cache.cacheable
+        def total(db):
+            return int(db.sql("SELECT sum(balance) AS it FROM accounts")[0]["it"])
+
+        self.bids, self.highest, self.balance, self.pair, self.total = bids, highest, balance, pair, total
+
+    def page(self, *calls, max_age=60.0, **more):
+        with self.cache.read(max_age, **more) as self.last:
+            return [function(*args) for function, *args in calls]
+
+    def counts(self):
+        return self.last.receipt.hits, self.last.receipt.computed
+
+
+class Pages(Case):
+    def test_hits_and_changes(self):
+        self.open()
+        self.assertEqual(self.page((self.highest, 7), (self.bids, 7)), [110, [110, 90]])
+        self.assertEqual(self.counts(), (1, 2))
+        self.assertEqual(self.page((self.highest, 7), (self.bids, 7)), [110, [110, 90]])
+        self.assertEqual(self.counts(), (2, 0))
+        self.write("INSERT INTO bids VALUES (3, 7, 130)")
+        self.assertEqual(self.page((self.highest, 7), (self.bids, 7), max_age=0.0), [130, [110, 90, 130]])
+        self.write("INSERT INTO bids VALUES (4, 8, 1)")
+        self.assertEqual(self.page((self.highest, 7), max_age=0.0), [130])
+        self.assertEqual(self.counts(), (1, 0))
+        self.write("DELETE FROM bids WHERE item = 7")
+        self.assertEqual(self.page((self.highest, 7), (self.total,), max_age=0.0), [None, 400])
+
+    def test_a_page_is_of_one_moment(self):
+        """An old value, and one that is computed now: both of the old snapshot."""
+        cache = self.open(refresh=1000.0)
+        self.page((self.balance, 0))
+        self.write("UPDATE accounts SET balance = 93 WHERE id = 0", "UPDATE accounts SET balance = 107 WHERE id = 1")
+        cache._look()
+        self.assertEqual(sum(self.page((self.balance, 0), (self.balance, 1))), 200)
+        self.assertEqual(self.page((self.balance, 0), max_age=0.0), [93])
+        self.assertEqual(sum(self.page((self.balance, 1), (self.balance, 0), (self.pair, 0))), 400)
+
+    def test_the_receipt(self):
+        cache = self.open()
+        before = time.time()
+        self.page((self.balance, 0), (self.balance, 0))
+        receipt = self.last.receipt
+        self.assertTrue(before - 0.1 <= receipt.moment <= time.time() and 0 <= receipt.age < 5)
+        self.assertEqual((receipt.snapshot, receipt.hits, receipt.computed), (1, 1, 1))
+        with cache.read() as page:
+            pass
+        self.assertIsNone(page.receipt.moment)
+        self.assertEqual((self.balance.cache_info().hits, self.balance.cache_info().computed), (1, 1))
+        self.assertEqual({key: cache.stats()[key] for key in ("hits", "computed", "lost", "cold", "places")}, {"hits": 1, "computed": 1, "lost": 0, "cold": 1, "places": 1})
+
+    def test_nothing_is_opened_before_the_first_page(self):
+        cache = TxCache(self.new_store(), versions=lambda capacity: self.fail("opened"))
+        cache.cacheable(lambda db: 1)
+        self.assertIsNone(cache._follower)
+
+    def test_clearing(self):
+        cache = self.open()
+        self.page((self.highest, 7), (self.balance, 0))
+        self.bids.cache_clear()
+        self.page((self.highest, 7), (self.bids, 7), (self.balance, 0))
+        self.assertEqual(self.counts(), (2, 2))
+        cache.clear()
+        self.page((self.highest, 7), (self.balance, 0))
+        self.assertEqual(self.counts(), (0, 3))
+        cache.close()
+        self.page((self.balance, 0))
+        self.assertEqual(self.counts(), (0, 1))
+
+    def test_tokens(self):
+        cache = self.open(refresh=1000.0)
+        self.page((self.balance, 0))
+        link = self.cursor()
+        link.execute("BEGIN")
+        link.execute("UPDATE accounts SET balance = 5 WHERE id = 0")
+        token = cache.store.token(link)
+        self.assertRaises(NotSeen, self.page, (self.balance, 0), after=token)
+        self.assertEqual(self.page((self.balance, 0)), [100])
+        link.execute("COMMIT")
+        self.assertEqual(self.page((self.balance, 0), after=token), [5])
+        self.assertEqual(self.page((self.balance, 0), after=token), [5])
+        self.assertRaises(ValueError, self.page, (self.balance, 0), after="no token")
+
+    def test_what_is_refused(self):
+        cache = self.open()
+        self.assertRaisesRegex(RuntimeError, "outside of a page", self.balance, 0)
+        with cache.read():
+            with self.assertRaisesRegex(RuntimeError, "open already"):
+                with cache.read():
+                    pass
+            self.assertEqual(self.balance(0), 100)
+        with self.assertRaisesRegex(TypeError, "coroutine or generator"):
+            @cache.cacheable
+            async def late(db):
+                pass
+        with self.assertRaisesRegex(TypeError, "coroutine or generator"):
+            @cache.cacheable
+            def each(db):
+                yield 1
+        with self.assertRaisesRegex(TypeError, "two cacheable functions"):
+            self.functions(cache)
+        for words in ({"audit": 2}, {"refresh": 0}, {"max_bytes": 5}):
+            self.assertRaises(ValueError, TxCache, self.new_store(), **words)
+        self.assertRaises(ValueError, cache.read, -1)
+        self.assertRaisesRegex(TypeError, "the argument number has a value of type builtins.list", self.page, (self.balance, [1]))
+
+    def test_db_is_its_functions_own(self):
+        cache = self.open()
+        kept, said = [], []
+
+        @cache.cacheable
+        def keeps(db):
+            kept.append(db)
+            return 1
+
+        @cache.cacheable
+        def hands_on(db):
+            other = threading.Thread(target=lambda: said.append(self.error_of(db.row, "accounts", id=0)))
+            other.start()
+            other.join()
+            return 2
+
+        with cache.read():
+            keeps()
+            self.assertRaisesRegex(RuntimeError, "after its function has returned", kept[0].row, "accounts", id=0)
+            hands_on()
+        self.assertIn("another thread uses this page", said[0])
+
+    @staticmethod
+    def error_of(function, *args, **named):
+        try:
+            return function(*args, **named)
+        except RuntimeError as error:
+            return str(error)
+
+    def test_a_page_that_two_threads_use(self):
+        cache = self.open()
+        inside, go_on = threading.Event(), threading.Event()
+        said = []
+
+        @cache.cacheable
+        def slow(db):
+            inside.set()
+            go_on.wait(10)
+            return 1
+
+        with cache.read() as page:
+            def ask():
+                try:
+                    inside.wait(10)
+                    page.answer(self.balance, (0,), {})
+                except RuntimeError as error:
+                    said.append(str(error))
+                finally:
+                    go_on.set()
+
+            other = threading.Thread(target=ask)
+            other.start()
+            self.assertEqual(slow(), 1)
+            other.join()
+        self.assertIn("another thread uses this page", said[0])
+
+    def test_functions_and_their_levels(self):
+        cache = self.open()
+        order = []
+
+        @cache.cacheable
+        def outer(db, n):
+            order.append("outer")
+            return middle(n) + middle(n + 1)
+
+        @cache.cacheable
+        def middle(db, n):
+            order.append("middle")
+            return inner(n)
+
+        @cache.cacheable
+        def inner(db, n):
+            order.append("inner")
+            return n
+
+        @cache.cacheable
+        def endless(db, n):
+            return endless(n + 1)
+
+        self.assertEqual(self.page((outer, 10)), [21])
+        del order[:]
+        self.assertEqual(self.page((outer, 10), (middle, 10), (inner, 11)), [21, 10, 11])
+        self.assertEqual(order, [])
+        self.assertEqual(self.page((outer, 11)), [23])
+        self.assertEqual(order, ["outer", "middle", "inner"])
+        self.assertRaisesRegex(RecursionError, "endless calls itself", self.page, (endless, 1))
+        self.assertEqual(self.page((inner, 1)), [1])
+
+    def test_what_a_key_asks_never_changes(self):
+        """A function's level rises while entries of its callers stand: its keys are new, and theirs."""
+        cache = self.open()
+        ways = ["flat"]
+
+        @cache.cacheable
+        def caller(db):
+            return lower()
+
+        @cache.cacheable
+        def lower(db):
+            return self.balance(0) if ways[0] == "deep" else 1
+
+        self.page((caller,))
+        ways[0] = "deep"
+        before = cache._growth.forms
+        lower.cache_clear()
+        self.page((lower,), (caller,))
+        after = cache._growth.forms
+        self.assertEqual((before.level(lower), after.level(lower), before.level(caller), after.level(caller)), (1, 2, 2, 3))
+        self.assertGreater(after.number(caller), before.number(caller))
+
+    def test_values(self):
+        cache = self.open()
+        made = []
+
+        @cache.cacheable
+        def mutable(db, n):
+            made.append([n])
+            return made[-1]
+
+        @cache.cacheable(codec=(lambda it: str(it).encode(), lambda data: int(data)))
+        def number(db, n):
+            return n
+
+        @cache.cacheable(key=lambda things: tuple(things))
+        def length(db, things):
+            return len(things)
+
+        with cache.read():
+            first = mutable(1)
+            first.append(2)
+            made[0].append(3)
+            self.assertEqual((mutable(1), number(5), number(5), length([1, 2]), length(things=[1, 2])), ([1], 5, 5, 2, 2))
+
+        @cache.cacheable
+        def unpicklable(db):
+            return lambda: 1
+
+        self.assertRaisesRegex(TypeError, "there is no codec", self.page, (unpicklable,))
+        cache._versions.longest = 100
+
+        @cache.cacheable
+        def long(db):
+            return b"x" * 100
+
+        self.assertRaisesRegex(ValueError, "gave a value of 101 bytes, and at most 100", self.page, (long,))
+
+    def test_errors(self):
+        cache = self.open()
+
+        @cache.cacheable
+        def wrong(db, n):
+            db.row("accounts", id=n)
+            return 1 // n
+
+        @cache.cacheable
+        def catches(db, n):
+            try:
+                return wrong(n)
+            except ZeroDivisionError:
+                return 5
+
+        @cache.cacheable
+        def catches_and_asks(db, n):
+            try:
+                return wrong(n)
+            except ZeroDivisionError:
+                return db.row("accounts", id=1)["balance"]
+
+        @cache.cacheable
+        def bad_query(db):
+            return db.sql("SELECT nothing FROM accounts")
+
+        with cache.read():
+            self.assertEqual(self.balance(0), 100)
+            self.assertRaises(ZeroDivisionError, wrong, 0)
+            self.assertRaises(ZeroDivisionError, wrong, 0)
+            for function in (catches, catches_and_asks):
+                with self.assertRaisesRegex(RuntimeError, "went on after") as raised:
+                    function(0)
+                self.assertIsInstance(raised.exception.__cause__, ZeroDivisionError)
+            self.assertRaises((sqlite3.Error, getattr(self.it, "driver", sqlite3).Error), bad_query)
+            self.assertEqual((wrong(1), catches(1), self.balance(1), self.total()), (1, 1, 100, 400))
+        self.assertEqual((wrong.cache_info().computed, wrong.cache_info().hits), (1, 1))
+
+    def test_tables_of_a_query_are_found_once(self):
+        self.open()
+        self.assertEqual(self.page((self.total,)), [400])
+        self.assertEqual(self.page((self.total,)), [400])
+        self.assertEqual(self.counts(), (1, 0))
+        self.write("UPDATE bids SET price = 1 WHERE id = 1")
+        self.assertEqual(self.page((self.total,), max_age=0.0), [400])
+        self.assertEqual(self.counts(), (1, 0))
+        self.write("UPDATE accounts SET balance = 101 WHERE id = 3")
+        self.assertEqual(self.page((self.total,), max_age=0.0), [401])
+
+    def test_many_rows_in_one_function(self):
+        cache = self.open()
+        self.write(*(f"INSERT INTO accounts VALUES ({n}, {n}, 1)" for n in range(10, 110)))
+
+        @cache.cacheable
+        def many(db, n):
+            return sum(db.row("accounts", id=it)["balance"] for it in range(10, 10 + n))
+
+        self.assertEqual(self.page((many, 100)), [100])
+        self.write("UPDATE accounts SET balance = 6 WHERE id = 105")
+        self.assertEqual(self.page((many, 100), max_age=0.0), [105])
+        self.write("UPDATE accounts SET balance = 7 WHERE id = 0")
+        self.page((many, 100), (many, 5), max_age=0.0)
+
+    def test_as_many_calls_as_may_be(self):
+        cache = self.open()
+
+        @cache.cacheable
+        def one(db, n):
+            return n
+
+        @cache.cacheable
+        def sum_of(db, n):
+            return sum(one(it) for it in range(n))
+
+        self.assertEqual(self.page((sum_of, 63)), [sum(range(63))])
+        self.assertRaisesRegex(ValueError, "asks for more than 63", self.page, (sum_of, 64))
+        self.assertEqual(self.page((sum_of, 63)), [sum(range(63))])
+        self.assertEqual(self.counts(), (1, 0))
+
+    def test_audit(self):
+        cache = self.open(audit=1.0)
+        self.page((self.highest, 7), (self.bids, 7), (self.total,))
+        self.write("INSERT INTO bids VALUES (3, 7, 130)")
+        self.page((self.highest, 7), (self.bids, 7), (self.total,), max_age=0.0)
+
+        @cache.cacheable
+        def too_few_tags(db):
+            return int(db.sql("SELECT sum(balance) AS it FROM accounts", tags=[("accounts", "id", 0)])[0]["it"])
+
+        self.page((too_few_tags,))
+        self.write("UPDATE accounts SET balance = 0 WHERE id = 3")
+        self.assertRaisesRegex(AuditError, "too_few_tags", self.page, (too_few_tags,), max_age=0.0)
+        self.page((too_few_tags,), max_age=0.0)
+        told = []
+        cache.on_audit_error = told.append
+        self.write("UPDATE accounts SET balance = 50 WHERE id = 3")
+        self.assertEqual(self.page((too_few_tags,), max_age=0.0), [300])
+        self.assertEqual(len(told), 1)
+
+    def test_an_audit_is_of_the_receipts_snapshot(self):
+        cache = self.open(audit=1.0, refresh=1000.0)
+        with cache.read() as page:
+            self.assertEqual(self.balance(0), 100)
+            self.write("UPDATE accounts SET balance = 5 WHERE id = 0")
+            cache._look()
+        self.assertEqual(page.receipt.snapshot, 1)
+
+    def test_not_installed(self):
+        store = self.new_store({"items": ["id", "top"]})
+        cache = TxCache(store, versions=self.versions, thread=False)
+        self.addCleanup(cache.close)
+        with self.assertRaisesRegex(NotInstalled, "not note top"):
+            with cache.read():
+                pass
+
+    def test_the_example(self):
+        cache = self.open(thread=True, refresh=0.05, told={"items": ["id", "seller"], "bids": ["id", "item"]})
+        cache_of = cache
+
+        @cache_of.cacheable
+        def view(db, item):
+            return self.highest(item), self.bids(item)
+
+        with cache.read(max_age=5.0) as page:
+            shown = self.highest(7), self.bids(7)
+        self.assertEqual(shown, (110, [110, 90]))
+        self.assertEqual((page.receipt.hits, page.receipt.computed), (1, 2))
+        self.assertEqual(cache.run(lambda: view(7)), shown)
+
+
+class Threads(Case):
+    def test_who_asks_for_what_another_computes_waits_for_it(self):
+        cache = self.open(refresh=1000.0)
+        computing, computed, values = threading.Barrier(9), [], []
+
+        @cache.cacheable
+        def slow(db, n):
+            computed.append(threading.get_ident())
+            time.sleep(0.2)
+            return db.row("accounts", id=n)["balance"]
+
+        self.page((self.balance, 1))
+
+        def ask():
+            computing.wait()
+            with cache.read():
+                values.append(slow(0))
+
+        threads = [threading.Thread(target=ask) for _ in range(8)]
+        for it in threads:
+            it.start()
+        computing.wait()
+        for it in threads:
+            it.join()
+        self.assertEqual((values, len(computed)), ([100] * 8, 1))
+
+    def test_if_it_fails_he_computes_for_himself(self):
+        cache = self.open(refresh=1000.0)
+        tries, begun = [], threading.Event()
+
+        @cache.cacheable
+        def fails_once(db):
+            tries.append(1)
+            begun.set()
+            if len(tries) == 1:
+                time.sleep(0.2)
+                raise ZeroDivisionError
+            return 7
+
+        self.page((self.balance, 1))
+        said = []
+
+        def first():
+            try:
+                self.page((fails_once,))
+            except ZeroDivisionError:
+                said.append("failed")
+
+        one = threading.Thread(target=first)
+        one.start()
+        begun.wait()
+        with cache.read():
+            self.assertEqual(fails_once(), 7)
+        one.join()
+        self.assertEqual((said, len(tries)), (["failed"], 2))
+
+    def test_nobody_waits_for_a_snapshot_that_he_may_not_read(self):
+        cache = self.open(refresh=1000.0)
+        begun, go_on, said = threading.Event(), threading.Event(), []
+
+        @cache.cacheable
+        def slow(db):
+            balance = db.row("accounts", id=0)["balance"]
+            if not begun.is_set():
+                begun.set()
+                go_on.wait(10)
+            return balance
+
+        def first():
+            with cache.read():
+                said.append(slow())
+
+        one = threading.Thread(target=first)
+        one.start()
+        begun.wait()
+        self.write("UPDATE accounts SET balance = 5 WHERE id = 0")
+        time.sleep(0.01)
+        asked = time.monotonic()
+        with cache.read(max_age=0.0):
+            self.assertEqual(slow(), 5)
+        self.assertLess(time.monotonic() - asked, 5)
+        go_on.set()
+        one.join()
+        self.assertEqual(said, [100])
+
+    def test_a_look_that_waits_lets_pages_begin(self):
+        cache = self.open(refresh=1000.0)
+        self.page((self.balance, 0))
+        look, waits, go_on = cache.store.look, threading.Event(), threading.Event()
+        cache.store.look = lambda *words, **named: (waits.set(), go_on.wait(10), look(*words, **named))[2]
+        looking = threading.Thread(target=cache._look)
+        looking.start()
+        waits.wait()
+        begun = time.monotonic()
+        self.assertEqual(self.page((self.balance, 0), (self.balance, 1)), [100, 100])
+        self.assertLess(time.monotonic() - begun, 5)
+        go_on.set()
+        looking.join()
+
+    def test_a_page_that_begins_within_a_cold_step(self):
+        """What is cached from before seems to hold at the pin of a cold step, of which no tags are known: no page may have both."""
+        cache = self.open(refresh=1000.0)
+        self.page((self.balance, 0))
+        self.write("UPDATE accounts SET balance = 93 WHERE id = 0", "UPDATE accounts SET balance = 107 WHERE id = 1")
+        pin, shown = cache._versions.pin, []
+
+        def pin_and_let_a_page_begin(moment):
+            stamp = pin(moment)
+            self.other = threading.Thread(target=lambda: shown.extend(self.page((self.balance, 0), (self.balance, 1))))
+            self.other.start()
+            self.other.join(0.3)
+            return stamp
+
+        cache._versions.pin = pin_and_let_a_page_begin
+        cache._is_to_be_cold = True
+        cache._look()
+        self.other.join()
+        self.assertEqual(shown, [93, 107])
+
+    def test_a_page_is_not_begun_under_a_number_that_is_no_more(self):
+        cache = self.open(refresh=1000.0)
+        self.page((self.balance, 0))
+        self.write("UPDATE accounts SET balance = 93 WHERE id = 0", "UPDATE accounts SET balance = 107 WHERE id = 1")
+        begin = cache._versions.begin
+
+        def a_cold_step_and_then_begin(*words):
+            cache._versions.begin = begin
+            cache._is_to_be_cold = True
+            cache._look()
+            return begin(*words)
+
+        cache._versions.begin = a_cold_step_and_then_begin
+        self.assertEqual(self.page((self.balance, 0), (self.balance, 1)), [93, 107])
+
+    def test_a_function_that_sleeps_lets_others_read(self):
+        cache = self.open(refresh=1000.0)
+        begun, go_on = threading.Event(), threading.Event()
+
+        @cache.cacheable
+        def slow(db):
+            begun.set()
+            go_on.wait(10)
+            return 1
+
+        self.page((self.balance, 0))
+        one = threading.Thread(target=self.page_of, args=(cache, slow))
+        one.start()
+        begun.wait()
+        for _ in range(50):
+            with cache.read():
+                self.balance(0), self.balance(1)
+        go_on.set()
+        one.join()
+
+    @staticmethod
+    def page_of(cache, function):
+        with cache.read():
+            function()
+
+    def test_writers_beside_readers(self, seconds=4.0):
+        cache = self.open(thread=True, refresh=0.05)
+        ended, torn, pages, errors = time.monotonic() + seconds, [], [], []
+
+        def write(seed):
+            rand, link = random.Random(seed), self.writer()
+            while time.monotonic() < ended:
+                n, by = rand.randrange(2), rand.randrange(-9, 9)
+                self.write(f"UPDATE accounts SET balance = balance - {by} WHERE id = {2 * n}", f"UPDATE accounts SET balance = balance + {by} WHERE id = {2 * n + 1}", link=link)
+                time.sleep(0.005)
+
+        def read(seed):
+            rand = random.Random(seed)
+            while time.monotonic() < ended:
+                n = rand.randrange(2)
+                calls = [(self.balance, 2 * n), (self.balance, 2 * n + 1), (self.pair, n), (self.total,)]
+                rand.shuffle(calls)
+                try:
+                    with cache.read(max_age=rand.choice((0.0, 0.1, 1.0, 5.0))):
+                        shown = {(function, *args): function(*args) for function, *args in calls}
+                except SnapshotLost as error:
+                    errors.append(error)
+                    continue
+                pages.append(1)
+                if (shown[self.balance, 2 * n] + shown[self.balance, 2 * n + 1], shown[self.pair, n], shown[(self.total,)]) != (200, 200, 400):
+                    torn.append(shown)
+
+        threads = [threading.Thread(target=write, args=(it,)) for it in range(2)] + [threading.Thread(target=read, args=(it,)) for it in range(4)]
+        for it in threads:
+            it.start()
+        for it in threads:
+            it.join()
+        self.assertEqual(torn, [])
+        self.assertGreater(len(pages), 5)
+        self.assertLess(len(errors), len(pages) / 5)
+        found = self.new_store().look().snapshot
+        self.addCleanup(found.close)
+        with cache.read(max_age=0.0):
+            shown = [self.balance(it) for it in range(4)] + [self.pair(0), self.pair(1)]
+        self.assertEqual(shown, [db_of(found).row("accounts", id=it)["balance"] for it in range(4)] + [200, 200])
+
+
+class Keeping(Case):
+    def test_a_thread_looks_while_pages_are_read_and_then_lets_all_go(self):
+        cache = self.open(thread=True, refresh=0.05, hold=2.0)
+        self.page((self.balance, 0))
+        self.write("UPDATE accounts SET balance = 5 WHERE id = 0")
+        written = time.monotonic()
+        while cache._state.pins[-1].moment <= written and time.monotonic() < written + 20:
+            time.sleep(0.05)
+        self.assertEqual(self.page((self.balance, 0), max_age=time.monotonic() - written), [5])
+        while cache._follower.numbers and time.monotonic() < written + 40:
+            time.sleep(0.05)
+        self.assertEqual(cache._follower.numbers, [])
+        self.assertEqual(self.page((self.balance, 0), max_age=0.2), [5])
+        self.assertEqual(cache.stats()["cold"], 1)
+
+    def test_the_thread_ends_with_its_cache(self):
+        cache = TxCache(self.new_store(), refresh=0.02, versions=self.versions)
+        with cache.read():
+            pass
+        gone = weakref.ref(cache)
+        del cache
+        for _ in range(50):
+            gc.collect()
+            if gone() is None:
+                break
+            time.sleep(0.05)
+        self.assertIsNone(gone())
+
+    def test_few_snapshots_are_open(self):
+        cache = self.open(refresh=1e-6)
+        for n in range(20):
+            self.write(f"UPDATE accounts SET balance = {n} WHERE id = 0")
+            self.assertEqual(self.page((self.balance, 0), max_age=0.0), [n])
+        self.assertLessEqual(len(cache._follower.numbers), 4)
+        self.assertLessEqual(len(cache._state.pins), 256)
+
+    def test_a_snapshot_that_is_gone(self):
+        cache = self.open(refresh=1000.0)
+        self.page((self.balance, 0))
+        cache._follower.let_go()
+        self.assertEqual(self.page((self.balance, 1)), [100])  # nothing was shown yet: it begins anew
+        with self.assertRaises(SnapshotLost):
+            with cache.read():
+                self.balance(0)
+                cache._follower.let_go()
+                self.balance(2)
+        self.assertEqual(cache.stats()["lost"], 1)
+        tries = []
+
+        def view():
+            tries.append(self.balance(0))
+            if len(tries) == 1:
+                cache._follower.let_go()
+            return self.balance(3)
+
+        self.assertEqual((cache.run(view, max_age=60.0), len(tries)), (100, 2))
+
+    def test_a_page_begins_where_snapshots_are_open(self):
+        cache = self.open(refresh=1000.0)
+        self.page((self.balance, 0))
+        self.write("UPDATE accounts SET balance = 5 WHERE id = 0")
+        cache._look()
+        cache._follower.let_go(below=2)
+        self.assertEqual(self.page((self.balance, 0), (self.balance, 1)), [5, 100])
+
+    def test_while_the_database_is_away_pages_of_hits_are_answered(self):
+        cache = self.open(refresh=1e-6)
+        self.page((self.balance, 0))
+        look, tries = cache.store.look, []
+        cache.store.look = lambda *words, **named: tries.append(1) or (_ for _ in ()).throw(SnapshotLost("away"))
+        cache._follower.let_go()
+        self.assertEqual(self.page((self.balance, 0)), [100])
+        self.assertRaises(SnapshotLost, self.page, (self.balance, 1))
+        self.assertRaises(SnapshotLost, self.page, (self.balance, 0), max_age=0.0)
+        cache.store.look = look
+        self.assertEqual(self.page((self.balance, 0), (self.balance, 1)), [100, 100])
+        self.assertEqual((self.counts(), cache.stats()["cold"]), ((1, 1), 1))
+        self.assertGreater(len(tries), 1)
+
+    def test_an_error_shown_is_something_shown(self):
+        cache = self.open(refresh=1000.0)
+
+        @cache.cacheable
+        def missing(db, n):
+            return db.row("accounts", id=n)["balance"]
+
+        with self.assertRaises(SnapshotLost):
+            with cache.read():
+                self.assertRaises(TypeError, missing, 99)
+                cache._follower.let_go()
+                self.balance(0)
+
+    def test_cold_leaves_nothing_behind(self):
+        cache = self.open()
+        self.page((self.balance, 0), (self.bids, 7))
+        cache._is_to_be_cold = True  # as a step that failed midway leaves it
+        self.write("UPDATE accounts SET balance = 5 WHERE id = 0")
+        self.assertEqual(self.page((self.balance, 0), (self.bids, 7), max_age=0.0), [5, [110, 90]])
+        self.assertEqual((self.counts(), cache.stats()["cold"]), ((0, 2), 2))
+
+    def test_a_step_that_fails_midway_begins_cold(self):
+        cache = self.open()
+        self.page((self.balance, 0))
+        self.write("UPDATE accounts SET balance = 5 WHERE id = 0")
+        pin = cache._versions.pin
+        cache._versions.pin = lambda moment: (_ for _ in ()).throw(MemoryError())
+        self.assertRaises(MemoryError, self.page, (self.balance, 0), max_age=0.0)
+        cache._versions.pin = pin
+        self.assertEqual(self.page((self.balance, 0), max_age=0.0), [5])
+        self.assertEqual(cache.stats()["cold"], 2)
+
+    def test_after_a_fork_the_child_begins_cold(self):
+        cache = self.open(thread=True, refresh=0.05)
+        self.page((self.balance, 0))
+        out, into = os.pipe()
+        with cache.read():
+            self.balance(0)
+            child = os.fork()
+            if child == 0:
+                said = []
+                try:
+                    try:
+                        self.balance(0)
+                    except RuntimeError as error:
+                        said.append(str(error))
+                    parent = cache._follower
+                    said.append(parent is None)
+                    from txcache import cache as module
+                    module._PAGE.set(None)
+                    said.append(self.page((self.balance, 0), (self.balance, 1)))
+                    said.append(self.counts())
+                finally:
+                    os.write(into, pickle.dumps(said))
+                    os._exit(0)
+            os.waitpid(child, 0)
+            self.assertEqual(self.balance(1), 100)
+        said = pickle.loads(os.read(out, 10_000))
+        self.assertIn("begun before a fork", said[0])
+        self.assertEqual(said[1:], [True, [100, 100], (0, 2)])
+        self.write("UPDATE accounts SET balance = 5 WHERE id = 0")
+        self.assertEqual(self.page((self.balance, 0), max_age=0.0), [5])
+
+
+class OverAServer(Case):
+    """What only a server does."""
+
+    def test_an_alter_table_waits_little_for_a_cache_busy_or_idle(self):
+        cache = self.open(thread=True, refresh=0.2)
+        ended, shown, lost = threading.Event(), [], []
+
+        def read():
+            while not ended.is_set():
+                try:
+                    with cache.read(max_age=1.0):
+                        shown.append(self.balance(0) + self.balance(1))
+                except SnapshotLost as error:
+                    lost.append(error)
+                time.sleep(0.002)
+
+        readers = [threading.Thread(target=read) for _ in range(2)]
+        for it in readers:
+            it.start()
+        for is_busy in (True, False):
+            self.page((self.balance, 2))
+            begun = time.monotonic()
+            self.write(f"ALTER TABLE accounts ADD COLUMN more{int(is_busy)} integer")
+            self.assertLess(time.monotonic() - begun, 4)
+            ended.set()
+            for it in readers:
+                it.join()
+        self.assertEqual(set(shown), {200})
+        self.assertIn("more0", self.page((self.row, 0), max_age=0.0)[0])
+
+    def functions(self, cache):
+        super().functions(cache)
+
+        @cache.cacheable
+        def row(db, number):
+            return db.row("accounts", id=number)
+
+        self.row = row
+
+    def test_killed_connections_drop_nothing_cached(self):
+        cache = self.open(refresh=1000.0)
+        self.page((self.balance, 0), (self.balance, 1), (self.total,))
+        self.it.ask("SELECT pg_terminate_backend(pid) FROM pg_stat_activity WHERE pid <> pg_backend_pid() AND datname = current_database()")
+        self.assertEqual(self.page((self.balance, 0)), [100])
+        self.write("UPDATE accounts SET balance = 5 WHERE id = 0")
+        self.assertEqual(self.page((self.balance, 0), (self.balance, 1), (self.balance, 2), max_age=0.0), [5, 100, 100])
+        self.assertEqual((self.counts(), cache.stats()["cold"]), ((1, 2), 1))
+
+    def test_a_truncate_and_a_disabled_trigger(self):
+        cache = self.open()
+        self.page((self.balance, 0), (self.bids, 7))
+        cache._follower.let_go()
+        self.write("TRUNCATE bids")
+        self.assertEqual(self.page((self.balance, 0), (self.bids, 7), max_age=0.0), [100, []])
+        cache._follower.let_go()
+        self.write("ALTER TABLE accounts DISABLE TRIGGER USER")
+        self.assertRaisesRegex(NotInstalled, "not ENABLE ALWAYS", self.page, (self.balance, 0), max_age=0.0)
+        self.write("UPDATE accounts SET balance = 5 WHERE id = 0")
+        cache.store.install()
+        self.assertEqual(self.page((self.balance, 0), max_age=0.0), [5])
+        self.assertEqual(cache.stats()["cold"], 3)
+
+
+class Judge(Case):
+    """Random histories: each answer against its function in the snapshot that the receipt names."""
+
+    def test_random_histories(self):
+        rand = random.Random(11)
+        for _ in range(20):
+            cache = self.open(refresh=rand.choice((1e-6, 1000.0)), hold=1000.0)
+            self.page((self.balance, 0))
+            for _ in range(40):
+                act = rand.random()
+                if act < 0.35:
+                    n, by = rand.randrange(4), rand.randrange(-9, 9)
+                    self.write(f"UPDATE accounts SET balance = balance + {by} WHERE id = {n}", f"UPDATE accounts SET pair = {rand.randrange(2)} WHERE id = {rand.randrange(4)}")
+                elif act < 0.4:
+                    cache._look()
+                elif act < 0.43:
+                    cache._follower.let_go()
+                elif act < 0.46:
+                    cache.clear()
+                else:
+                    self.judge(cache, rand)
+            cache.close()
+
+    def judge(self, cache, rand):
+        calls = [rand.choice([(self.balance, rand.randrange(4)), (self.pair, rand.randrange(2)), (self.total,), (self.bids, 7), (self.highest, 7)]) for _ in range(rand.randrange(1, 6))]
+        try:
+            with cache.read(max_age=rand.choice((0.0, 0.01, 1000.0))) as page:
+                shown = [function(*args) for function, *args in calls]
+        except SnapshotLost:
+            return
+        try:
+            db = db_of(cache._follower.snapshot(page.receipt.snapshot))
+        except SnapshotLost:
+            return
+        for value, (function, *args) in zip(shown, calls):
+            body = (lambda db, item: max([row["price"] for row in db.rows("bids", item=item)])) if function is self.highest else function.__wrapped__
+            self.assertEqual(value, body(db, *args))
+
+
+class Numbers(unittest.TestCase):
+    def test_places_go_in_the_order_of_first_use(self):
+        places = Places()
+        self.assertEqual([places.of(f"t:{n}") for n in range(50)], list(range(50)))
+        self.assertEqual([places.of(f"t:{n}") for n in range(50)], list(range(50)))
+        self.assertEqual((places.all_of({"t:3", "t:1", "t:3"}), len(places)), ([1, 3], 50))
+        for n in range(3 * MAX_PLACES):
+            places.of(f"x:{n}")
+        self.assertLessEqual(len(places), MAX_PLACES)
+        self.assertEqual(places.of("t:7"), 7)
+
+
+def load_tests(loader, tests, pattern):
+    suite = unittest.TestSuite([loader.loadTestsFromTestCase(Numbers)])
+    for store in (OfSqlite, OfPostgres):
+        for case in (Pages, Threads, Keeping, Judge):
+            for name, versions in (("", Versions), ("OverAModel", model.Versions)):
+                made = type(f"{case.__name__}{store.__name__}{name}", (store, case), {"__module__": __name__, "versions": versions})
+                suite.addTests(loader.loadTestsFromTestCase(made))
+    suite.addTests(loader.loadTestsFromTestCase(type("OverPostgres", (OfPostgres, OverAServer), {"__module__": __name__})))
+    return suite
+
+
+if __name__ == "__main__":
+    unittest.main()

@@ -1,0 +1,190 @@
+"""The site of a cache: its database is a table of versions, a row a place, and its transactions are the pages. All that the cache asks of the
+library is here. Threads share it: each call takes the lock for itself alone."""
+
+import ctypes as c
+import hashlib
+import threading
+from typing import Callable, Dict, Iterable, NamedTuple, Optional, Sequence, Tuple
+
+from . import _calls
+from ._calls import ANSWERED, COMPUTE, DONE, MISS, NO_MEMORY, NO_ROOM
+from .errors import TxCacheError
+from .node import MAX_VALUE_LEN, _Handle, _Key
+
+MAX_ASKS = 63  # of one function that is computed; what it gives is the last of 64
+MAX_PINS = 1024
+MAX_PLACES = 65_536
+UNCHANGING_PLACE = MAX_PLACES  # of no tag
+_TABLES = 16  # the version of a place is a row of one of so many tables, since an event names at most 16 rows of each
+_ROWS = 15
+_EVER = 2**64 - 1  # a pin is never renewed: the present of the table of versions may be the middle of a step
+_TXC = _calls.declared()
+
+
+class Refused(TxCacheError):
+    """The library did not do what was asked, by the number that it returned."""
+
+    def __init__(self, call: str, number: int):
+        super().__init__(f"{call} returned {number}")
+        self.number = number
+
+
+class Member(NamedTuple):
+    """A pin at which a page may still be serialised."""
+
+    stamp: int
+    moment: int
+
+
+def _do(call: Callable[..., int], *words) -> None:
+    number = call(*words)
+    if number != DONE:
+        raise _error(call, number)
+
+
+def _error(call: Callable[..., int], number: int) -> Exception:
+    name = getattr(call, "__name__", "the library")
+    return MemoryError(name) if number == NO_MEMORY else Refused(name, number)
+
+
+class Versions:
+    """A site with a node of `capacity` entries. `longest` bounds the bytes of a value."""
+
+    longest = MAX_VALUE_LEN
+
+    def __init__(self, capacity: int, recent: int = 4096):
+        self._site, self._lock = _Handle(None, False), threading.Lock()
+        self._buffer, self._size = c.create_string_buffer(MAX_VALUE_LEN), c.c_size_t()
+        _do(_TXC.site_open, self._site, _calls.Settings(c.sizeof(_calls.Settings), 0, capacity, recent, _EVER))
+
+    def close(self) -> None:
+        with self._lock:
+            _TXC.site_close(self._site)
+
+    # ---- steps
+
+    def touch(self, places: Sequence[int], version: int) -> None:
+        """Gives these places a version. A long step lets go of the lock now and then; no page reads its middle, since none reads the present."""
+        body = str(version).encode()
+        for at in range(0, len(places), _TABLES * _ROWS):
+            with self._lock:
+                txn = c.c_uint64()
+                _do(_TXC.begin_write, self._site, txn)
+                try:
+                    for place in places[at:at + _TABLES * _ROWS]:
+                        _do(_TXC.put, self._site, txn, place % _TABLES, place // _TABLES, 0, body, len(body))
+                    _do(_TXC.commit_write, self._site, txn, c.c_uint32())
+                except BaseException:
+                    _TXC.abort(self._site, txn)
+                    raise
+
+    def pin(self, moment: int) -> int:
+        """Pins the newest state, as of this moment. Returns its stamp."""
+        stamp = c.c_uint32()
+        with self._lock:
+            _do(_TXC.pin, self._site, moment, stamp)
+        return stamp.value
+
+    def keep(self, before: int) -> int:
+        """Lets go what no page can read any more once the pins before a moment are retired. Returns the stamp below which nothing is read."""
+        kept = _calls.Kept()
+        with self._lock:
+            _do(_TXC.keep, self._site, before, 0, kept)
+        return kept.horizon
+
+    # ---- pages
+
+    def begin(self, now: int, staleness: int, at_least: int) -> int:
+        txn = c.c_uint64()
+        with self._lock:
+            _do(_TXC.begin, self._site, now, staleness, at_least, txn)
+        return txn.value
+
+    def member(self, txn: int, at: int) -> Optional[Member]:
+        """Returns a member, counted from the newest; None past the last."""
+        stamp, moment = c.c_uint32(), c.c_uint64()
+        with self._lock:
+            number = _TXC.member_at(self._site, txn, at, stamp, moment)
+        if number not in (DONE, MISS):
+            raise _error(_TXC.member_at, number)
+        return Member(stamp.value, moment.value) if number == DONE else None
+
+    def read_stamp(self, txn: int) -> Optional[int]:
+        """Returns the stamp at which the page's next query runs; None where it would pin the present."""
+        stamp = c.c_uint32()
+        with self._lock:
+            number = _TXC.read_stamp(self._site, txn, stamp)
+        if number not in (DONE, MISS):
+            raise _error(_TXC.read_stamp, number)
+        return stamp.value if number == DONE else None
+
+    def call(self, txn: int, level: int, digest: bytes) -> Optional[bytes]:
+        """Returns the value of a call; None where its function is to be computed."""
+        key = _Key(level, 4, (c.c_uint32 * 4).from_buffer_copy(digest))
+        with self._lock:
+            number = _TXC.call(self._site, txn, key, self._buffer, MAX_VALUE_LEN, self._size)
+            if number == COMPUTE:
+                return None
+            if number in (DONE, ANSWERED):
+                return self._buffer.raw[:self._size.value]
+        raise _error(_TXC.call, number)
+
+    def version(self, txn: int, place: int) -> int:
+        """Returns the version of a place, for the function that the page computes; 0 where it has none."""
+        with self._lock:
+            number = _TXC.query_rows(self._site, txn, _calls.Query(place % _TABLES, 1, place // _TABLES, 0), self._size)
+            if number != ANSWERED:
+                raise _error(_TXC.query_rows, number)
+            if not self._size.value:
+                return 0
+            _do(_TXC.row_at, self._site, txn, 0, _calls.Row(), self._buffer, MAX_VALUE_LEN, self._size)
+            return int(self._buffer.raw[:self._size.value])
+
+    def finish(self, txn: int, data: bytes) -> None:
+        """Says what the function that the page computes gives."""
+        with self._lock:
+            number = _TXC.finish(self._site, txn, data, len(data), self._buffer, MAX_VALUE_LEN, self._size)
+        if number not in (DONE, ANSWERED, NO_ROOM):
+            raise _error(_TXC.finish, number)
+
+    def give_up(self, txn: int) -> None:
+        """Gives up the open call, with the calls around it, if there is one."""
+        with self._lock:
+            _TXC.give_up(self._site, txn)
+
+    def commit(self, txn: int) -> Tuple[int, Optional[Member]]:
+        """Ends a page. Returns how many answers it had, and the pin at which all are right."""
+        receipt = _calls.Receipt()
+        with self._lock:
+            _do(_TXC.commit, self._site, txn, receipt)
+        return receipt.answers, Member(receipt.stamp, receipt.moment) if receipt.has_pin else None
+
+    def abort(self, txn: int) -> None:
+        with self._lock:
+            _TXC.abort(self._site, txn)
+
+
+class Places:
+    """The places of tags, by a hash, at most `MAX_PLACES`; their numbers go in the order of first use, since a row at the end of a table is cheap."""
+
+    def __init__(self) -> None:
+        self._numbers: Dict[int, int] = {}
+        self._known: Dict[str, int] = {}
+        self._lock = threading.Lock()
+
+    def __len__(self) -> int:
+        return len(self._numbers)
+
+    def of(self, tag: str) -> int:
+        found = self._known.get(tag)
+        if found is None:
+            slot = int.from_bytes(hashlib.blake2b(tag.encode("utf-8", "surrogatepass"), digest_size=8).digest(), "little") % MAX_PLACES
+            with self._lock:
+                found = self._numbers.setdefault(slot, len(self._numbers))
+                if len(self._known) >= 2 * MAX_PLACES:
+                    self._known.clear()
+                self._known[tag] = found
+        return found
+
+    def all_of(self, tags: Iterable[str]) -> Sequence[int]:
+        return sorted({self.of(it) for it in tags})

@@ -1,0 +1,662 @@
+"""A cache of the results of functions, beside a service's own database: all that a page shows is of one moment."""
+
+import contextlib
+import contextvars
+import functools
+import inspect
+import logging
+import os
+import random
+import threading
+import time
+import weakref
+from dataclasses import dataclass, replace
+from typing import Any, Callable, Dict, Iterator, List, Optional, Sequence, Tuple
+
+from . import _values
+from ._follower import Follower, Step
+from ._forms import Growth
+from ._keys import Arguments, digest
+from ._layout import Db, Read, Row, refuse_time_and_chance
+from ._store import PURGE_AGE, Snapshot, Store, db_of
+from ._versions import MAX_ASKS, MAX_PINS, UNCHANGING_PLACE, Places, Versions
+from .errors import AuditError, NotSeen, SnapshotLost
+
+LOG = logging.getLogger("txcache")
+MAX_SNAPSHOTS = 4  # that are open at once
+MAX_ROW_TAGS = 40  # of one function: beyond that it depends on whole tables, so that some of its `MAX_ASKS` are left for calls
+KEPT_PINS = MAX_PINS // 4
+PURGE_EVERY = 60.0  # seconds
+_PAGE: "contextvars.ContextVar[Optional[Page]]" = contextvars.ContextVar("txcache_page", default=None)
+_INHERITED: List[Any] = []  # of a parent: never called and never closed by its child
+_CACHES: "weakref.WeakSet[TxCache]" = weakref.WeakSet()
+
+
+class _Again(BaseException):
+    """The outermost call is to be made again, with forms that have grown. No function is to catch it."""
+
+
+@dataclass(frozen=True)
+class Receipt:
+    """The moment of all that a page showed, as time.time() has it, and how old it was as the page ended; the number of its snapshot; how many calls
+    were hits and how many were computed. A page that showed nothing has no moment."""
+
+    moment: Optional[float]
+    age: Optional[float]
+    snapshot: Optional[int]
+    hits: int
+    computed: int
+
+
+@dataclass(frozen=True)
+class CacheInfo:
+    hits: int
+    computed: int
+
+
+@dataclass(frozen=True)
+class _Pin:
+    stamp: int
+    moment: float
+    number: int
+    mark: Any
+
+
+@dataclass(frozen=True)
+class _State:
+    """The pins of pages, the oldest first; the number in keys, and the first stamp of what is cached under it. It is replaced as a whole, so a page that
+    begins waits for no look."""
+
+    pins: Tuple[_Pin, ...] = ()
+    era: int = 0
+    first: int = 0
+
+
+@dataclass
+class _Frame:
+    """A function that is computed: the places that it asked, and how many things in all."""
+
+    function: "Function"
+    level: int
+    places: Dict[int, None]
+    asks: int = 0
+
+
+class _Work:
+    """A call that a thread computes, in the snapshot of a stamp."""
+
+    def __init__(self, stamp: Optional[int]):
+        self.stamp, self.ended, self.owner = stamp, threading.Event(), threading.get_ident()
+
+
+class _Works:
+    """The calls that are computed now, by their keys."""
+
+    def __init__(self) -> None:
+        self._works: Dict[bytes, List[_Work]] = {}
+        self._lock = threading.Lock()
+
+    def wait(self, key: bytes, may_read: Callable[[int], bool]) -> None:
+        """Waits for another thread that computes the call in a snapshot which the page may read too. Calls go down by levels, so nobody waits in a circle."""
+        if key in self._works:
+            with self._lock:
+                works = list(self._works.get(key, ()))
+            found = next((it for it in works if it.stamp is not None and it.owner != threading.get_ident() and may_read(it.stamp)), None)
+            if found:
+                found.ended.wait()
+
+    @contextlib.contextmanager
+    def at(self, key: bytes, stamp: Optional[int]):
+        work = _Work(stamp)
+        with self._lock:
+            self._works.setdefault(key, []).append(work)
+        try:
+            yield
+        finally:
+            with self._lock:
+                self._works[key].remove(work)
+                if not self._works[key]:
+                    del self._works[key]
+            work.ended.set()
+
+
+class Function:
+    """A cacheable function. Within a page it is called without its first parameter, `db`."""
+
+    def __init__(self, cache: "TxCache", body: Callable[..., Any], key: Optional[Callable[..., Any]], codec: Optional[_values.Codec]):
+        self.cache, self.body, self.codec, self.name = cache, body, codec, f"{body.__module__}.{body.__qualname__}"
+        if inspect.iscoroutinefunction(body) or inspect.isgeneratorfunction(body) or inspect.isasyncgenfunction(body):
+            raise TypeError(f"{self.name} is a coroutine or generator function: a cacheable function returns its value")
+        self.arguments = Arguments(self.name, body, key)
+        self._hits = self._computed = 0
+        functools.update_wrapper(self, body)
+
+    def __repr__(self) -> str:
+        return self.name
+
+    def __call__(self, *args: Any, **named: Any) -> Any:
+        page = _PAGE.get()
+        if page is None or page.cache is not self.cache:
+            raise RuntimeError(f"{self.name} is called outside of a page of its cache: with cache.read(): ..")
+        return page.answer(self, args, named)
+
+    def cache_info(self) -> CacheInfo:
+        return CacheInfo(self._hits, self._computed)
+
+    def cache_clear(self) -> None:
+        """Has each of its calls, and of those that call it, be computed again."""
+        self.cache._growth.renew(self)
+
+
+class Page:
+    """What is read in a block of `TxCache.read`. Its receipt is there once the block has ended."""
+
+    def __init__(self, cache: "TxCache", max_age: float, after: Optional[str]):
+        if max_age < 0:
+            raise ValueError(f"max_age is {max_age} seconds, and is at least 0")
+        self.cache, self.max_age, self.after, self.receipt = cache, max_age, after, None
+        self._frames: List[_Frame] = []
+        self._failed: Optional[BaseException] = None
+        self._turn = threading.RLock()
+        self._direct: Optional[Db] = None
+        self._shown: List[Tuple[Function, Sequence[Any], Dict[str, Any], bytes]] = []
+        self._has_shown = self._has_renewed = False
+        self.hits = self.computed = 0
+        self._txn, self._process = 0, os.getpid()
+
+    def __enter__(self) -> "Page":
+        if _PAGE.get() is not None:
+            raise RuntimeError("a page is open already: a page stands within no other")
+        if self._txn:
+            raise RuntimeError("a page is used once: cache.read() gives another")
+        self._begin()
+        self._token = _PAGE.set(self)
+        return self
+
+    def _begin(self) -> None:
+        self._txn, self._era = self.cache._begin(self.max_age, self.after)
+
+    def __exit__(self, kind: Any, error: Any, trace: Any) -> None:
+        _PAGE.reset(self._token)
+        if self._process != os.getpid():
+            return
+        if kind is None:
+            answers, pin = self.cache._versions.commit(self._txn)
+            self.receipt = self.cache._receipt(self, pin)
+            if self._is_audited and pin is not None:
+                self._audit()
+            return
+        self.cache._versions.abort(self._txn)
+        if isinstance(error, SnapshotLost):
+            self.cache._lost += 1
+            LOG.warning("a page lost its snapshot: %s", error)
+
+    # ---- calls
+
+    def answer(self, function: Function, args: Sequence[Any], named: Dict[str, Any]) -> Any:
+        """Returns the value of a call."""
+        with self._one_thread(function.name):
+            if self._direct is not None:
+                return function.body(self._direct, *args, **named)
+            if self._frames:
+                return self._inner(function, args, named)
+            return self._outermost(function, args, named)
+
+    @contextlib.contextmanager
+    def _one_thread(self, name: str) -> Iterator[None]:
+        if self._process != os.getpid():
+            raise RuntimeError(f"{name}: the page was begun before a fork, by the parent")
+        if not self._turn.acquire(blocking=False):
+            raise RuntimeError(f"{name}: another thread uses this page")
+        try:
+            yield
+        finally:
+            self._turn.release()
+
+    def _outermost(self, function: Function, args: Sequence[Any], named: Dict[str, Any]) -> Any:
+        while True:
+            self._forms, self._failed = self.cache._growth.forms, None
+            try:
+                value, data = self._value(function, args, named)
+                break
+            except BaseException as error:
+                # a function may have caught what was not for it
+                found = self._failed if isinstance(self._failed, (_Again, SnapshotLost)) else error
+                self._give_up()
+                if isinstance(found, SnapshotLost) and not self._has_shown and not self._has_renewed:
+                    self._renew()
+                elif not isinstance(found, _Again):
+                    self._has_shown |= not isinstance(found, SnapshotLost)  # its error shows something of the page's moment
+                    if found is error:
+                        raise
+                    raise found
+        self._has_shown = True
+        if self._is_audited:
+            self._shown.append((function, args, named, data))
+        return value
+
+    def _inner(self, function: Function, args: Sequence[Any], named: Dict[str, Any]) -> Any:
+        caller = self._frames[-1]
+        self._refuse_after_failure(caller)
+        if any(it.function is function for it in self._frames):
+            raise RecursionError(f"{function.name} calls itself")
+        self.cache._growth.has_called(caller.function, function)
+        level = self._forms.level(function)
+        if level >= caller.level:
+            self.cache._growth.raise_level(caller.function, level + 1)
+            raise _Again
+        self._count_ask(caller)
+        try:
+            return self._value(function, args, named)[0]
+        except BaseException as error:
+            self._failed = self._failed or error
+            raise
+
+    def _refuse_after_failure(self, frame: _Frame) -> None:
+        """No answer says what a function does after it caught the failure of another, so it may ask nothing more."""
+        if self._failed is not None:
+            raise RuntimeError(f"{frame.function.name} went on after a function that it called, or a query, had failed") from self._failed
+
+    def _count_ask(self, frame: _Frame) -> None:
+        frame.asks += 1
+        if frame.asks > MAX_ASKS:
+            raise ValueError(f"{frame.function.name} asks for more than {MAX_ASKS} tables, rows and calls")
+
+    def _value(self, function: Function, args: Sequence[Any], named: Dict[str, Any]) -> Tuple[Any, bytes]:
+        versions, level = self.cache._versions, self._forms.level(function)
+        key = digest(self._era, function.name.encode(), b"%d" % self._forms.number(function), function.arguments.encoded(args, named))
+        self.cache._works.wait(key, self._may_read)
+        data = versions.call(self._txn, level, key)
+        if data is not None:
+            self.hits += 1
+            function._hits += 1
+        else:
+            data = self._computed_value(function, level, key, args, named)
+        return _values.decode(data, function.codec), data
+
+    def _computed_value(self, function: Function, level: int, key: bytes, args: Sequence[Any], named: Dict[str, Any]) -> bytes:
+        frame = _Frame(function, level, {})
+        self._frames.append(frame)
+        try:
+            with self.cache._works.at(key, self.cache._versions.read_stamp(self._txn)):
+                value = function.body(Db(self._snapshot().layout, self._read), *args, **named)
+                self._refuse_after_failure(frame)
+                self._ask_once(frame)
+                data = _values.encode(value, function.codec)
+                if len(data) > self.cache._versions.longest:
+                    raise ValueError(f"{function.name} gave a value of {len(data)} bytes, and at most {self.cache._versions.longest} are kept")
+                self.cache._versions.finish(self._txn, data)
+        finally:
+            self._frames.pop()
+        self.computed += 1
+        function._computed += 1
+        return data
+
+    def _give_up(self) -> None:
+        self._frames.clear()
+        self.cache._versions.give_up(self._txn)
+
+    def _renew(self) -> None:
+        """Begins the page anew, of which nothing was shown."""
+        self._has_renewed = True
+        self.cache._versions.abort(self._txn)
+        self.cache._look_again()
+        self._begin()
+
+    # ---- reads
+
+    def _read(self, read: Read) -> List[Row]:
+        with self._one_thread("db"):
+            if not self._frames:
+                raise RuntimeError("db is used after its function has returned")
+            return self._read_within(self._frames[-1], read)
+
+    def _read_within(self, frame: _Frame, read: Read) -> List[Row]:
+        self._refuse_after_failure(frame)
+        try:
+            if read.tags is None:
+                return self._read_by_tables(frame, read)
+            self._ask(frame, read.tags, read.wholes)
+            return self._in_snapshot(lambda it: it.rows(read))
+        except BaseException as error:
+            self._failed = self._failed or error
+            raise
+
+    def _read_by_tables(self, frame: _Frame, read: Read) -> List[Row]:
+        refuse_time_and_chance(read.query)
+        growth = self.cache._growth
+        growth.has_asked(frame.function, read.query)
+        tables = self._forms.tables(read.query)
+        self._ask(frame, sorted(tables), sorted(tables))
+        rows, touched = self._in_snapshot(lambda it: it.rows_and_tables(read.query, read.args))
+        if touched - tables:
+            growth.add_tables(read.query, touched)
+            raise _Again
+        return rows
+
+    def _ask(self, frame: _Frame, tags: Sequence[str], wholes: Sequence[str]) -> None:
+        """Asks the versions of tags, so that the library knows where the result holds."""
+        for tag, whole in zip(tags, wholes):
+            place = self.cache._places.of(tag if len(frame.places) < MAX_ROW_TAGS else whole)
+            if place not in frame.places:
+                self._count_ask(frame)
+                self.cache._versions.version(self._txn, place)
+                frame.places[place] = None
+
+    def _ask_once(self, frame: _Frame) -> None:
+        """Has a function that asked nothing ask for a place that never changes, since the library keeps only what depends on a row."""
+        if not frame.asks:
+            self.cache._versions.version(self._txn, UNCHANGING_PLACE)
+
+    def _snapshot(self) -> Snapshot:
+        """Returns the snapshot in which the next query reads."""
+        return self.cache._snapshot(self.cache._versions.read_stamp(self._txn))
+
+    def _in_snapshot(self, read: Callable[[Snapshot], Any]) -> Any:
+        """Reads in the snapshot of the next query. If that was let go meanwhile, for one in which nothing had changed, in that one."""
+        snapshot = self._snapshot()
+        try:
+            return read(snapshot)
+        except SnapshotLost:
+            other = self._snapshot()
+            if other is snapshot:
+                raise
+            return read(other)
+
+    def _may_read(self, stamp: int) -> bool:
+        at = 0
+        while True:
+            member = self.cache._versions.member(self._txn, at)
+            if member is None or member.stamp < stamp:
+                return False
+            if member.stamp == stamp:
+                return True
+            at += 1
+
+    # ---- audit
+
+    @functools.cached_property
+    def _is_audited(self) -> bool:
+        return self.cache.audit > 0 and random.random() < self.cache.audit
+
+    def _audit(self) -> None:
+        """Computes what was shown once more, uncached, in the one snapshot of the receipt."""
+        token = _PAGE.set(self)
+        try:
+            self._direct = db_of(self.cache._follower.snapshot(self.receipt.snapshot))
+            for function, args, named, data in self._shown:
+                if not self._gives(function, args, named, data):
+                    self._report(function, args)
+        except SnapshotLost:
+            pass  # nothing can be said of it any more
+        finally:
+            _PAGE.reset(token)
+
+    def _gives(self, function: Function, args: Sequence[Any], named: Dict[str, Any], data: bytes) -> bool:
+        """Returns True if a call gives now what was shown. Equal values may have other bytes, and values that know no equality have the same."""
+        try:
+            again = _values.encode(function.body(self._direct, *args, **named), function.codec)
+        except SnapshotLost:
+            raise
+        except Exception:
+            LOG.exception("an audited function failed")
+            return False
+        return again == data or _values.decode(again, function.codec) == _values.decode(data, function.codec)
+
+    def _report(self, function: Function, args: Sequence[Any]) -> None:
+        error = AuditError(f"{function.name}{tuple(args)!r} is not what it gives, uncached, in the snapshot {self.receipt.snapshot}")
+        LOG.error("%s", error)
+        self.cache.clear()
+        if self.cache.on_audit_error is None:
+            raise error
+        self.cache.on_audit_error(error)
+
+
+class TxCache:
+    """A cache beside a store. Nothing is opened before the first page.
+
+    `capacity` bounds its entries. A thread looks at the database every `refresh` seconds while pages are read; with `thread=False` a page looks as
+    it begins. No snapshot is open for longer than `hold` seconds. `connections` bounds those that read. `audit` is the share of pages that are
+    computed once more, uncached, and compared: a difference goes to `on_audit_error`, or is raised."""
+
+    def __init__(self, store: Store, capacity: int = 65_536, max_bytes: Optional[int] = None, refresh: float = 0.5, hold: float = 10.0, connections: int = 4,
+                 audit: float = 0.0, *, thread: bool = True, on_audit_error: Optional[Callable[[AuditError], None]] = None, versions: Callable[[int], Any] = Versions):
+        if max_bytes is not None:
+            raise ValueError(f"max_bytes is {max_bytes}, and this library has no budget of bytes: only None")
+        if not 0 <= audit <= 1:
+            raise ValueError(f"audit is {audit}, and is a share from 0 to 1")
+        if refresh <= 0:
+            raise ValueError(f"refresh is {refresh} seconds, and is more than 0")
+        self.store, self.refresh, self.hold, self.audit, self.on_audit_error = store, refresh, hold, audit, on_audit_error
+        self._capacity, self._connections, self._has_thread, self._make_versions = capacity, connections, thread, versions
+        self._functions: Dict[str, Function] = {}
+        self._growth = Growth()
+        self._reset()
+        _CACHES.add(self)
+
+    def _reset(self) -> None:
+        self._opening, self._stepping = threading.Lock(), threading.RLock()
+        self._works, self._places = _Works(), Places()
+        self._versions: Any = None
+        self._follower: Optional[Follower] = None
+        self._state = _State()
+        self._numbers: Dict[int, int] = {}
+        self._is_to_be_cold = False
+        self._ended: Optional[threading.Event] = None
+        self._last_page = self._last_purge = self._last_try = time.monotonic()
+        self._lost, self._cold = 0, 0
+
+    # ---- functions
+
+    def cacheable(self, body: Optional[Callable[..., Any]] = None, *, key: Optional[Callable[..., Any]] = None, codec: Optional[_values.Codec] = None) -> Any:
+        """Makes a function of `db` and plain data cacheable. `key` makes plain data of its arguments; `codec` is (dumps, loads) of its values."""
+        if body is None:
+            return functools.partial(self.cacheable, key=key, codec=codec)
+        function = Function(self, body, key, codec)
+        if function.name in self._functions:
+            raise TypeError(f"there are two cacheable functions {function.name}")
+        self._functions[function.name] = function
+        return function
+
+    # ---- pages
+
+    def read(self, max_age: float = 5.0, after: Optional[str] = None) -> Page:
+        """Returns a page, for `with`: all that is called in it is of one moment, at most `max_age` seconds ago, that sees the transaction of the token
+        `after`."""
+        return Page(self, max_age, after)
+
+    def run(self, view: Callable[..., Any], *args: Any, max_age: float = 5.0, after: Optional[str] = None, **named: Any) -> Any:
+        """Returns what a view gives within a page. One that loses its snapshot is made again, once."""
+        for is_last in (False, True):
+            try:
+                with self.read(max_age, after):
+                    return view(*args, **named)
+            except SnapshotLost:
+                if is_last:
+                    raise
+                self._look_again()
+
+    def clear(self) -> None:
+        """Has all calls be computed again."""
+        with self._stepping:
+            self._state = replace(self._state, era=self._state.era + 1)
+
+    def close(self) -> None:
+        """Ends the thread, the connections and the library's site. The next page opens all anew."""
+        with self._opening:
+            if self._versions is None:
+                return
+            self._ended.set()
+            with self._stepping:
+                versions, follower = self._versions, self._follower
+        follower.close()
+        versions.close()
+        self._reset()
+
+    def stats(self) -> Dict[str, Any]:
+        """Returns counts since the cache was opened; the age of its newest snapshot, in seconds; the connections that read; the places of tags."""
+        pins = self._state.pins
+        return {"hits": sum(it._hits for it in self._functions.values()), "computed": sum(it._computed for it in self._functions.values()), "lost": self._lost,
+                "cold": self._cold, "age": time.monotonic() - pins[-1].moment if pins else None, "connections": getattr(getattr(self.store, "readers", None), "count", 0),
+                "places": len(self._places)}
+
+    # ---- the parts that pages use
+
+    def _open(self) -> None:
+        if self._versions is None:
+            with self._opening:
+                if self._versions is None:
+                    self.store.prepare(self._connections, self.hold)
+                    self._follower = Follower(self.store, self.hold)
+                    self._ended = threading.Event()
+                    self._versions = self._make_versions(self._capacity)
+                    if self._has_thread:
+                        threading.Thread(target=_keep_looking, args=(weakref.ref(self), self._ended, self.refresh), name="txcache", daemon=True).start()
+
+    def _begin(self, max_age: float, after: Optional[str]) -> Tuple[int, bytes]:
+        """Begins a page: its transaction, and the number in its keys."""
+        self._open()
+        self._last_page = begun = time.monotonic()
+        self._look_if_old(begun, max_age)
+        at_least = self._stamp_of(after) if after is not None else 0
+        for _ in range(3):
+            state = self._state
+            if state.pins:
+                now = max(begun, state.pins[-1].moment)
+                least = max(at_least, self._oldest_open_stamp(state))
+                txn = self._versions.begin(_us(now), max(0, _us(now) - _us(begun - max_age)), least)
+                # one that began under a number which is no more may have a pin of the next
+                if self._state.era == state.era and self._versions.member(txn, 0) is not None:
+                    return txn, b"%d" % state.era
+                self._versions.abort(txn)
+            self._look()
+        raise SnapshotLost(f"no snapshot of the last {max_age} seconds")
+
+    def _look_if_old(self, begun: float, max_age: float) -> None:
+        """Takes a snapshot if the newest is too old for a page; or if none is open, or, with no thread, it is to be refreshed, and then if that fails a
+        page may still have hits."""
+        if self._is_older(begun - max_age):
+            with self._stepping:
+                if self._is_older(begun - max_age):
+                    self._look()
+        elif begun - self._last_try > self.refresh and (not self._follower.numbers or not self._has_thread and self._is_older(begun - self.refresh)):
+            self._look_again()
+
+    def _is_older(self, moment: float) -> bool:
+        pins = self._state.pins
+        return not pins or pins[-1].moment < moment
+
+    def _look_again(self) -> None:
+        """Takes a snapshot if one is to be had."""
+        with contextlib.suppress(SnapshotLost):
+            self._look()
+
+    def _look(self) -> None:
+        """Takes a snapshot: gives what changed a version, and then pins that. Nobody else does either meanwhile."""
+        with self._stepping:
+            self._last_try = time.monotonic()
+            if self._is_to_be_cold:
+                self._follower.forget()
+            step = self._follower.look()
+            self._is_to_be_cold = True  # until all of the step is done
+            self._take(step)
+            self._is_to_be_cold = False
+
+    def _take(self, step: Step) -> None:
+        if step.cold:
+            # before there is a pin at which what is cached under the former number would seem to hold
+            self._cold += 1
+            self._state = _State((), self._state.era + 1)
+        self._versions.touch(self._places.all_of(step.tags), step.number)
+        stamp = self._versions.pin(_us(step.moment))
+        self._numbers[stamp] = step.number
+        pin, before = _Pin(stamp, step.moment, step.number, self._follower.mark), self._state
+        young = [it for it in before.pins if it.moment >= step.moment - self.hold]
+        self._state = replace(before, pins=(*young[1 - KEPT_PINS:], pin), first=stamp if step.cold else before.first)
+        self._tidy()
+
+    def _tidy(self) -> None:
+        """Lets go the snapshots that are too many, and what no page can read any more."""
+        numbers = self._follower.numbers
+        if len(numbers) > MAX_SNAPSHOTS:
+            self._follower.let_go(below=numbers[-MAX_SNAPSHOTS])
+        horizon = self._versions.keep(_us(self._state.pins[0].moment))
+        if len(self._numbers) > 2 * MAX_PINS:
+            self._numbers = {stamp: number for stamp, number in self._numbers.items() if stamp >= horizon}
+
+    def _oldest_open_stamp(self, state: _State) -> int:
+        """Returns the stamp from which on each pin has its snapshot open; if none is, the first of what is cached now."""
+        numbers = self._follower.numbers
+        found = next((it.stamp for it in state.pins if numbers and it.number >= numbers[0]), state.first)
+        return max(state.first, found)
+
+    def _stamp_of(self, token: str) -> int:
+        """Returns the first stamp that sees the transaction of a token. Fails with NotSeen if a new snapshot does not."""
+        for is_last in (False, True):
+            found = next((it.stamp for it in self._state.pins if self.store.sees(it.mark, token)), None)
+            if found is not None:
+                return found
+            if not is_last:
+                self._look()
+        raise NotSeen("a new snapshot does not see the transaction of the token")
+
+    def _snapshot(self, stamp: Optional[int]) -> Snapshot:
+        number = self._numbers.get(stamp) if stamp is not None else None
+        if number is None:
+            raise SnapshotLost("the page's moment is kept no more")
+        return self._follower.snapshot(number)
+
+    def _receipt(self, page: Page, pin: Any) -> Receipt:
+        if pin is None:
+            return Receipt(None, None, None, page.hits, page.computed)
+        age = time.monotonic() - pin.moment / 1e6
+        return Receipt(time.time() - age, age, self._numbers.get(pin.stamp), page.hits, page.computed)
+
+    # ---- beside pages
+
+    def _rest_or_look(self) -> None:
+        """What the thread does every `refresh` seconds."""
+        now = time.monotonic()
+        if now - self._last_page > self.hold:
+            self._follower.let_go()
+        else:
+            self._look()
+        if now - self._last_purge > PURGE_EVERY:
+            self._last_purge = now
+            try:
+                self.store.purge(PURGE_AGE)
+            except Exception as error:  # this role may not, or a writer is in the way: another process will
+                LOG.debug("no notes were purged: %s", error)
+
+    def _leave_to_the_parent(self) -> None:
+        """Of a child after a fork: begins cold, and touches nothing of its parent's."""
+        _INHERITED.append((self._versions, self._follower, self._works, self._stepping, self.store.forget()))
+        self._growth = Growth()
+        self._reset()
+
+
+def _us(seconds: float) -> int:
+    return max(0, int(seconds * 1e6))
+
+
+def _keep_looking(cache_of: Callable[[], Optional[TxCache]], ended: threading.Event, refresh: float) -> None:
+    """The thread of a cache, which ends with it."""
+    while not ended.wait(refresh):
+        cache = cache_of()
+        if cache is None:
+            return
+        try:
+            cache._rest_or_look()
+        except SnapshotLost:
+            pass  # the follower has logged it
+        except Exception:
+            LOG.exception("the database was not looked at")
+        del cache
+
+
+def _after_fork_in_child() -> None:
+    for it in list(_CACHES):
+        it._leave_to_the_parent()
+
+
+os.register_at_fork(after_in_child=_after_fork_in_child)
