@@ -233,14 +233,14 @@ module _ (c d : CoreValue) where
   -- a reply that was taken leads to no refusal but for memory
   take_fails : (need : Need) (reply : Reply) → ((query : Query) → need_after c.call.frames need reply ≢ needs.Query query) → (t : HandTurn)
       → TakeTransition c need reply d t → IfSome (turn_error t) (λ (e : TxnError). e ≡ Memory)
-  take_fails need reply no None leads = tt
-  take_fails need reply no (Some (Asks request)) leads = tt
-  take_fails need reply no (Some (Ended (Ok value))) leads = tt
-  take_fails need reply no (Some (Ended (Err e))) leads = go (leads []).1
+  take_fails need reply apart None leads = tt
+  take_fails need reply apart (Some (Asks request)) leads = tt
+  take_fails need reply apart (Some (Ended (Ok value))) leads = tt
+  take_fails need reply apart (Some (Ended (Err e))) leads = go (leads []).1
     where
       go : IsWanting (Some (need_after c.call.frames need reply)) d e → e ≡ Memory
       go (inl out) = out
-      go (inr w) = absurd (no w.0 (let one : Some (need_after c.call.frames need reply) ≡ Some (needs.Query w.0) = w.1 in cc one))
+      go (inr w) = absurd (apart w.0 (let one : Some (need_after c.call.frames need reply) ≡ Some (needs.Query w.0) = w.1 in cc one))
 
   hit_fails : (k : Call) (hit : Shown) (t : HandTurn) (members : List Pin) → kept hit.reach c.pins.members ≡ members → HitByHand c k hit d t
       → IfSome (turn_error t) (λ (e : TxnError). e ≡ Memory)

@@ -15,7 +15,7 @@ use Rattle.txc_cushion.specs.declared.error.AddError.{AddError}
 use Rattle.txc_db.specs.Calls.{IsQueryRefused}
 use Rattle.txc_db.specs.DatabaseValue.{DatabaseValue}
 use Rattle.txc_db.specs.Seen.{FrontValue}
-use Rattle.txc_db.specs.declared.answered.Answered.{Answered}
+use Rattle.txc_db.specs.declared.answered.Answered.{Answered as Shows}
 use Rattle.txc_node.specs.declared.hit.Shown.{Shown}
 use Rattle.txc_shared.specs.Nodes.{NodeValue}
 use Rattle.txc_ports.specs.declared.kept.Kept.{Kept}
@@ -149,7 +149,7 @@ need_to_come c = coming_need (first_call c.pinning) c.call.need
 -- the step of the node that is for this need
 abbrev pub IsNeedStep : Option Need → NodeValue → NodeValue → Type 0
 IsNeedStep (Some (needs.Lookup k)) old new =
-    (lo : ℕ) × (hi : ℕ) × (hit : Option (Answered Shown)) × CallerLookupTransition k lo hi old new hit
+    (lo : ℕ) × (hi : ℕ) × (hit : Option (Shows Shown)) × CallerLookupTransition k lo hi old new hit
 IsNeedStep (Some (needs.Insert entry)) old new =
     (seen : FrontValue) × (kept : Option Kept) × CallerInsertTransition seen entry old new kept
 IsNeedStep need old new = new ≡ old

@@ -1,7 +1,8 @@
 use Rattle.std.proofs.Common.{◌≡◌, ◌∙◌, true, None, Option, Some, ap, refl, sym, subst}
 use Rattle.std.specs.Prelude.{IsSome}
 use Rattle.txc_tags.specs.Keys.{Call}
-use Rattle.txc_txn.specs.Kept.{TxnValue}
+use Rattle.txc_registry.specs.Objects.{AllIdle}
+use Rattle.txc_txn.specs.Kept.{IsTxn, TxnValue}
 use Rattle.txc_told.specs.Steps.{objects_after_ask}
 use Rattle.txc_caller.specs.Looking.{IsComputedOnMiss}
 use Rattle.txc_caller.specs.Ports.{HasGrown}
@@ -52,7 +53,8 @@ returns-then-not-is_computing-clause-objects g c =
     let old = c.self.inside.txn in
     let closed = none_of (top_call old.core.call)
     (λ there. let yes : c.is_computing.result ≡ true = c.is_computing.ensures.1 (subst (λ (t : TxnValue). IsSome (top_call t.core.call)) c.self.view_is there) in absurd (cc (yes, c.if-not-is_computing.true))) in
-    idle_objects g.A.App.next old.objects old.core (resting_idle old.core c.self.invariant.rests closed) c.self.invariant.lent.meant.fits
+    subst (λ (t : TxnValue). AllIdle t.objects) c.self.view_is
+    (idle_objects g.A.App.next old.objects old.core (resting_idle old.core c.self.invariant.rests closed) c.self.invariant.lent.meant.fits)
 
 pub returns-then-not-is_computing-clause-step : goal.returns-then-not-is_computing-clause-step
 returns-then-not-is_computing-clause-step g c = λ k is.
@@ -61,10 +63,10 @@ returns-then-not-is_computing-clause-step g c = λ k is.
     absurd (cc (yes, c.if-not-is_computing.true))
 
 pub returns-then-not-is_computing-clause-keeps : goal.returns-then-not-is_computing-clause-keeps
-returns-then-not-is_computing-clause-keeps g c = subst (λ (t : TxnValue). KeepsTxn t c.self.inside.txn) c.self.view_is (keeps_self c.self.inside.txn)
+returns-then-not-is_computing-clause-keeps g c = keeps_self c.args.self.now
 
 pub returns-then-not-is_computing-clause-meant : goal.returns-then-not-is_computing-clause-meant
-returns-then-not-is_computing-clause-meant g c = c.self.invariant.lent.meant
+returns-then-not-is_computing-clause-meant g c = subst (IsTxn g.A.App.next) c.self.view_is c.self.invariant.lent.meant
 
 pub returns-then-not-is_computing-clause-grown : goal.returns-then-not-is_computing-clause-grown
 returns-then-not-is_computing-clause-grown g c = grown_self c.args.caller.now.ports.database
@@ -133,7 +135,7 @@ returns-clause-grown g c = subst (λ (v : CallerValue). HasGrown v.ports.databas
 
 pub returns-then-not-is_computing-clause-leads : goal.returns-then-not-is_computing-clause-leads
 returns-then-not-is_computing-clause-leads g c =
-    none_acts g.A.App.next.limits c.args.caller.now.ports c.args.self.now c.self.inside.txn c.args.ask c.self.view_is
+    none_acts g.A.App.next.limits c.args.caller.now.ports c.args.self.now c.args.self.now c.args.ask refl
 
 pub returns-clause-leads : goal.returns-clause-leads
 returns-clause-leads g c =
