@@ -26,17 +26,17 @@ pub returns-in-None : goal.returns-in-None
 returns-in-None c =
     let none : c.replace.new.dest ≡ None = search rules in
     let free = λ (next : Next) (objects : Objects) (h : IsCore next objects (value_of c.args.self.now)).
-        c.join_pin.ensures.fits next objects none (record {
-          set = h.set;
-          call = h.call;
-          within = h.within;
-          unreached = h.unreached;
-          pinning = rw none tt;
-          member = h.member;
-          answered = h.answered;
-          taken = h.taken;
-          nodes = h.nodes;
-        }) in
+    c.join_pin.ensures.fits next objects none (record {
+      set = h.set;
+      call = h.call;
+      within = h.within;
+      unreached = h.unreached;
+      pinning = rw none tt;
+      member = h.member;
+      answered = h.answered;
+      taken = h.taken;
+      nodes = h.nodes;
+    }) in
     record {
       fits = λ next objects after there left h. c.asks.ensures.fits next objects after left (free next objects h);
       holds = λ next objects after L left right h holds.
