@@ -75,7 +75,7 @@ static uint32_t page(unsigned long round) {
 static void put(uint8_t table, uint32_t item, unsigned long count) {
     char body[LONGEST];
     int len = snprintf(body, sizeof body, "%lu", count);
-    must(txc_put(&site, table, item, 0, (uint8_t *)body, (size_t)len), TXC_DONE);
+    must(txc_put(&site, txn, table, item, 0, (uint8_t *)body, (size_t)len), TXC_DONE);
 }
 
 /* Puts all rows of a table, each with the count 0, in the order in which the store has them: another order takes time by the square of
@@ -83,10 +83,10 @@ static void put(uint8_t table, uint32_t item, unsigned long count) {
 static void put_all(uint8_t table) {
     uint32_t stamp;
     for (uint32_t first = 0; first < items; first += AT_ONCE) {
-        must(txc_begin_write(&site), TXC_DONE);
+        must(txc_begin_write(&site, &txn), TXC_DONE);
         for (uint32_t item = first; item < items && item < first + AT_ONCE; item++)
             put(table, item, 0);
-        must(txc_commit_write(&site, &stamp), TXC_DONE);
+        must(txc_commit_write(&site, txn, &stamp), TXC_DONE);
     }
 }
 
@@ -125,10 +125,10 @@ static unsigned long sum_of_all(uint32_t *stamp) {
     unsigned long sum = 0;
     txc_receipt receipt = {0};
     for (uint32_t first = 0; first < items; first += AT_ONCE) {
-        must(txc_begin(&site, commits + STALE, 0, 0), TXC_DONE);
+        must(txc_begin(&site, commits + STALE, 0, 0, &txn), TXC_DONE);
         for (uint32_t item = first; item < items && item < first + AT_ONCE; item++)
             sum += called(2, item);
-        must(txc_commit(&site, &receipt), TXC_DONE);
+        must(txc_commit(&site, txn, &receipt), TXC_DONE);
     }
     *stamp = receipt.stamp;
     return sum;

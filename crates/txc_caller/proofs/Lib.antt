@@ -10,6 +10,7 @@ pub mod Requests
 pub mod Making
 pub mod Served
 pub mod Telling
+pub mod Acting
 pub mod Letting
 pub mod Growing
 pub mod Taken
