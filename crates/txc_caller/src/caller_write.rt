@@ -1,5 +1,5 @@
 //! A caller's transaction that writes.
-ghost use Rattle.std.specs.Prelude.{◌≡◌, ◌⊎◌, ◌<◌, ◌≤◌, ◌++◌, ◌∷◌, ◌↔◌, [], true, false, List, Err, IfErr, IfOk, IsOk, IsSome, IsTrue, MatchOption, None, OnErr, OnOk, Some, length};
+ghost use Rattle.std.specs.Prelude.{◌≡◌, ◌⊎◌, ◌<◌, ◌≤◌, ◌++◌, ◌∷◌, ◌↔◌, [], true, false, List, Err, IfErr, IfOk, IsOk, IsSome, IsTrue, MatchOption, None, Ok, OnErr, OnOk, Some, length};
 ghost use Rattle.txc_tags.specs.Keys.{Call};
 ghost use Rattle.txc_tags.specs.declared.key.TheConstants.{LAST_FUNCTION};
 ghost use Rattle.txc_rows.specs.States.{answer};
@@ -18,6 +18,7 @@ ghost use Rattle.txc_caller.specs.Reading.{CallerValue, KeepsCaller};
 ghost use Rattle.txc_caller.specs.Telling.{computed_calls, told_answer, top_call, top_or, AsksNext, IsToldSo, ObjectsFollow};
 ghost use Rattle.txc_caller.specs.Writing.{base_states, held_base, queried_for, HasAbortedWrite, HasCommittedWrite, IsActRefused, IsReadRefused, IsWriteCommitRefused, IsWriteLeft, IsWriteOf, IsWritingStep};
 ghost use Rattle.txc_caller.specs.declared.step.CallerError.TheVariants.{NoFunction};
+ghost use Rattle.txc_caller.specs.declared.step.Step.TheVariants as steps;
 
 use crate::call_ports::CallPorts;
 use crate::caller::Caller;
@@ -161,7 +162,7 @@ impl<A: App> CallerWrite<A> {
     }
 
     /// Asks for the value of a call: by no function the outermost one, else by the function that is computed. No node is asked, so
-    /// the caller is to compute the function of this call next, under this key.
+    /// the caller is to compute the function of this call next, under this key. An outermost call takes no memory.
     pub fn call(
         &mut self,
         alloc: Global,
@@ -170,6 +171,7 @@ impl<A: App> CallerWrite<A> {
     ) -> Result<Step, CallerError>
         requires of_caller { IsWriteOf A.next caller.old self.old }
         requires asks { AsksNext A.next self.old.objects self.old.core.call (asks.Call key) }
+        ensures begins { top_call self.old.core.call ≡ None → result ≡ Ok steps.Compute }
         ensures step { IsWritingStep self.old.core self.new.core (top_or self.old.core.call key) result }
         ensures told { IsToldSo A.next (base_states caller.old self.old.core) self.old.core.call (asks.Call key)
             self.new.core.call result }
