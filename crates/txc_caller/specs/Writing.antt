@@ -59,10 +59,11 @@ base_states_in L core = state_at L core.base ∷ []
 abbrev pub base_states : CallerValue → RwValue → List State
 base_states c core = base_states_in c.ports.database.history core
 
--- nothing is read, changed or computed yet
+-- Nothing is read, changed or computed yet. There is an object for each function, and none runs.
 pub record IsBegunWrite (base : ℕ) (held : Bool) (w : CallerWriting) : Type 0 where
   pub core : IsBegun base w.core
   pub idle : AllIdle w.objects
+  pub functions : HaveAllFunctions w.objects
   pub is_held : w.is_held ≡ held
 
 -- ---- acts

@@ -8,7 +8,7 @@ ghost use Rattle.txc_db.specs.DatabaseValue.{after_hold, newest};
 ghost use Rattle.txc_db.specs.History.{state_at};
 ghost use Rattle.txc_db.specs.Shared.{IsEventIn, IsQuietIn};
 ghost use Rattle.txc_db.specs.Steps.{IsBaseRefused};
-ghost use Rattle.txc_registry.specs.Objects.{AllIdle};
+ghost use Rattle.txc_registry.specs.Objects.{numbers_of, AllIdle};
 ghost use Rattle.txc_rw.specs.Answers.{AreRightIn};
 ghost use Rattle.txc_rw.specs.Core.{tags_read, IsRwIdle};
 ghost use Rattle.txc_rw.specs.Outcomes.{IsCommitted};
@@ -133,6 +133,7 @@ impl<A: App> CallerWrite<A> {
         ensures told { IsToldSo A.next (base_states caller.old self.old.core) self.old.core.call ask
             self.new.core.call result }
         ensures objects { ObjectsFollow self.old.objects self.old.core.call ask self.new.objects result }
+        ensures functions { numbers_of self.new.objects ≡ numbers_of self.old.objects }
         ensures queried { OnOk result (self.new.core.queried ≡ self.old.core.queried ++ queried_for ask) }
         ensures unqueried { OnErr result (self.new.core.queried ≡ self.old.core.queried) }
         ensures undone { is_done ask ≡ false → self.new.core.answers ≡ self.old.core.answers }
@@ -176,6 +177,7 @@ impl<A: App> CallerWrite<A> {
         ensures told { IsToldSo A.next (base_states caller.old self.old.core) self.old.core.call (asks.Call key)
             self.new.core.call result }
         ensures objects { ObjectsFollow self.old.objects self.old.core.call (asks.Call key) self.new.objects result }
+        ensures functions { numbers_of self.new.objects ≡ numbers_of self.old.objects }
         ensures refused { IfErr result (IsActRefused A.next.limits caller.old.ports.database self.old.core
             self.old.objects (asks.Call key)) }
         ensures same { self.new ≡ record self.old {
@@ -209,6 +211,7 @@ impl<A: App> CallerWrite<A> {
         ensures told { IsToldSo A.next (base_states caller.old self.old.core) self.old.core.call (asks.Query query)
             self.new.core.call result }
         ensures objects { ObjectsFollow self.old.objects self.old.core.call (asks.Query query) self.new.objects result }
+        ensures functions { numbers_of self.new.objects ≡ numbers_of self.old.objects }
         ensures refused { IfErr result (IsActRefused A.next.limits caller.old.ports.database self.old.core
             self.old.objects (asks.Query query)) }
         ensures queried { OnOk result (self.new.core.queried ≡ self.old.core.queried ++ query ∷ []) }
@@ -239,6 +242,7 @@ impl<A: App> CallerWrite<A> {
             (asks.Done bytes.items) self.new.core.call result }
         ensures objects { ObjectsFollow self.old.objects self.old.core.call (asks.Done bytes.items)
             self.new.objects result }
+        ensures functions { numbers_of self.new.objects ≡ numbers_of self.old.objects }
         ensures refused { IfErr result (IsActRefused A.next.limits caller.old.ports.database self.old.core
             self.old.objects (asks.Done bytes.items)) }
         ensures same { self.new ≡ record self.old {
@@ -285,6 +289,7 @@ impl<A: App> CallerWrite<A> {
           objects = self.new.objects;
         } }
         ensures objects { AllIdle self.new.objects }
+        ensures functions { numbers_of self.new.objects ≡ numbers_of self.old.objects }
         ensures of_caller { (c : CallerValue) → IsWriteOf A.next c self.old → IsWriteOf A.next c self.new }
     {
         let was_open = self.is_computing();
