@@ -15,5 +15,4 @@ pub mod Growing
 pub mod Taken
 pub mod PortsAsBox
 pub mod WriteActs
-pub mod WriteAsks
 pub mod Writers

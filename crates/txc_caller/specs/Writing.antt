@@ -1,5 +1,5 @@
 -- A caller's transactions that write.
-use Rattle.std.specs.Prelude.{◌≡◌, ◌⊎◌, ℕ, ◌≤◌, ◌<◌, Bool, true, false, List, [], ◌∷◌, ◌++◌, length, Option, Some, None, Result, Ok, Err}
+use Rattle.std.specs.Prelude.{◌≡◌, ◌⊎◌, ℕ, ◌<◌, Bool, true, false, List, [], ◌∷◌, ◌++◌, length, Option, Some, None, Result, Ok, Err}
 use Rattle.txc_tags.specs.Keys.{Call}
 use Rattle.txc_rows.specs.States.{State}
 use Rattle.txc_rows.specs.declared.query.Change.{Change}

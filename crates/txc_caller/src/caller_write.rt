@@ -1,5 +1,5 @@
 //! A caller's transaction that writes.
-ghost use Rattle.std.specs.Prelude.{◌≡◌, ◌⊎◌, ◌<◌, ◌≤◌, ◌++◌, ◌∷◌, ◌↔◌, [], true, false, List, Err, IfErr, IfOk, IsOk, IsSome, IsTrue, MatchOption, None, Ok, OnErr, OnOk, Some, length};
+ghost use Rattle.std.specs.Prelude.{◌≡◌, ◌⊎◌, ◌≤◌, ◌++◌, ◌∷◌, ◌↔◌, [], true, false, List, Err, IfErr, IfOk, IsOk, IsSome, IsTrue, MatchOption, None, Ok, OnErr, OnOk, Some};
 ghost use Rattle.txc_tags.specs.Keys.{Call};
 ghost use Rattle.txc_tags.specs.declared.key.TheConstants.{LAST_FUNCTION};
 ghost use Rattle.txc_rows.specs.States.{answer};
@@ -264,7 +264,7 @@ impl<A: App> CallerWrite<A> {
         query: Query,
     ) -> Result<Vec<Row>, TxnError>
         requires of_caller { IsWriteOf A.next caller.old self.old }
-        requires idle { IsRwIdle self.old.core }
+        requires closed { top_call self.old.core.call ≡ None }
         ensures answer { IfOk result (λ rows.
             rows.items ≡ answer query (state_at caller.old.ports.database.history self.old.core.base)) }
         ensures after { IfOk result (λ rows. self.new.core ≡ record self.old.core {
