@@ -16,5 +16,4 @@ pub mod Growing
 pub mod Taken
 pub mod PortsAsBox
 pub mod WriteActs
-pub mod WriteAsks
 pub mod Writers

@@ -186,7 +186,7 @@ module _ (next : Next) (objects : Objects) (top : Call) (bytes : List ℕ) where
       (subst (λ (ks : List Call). InnermostAsks next os ks (asks.Call k)) other (around_asks next objects k a idle frames rising (stack_asks next objects top (asks.Call k) frames stack)))
 
   -- once a function is done, the one around it is that which asked the call of that
-  done_around : (frames : List Frame) (need : Need) → NeedFits next objects top (Some need) frames → NeedsFunction (Some need)
+  pub done_around : (frames : List Frame) (need : Need) → NeedFits next objects top (Some need) frames → NeedsFunction (Some need)
       → (done : Call) (around : List Call) → computed_in frames (Some need) ≡ done ∷ around
       → InnermostAsks next (objects_after objects frames need (asks.Done bytes)) around (asks.Call done)
   done_around frames (needs.Begin k) fits runs done around is =
@@ -197,7 +197,7 @@ module _ (next : Next) (objects : Objects) (top : Call) (bytes : List ℕ) where
   done_around frames need fits runs done around is = absurd runs
 
 -- what waits for an answer asked that
-asked_by : (next : Next) (objects : Objects) (top : Call) (frames : List Frame) (need : Option Need) → NeedFits next objects top need frames
+pub asked_by : (next : Next) (objects : Objects) (top : Call) (frames : List Frame) (need : Option Need) → NeedFits next objects top need frames
     → ((q : Query) → need ≡ Some (needs.Query q) → InnermostAsks next objects (calls_of frames) (asks.Query q))
     × ((k : Call) → need ≡ Some (needs.Lookup k) → InnermostAsks next objects (calls_of frames) (asks.Call k))
     × ((e : Entry) → need ≡ Some (needs.Insert e) → InnermostAsks next objects (calls_of frames) (asks.Call e.key))
