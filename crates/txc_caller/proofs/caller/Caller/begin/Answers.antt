@@ -1,8 +1,8 @@
 use Rattle.std.proofs.Common.{ap, inl, sym, subst, ◌∙◌}
 use Rattle.txc_txn.specs.Core.{value_of, IsIdle}
 use Rattle.txc_caller.specs.Ports.{CallerPorts, HasGrown}
-use Rattle.txc_caller.specs.Reading.{with_cushion, CallerValue, IsBegunReading}
-use Rattle.txc_caller.proofs.Begun.{begun_reading, cushion_so}
+use Rattle.txc_caller.specs.Reading.{CallerValue, IsBegunReading}
+use Rattle.txc_caller.proofs.Begun.{begun_reading}
 use Rattle.txc_caller.proofs.Letting.{grown_same}
 use Rattle.txc_caller.proofs.caller.Caller.begin.Goals as goal
 
@@ -35,11 +35,6 @@ pub returns-clause-grown : goal.returns-clause-grown
 returns-clause-grown g c =
     subst (λ (v : CallerValue). HasGrown v.ports.database c.begin-core.new.self.database) c.self.view_is
     (grown_same c.self.inside.ports.database c.begin-core.new.self.database (ap (λ (p : CallerPorts). p.database) c.begin-core.ensures.same))
-
-pub returns-in_err-core-clause-left : goal.returns-in_err-core-clause-left
-returns-in_err-core-clause-left g c =
-    let old : CallerValue = record { ports = c.self.inside.ports; renew_after = c.self.inside.renew_after } in
-    cushion_so old c.begin-core.new.self c.begin-core.ensures.same ∙ ap (λ (v : CallerValue). with_cushion c.begin-core.new.self.cushion v) c.self.view_is
 
 pub returns-in_err-core-clause-caller : goal.returns-in_err-core-clause-caller
 returns-in_err-core-clause-caller g c = record {
