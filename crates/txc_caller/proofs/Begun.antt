@@ -45,6 +45,7 @@ begun_reading next asked old ports t core is lent begun users same = record {
   bounds = ap (λ (c : CoreValue). c.bounds) is ∙ begun.bounds;
   recorded = ap (λ (c : CoreValue). c.recorded) is ∙ begun.recorded;
   meant = lent.meant;
+  functions = lent.functions;
   idle = subst IsIdle (sym is) begun.idle;
   members = ap (λ (c : CoreValue). c.pins.members) is ∙ begun.members;
   taken = ap (λ (c : CoreValue). c.taken) is ∙ begun.taken;
