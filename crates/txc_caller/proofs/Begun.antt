@@ -1,7 +1,6 @@
 -- A core that has begun, clause by clause.
 use Rattle.std.proofs.Common.{◌≡◌, ◌∙◌, ℕ, [], true, Result, Ok, Err, ap, subst, sym}
 use Rattle.std.specs.Prelude.{map, IfOk}
-use Rattle.std.specs.declared.alloc.AllocError.{AllocError}
 use Rattle.txc_stream.specs.Names.{Name}
 use Rattle.txc_app.specs.Eval.{Next}
 use Rattle.txc_cushion.specs.declared.pin.Pin.{Pin}
