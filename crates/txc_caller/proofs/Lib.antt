@@ -2,7 +2,7 @@ pub mod Some
 pub mod Looking
 pub mod Fresh
 pub mod GivingBack
-pub mod Pinning
+pub mod Pins
 pub mod Reading
 pub mod Asked
 pub mod Begun
