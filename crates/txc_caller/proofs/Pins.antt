@@ -1,23 +1,18 @@
 -- Pins that no transaction uses.
-use Rattle.std.proofs.Common.{◌≡◌, ◌∙◌, ℕ, ◌+◌, ◌-◌, ◌<◌, ◌==◌, Bool, true, false, List, [], ◌∷◌, ◌++◌, map, filter, nat_lt, Some, Ok, inl, inr, refl, ap, sym, subst, arith, eq-eqb, ne_eqb}
+use Rattle.std.proofs.Common.{◌≡◌, ◌∙◌, ℕ, ◌+◌, ◌-◌, ◌<◌, ◌==◌, Bool, true, false, List, [], ◌∷◌, ◌++◌, map, filter, nat_lt, refl, ap, subst, arith, eq-eqb, ne_eqb}
 use Rattle.std.proofs.lemmas.Bool.Decides.{nat_tests}
-use Rattle.std.proofs.lemmas.List.{map-append, length_push}
-use Rattle.txc_db.specs.declared.error.DbError.{DbError}
-use Rattle.txc_db.specs.declared.error.DbError.TheVariants as dberrors
+use Rattle.std.proofs.lemmas.List.{map-append}
 use Rattle.txc_db.specs.declared.pinned.Pinned.{Pinned}
-use Rattle.txc_db.specs.Calls.{IsLeft, IsPinnable, IsPinRefused, IsUnpinRefused}
-use Rattle.txc_db.specs.DatabaseValue.{DatabaseValue, after_pin, after_unpin, is_held, newest}
-use Rattle.txc_db.specs.History.{pin_event}
-use Rattle.txc_cushion.specs.declared.error.AddError.{AddError}
+use Rattle.txc_db.specs.Calls.{IsPinnable}
+use Rattle.txc_db.specs.DatabaseValue.{DatabaseValue, after_pin, newest}
 use Rattle.txc_cushion.specs.declared.pin.Pin.{Pin}
 use Rattle.txc_cushion.specs.declared.entry.PinEntry.{PinEntry}
 use Rattle.txc_cushion.specs.Entries.{times, users_of, with_entry, without_users}
 use Rattle.txc_cushion.specs.Pinning.{pin_of}
 use Rattle.txc_cushion.specs.Cushion.{after_add, after_give_back, CushionValue}
-use Rattle.txc_cushion.specs.Refusals.{IsAddable, IsAddRefused}
-use Rattle.txc_caller.specs.Pinning.{HasPinned, HasRefusedEvent, HasRefusedPin}
-use Rattle.txc_caller.specs.Ports.{AreCallerPorts, AreGivenBack, CallerPorts, HasGrown, IsLetGo}
-use Rattle.txc_caller.proofs.Asked.{pinned_grown}
+use Rattle.txc_cushion.specs.Refusals.{IsAddable}
+use Rattle.txc_caller.specs.Pinning.{HasPinned}
+use Rattle.txc_caller.specs.Ports.{AreGivenBack, CallerPorts}
 use Rattle.txc_caller.proofs.GivingBack.{times_cons, times_on, used_back}
 
 -- ---- the users of a pin that was added
@@ -88,80 +83,17 @@ unused_entries pinned c mid new moment after given at =
     ∙ (user_back (pin_of pinned) c.entries
     ∙ ap (λ (m : ℕ). with_entry (record { pin = record { stamp = pinned.stamp; moment = m }; users = 0 }) c.entries) at))
 
--- ---- the hold of a pin that was not added
-
-held_last : (s : ℕ) (holds : List ℕ) → is_held s (holds ++ s ∷ []) ≡ true
-held_last s [] = let here : (s == s) ≡ true = eq-eqb s s refl in rw here refl
-held_last s (h ∷ hs) = go (h == s) refl (held_last s hs)
-  where
-    go : (b : Bool) → (h == s) ≡ b → is_held s (hs ++ s ∷ []) ≡ true → is_held s (h ∷ hs ++ s ∷ []) ≡ true
-    go true is rest = rw is refl
-    go false is rest = rw is rest
-
--- a whole database that holds the stamp takes the hold away
-let_go_held : (stamp : ℕ) (d new : DatabaseValue) → d.broken ≡ false → is_held stamp d.holds ≡ true → IsLetGo (Some stamp) d new → new ≡ after_unpin d stamp
-let_go_held stamp d new whole held (inl is) = is
-let_go_held stamp d new whole held (inr left) = absurd (never left.1.0 left.1.1)
-  where
-    never : (error : DbError) → IsUnpinRefused d stamp error → ⊥
-    never dberrors.Broken was = let both : true ≡ false = sym was ∙ whole in cc both
-    never (dberrors.NotPinned named) is = let both : true ≡ false = sym held ∙ is.1 in cc both
-    never error none = none
-
-pub pin_stamp : (d new : DatabaseValue) (moment : ℕ) → new ≡ after_pin d moment → newest new ≡ newest d + 1
-pin_stamp d new moment after = ap newest after ∙ length_push d.history (pin_event moment)
-
-pub unheld : (d mid new : DatabaseValue) (moment at_least stamp : ℕ) → IsPinnable d at_least → mid ≡ after_pin d moment → stamp ≡ newest mid → IsLetGo (Some stamp) mid new
-    → new ≡ after_unpin (after_pin d moment) stamp
-unheld d mid new moment at_least stamp could after is gone =
-    let at : stamp ≡ newest d + 1 = is ∙ pin_stamp d mid moment after in
-    let held : is_held stamp mid.holds ≡ true =
-    ap (λ (v : DatabaseValue). is_held stamp v.holds) after ∙ (ap (λ (s : ℕ). is_held stamp (d.holds ++ s ∷ [])) (sym at) ∙ held_last stamp d.holds) in
-    let whole = ap (λ (v : DatabaseValue). v.broken) after ∙ could.whole in
-    let_go_held stamp mid new whole held gone ∙ ap (λ (v : DatabaseValue). after_unpin v stamp) after
-
 -- ---- what comes of a pin
 
--- the ports with another database and pincushion of the row
-pub ports_with_both : (p : CallerPorts) (d : DatabaseValue) (k : CushionValue) → d.events ≡ p.database.events → k.events ≡ p.cushion.events → AreCallerPorts p
-    → AreCallerPorts (record p { database = d; cushion = k })
-ports_with_both p d k row events are = record {
-  cushion = events ∙ (are.cushion ∙ sym row);
-  node = are.node ∙ sym row;
-  pass = are.pass;
-  unstored = are.unstored;
-  whole = are.whole;
-}
-
-pub pin_grown : (d new : DatabaseValue) (moment : ℕ) (pinned : Pinned) → new ≡ after_pin d moment → HasGrown d new
-pin_grown d new moment pinned after = pinned_grown moment d new (Ok pinned) after tt
-
-module _ (moment : ℕ) (args old : CallerPorts) (is : old ≡ args) where
-  pub has_refused_event : (d : DatabaseValue) (error : DbError) → IsPinRefused old.database 0 error → IsLeft old.database d error
-      → HasRefusedEvent args error (record old { database = d })
-  has_refused_event d error refused left =
-      subst (λ (p : CallerPorts). HasRefusedEvent p error (record old { database = d })) is (record { refused = refused; left_so = left; same = refl })
-
-  module _ (d : DatabaseValue) (pinned : Pinned) (could : IsPinnable old.database 0) (after : d ≡ after_pin old.database moment) (at : pinned.stamp ≡ newest d) where
-    pub has_pinned : (added k : CushionValue) → pinned.moment ≡ moment → IsAddable old.cushion pinned.stamp → added ≡ after_add old.cushion pinned
-        → AreGivenBack (pinned.stamp ∷ []) added k → HasPinned moment args pinned.stamp (record old { database = d; cushion = k })
-    has_pinned added k its addable more given =
-        subst (λ (p : CallerPorts). HasPinned moment p pinned.stamp (record old { database = d; cushion = k })) is (record {
-          could = could;
-          stamp_is = at;
-          addable = addable;
-          database = after;
-          entries = unused_entries pinned old.cushion added k moment more given its;
-          node = refl;
-        })
-
-    pub has_refused_pin : (last : DatabaseValue) (k : CushionValue) (error : AddError) → k ≡ old.cushion → IsAddRefused old.cushion pinned.stamp error
-        → IsLetGo (Some pinned.stamp) d last → HasRefusedPin moment args error (record old { database = last; cushion = k })
-    has_refused_pin last k error same refused gone =
-        let newest_is : pinned.stamp ≡ newest (after_pin old.database moment) = at ∙ ap newest after in
-        subst (λ (p : CallerPorts). HasRefusedPin moment p error (record old { database = last; cushion = k })) is (record {
-          could = could;
-          refused = subst (λ (s : ℕ). IsAddRefused old.cushion s error) newest_is refused;
-          unheld = unheld old.database d last moment 0 pinned.stamp could after at gone ∙ ap (λ (s : ℕ). after_unpin (after_pin old.database moment) s) newest_is;
-          same = ap (λ (c : CushionValue). record old { database = last; cushion = c }) same;
-        })
+pub has_pinned : (moment : ℕ) (args old : CallerPorts) → old ≡ args → (d : DatabaseValue) (pinned : Pinned) → IsPinnable old.database 0 → d ≡ after_pin old.database moment
+    → pinned.stamp ≡ newest d → (added k : CushionValue) → pinned.moment ≡ moment → IsAddable old.cushion pinned.stamp → added ≡ after_add old.cushion pinned
+    → AreGivenBack (pinned.stamp ∷ []) added k → HasPinned moment args pinned.stamp (record old { database = d; cushion = k })
+has_pinned moment args old is d pinned could after at added k its addable more given =
+    subst (λ (p : CallerPorts). HasPinned moment p pinned.stamp (record old { database = d; cushion = k })) is (record {
+      could = could;
+      stamp_is = at;
+      addable = addable;
+      database = after;
+      entries = unused_entries pinned old.cushion added k moment more given its;
+      node = refl;
+    })

@@ -18,6 +18,6 @@ returns-in-Ok-clause-holds c = λ next objects.
 -- out of memory the pins are given back, and all is as it was
 pub returns-in-Err-clause-unchanged : goal.returns-in-Err-clause-unchanged
 returns-in-Err-clause-unchanged c =
-    fresh_back c.args.cushion.now c.args.bounds.now c.args.bounds.staleness c.args.bounds.at_least c.is_cushion.ensures c.fresh-pins.new.self c.give_back_each.new.cushion
+    fresh_back c.args.cushion.now c.args.bounds.now c.args.bounds.staleness c.args.bounds.at_least c.is_cushion.ensures c.fresh.new.self c.give_back_each.new.cushion
     c.in-Err.pins.pins.items c.in_ok-pins.ensures.after
     (ap (λ (given : Pins). given.pins.items) c.in-Err.ensures.handed_back ∙ c.in_ok-pins.ensures.pins) c.give_back_each.ensures.given_back
