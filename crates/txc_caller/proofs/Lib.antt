@@ -1,6 +1,8 @@
 pub mod Some
 pub mod Looking
 pub mod Fresh
+pub mod GivingBack
+pub mod Pins
 pub mod Reading
 pub mod Asked
 pub mod Begun
