@@ -11,7 +11,7 @@ use Rattle.txc_cushion.specs.Entries.{times, users_of, with_entry, without_users
 use Rattle.txc_cushion.specs.Pinning.{pin_of}
 use Rattle.txc_cushion.specs.Cushion.{after_add, after_give_back, CushionValue}
 use Rattle.txc_cushion.specs.Refusals.{IsAddable}
-use Rattle.txc_caller.specs.Pinning.{HasPinned}
+use Rattle.txc_caller.specs.Pinning.{HasPinnedNewest}
 use Rattle.txc_caller.specs.Ports.{AreGivenBack, CallerPorts}
 use Rattle.txc_caller.proofs.GivingBack.{times_cons, times_on, used_back}
 
@@ -87,9 +87,9 @@ unused_entries pinned c mid new moment after given at =
 
 pub has_pinned : (moment : ℕ) (args old : CallerPorts) → old ≡ args → (d : DatabaseValue) (pinned : Pinned) → IsPinnable old.database 0 → d ≡ after_pin old.database moment
     → pinned.stamp ≡ newest d → (added k : CushionValue) → pinned.moment ≡ moment → IsAddable old.cushion pinned.stamp → added ≡ after_add old.cushion pinned
-    → AreGivenBack (pinned.stamp ∷ []) added k → HasPinned moment args pinned.stamp (record old { database = d; cushion = k })
+    → AreGivenBack (pinned.stamp ∷ []) added k → HasPinnedNewest moment args pinned.stamp (record old { database = d; cushion = k })
 has_pinned moment args old is d pinned could after at added k its addable more given =
-    subst (λ (p : CallerPorts). HasPinned moment p pinned.stamp (record old { database = d; cushion = k })) is (record {
+    subst (λ (p : CallerPorts). HasPinnedNewest moment p pinned.stamp (record old { database = d; cushion = k })) is (record {
       could = could;
       stamp_is = at;
       addable = addable;

@@ -38,7 +38,7 @@ use Rattle.txc_txn.specs.Core.{CoreValue, first_call, least_present, open_call, 
 use Rattle.txc_txn.specs.Kept.{TxnValue, IsShownRight}
 use Rattle.txc_caller.specs.Acting.{HasDroppedPin, HasGivenPin}
 use Rattle.txc_caller.specs.Ports.{CallerPorts, CallerInsertTransition, CallerLookupTransition, HasRefusedPin, IsLetGo}
-use Rattle.txc_caller.specs.Reading.{read_stamp, IsReadingStep, IsResting, KeepsTxn}
+use Rattle.txc_caller.specs.Reading.{read_stamp, IsReadingStep, IsRestingCore, KeepsTxn}
 use Rattle.txc_caller.specs.declared.step.CallerError.{CallerError}
 use Rattle.txc_caller.specs.declared.step.Step.{Step}
 use Rattle.txc_caller.specs.declared.step.Step.TheVariants.{Answered, Compute, Value}
@@ -112,7 +112,7 @@ NeedsAfter old (Some (needs.Resume x)) = IsHeldFor old.call.need x
 NeedsAfter old need = Unit {0}
 
 -- what comes of a turn whose request was made, if it was one: nothing more is asked
-pub record HasMade (old : TxnValue) (turn : HandTurn) (new : TxnValue) (after : HandTurn) : Type 0 where
+pub record HasMadeRequest (old : TxnValue) (turn : HandTurn) (new : TxnValue) (after : HandTurn) : Type 0 where
   pub fits : IsHandTurn new.core after
   pub rests : IfSome after (λ t. ¬ (IsAsk t))
   pub of_call : (before : List Recorded) (k : Call) → IsTurnOf before k old.core turn → IsTurnOf before k new.core after
@@ -125,7 +125,7 @@ pub record HasMade (old : TxnValue) (turn : HandTurn) (new : TxnValue) (after : 
 -- What comes of a turn whose requests were all made.
 pub record HasServed (old : TxnValue) (turn : HandTurn) (new : TxnValue) (step : Result Step CallerError) : Type 0 where
   pub keeps : KeepsTxn old new
-  pub rests : IsResting new.core
+  pub rests : IsRestingCore new.core
   pub goes_on : FunctionAfter old.core turn new.core.call step
   pub objects : (was : Objects) → ObjectsLeft was turn old.objects → ObjectsAfter was new.objects step
   pub step_is : (before : List Recorded) (k : Call) → IsTurnOf before k old.core turn

@@ -1,6 +1,6 @@
 use Rattle.std.proofs.Common.{◌≡◌, ◌∙◌, ap, subst, sym}
 use Rattle.txc_db.specs.DatabaseValue.{DatabaseValue}
-use Rattle.txc_caller.specs.Ports.{CallerPorts, HasGrown}
+use Rattle.txc_caller.specs.Ports.{CallerPorts, HasGrownDatabase}
 use Rattle.txc_caller.proofs.Growing.{each_go_grown}
 use Rattle.txc_caller.proofs.ports.Ports.retire.Goals as goal
 
@@ -14,6 +14,6 @@ returns-in-Ok-clause-grown g c =
     let same : mid.database ≡ c.args.self.now.database =
     ap (λ (p : CallerPorts). p.database) (c.behind-plain-in-Ok.view_is ∙ c.deref_mut-in-Ok.ensures.value) ∙ ap (λ (p : CallerPorts). p.database) is in
     let after : c.let_each_go.new.database ≡ c.put.new.self.value.database = sym (ap (λ (p : CallerPorts). p.database) c.put.ensures.1) in
-    subst (λ (d : DatabaseValue). HasGrown d c.put.new.self.value.database) same
-    (subst (λ (d : DatabaseValue). HasGrown mid.database d) after
+    subst (λ (d : DatabaseValue). HasGrownDatabase d c.put.new.self.value.database) same
+    (subst (λ (d : DatabaseValue). HasGrownDatabase mid.database d) after
     (each_go_grown c.deref.result.now mid.database c.let_each_go.new.database c.let_each_go.ensures.unpinned))
