@@ -6,4 +6,7 @@ pub mod Kept
 pub mod Staying
 pub mod Places
 pub mod Acting
+pub mod Going
+pub mod Oldest
+pub mod Sized
 pub mod Stepping

@@ -11,13 +11,13 @@ use Rattle.txc_rows.specs.Values.{RowValue, AreBytes}
 use Rattle.txc_db.specs.History.{state_at}
 use Rattle.txc_app.specs.declared.ask.Ask.{Ask}
 use Rattle.txc_app.specs.declared.ask.Ask.TheVariants as asks
-use Rattle.txc_registry.specs.Objects.{AllIdle}
+use Rattle.txc_registry.specs.Objects.{numbers_of, AllIdle}
 use Rattle.txc_cushion.specs.declared.pin.Pin.{Pin}
 use Rattle.txc_ports.specs.declared.error.TxnError.{TxnError}
 use Rattle.txc_ports.specs.declared.error.TxnError.TheVariants.{Memory}
 use Rattle.txc_txn.specs.Core.{IsIdle}
 use Rattle.txc_txn.specs.Kept.{IsTxn, TxnValue}
-use Rattle.txc_rw.specs.Core.{IsRwIdle, RwValue}
+use Rattle.txc_rw.specs.Core.{IsRwIdle}
 use Rattle.txc_rw.specs.Transitions.{IsQueryLeft}
 use Rattle.txc_rw.specs.declared.given.Given.TheVariants as given
 use Rattle.txc_caller.specs.Reading.{read_stamp, CallerValue, KeepsTxn}
@@ -133,6 +133,7 @@ pub record HasGivenWritingUp (w w' : CallerWriting) : Type 0 where
   pub idle : IsRwIdle w'.core
   pub same : w' ≡ record w { core = record w.core { call = w'.core.call }; objects = w'.objects }
   pub objects : AllIdle w'.objects
+  pub functions : numbers_of w'.objects ≡ numbers_of w.objects
 
 abbrev pub HasGivenUp : Open → Open → Type 0
 HasGivenUp (Reading t) (Reading t') = HasGivenReadingUp t t'
