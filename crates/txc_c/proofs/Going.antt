@@ -1,7 +1,7 @@
 -- A site at which a transaction begins, is taken out, ends, or is put back.
-use Rattle.std.proofs.Common.{◌≡◌, ◌≢◌, ◌∙◌, ◌==◌, ◌+◌, ◌<◌, ◌≤◌, ◌%◌, ℕ, Bool, true, false, Option, Some, None, OnSome, inl, inr, refl, ap, sym, subst, arith, eqb-true}
+use Rattle.std.proofs.Common.{◌≡◌, ◌≢◌, ◌∙◌, ◌==◌, ◌+◌, ◌<◌, ◌≤◌, ◌%◌, ℕ, Bool, true, false, Option, Some, None, OnSome, inl, inr, refl, ap, sym, subst, arith, eqb-true, ltb-true, nat_lt}
 use Rattle.std.specs.Prelude.{if◌then◌else◌}
-use Rattle.std.proofs.lemmas.Bool.{cases_eq}
+use Rattle.std.proofs.lemmas.Bool.{and_parts, cases_eq}
 use Rattle.slab.specs.Slab.{Slab, get, HasRoomFor, Updates}
 use Rattle.txc_caller.specs.Ports.{HasGrown}
 use Rattle.txc_caller.specs.Reading.{CallerValue, KeepsCaller}
@@ -25,7 +25,17 @@ named_at n (Some o) x h = let f = found_if n o x (o.number == n) refl h in (o, (
 
 -- ---- one has begun
 
-module _ (stay : OpenStays) (s0 s : SiteValue) (room : HasMadeRoom s0 s) (site : IsSite s) (low : s.begun < MOST_BEGUN) (c' : CallerValue) (keeps : KeepsCaller s.caller c')
+-- there is a place for it, and a number
+pub may_add : (s0 s : SiteValue) → HasMadeRoom s0 s → (s.opened.vacant_key < MAX_OPEN) × (s.begun < MOST_BEGUN)
+may_add s0 s room =
+    let both = and_parts (nat_lt s0.opened.vacant_key MAX_OPEN) (nat_lt s0.begun MOST_BEGUN) room.may in
+    let place = ltb-true s0.opened.vacant_key MAX_OPEN both.0 in
+    let number = ltb-true s0.begun MOST_BEGUN both.1 in
+    let key = ap (λ (v : SiteValue). v.opened.vacant_key) room.same in
+    let count = ap (λ (v : SiteValue). v.begun) room.same in
+    (omega (arith, place, key), omega (arith, number, count))
+
+module _ (stay : OpenStays) (s0 s : SiteValue) (room : HasMadeRoom s0 s) (site : IsSite s) (c' : CallerValue) (keeps : KeepsCaller s.caller c')
     (grown : HasGrown s.caller.ports.database c'.ports.database) (x : Open) (is_of : IsOpenOf c' x) (opened' : Slab Opened) (begun' n : ℕ)
     (added : HasAdded x s.opened s.begun opened' begun' n) where
   o' : Opened
@@ -36,7 +46,7 @@ module _ (stay : OpenStays) (s0 s : SiteValue) (room : HasMadeRoom s0 s) (site :
 
   pub begun_site : IsSite after_begin
   begun_site =
-      let more = added.one_more in record {
+      let more = added.one_more in let low = (may_add s0 s room).1 in record {
         placed = placed_with c' begun' s.opened opened' added.place o' added.updates (record { count = begun'; numbered = added.numbered; given = omega arith; of_caller = is_of })
             (placed_on stay s.caller c' s.begun begun' s.opened keeps grown (omega (arith, more)) site.placed);
         few = omega (arith, more, low);

@@ -7,6 +7,8 @@ pub mod Staying
 pub mod Places
 pub mod Acting
 pub mod Going
+pub mod Beginning
+pub mod Ending
 pub mod Oldest
 pub mod Sized
 pub mod Stepping

@@ -50,7 +50,7 @@ module _ (opened : Slab Opened) (left rest : List (ℕ × Opened)) (place0 : ℕ
   pub seen_later : (m : ℕ) → m ≤ o0.number → IsLeastBut opened left (Some m) → IsLeastBut opened rest (Some m)
   seen_later m low is = record {
     seen = λ place o there. elim (is.seen place o there) [
-      | inl more ↦ elim (this_or place o more) [ | inl same ↦ inr (omega (arith, low, same)) | inr later ↦ inl later ]
+      | inl more ↦ elim (this_or place o more) [ inl same ↦ inr (omega (arith, low, same)) | inr later ↦ inl later ]
       | inr high ↦ inr high
     ];
     listed = λ place o listed. is.listed place o (still place o listed);
@@ -61,7 +61,7 @@ module _ (opened : Slab Opened) (left rest : List (ℕ × Opened)) (place0 : ℕ
   pub seen_first : (least : Option ℕ) → ((n : ℕ) → IsAtMost least n → o0.number ≤ n) → IsLeastBut opened left least → IsLeastBut opened rest (Some o0.number)
   seen_first least low is = record {
     seen = λ place o there. elim (is.seen place o there) [
-      | inl more ↦ elim (this_or place o more) [ | inl same ↦ inr (omega (arith, same)) | inr later ↦ inl later ]
+      | inl more ↦ elim (this_or place o more) [ inl same ↦ inr (omega (arith, same)) | inr later ↦ inl later ]
       | inr high ↦ inr (low o.number high)
     ];
     listed = λ place o listed. is.listed place o (still place o listed);

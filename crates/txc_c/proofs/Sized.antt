@@ -20,7 +20,7 @@ default_fits default value low = cond_both (value == 0) default value (λ (n : �
 limits_of : (s : TxcSiteSettings) → are_settings s ≡ true → (events_of s ≤ MAX_EVENTS) × (capacity_of s ≤ MAX_CAPACITY) × (recent_of s ≤ MAX_RECENT)
 limits_of s is =
     let all =
-        and_parts (nat_le SIZE_END s.size && nat_le s.size RENEW_AFTER_END) (nat_le (events_of s) MAX_EVENTS && (nat_le (capacity_of s) MAX_CAPACITY && nat_le (recent_of s) MAX_RECENT)) is in
+    and_parts (nat_le SIZE_END s.size && nat_le s.size RENEW_AFTER_END) (nat_le (events_of s) MAX_EVENTS && (nat_le (capacity_of s) MAX_CAPACITY && nat_le (recent_of s) MAX_RECENT)) is in
     let one = and_parts (nat_le (events_of s) MAX_EVENTS) (nat_le (capacity_of s) MAX_CAPACITY && nat_le (recent_of s) MAX_RECENT) all.1 in
     let two = and_parts (nat_le (capacity_of s) MAX_CAPACITY) (nat_le (recent_of s) MAX_RECENT) one.1 in
     (leb-true (events_of s) MAX_EVENTS one.0, leb-true (capacity_of s) MAX_CAPACITY two.0, leb-true (recent_of s) MAX_RECENT two.1)

@@ -93,9 +93,12 @@ pub record HasRefusedRows (query : Query) (c : CallerValue) (w : CallerWriting) 
   pub same : w' ≡ record w { core = w'.core }
   pub count_is : count' ≡ count
 
+abbrev pub HasReadRowsItself : Query → ℕ → ℕ → CallerValue → CallerWriting → ℕ → CallerWriting → Type 0
+HasReadRowsItself query count count' c w number w' =
+    HasFoundRows query c w number count' w' ⊎ HasRefusedRows query c w number count count' w'
+
 abbrev pub HasReadRows : Query → ℕ → ℕ → CallerValue → CallerWriting → ℕ → CallerValue → Open → Type 0
-HasReadRows query count count' c w number c' (Writing w') = (c' ≡ c)
-    × (HasFoundRows query c w number count' w' ⊎ HasRefusedRows query c w number count count' w')
+HasReadRows query count count' c w number c' (Writing w') = (c' ≡ c) × HasReadRowsItself query count count' c w number w'
 HasReadRows query count count' c w number c' (Reading t) = ⊥
 
 -- of a transaction that writes, if its call stands so
