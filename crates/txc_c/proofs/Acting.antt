@@ -5,12 +5,12 @@ use Rattle.std.proofs.lemmas.List.{set-get_or}
 use Rattle.slab.specs.Slab.{get, with_value, Updates}
 use Rattle.slab.proofs.SlabLemmas.{Updates-with_value}
 use Rattle.txc_app.specs.declared.ask.Ask.{Ask}
-use Rattle.txc_caller.specs.Ports.{HasGrown}
+use Rattle.txc_caller.specs.Ports.{HasGrownDatabase}
 use Rattle.txc_caller.specs.Reading.{CallerValue, KeepsCaller}
 use Rattle.txc_crossing.specs.declared.numbers.TheConstants.{NOT_OPEN}
 use Rattle.txc_c.specs.Exports.{SiteAsksNext}
 use Rattle.txc_c.specs.Opened.{IsOpenOf, OpenAsksNext, OpenStays}
-use Rattle.txc_c.specs.Sites.{open_at, ForOpen, HasActed, IsSite, OfNumber, SiteValue}
+use Rattle.txc_c.specs.Sites.{open_at, ForOpen, OneHasActed, IsSite, OfNumber, SiteValue}
 use Rattle.txc_c.specs.declared.opened.Open.{Open}
 use Rattle.txc_c.specs.declared.opened.Opened.{Opened}
 use Rattle.txc_c.specs.declared.opened.TheConstants.{MAX_OPEN}
@@ -51,7 +51,7 @@ unchanged_site s site place o there = subst IsSite (sym (unchanged s place o the
 -- ---- one made an act
 
 module _ (stay : OpenStays) (s : SiteValue) (site : IsSite s) (n place : ℕ) (place_is : place ≡ n % MAX_OPEN) (o : Opened) (there : get s.opened place ≡ Some o) (same : o.number ≡ n)
-    (c' : CallerValue) (keeps : KeepsCaller s.caller c') (grown : HasGrown s.caller.ports.database c'.ports.database) (x' : Open) (is_of : IsOpenOf c' x') where
+    (c' : CallerValue) (keeps : KeepsCaller s.caller c') (grown : HasGrownDatabase s.caller.ports.database c'.ports.database) (x' : Open) (is_of : IsOpenOf c' x') where
   o' : Opened
   o' = record { number = o.number; txn = x' }
 
@@ -72,9 +72,9 @@ module _ (stay : OpenStays) (s : SiteValue) (site : IsSite s) (n place : ℕ) (p
       }
 
   pub acted : (act : CallerValue → Open → ℕ → CallerValue → Open → Type 0) (unwritten : Type 0) (number : ℕ) → act s.caller o.txn number c' x'
-      → OfNumber (HasActed act n) unwritten n s number after_act
+      → OfNumber (OneHasActed act n) unwritten n s number after_act
   acted act unwritten number is =
-      subst (λ (x : Option Open). ForOpen (HasActed act n) unwritten x s number after_act) (sym (found n o (get s.opened (n % MAX_OPEN)) (ap (get s.opened) (sym place_is) ∙ there) same)) (record {
+      subst (λ (x : Option Open). ForOpen (OneHasActed act n) unwritten x s number after_act) (sym (found n o (get s.opened (n % MAX_OPEN)) (ap (get s.opened) (sym place_is) ∙ there) same)) (record {
         is = x';
         here = found n o' (get after_act.opened (n % MAX_OPEN)) (ap (get after_act.opened) (sym place_is) ∙ updates.changed) same;
         others = record {

@@ -5,12 +5,12 @@ use Rattle.txc_crossing.specs.declared.numbers.TheConstants.{DONE, NO_MEMORY}
 use Rattle.txc_db.specs.declared.error.DbError.{DbError}
 use Rattle.txc_ports.specs.declared.bounds.Bounds.{Bounds}
 use Rattle.txc_txn.specs.Kept.{TxnValue}
-use Rattle.txc_caller.specs.Ports.{GoesOnByEvents, HasGrown, HasNoEventFor, IsBehind}
+use Rattle.txc_caller.specs.Ports.{GoesOnByEvents, HasGrownDatabase, HasNoEventFor, IsBehind}
 use Rattle.txc_caller.specs.Reading.{CallerValue, IsBegunReading, KeepsCaller}
 use Rattle.txc_caller.proofs.Taken.{said_so}
 use Rattle.txc_c.specs.Opaque.{opaque_next}
 use Rattle.txc_c.specs.Opened.{IsOpenOf, OpenStays}
-use Rattle.txc_c.specs.Sites.{open_at, HasAdded, HasMadeRoom, IsSite, KeepsOpen, SiteValue}
+use Rattle.txc_c.specs.Sites.{open_at, HasPutAtPlace, HasMadeRoom, IsSite, KeepsOpen, SiteValue}
 use Rattle.txc_c.specs.Turning.{database_number, BeginPlaced, BeginWritePlaced, BeginsReading, MayHaveCaughtUp}
 use Rattle.txc_c.specs.declared.opened.Open.{Open}
 use Rattle.txc_c.specs.declared.opened.Open.TheVariants.{Reading}
@@ -65,8 +65,8 @@ module _ (stay : OpenStays) (s0 s : SiteValue) (room : HasMadeRoom s0 s) (site :
     ),
   )
 
-  module _ (c' : CallerValue) (keeps : KeepsCaller s.caller c') (grown : HasGrown s.caller.ports.database c'.ports.database) (x : Open) (is_of : IsOpenOf c' x) (opened' : Slab Opened)
-      (begun' n : ℕ) (added : HasAdded x s.opened s.begun opened' begun' n) (was : ℕ) where
+  module _ (c' : CallerValue) (keeps : KeepsCaller s.caller c') (grown : HasGrownDatabase s.caller.ports.database c'.ports.database) (x : Open) (is_of : IsOpenOf c' x) (opened' : Slab Opened)
+      (begun' n : ℕ) (added : HasPutAtPlace x s.opened s.begun opened' begun' n) (was : ℕ) where
     pub reading_begun : (bounds : Bounds) (first : CallerValue) (t : TxnValue) → x ≡ Reading t → MayHaveCaughtUp s.caller first → IsBegunReading opaque_next bounds first c' t
         → BeginPlaced bounds was n s0 DONE (record { caller = c'; opened = opened'; begun = begun' })
     reading_begun bounds first t is caught begun = inl (

@@ -3,7 +3,7 @@ use Rattle.std.proofs.Common.{◌≡◌, ◌∙◌, ℕ, Option, Some, None, inl
 use Rattle.txc_crossing.specs.declared.numbers.TheConstants.{DONE, MID_CALL, NOT_OPEN}
 use Rattle.txc_tags.specs.Keys.{Call}
 use Rattle.txc_txn.specs.Kept.{TxnValue}
-use Rattle.txc_caller.specs.Ports.{HasGrown}
+use Rattle.txc_caller.specs.Ports.{HasGrownDatabase}
 use Rattle.txc_caller.specs.Reading.{CallerValue, KeepsCaller}
 use Rattle.txc_caller.specs.Telling.{top_call}
 use Rattle.txc_caller.specs.Writing.{CallerWriting, IsWriteCommitRefused, IsWriteLeft}
@@ -34,7 +34,7 @@ module _ (s : SiteValue) (n : ℕ) where
 -- ---- it was taken out
 
 module _ (stay : OpenStays) (s0 s : SiteValue) (n : ℕ) (o : Opened) (taken : HasTakenOut n o s0 s) (site : IsSite s) (c' : CallerValue) (keeps : KeepsCaller s.caller c')
-    (grown : HasGrown s.caller.ports.database c'.ports.database) where
+    (grown : HasGrownDatabase s.caller.ports.database c'.ports.database) where
   same_caller : s.caller ≡ s0.caller
   same_caller = ap (λ (v : SiteValue). v.caller) taken.same
 

@@ -3,10 +3,10 @@ use Rattle.std.proofs.Common.{◌≡◌, ◌≢◌, ◌∙◌, ◌==◌, ◌+◌
 use Rattle.std.specs.Prelude.{if◌then◌else◌}
 use Rattle.std.proofs.lemmas.Bool.{and_parts, cases_eq}
 use Rattle.slab.specs.Slab.{Slab, get, HasRoomFor, Updates}
-use Rattle.txc_caller.specs.Ports.{HasGrown}
+use Rattle.txc_caller.specs.Ports.{HasGrownDatabase}
 use Rattle.txc_caller.specs.Reading.{CallerValue, KeepsCaller}
 use Rattle.txc_c.specs.Opened.{IsOpenOf, OpenStays}
-use Rattle.txc_c.specs.Sites.{of_number, open_at, HasAdded, HasBegunAt, HasEndedAt, HasMadeRoom, HasTakenOut, IsPlaced, IsPutBack, IsSite, IsTakenOut, KeepsOpen, SiteValue}
+use Rattle.txc_c.specs.Sites.{of_number, open_at, HasPutAtPlace, HasBegunAt, HasEndedAt, HasMadeRoom, HasTakenOut, IsPlaced, IsPutBack, IsSite, IsTakenOut, KeepsOpen, SiteValue}
 use Rattle.txc_c.specs.declared.opened.Open.{Open}
 use Rattle.txc_c.specs.declared.opened.Opened.{Opened}
 use Rattle.txc_c.specs.declared.opened.TheConstants.{MAX_OPEN, MOST_BEGUN}
@@ -36,8 +36,8 @@ may_add s0 s room =
     (omega (arith, place, key), omega (arith, number, count))
 
 module _ (stay : OpenStays) (s0 s : SiteValue) (room : HasMadeRoom s0 s) (site : IsSite s) (c' : CallerValue) (keeps : KeepsCaller s.caller c')
-    (grown : HasGrown s.caller.ports.database c'.ports.database) (x : Open) (is_of : IsOpenOf c' x) (opened' : Slab Opened) (begun' n : ℕ)
-    (added : HasAdded x s.opened s.begun opened' begun' n) where
+    (grown : HasGrownDatabase s.caller.ports.database c'.ports.database) (x : Open) (is_of : IsOpenOf c' x) (opened' : Slab Opened) (begun' n : ℕ)
+    (added : HasPutAtPlace x s.opened s.begun opened' begun' n) where
   o' : Opened
   o' = record { number = n; txn = x }
 
@@ -101,7 +101,7 @@ module _ (s : SiteValue) (site : IsSite s) (n place : ℕ) (place_is : place ≡
 -- ---- it ends
 
 module _ (stay : OpenStays) (s0 s : SiteValue) (n : ℕ) (o : Opened) (taken : HasTakenOut n o s0 s) (site : IsSite s) (c' : CallerValue) (keeps : KeepsCaller s.caller c')
-    (grown : HasGrown s.caller.ports.database c'.ports.database) where
+    (grown : HasGrownDatabase s.caller.ports.database c'.ports.database) where
   abbrev pub after_end : SiteValue
   after_end = record { caller = c'; opened = s.opened; begun = s.begun }
 
@@ -125,7 +125,7 @@ taken_open s0 s n o taken = found n o (get s0.opened (n % MAX_OPEN)) taken.there
 -- ---- it is put back
 
 -- it is placed where it was, with the caller as it is now
-pub placed_again : OpenStays → (s0 s : SiteValue) (n : ℕ) (o : Opened) → HasTakenOut n o s0 s → (c' : CallerValue) → KeepsCaller s.caller c' → HasGrown s.caller.ports.database c'.ports.database
+pub placed_again : OpenStays → (s0 s : SiteValue) (n : ℕ) (o : Opened) → HasTakenOut n o s0 s → (c' : CallerValue) → KeepsCaller s.caller c' → HasGrownDatabase s.caller.ports.database c'.ports.database
     → (place : ℕ) → place ≡ n % MAX_OPEN → IsPlaced c' s.begun place o
 placed_again stay s0 s n o taken c' keeps grown place place_is =
     subst (λ (p : ℕ). IsPlaced c' s.begun p o) (sym place_is)

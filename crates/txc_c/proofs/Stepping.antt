@@ -8,9 +8,9 @@ use Rattle.txc_call.specs.Running.{is_done}
 use Rattle.txc_txn.specs.Kept.{IsTxn, TxnValue}
 use Rattle.txc_caller.specs.Acting.{step_error, ActLeads}
 use Rattle.txc_caller.specs.Looking.{IsComputedOnMiss}
-use Rattle.txc_caller.specs.Ports.{HasGrown}
+use Rattle.txc_caller.specs.Ports.{HasGrownDatabase}
 use Rattle.txc_caller.specs.Reading.{open_states, CallerValue, IsOf, IsReadingStep, KeepsCaller, KeepsTxn}
-use Rattle.txc_caller.specs.Telling.{top_call, IsToldSo, ObjectsFollow}
+use Rattle.txc_caller.specs.Telling.{top_call, IsToldAfterAsk, ObjectsFollow}
 use Rattle.txc_caller.specs.Writing.{base_states, queried_for, CallerWriting, IsActRefused, IsWriteOf, IsWritingStep}
 use Rattle.txc_caller.specs.declared.step.CallerError.{CallerError}
 use Rattle.txc_caller.specs.declared.step.CallerError.TheVariants.{NoFunction}
@@ -24,9 +24,9 @@ use Rattle.txc_c.specs.declared.opened.Open.TheVariants.{Reading, Writing}
 -- ---- in one that only reads
 
 module _ (ask : Ask) (c : CallerValue) (t : TxnValue) (step : Result Step CallerError) (c' : CallerValue) (t' : TxnValue)
-    (told : IsToldSo opaque_next (open_states t'.core) t.core.call ask t'.core.call step) (objects : ObjectsFollow t.objects t.core.call ask t'.objects step)
+    (told : IsToldAfterAsk opaque_next (open_states t'.core) t.core.call ask t'.core.call step) (objects : ObjectsFollow t.objects t.core.call ask t'.objects step)
     (on_miss : IsComputedOnMiss t'.core c.ports.node c'.ports.node step) (leads : ActLeads small_limits c.ports t ask c'.ports t'.core.taken (step_error step))
-    (keeps : KeepsTxn t t') (meant : IsTxn opaque_next t') (caller : KeepsCaller c c') (grown : HasGrown c.ports.database c'.ports.database) where
+    (keeps : KeepsTxn t t') (meant : IsTxn opaque_next t') (caller : KeepsCaller c c') (grown : HasGrownDatabase c.ports.database c'.ports.database) where
   pub reading_stepped : (k : Call) → IsReadingStep t.core t'.core k step → HasSteppedReading ask k c t step c' t'
   reading_stepped k is =
       record { is_step = is; told = told; objects = objects; on_miss = on_miss; leads = leads; keeps = keeps; meant = meant; caller = caller; grown = grown }
@@ -47,7 +47,7 @@ reading_of c c' t t' keeps caller is = record {
 -- ---- in one that writes
 
 module _ (ask : Ask) (c : CallerValue) (w : CallerWriting) (step : Result Step CallerError) (c' : CallerValue) (w' : CallerWriting)
-    (told : IsToldSo opaque_next (base_states c w.core) w.core.call ask w'.core.call step) (objects : ObjectsFollow w.objects w.core.call ask w'.objects step)
+    (told : IsToldAfterAsk opaque_next (base_states c w.core) w.core.call ask w'.core.call step) (objects : ObjectsFollow w.objects w.core.call ask w'.objects step)
     (functions : numbers_of w'.objects ≡ numbers_of w.objects) (queried : OnOk step (w'.core.queried ≡ w.core.queried ++ queried_for ask))
     (unqueried : OnErr step (w'.core.queried ≡ w.core.queried)) (undone : is_done ask ≡ false → w'.core.answers ≡ w.core.answers)
     (refused : IfErr step (IsActRefused small_limits c.ports.database w.core w.objects ask))

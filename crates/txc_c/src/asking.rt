@@ -5,7 +5,7 @@ ghost use Rattle.txc_crossing.specs.Crossing.{named_call};
 ghost use Rattle.txc_c.specs.Exports.{SiteAsksNext};
 ghost use Rattle.txc_c.specs.Receipts.{query_of};
 ghost use Rattle.txc_c.specs.Telling.{buffer};
-ghost use Rattle.txc_caller.specs.Ports.{HasGrown};
+ghost use Rattle.txc_caller.specs.Ports.{HasGrownDatabase};
 ghost use Rattle.txc_caller.specs.Reading.{KeepsCaller};
 ghost use Rattle.txc_caller.specs.Telling.{top_call};
 ghost use Rattle.txc_caller.specs.Writing.{IsWriteOf};
@@ -74,7 +74,7 @@ impl Open {
             caller.new self.new }
         ensures of_caller { IsOpenOf caller.new self.new }
         ensures caller { KeepsCaller caller.old caller.new }
-        ensures grown { HasGrown caller.old.ports.database caller.new.ports.database }
+        ensures grown { HasGrownDatabase caller.old.ports.database caller.new.ports.database }
     {
         let step = self.step(alloc, caller, ask);
         tell_step(self, step, value, len)
@@ -93,7 +93,7 @@ impl Open {
         ensures act { QueryAct query count.old count.new caller.old self.old result caller.new self.new }
         ensures of_caller { IsOpenOf caller.new self.new }
         ensures caller { KeepsCaller caller.old caller.new }
-        ensures grown { HasGrown caller.old.ports.database caller.new.ports.database }
+        ensures grown { HasGrownDatabase caller.old.ports.database caller.new.ports.database }
     {
         match self {
             Open::Writing(write) if !write.is_computing() => {

@@ -1,5 +1,5 @@
 use Rattle.std.proofs.Common.{ℕ, inl, inr, refl, sym, subst}
-use Rattle.txc_caller.specs.Pinning.{HasPinned}
+use Rattle.txc_caller.specs.Pinning.{HasPinnedNewest}
 use Rattle.txc_c.specs.Keeping.{PinComesTo}
 use Rattle.txc_c.specs.Sites.{SiteValue}
 use Rattle.txc_c.proofs.Places.{caller_site}
@@ -19,7 +19,7 @@ pub returns-in-Ok : goal.returns-in-Ok
 returns-in-Ok c =
     let old : SiteValue = record { caller = c.self.inside.caller; opened = c.self.inside.opened; begun = c.self.inside.begun } in
     subst (λ (s : SiteValue). PinComesTo c.args.moment c.args.stamp.now c.number-stamp.result s 0 (record old { caller = c.pin.new.self })) c.self.view_is
-    (inl (refl, subst (λ (n : ℕ). HasPinned c.args.moment old.caller.ports n c.pin.new.self.ports) (sym c.number-stamp.ensures.answer) c.in-Ok.ensures.pinned), c.pin.ensures.same, refl)
+    (inl (refl, subst (λ (n : ℕ). HasPinnedNewest c.args.moment old.caller.ports n c.pin.new.self.ports) (sym c.number-stamp.ensures.answer) c.in-Ok.ensures.pinned), c.pin.ensures.same, refl)
 
 pub returns-in-Err : goal.returns-in-Err
 returns-in-Err c =
