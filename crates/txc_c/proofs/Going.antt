@@ -89,11 +89,11 @@ module _ (s : SiteValue) (site : IsSite s) (n place : ℕ) (place_is : place ≡
 
   pub taken_out : (x : Open) → open_at s n ≡ Some x → (result : Option Opened) → result ≡ get s.opened place → OnSome result (opened'.vacant_key ≡ place) → OnSome result (HasRoomFor opened' 1)
       → IsTakenOut n s after_take result
-  taken_out x open None is next room =
-      let named = named_at n (get s.opened (n % MAX_OPEN)) x open in
+  taken_out x was_open None is next room =
+      let named = named_at n (get s.opened (n % MAX_OPEN)) x was_open in
       let there : get s.opened place ≡ Some named.0 = ap (get s.opened) place_is ∙ named.1.0 in absurd (cc (is, there))
-  taken_out x open (Some o) is next room =
-      let named = named_at n (get s.opened (n % MAX_OPEN)) x open in
+  taken_out x was_open (Some o) is next room =
+      let named = named_at n (get s.opened (n % MAX_OPEN)) x was_open in
       let there : get s.opened (n % MAX_OPEN) ≡ Some o = ap (get s.opened) (sym place_is) ∙ sym is in
       let same : o ≡ named.0 = cc (there, named.1.0) in
       taken_one o there (ap (λ (y : Opened). y.number) same ∙ named.1.1) next room
