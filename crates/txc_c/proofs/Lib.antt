@@ -11,4 +11,5 @@ pub mod Beginning
 pub mod Ending
 pub mod Oldest
 pub mod Sized
+pub mod Handles
 pub mod Stepping
