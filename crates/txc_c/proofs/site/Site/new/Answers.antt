@@ -7,8 +7,8 @@ use Rattle.txc_c.proofs.Places.{none_some}
 use Rattle.txc_c.proofs.Sized.{may_have_room, may_hold, may_keep}
 use Rattle.txc_c.proofs.site.Site.new.Goals as goal
 
-pub new-caller-requires : goal.new-caller-requires
-new-caller-requires c = record {
+pub new-requires : goal.new-caller-requires
+new-requires c = record {
   room = may_have_room c.args.settings.now c.requires c.room.result c.room.ensures;
   node = may_hold c.args.settings.now c.requires c.node.result c.node.ensures;
   recent = may_keep c.args.settings.now c.requires c.node.result c.node.ensures;
@@ -16,7 +16,7 @@ new-caller-requires c = record {
 
 pub invariant_of-result : goal.invariant_of-result
 invariant_of-result c = record {
-  placed = λ place o there. absurd (none_some o (sym (ap (λ (slots : List (Option Opened)). get_or slots place None) c.new-opened.ensures.empty) ∙ there));
+  placed = λ place o there. absurd (none_some o (sym (ap (λ (slots : List (Option Opened)). get_or slots place None) c.new-2.ensures.empty) ∙ there));
   few = omega arith;
 }
 
@@ -27,7 +27,7 @@ returns-clause-made c = record {
   cushion = c.in_ok-caller.ensures.cushion;
   node = subst (λ (node : NodeSettings). c.in_ok-caller.caller.ports.node.cache ≡ start_of node 0) c.node.ensures c.in_ok-caller.ensures.node;
   renew_after = c.in_ok-caller.ensures.renew_after ∙ c.renew_after.ensures;
-  none = c.new-opened.ensures.empty;
-  first_place = c.new-opened.ensures.first_key;
+  none = c.new-2.ensures.empty;
+  first_place = c.new-2.ensures.first_key;
   begun = refl;
 }
