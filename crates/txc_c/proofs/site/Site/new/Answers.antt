@@ -7,7 +7,7 @@ use Rattle.txc_c.proofs.Places.{none_some}
 use Rattle.txc_c.proofs.Sized.{may_have_room, may_hold, may_keep}
 use Rattle.txc_c.proofs.site.Site.new.Goals as goal
 
-pub new-requires : goal.new-caller-requires
+pub new-requires : goal.new-requires
 new-requires c = record {
   room = may_have_room c.args.settings.now c.requires c.room.result c.room.ensures;
   node = may_hold c.args.settings.now c.requires c.node.result c.node.ensures;
