@@ -6,4 +6,10 @@ pub mod Kept
 pub mod Staying
 pub mod Places
 pub mod Acting
+pub mod Going
+pub mod Beginning
+pub mod Ending
+pub mod Oldest
+pub mod Sized
+pub mod Handles
 pub mod Stepping

@@ -6,16 +6,16 @@ use Rattle.std.proofs.lemmas.Bool.{cases_eq}
 use Rattle.slab.specs.Slab.{Slab, get, Updates}
 use Rattle.txc_caller.specs.Ports.{HasGrownDatabase}
 use Rattle.txc_caller.specs.Reading.{CallerValue, KeepsCaller}
-use Rattle.txc_c.specs.Opened.{IsOpenOf, OpenStays}
-use Rattle.txc_c.specs.Sites.{of_number, AreAtPlaces, IsNumberOf, IsPlaced}
+use Rattle.txc_c.specs.Opened.{OpenStays}
+use Rattle.txc_c.specs.Sites.{of_number, AreAtPlaces, IsNumberOf, IsPlaced, IsSite, SiteValue}
 use Rattle.txc_c.specs.declared.opened.Open.{Open}
 use Rattle.txc_c.specs.declared.opened.Opened.{Opened}
 use Rattle.txc_c.specs.declared.opened.TheConstants.{MAX_OPEN}
 
-some_is : (x y : Opened) → Some x ≡ Some y → x ≡ y
+pub some_is : (x y : Opened) → Some x ≡ Some y → x ≡ y
 some_is x y h = cc h
 
-none_some : (x : Opened) → None ≡ Some x → ⊥
+pub none_some : (x : Opened) → None ≡ Some x → ⊥
 none_some x h = cc h
 
 -- ---- numbers
@@ -40,6 +40,13 @@ not_found n o slot there other = ap (of_number n) there ∙ unpicked (o.number =
 
 pub none_there : (n : ℕ) (slot : Option Opened) → slot ≡ None → of_number n slot ≡ None
 none_there n slot none = ap (of_number n) none
+
+-- what is there has this number
+pub one_named : (n : ℕ) (o : Opened) (slot : Option Opened) → slot ≡ Some o → o.number ≡ n → ForSome slot (λ (x : Opened). x.number ≡ n)
+one_named n o slot there same x is = let e : x ≡ o = cc in ap (λ (y : Opened). y.number) e ∙ same
+
+pub none_named : (n : ℕ) (slot : Option Opened) → slot ≡ None → ForSome slot (λ (x : Opened). x.number ≡ n)
+none_named n slot none x is = absurd (cc)
 
 module _ (opened opened' : Slab Opened) (n : ℕ) where
   -- the others find what they found, if what is and was at the place has this number or is none
@@ -70,6 +77,10 @@ placed_on stay c c' begun begun' opened keeps grown later all place o there =
       given = let given = is.given in omega (arith, given, later);
       of_caller = stay c c' o.txn keeps grown is.of_caller;
     }
+
+pub caller_site : OpenStays → (s : SiteValue) → IsSite s → (c' : CallerValue) → KeepsCaller s.caller c' → HasGrownDatabase s.caller.ports.database c'.ports.database
+    → IsSite (record { caller = c'; opened = s.opened; begun = s.begun })
+caller_site stay s site c' keeps grown = record { placed = placed_on stay s.caller c' s.begun s.begun s.opened keeps grown (omega arith) site.placed; few = site.few }
 
 module _ (c : CallerValue) (begun : ℕ) (opened opened' : Slab Opened) (place : ℕ) where
   -- where one is changed or has come, it and the others

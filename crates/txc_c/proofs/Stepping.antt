@@ -1,16 +1,21 @@
 -- What comes of an ask in either transaction, by what txc_caller says of it.
-use Rattle.std.proofs.Common.{◌≡◌, ◌∙◌, ◌++◌, Option, Some, None, Result, Err, OnErr, OnOk, refl, ap, sym}
+use Rattle.std.proofs.Common.{◌≡◌, ◌∙◌, ◌++◌, false, Option, Some, None, Result, Ok, Err, IfErr, OnErr, OnOk, refl, ap, sym}
 use Rattle.txc_tags.specs.Keys.{Call}
+use Rattle.txc_app.specs.Eval.{small_limits}
 use Rattle.txc_app.specs.declared.ask.Ask.{Ask}
+use Rattle.txc_registry.specs.Objects.{numbers_of}
+use Rattle.txc_call.specs.Running.{is_done}
 use Rattle.txc_txn.specs.Kept.{IsTxn, TxnValue}
+use Rattle.txc_caller.specs.Acting.{step_error, ActLeads}
 use Rattle.txc_caller.specs.Looking.{IsComputedOnMiss}
 use Rattle.txc_caller.specs.Ports.{HasGrownDatabase}
 use Rattle.txc_caller.specs.Reading.{open_states, CallerValue, IsOf, IsReadingStep, KeepsCaller, KeepsTxn}
-use Rattle.txc_caller.specs.Telling.{IsToldAfterAsk, ObjectsFollow}
-use Rattle.txc_caller.specs.Writing.{base_states, queried_for, CallerWriting, IsWritingStep}
+use Rattle.txc_caller.specs.Telling.{top_call, IsToldAfterAsk, ObjectsFollow}
+use Rattle.txc_caller.specs.Writing.{base_states, queried_for, CallerWriting, IsActRefused, IsWriteOf, IsWritingStep}
 use Rattle.txc_caller.specs.declared.step.CallerError.{CallerError}
 use Rattle.txc_caller.specs.declared.step.CallerError.TheVariants.{NoFunction}
 use Rattle.txc_caller.specs.declared.step.Step.{Step}
+use Rattle.txc_caller.specs.declared.step.Step.TheVariants as steps
 use Rattle.txc_c.specs.Opaque.{opaque_next}
 use Rattle.txc_c.specs.Opened.{HasSteppedReading, HasSteppedWriting, StepsIn}
 use Rattle.txc_c.specs.declared.opened.Open.{Open}
@@ -20,10 +25,11 @@ use Rattle.txc_c.specs.declared.opened.Open.TheVariants.{Reading, Writing}
 
 module _ (ask : Ask) (c : CallerValue) (t : TxnValue) (step : Result Step CallerError) (c' : CallerValue) (t' : TxnValue)
     (told : IsToldAfterAsk opaque_next (open_states t'.core) t.core.call ask t'.core.call step) (objects : ObjectsFollow t.objects t.core.call ask t'.objects step)
-    (on_miss : IsComputedOnMiss t'.core c.ports.node c'.ports.node step) (keeps : KeepsTxn t t') (meant : IsTxn opaque_next t') (caller : KeepsCaller c c')
-    (grown : HasGrownDatabase c.ports.database c'.ports.database) where
+    (on_miss : IsComputedOnMiss t'.core c.ports.node c'.ports.node step) (leads : ActLeads small_limits c.ports t ask c'.ports t'.core.taken (step_error step))
+    (keeps : KeepsTxn t t') (meant : IsTxn opaque_next t') (caller : KeepsCaller c c') (grown : HasGrownDatabase c.ports.database c'.ports.database) where
   pub reading_stepped : (k : Call) → IsReadingStep t.core t'.core k step → HasSteppedReading ask k c t step c' t'
-  reading_stepped k is = record { is_step = is; told = told; objects = objects; on_miss = on_miss; keeps = keeps; meant = meant; caller = caller; grown = grown }
+  reading_stepped k is =
+      record { is_step = is; told = told; objects = objects; on_miss = on_miss; leads = leads; keeps = keeps; meant = meant; caller = caller; grown = grown }
 
   -- an ask that only a function that is computed can make
   pub reading_steps : (top : Option Call) → (top ≡ None → (step ≡ Err NoFunction) × (t' ≡ t) × (c' ≡ c))
@@ -42,15 +48,34 @@ reading_of c c' t t' keeps caller is = record {
 
 module _ (ask : Ask) (c : CallerValue) (w : CallerWriting) (step : Result Step CallerError) (c' : CallerValue) (w' : CallerWriting)
     (told : IsToldAfterAsk opaque_next (base_states c w.core) w.core.call ask w'.core.call step) (objects : ObjectsFollow w.objects w.core.call ask w'.objects step)
-    (queried : OnOk step (w'.core.queried ≡ w.core.queried ++ queried_for ask)) (unqueried : OnErr step (w'.core.queried ≡ w.core.queried))
+    (functions : numbers_of w'.objects ≡ numbers_of w.objects) (queried : OnOk step (w'.core.queried ≡ w.core.queried ++ queried_for ask))
+    (unqueried : OnErr step (w'.core.queried ≡ w.core.queried)) (undone : is_done ask ≡ false → w'.core.answers ≡ w.core.answers)
+    (refused : IfErr step (IsActRefused small_limits c.ports.database w.core w.objects ask))
     (same : w' ≡ record w {
       core = record w.core { queried = w'.core.queried; answers = w'.core.answers; call = w'.core.call };
       objects = w'.objects;
-    }) (caller : c' ≡ c) where
-  pub writing_stepped : (k : Call) → IsWritingStep w.core w'.core k step → HasSteppedWriting ask k c w step c' w'
-  writing_stepped k is = record { is_step = is; told = told; objects = objects; queried = queried; unqueried = unqueried; same = same; caller = caller }
+    }) (meant : IsWriteOf opaque_next c' w') (caller : c' ≡ c) where
+  pub writing_stepped : (top_call w.core.call ≡ None → step ≡ Ok steps.Compute) → (k : Call) → IsWritingStep w.core w'.core k step → HasSteppedWriting ask k c w step c' w'
+  writing_stepped begins k is = record {
+    is_step = is;
+    told = told;
+    begins = begins;
+    objects = objects;
+    functions = functions;
+    queried = queried;
+    unqueried = unqueried;
+    undone = undone;
+    refused = refused;
+    same = same;
+    meant = meant;
+    caller = caller;
+  }
 
-  pub writing_steps : (top : Option Call) → (top ≡ None → (step ≡ Err NoFunction) × (w' ≡ w))
-      → ((k : Call) → top ≡ Some k → IsWritingStep w.core w'.core k step) → StepsIn top ask c (Writing w) step c' (Writing w')
-  writing_steps None none some = let n = none refl in (n.0, ap (λ (x : CallerWriting). Writing x) n.1, caller)
-  writing_steps (Some k) none some = writing_stepped k (some k refl)
+  at_top : (top : Option Call) → top_call w.core.call ≡ top → (top ≡ None → (step ≡ Err NoFunction) × (w' ≡ w)) → ((k : Call) → top ≡ Some k → IsWritingStep w.core w'.core k step)
+      → StepsIn top ask c (Writing w) step c' (Writing w')
+  at_top None is none some = let n = none refl in (n.0, ap (λ (x : CallerWriting). Writing x) n.1, caller)
+  at_top (Some k) is none some = writing_stepped (λ idle. absurd (cc (is, idle))) k (some k refl)
+
+  pub writing_steps : (top_call w.core.call ≡ None → (step ≡ Err NoFunction) × (w' ≡ w)) → ((k : Call) → top_call w.core.call ≡ Some k → IsWritingStep w.core w'.core k step)
+      → StepsIn (top_call w.core.call) ask c (Writing w) step c' (Writing w')
+  writing_steps none some = at_top (top_call w.core.call) refl none some

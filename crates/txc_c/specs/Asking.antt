@@ -11,13 +11,13 @@ use Rattle.txc_rows.specs.Values.{RowValue, AreBytes}
 use Rattle.txc_db.specs.History.{state_at}
 use Rattle.txc_app.specs.declared.ask.Ask.{Ask}
 use Rattle.txc_app.specs.declared.ask.Ask.TheVariants as asks
-use Rattle.txc_registry.specs.Objects.{AllIdle}
+use Rattle.txc_registry.specs.Objects.{numbers_of, AllIdle}
 use Rattle.txc_cushion.specs.declared.pin.Pin.{Pin}
 use Rattle.txc_ports.specs.declared.error.TxnError.{TxnError}
 use Rattle.txc_ports.specs.declared.error.TxnError.TheVariants.{Memory}
 use Rattle.txc_txn.specs.Core.{IsIdle}
 use Rattle.txc_txn.specs.Kept.{IsTxn, TxnValue}
-use Rattle.txc_rw.specs.Core.{IsRwIdle, RwValue}
+use Rattle.txc_rw.specs.Core.{IsRwIdle}
 use Rattle.txc_rw.specs.Transitions.{IsQueryLeft}
 use Rattle.txc_rw.specs.declared.given.Given.TheVariants as given
 use Rattle.txc_caller.specs.Reading.{read_stamp, CallerValue, KeepsTxn}
@@ -93,9 +93,12 @@ pub record HasRefusedRows (query : Query) (c : CallerValue) (w : CallerWriting) 
   pub same : w' ≡ record w { core = w'.core }
   pub count_is : count' ≡ count
 
+abbrev pub HasReadRowsItself : Query → ℕ → ℕ → CallerValue → CallerWriting → ℕ → CallerWriting → Type 0
+HasReadRowsItself query count count' c w number w' =
+    HasFoundRows query c w number count' w' ⊎ HasRefusedRows query c w number count count' w'
+
 abbrev pub HasReadRows : Query → ℕ → ℕ → CallerValue → CallerWriting → ℕ → CallerValue → Open → Type 0
-HasReadRows query count count' c w number c' (Writing w') = (c' ≡ c)
-    × (HasFoundRows query c w number count' w' ⊎ HasRefusedRows query c w number count count' w')
+HasReadRows query count count' c w number c' (Writing w') = (c' ≡ c) × HasReadRowsItself query count count' c w number w'
 HasReadRows query count count' c w number c' (Reading t) = ⊥
 
 -- of a transaction that writes, if its call stands so
@@ -133,6 +136,7 @@ pub record HasGivenWritingUp (w w' : CallerWriting) : Type 0 where
   pub idle : IsRwIdle w'.core
   pub same : w' ≡ record w { core = record w.core { call = w'.core.call }; objects = w'.objects }
   pub objects : AllIdle w'.objects
+  pub functions : numbers_of w'.objects ≡ numbers_of w.objects
 
 abbrev pub HasGivenCallUp : Open → Open → Type 0
 HasGivenCallUp (Reading t) (Reading t') = HasGivenReadingUp t t'

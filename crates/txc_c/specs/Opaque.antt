@@ -1,6 +1,5 @@
 -- The functions of a caller in C.
-use Rattle.std.specs.Prelude.{◌≢◌, ℕ, List, [], Option, Some, None}
-use mathlib.Core.Path.{subst}
+use Rattle.std.specs.Prelude.{ℕ, List, [], Option, Some}
 use Rattle.txc_app.specs.declared.ask.Ask.{Ask}
 use Rattle.txc_app.specs.declared.ask.Ask.TheVariants.{Done}
 use Rattle.txc_app.specs.declared.ask.Answer.{Answer}
@@ -14,13 +13,3 @@ opaque_asks function args answers = Some (Done [])
 -- what they mean, within small limits
 abbrev pub opaque_next : Next
 opaque_next = record { says = opaque_asks; limits = small_limits }
-
--- something is asked
-abbrev AsksSome : Option Ask → Type 0
-AsksSome None = ⊥
-AsksSome (Some ask) = Unit {0}
-
--- but that a function refuses no arguments
-pub takes_all : (function : ℕ) (args : List ℕ) → opaque_next.says function args [] ≢ None
-unfolding opaque_asks
-takes_all function args is = subst AsksSome is tt

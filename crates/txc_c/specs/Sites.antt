@@ -58,6 +58,7 @@ pub record IsNewSite (settings : TxcSiteSettings) (s : SiteValue) : Type 0 where
   pub node : s.caller.ports.node.cache ≡ start_of (site_node_of settings) 0
   pub renew_after : s.caller.renew_after ≡ renew_after_of settings
   pub none : s.opened.slots ≡ []
+  pub first_place : s.opened.vacant_key ≡ 0
   pub begun : s.begun ≡ 0
 
 -- one more may begin: there is a place for it, and a number
@@ -134,7 +135,7 @@ pub record HasPutAtPlace (txn : Open) (old : Slab Opened) (begun : ℕ) (new : S
 
 -- the one of this number was taken out, and its place is the next one
 pub record HasTakenOut (n : ℕ) (o : Opened) (old new : SiteValue) : Type 0 where
-  pub there : open_at old n ≡ Some o.txn
+  pub there : get old.opened (n % MAX_OPEN) ≡ Some o
   pub number_is : o.number ≡ n
   pub updates : Updates old.opened new.opened (n % MAX_OPEN) None
   pub next_place : new.opened.vacant_key ≡ n % MAX_OPEN

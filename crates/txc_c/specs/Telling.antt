@@ -4,7 +4,6 @@ use Rattle.txc_tags.specs.Keys.{Call}
 use Rattle.txc_rows.specs.Values.{RowValue}
 use Rattle.txc_app.specs.declared.ask.Answer.{Answer}
 use Rattle.txc_app.specs.declared.ask.Answer.TheVariants as answers
-use Rattle.txc_call.specs.Calling.{Calling}
 use Rattle.txc_ports.specs.declared.recorded.Recorded.{Recorded}
 use Rattle.txc_rw.specs.declared.given.Given.{Given}
 use Rattle.txc_rw.specs.declared.given.Given.TheVariants as given

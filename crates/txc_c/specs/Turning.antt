@@ -18,7 +18,7 @@ use Rattle.txc_rw.specs.Answers.{AreRightIn}
 use Rattle.txc_rw.specs.Core.{tags_read}
 use Rattle.txc_rw.specs.Outcomes.{IsCommitted}
 use Rattle.txc_caller.specs.Ports.{MayHaveTaken}
-use Rattle.txc_caller.specs.Reading.{with_cushion, CallerValue, HasEndedReading, IsBegunReading}
+use Rattle.txc_caller.specs.Reading.{CallerValue, HasEndedReading, IsBegunReading}
 use Rattle.txc_caller.specs.Telling.{top_call}
 use Rattle.txc_caller.specs.Writing.{CallerWriting, HasAbortedWrite, HasCommittedWrite, IsBegunWrite, IsWriteLeft, IsWriteCommitRefused}
 use Rattle.txc_caller.specs.declared.step.WriteError.{WriteError}
@@ -66,7 +66,7 @@ pub record HasNotBegunReading (old : SiteValue) (number : ℕ) (new : SiteValue)
   pub number_is : number ≡ NO_MEMORY
   pub first : CallerValue
   pub caught_up : MayHaveCaughtUp old.caller first
-  pub left : new.caller ≡ with_cushion new.caller.ports.cushion first
+  pub caller : new.caller ≡ first
   pub keeps : KeepsOpen old new
 
 abbrev pub BeginsOrNot : Bounds → ℕ → ℕ → SiteValue → ℕ → SiteValue → Type 0

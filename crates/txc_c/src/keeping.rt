@@ -54,7 +54,7 @@ fn pin_number(error: PinError) -> u32
 }
 
 // Retires pins; the node takes the events, and the database drops the versions that no stamp from the horizon on shows; then
-/// the node drops what ends there.
+// the node drops what ends there.
 fn keep(alloc: Global, caller: &mut Caller<Opaque>, now: u64, age: u64, kept: &mut TxcKept) -> u32
     ensures kept { HasKept now age caller.old result kept.old kept.new caller.new }
     ensures caller { KeepsCaller caller.old caller.new }
