@@ -1,5 +1,5 @@
 -- The least number of the transactions that are open.
-use Rattle.std.proofs.Common.{◌≡◌, ◌⊎◌, ◌∙◌, ◌∷◌, ◌≤◌, ℕ, List, [], Contains, Option, Some, None, IsSome, inl, inr, refl, ap, sym, subst, arith}
+use Rattle.std.proofs.Common.{◌≡◌, ◌⊎◌, ◌∙◌, ◌∷◌, ◌%◌, ◌≤◌, ℕ, List, [], Contains, Option, Some, None, IsSome, inl, inr, refl, ap, sym, subst, arith}
 use Rattle.std.specs.Option.{ForSome}
 use Rattle.slab.specs.Slab.{Slab, get, entries}
 use Rattle.slab.proofs.SlabLemmas.{Contains-cons, Contains-cons_cases, Contains-entries}

@@ -184,6 +184,7 @@ impl Site {
     pub(crate) fn give_up(&mut self, txn: u64) -> u32
         ensures { GiveUpComesTo txn self.old result self.new }
     {
+        acts_leave_others();
         let Some(it) = self.opened.get_mut(place_of(txn)) else {
             return NOT_OPEN;
         };
