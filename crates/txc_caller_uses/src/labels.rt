@@ -1,0 +1,72 @@
+//! A function that the caller computes: the label of a row.
+ghost use Rattle.std.specs.Prelude.{◌≡◌, IfOk};
+ghost use Rattle.txc_rows.specs.declared.query.Query.TheVariants.{ById};
+ghost use Rattle.txc_caller_uses.specs.Labels.{label_call, label_of, rows_told};
+
+use anyhow::Result;
+use std::alloc::{AllocError, Global};
+use txc_app::{Answer, App, Limits};
+use txc_rows::{Query, Row};
+use txc_tags::{Key, Table};
+
+/// The application of a caller whose functions each give the label of a row.
+pub struct Labels;
+
+impl App for Labels {
+    ghost use Rattle.txc_caller_uses.specs.Labels.{labels};
+
+    ghost next = { labels };
+
+    fn limits() -> Limits {
+        Limits::SMALL
+    }
+}
+
+/// The table of the rows.
+pub(crate) fn table() -> Table
+    ensures { result ≡ 1 }
+{
+    let Some(table) = Table::new(1) else {
+        unreachable!()
+    };
+    table
+}
+
+/// The call of the label of a row.
+pub(crate) fn key(id: u32) -> Key
+    ensures { result ≡ label_call id }
+{
+    let Ok(key) = Key::new(0, &[id]) else {
+        unreachable!()
+    };
+    key
+}
+
+/// The query for a row.
+pub(crate) fn query(id: u32) -> Query
+    ensures { result ≡ ById 1 id }
+{
+    Query::ById(table(), id)
+}
+
+fn rows(answer: &Answer) -> &[Row]
+    ensures { result.now ≡ rows_told answer.now }
+{
+    match answer {
+        Answer::Rows(rows) => rows.as_slice(),
+        Answer::Value(_) => &[],
+    }
+}
+
+/// What the function gives after this answer.
+pub(crate) fn label(alloc: Global, answer: &Answer) -> Result<Vec<u8>, AllocError>
+    ensures { IfOk result (λ bytes. bytes.items ≡ label_of (rows_told answer.now)) }
+{
+    let Some(row) = rows(answer).first() else {
+        return Ok(Vec::new(alloc));
+    };
+    if row.group() != 0 {
+        return Ok(Vec::new(alloc));
+    }
+    Vec::from_slice(alloc, row.body())
+}
