@@ -326,8 +326,9 @@ def words_of_types():
 
 @lru_cache(None)
 def words_of_sources():
-    """Each word of the sources and of the scripts, and each part of the path of one."""
-    found = [*files(), *ROOT.glob("scripts/*"), *ROOT.glob("bench/**/*.*"), *ROOT.glob("crates/*/wrong-bodies/**/*.edits")]
+    """Each word of the sources, of the wrappers and of the scripts, and each part of the path of one."""
+    wrappers = [*ROOT.glob("bindings/rust/src/*.rs"), *ROOT.glob("bindings/python/txcache/*.py")]
+    found = [*files(), *wrappers, *ROOT.glob("scripts/*"), *ROOT.glob("bench/**/*.*"), *ROOT.glob("crates/*/wrong-bodies/**/*.edits")]
     return {word for it in found for text in (it.read_text(errors="replace"), it.as_posix()) for word in re.findall(r"\w+", text)}
 
 
