@@ -24,7 +24,7 @@ MOST_WORDS_OF_A_COMMENT = 40
 # What has a plainer word. What is made by script, or a name, may have it.
 NOT_PLAIN = re.compile(r"\b(?:told|purse|foreign record|by a name|comes? to|came to)\b", re.I)
 # How many lines of code the service may have with which EMBEDDING begins, without blank ones and comments.
-MOST_LINES_OF_FIRST = 125
+MOST_LINES_OF_FIRST = 120
 # Where a crate uses one of a layer above its own, until that is mended. The second does so only because the first does.
 WAYS_UP = {("txc_txn", "txc_functions"), ("txc_external_receipts", "txc_functions")}
 # A word in capitals stands for any name, in a path that a document names.
