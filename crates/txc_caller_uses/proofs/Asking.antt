@@ -1,5 +1,7 @@
 -- What the function asks while its caller computes it.
-use Rattle.std.proofs.Common.{◌≡◌, ◌∙◌, ℕ, List, [], ◌∷◌, ◌++◌, Bool, true, false, eqb, Option, Some, None, refl, ap, sym, subst}
+use denote.Ref.{Bor}
+use Rattle.std.proofs.Common.{◌≡◌, ◌∙◌, ℕ, List, [], ◌∷◌, ◌++◌, Bool, true, false, eqb, MatchOption, Option, Some, None, refl, ap, sym, subst}
+use Rattle.std.specs.Option.{ForSome}
 use Rattle.txc_tags.specs.Keys.{Call}
 use Rattle.txc_rows.specs.declared.query.Query.{Query}
 use Rattle.txc_app.specs.declared.ask.Answer.{Answer}
@@ -15,7 +17,7 @@ use Rattle.txc_call.specs.Frames.{answers_in}
 use Rattle.txc_call.specs.Running.{due_ask}
 use Rattle.txc_told.specs.Steps.{objects_after_ask, objects_after_need}
 use Rattle.txc_caller.specs.Telling.{calls_of, computed_calls, computed_in, told_answer, told_in, AsksNext}
-use Rattle.txc_caller_uses.specs.Labels.{asks_label, label_call, labels, BeginsLabel}
+use Rattle.txc_caller_uses.specs.Labels.{asks_label, label_call, label_of, labels, rows_told, BeginsLabel}
 
 -- without an open call nothing is asked
 pub asks_nothing : (objects : Objects) (call : Calling) (ask : Ask) → call.need ≡ None → AsksNext labels objects call ask
@@ -103,3 +105,25 @@ none_after objects frames (Some (needs.Value o)) id q only untold = absurd (cc o
 pub told_before : (objects : Objects) (call : Calling) (id : ℕ) (q : Query) → BeginsLabel id call
     → answers_in (objects_after_ask objects call (asks.Query q)) 0 ≡ []
 told_before objects call id q b = none_after objects call.frames call.need id q b.only b.untold
+
+-- ---- its argument
+
+-- the argument of the call that is computed is the one of the call that was asked for
+pub argument_is : (key : Option (Bor Call)) (calls : List Call) (asked id : ℕ) → MatchOption key (calls ≡ []) (λ k. (around : List Call) × (calls ≡ k.now ∷ around))
+    → calls ≡ label_call asked ∷ [] → ForSome key (λ k. k.now.args ≡ id ∷ []) → id ≡ asked
+argument_is None calls asked id found only args = absurd (cc (found, only))
+argument_is (Some k) calls asked id found only args =
+    let its : k.now ≡ label_call asked = cc (found.1, only) in
+    let own : k.now.args ≡ id ∷ [] = args k refl in
+    let given : k.now.args ≡ asked ∷ [] = ap (λ (c : Call). c.args) its in
+    cc
+
+-- ---- last
+
+-- it is done once its query was answered
+pub asks_done : (objects after : Objects) (old new : Calling) (id : ℕ) (q : Query) (x : Answer) (bytes : List ℕ) → BeginsLabel id old
+    → after ≡ objects_after_ask objects old (asks.Query q) → computed_calls new ≡ computed_calls old → told_answer new ≡ Some x
+    → bytes ≡ label_of (rows_told x) → AsksNext labels after new (asks.Done bytes)
+asks_done objects after old new id q x bytes b is calls told its =
+    asks_after after new id x (asks.Done bytes) (calls ∙ b.only) told
+    (ap (λ (os : Objects). answers_in os 0) is ∙ told_before objects old id q b) (ap (λ (bs : List ℕ). Some (asks.Done bs)) (sym its))

@@ -34,8 +34,8 @@ none_computed call none = rw none refl
 -- the function of the label begins
 pub begins : (old new : Calling) (id : ℕ) (k : Call) → k ≡ label_call id → old.need ≡ None → IsOpenWith (top_or old k) None new
     → computed_calls new ≡ k ∷ computed_calls old → BeginsLabel id new
-begins old new id k is none open calls = record {
-  top = open.top ∙ ap Some (top_is old k none ∙ is);
+begins old new id k is none stands calls = record {
+  top = stands.top ∙ ap Some (top_is old k none ∙ is);
   only = calls ∙ (ap (λ (cs : List Call). k ∷ cs) (none_computed old none) ∙ ap (λ (k' : Call). k' ∷ []) is);
-  untold = open.told_is;
+  untold = stands.told_is;
 }

@@ -1,9 +1,10 @@
 //! A function that the caller computes: the label of a row.
-ghost use Rattle.std.specs.Prelude.{◌≡◌, IfOk};
+ghost use Rattle.std.specs.Prelude.{◌≡◌, ◌∷◌, [], IfOk};
+ghost use Rattle.std.specs.Option.{ForSome};
 ghost use Rattle.txc_rows.specs.declared.query.Query.TheVariants.{ById};
 ghost use Rattle.txc_caller_uses.specs.Labels.{label_call, label_of, rows_told};
 
-use anyhow::Result;
+use anyhow::{Result, bail};
 use std::alloc::{AllocError, Global};
 use txc_app::{Answer, App, Limits};
 use txc_rows::{Query, Row};
@@ -40,6 +41,19 @@ pub(crate) fn key(id: u32) -> Key
         unreachable!()
     };
     key
+}
+
+/// The id of the row whose label the function of this call gives.
+pub(crate) fn argument(key: Option<&Key>) -> Result<u32>
+    ensures { IfOk result (λ id. ForSome key (λ k. k.now.args ≡ id ∷ [])) }
+{
+    let Some(key) = key else {
+        bail!("no function is computed");
+    };
+    let [id] = key.args() else {
+        bail!("no such call");
+    };
+    Ok(*id)
 }
 
 /// The query for a row.

@@ -4,7 +4,7 @@ ghost use Rattle.txc_caller.specs.Reading.{recorded_as, IsOf};
 ghost use Rattle.txc_caller_uses.specs.Labels.{label_call, BeginsLabel, ShowsLabel};
 ghost use Rattle.txc_caller.specs.declared.step.Step.TheVariants.{Value as ValueStep};
 
-use crate::labels::{Labels, key, label, query};
+use crate::labels::{Labels, argument, key, label, query};
 use anyhow::{Result, bail};
 use std::alloc::Global;
 use txc_caller::{Caller, CallerTxn, Step};
@@ -35,14 +35,15 @@ fn computed(
     alloc: Global,
     caller: &mut Caller<Labels>,
     txn: &mut CallerTxn<Labels>,
-    id: u32,
+    asked: u32,
 ) -> Result<Value>
     requires of_caller { IsOf caller.old txn.old }
-    requires begins { BeginsLabel id txn.old.core.call }
+    requires begins { BeginsLabel asked txn.old.core.call }
     ensures of_caller { IsOf caller.new txn.new }
     ensures recorded { IfOk result (λ value. txn.new.core.recorded
-        ≡ txn.old.core.recorded ++ recorded_as (label_call id) value ∷ []) }
+        ≡ txn.old.core.recorded ++ recorded_as (label_call asked) value ∷ []) }
 {
+    let id = argument(txn.computed())?;
     if id == 0 {
         return value(txn.finish(alloc, caller, Vec::new(alloc))?);
     }

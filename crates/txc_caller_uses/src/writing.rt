@@ -6,7 +6,7 @@ ghost use Rattle.txc_rw.specs.declared.given.Given.TheVariants as given;
 ghost use Rattle.txc_caller.specs.Writing.{IsWriteOf};
 ghost use Rattle.txc_caller_uses.specs.Labels.{label_call, label_in, labels, BeginsLabel};
 
-use crate::labels::{Labels, key, label, query, table};
+use crate::labels::{Labels, argument, key, label, query, table};
 use crate::reading::{Shown, value};
 use anyhow::{Context, Result, bail};
 use std::alloc::Global;
@@ -19,16 +19,17 @@ fn computed(
     alloc: Global,
     caller: &mut Caller<Labels>,
     write: &mut CallerWrite<Labels>,
-    id: u32,
+    asked: u32,
 ) -> Result<Value>
     requires of_caller { IsWriteOf labels caller.old write.old }
-    requires begins { BeginsLabel id write.old.core.call }
+    requires begins { BeginsLabel asked write.old.core.call }
     ensures of_caller { IsWriteOf labels caller.new write.new }
     ensures caller { caller.new ≡ caller.old }
     ensures base { write.new.core.base ≡ write.old.core.base }
     ensures answers { IfOk result (λ value. write.new.core.answers
-        ≡ write.old.core.answers ++ given.Value (label_call id) value ∷ []) }
+        ≡ write.old.core.answers ++ given.Value (label_call asked) value ∷ []) }
 {
+    let id = argument(write.computed())?;
     if id == 0 {
         return value(write.finish(alloc, caller, Vec::new(alloc))?);
     }
@@ -110,7 +111,7 @@ fn committed(
         Ok(_written) => Ok(label),
         Err((error, write)) => {
             write.abort(caller);
-            bail!("{error}")
+            Err(error.into())
         }
     }
 }
