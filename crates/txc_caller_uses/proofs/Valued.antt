@@ -21,26 +21,36 @@ use Rattle.txc_rw.specs.Answers.{AreRightIn, IsRightIn}
 use Rattle.txc_rw.specs.declared.given.Given.{Given}
 use Rattle.txc_rw.specs.declared.given.Given.TheVariants as given
 use Rattle.txc_caller.specs.Reading.{recorded_as}
-use Rattle.txc_caller_uses.specs.Labels.{label_call, label_in, label_of, labels, ShowsLabel}
+use Rattle.txc_caller_uses.specs.Labels.{first_body, first_group, label_call, label_in, label_of, labels, ShowsLabel}
 
 -- bytes that are no value give none
 bytes_are : (b : Bool) (bytes value : List ℕ) → (if b then Some bytes else None) ≡ Some value → value ≡ bytes
 bytes_are true bytes value is = cc is
 bytes_are false bytes value is = absurd (cc is)
 
-by_id : (b : Bool) (id : ℕ) (s : State) (calls : given_by.Calls) (rest : Answer → Evaluation) (value : List ℕ)
-    → (rest (Rows (answer (ById 1 id) s))).value ≡ (done_with MAX_VALUE_LEN (label_of (answer (ById 1 id) s))).value
-    → (after_ask MAX_VALUE_LEN (λ q. answer q s) calls (if b then Some (Done []) else Some (Query (ById 1 id))) rest).value ≡ Some value
-    → value ≡ (if b then [] else label_of (answer (ById 1 id) s))
-by_id true id s calls rest value goes_on is = bytes_are true [] value is
-by_id false id s calls rest value goes_on is =
-    let label = label_of (answer (ById 1 id) s) in
-    bytes_are (nat_le (length label) MAX_VALUE_LEN) label value (sym goes_on ∙ is)
+-- what comes after a query: its rows are those of the state
+module _ (s : State) (calls : given_by.Calls) where
+  by_group : (b : Bool) (first other value : List ℕ) (id : ℕ) (rest : Answer → Evaluation)
+      → (rest (Rows (answer (ById 1 id) s))).value ≡ (done_with MAX_VALUE_LEN other).value
+      → (after_ask MAX_VALUE_LEN (λ q. answer q s) calls (if b then Some (Done first) else Some (Query (ById 1 id))) rest).value ≡ Some value
+      → value ≡ (if b then first else other)
+  by_group true first other value id rest goes_on is = bytes_are (nat_le (length first) MAX_VALUE_LEN) first value is
+  by_group false first other value id rest goes_on is = bytes_are (nat_le (length other) MAX_VALUE_LEN) other value (sym goes_on ∙ is)
+
+  by_id : (b : Bool) (label value : List ℕ) (id : ℕ) (rest : Answer → Evaluation)
+      → ((rest (Rows (answer (ById 1 id) s))).value ≡ Some value → value ≡ label)
+      → (after_ask MAX_VALUE_LEN (λ q. answer q s) calls (if b then Some (Done []) else Some (Query (ById 1 id))) rest).value ≡ Some value
+      → value ≡ (if b then [] else label)
+  by_id true label value id rest goes_on is = bytes_are true [] value is
+  by_id false label value id rest goes_on is = goes_on is
 
 -- what the call gives is the label in that state
 pub label_is : (id : ℕ) (s : State) (value : List ℕ) → eval labels (label_call id) s ≡ Some value → value ≡ label_in s id
 unfolding activation
-label_is id s value is = by_id (id == 0) id s _ _ value refl is
+label_is id s value is =
+    let rows = answer (ById 1 id) s in
+    by_id s _ (id == 0) (label_of s rows) value id _
+    (λ found. by_group s _ (first_group rows == 0) (first_body rows) (first_body (answer (ById 1 (first_group rows)) s)) value (first_group rows) _ refl found) is
 
 -- ---- in a receipt
 

@@ -20,15 +20,23 @@ abbrev pub rows_told : Answer → List RowValue
 rows_told (Rows rows) = rows
 rows_told (Value bytes) = []
 
--- the label that these rows give: the body of the first one, if it is of group 0; otherwise none
-abbrev pub label_of : List RowValue → List ℕ
-label_of [] = []
-label_of (row ∷ rows) = if row.group == 0 then row.body else []
+-- the body of the first of these rows; no bytes if there is none
+abbrev pub first_body : List RowValue → List ℕ
+first_body [] = []
+first_body (row ∷ rows) = row.body
 
--- Of the id 0 a function gives no label at once. Of any other it asks for the row in table 1, and gives the label of that.
+-- the group of the first of these rows; 0 if there is none
+abbrev pub first_group : List RowValue → ℕ
+first_group [] = 0
+first_group (row ∷ rows) = row.group
+
+-- Of the id 0 a function gives no bytes at once. Of any other it asks for the row in table 1. If there is none, or one of group 0,
+-- it gives the body of that. Otherwise it asks for the row whose id is the group, and gives the body of that one.
 abbrev pub asks_label : List ℕ → List Answer → Option Ask
 asks_label (id ∷ []) [] = if id == 0 then Some (Done []) else Some (Query (ById 1 id))
-asks_label (id ∷ []) (told ∷ more) = Some (Done (label_of (rows_told told)))
+asks_label (id ∷ []) (told ∷ []) = if first_group (rows_told told) == 0 then Some (Done (first_body (rows_told told)))
+    else Some (Query (ById 1 (first_group (rows_told told))))
+asks_label (id ∷ []) (told ∷ last ∷ more) = Some (Done (first_body (rows_told last)))
 asks_label args given = None
 
 abbrev pub label_says : ℕ → List ℕ → List Answer → Option Ask
@@ -41,9 +49,13 @@ labels = record { says = label_says; limits = small_limits }
 abbrev pub label_call : ℕ → Call
 label_call id = record { function = 0; args = id ∷ [] }
 
+-- the label that the first of these rows has in a state
+abbrev pub label_of : State → List RowValue → List ℕ
+label_of s rows = if first_group rows == 0 then first_body rows else first_body (answer (ById 1 (first_group rows)) s)
+
 -- the label of a row in a state
 abbrev pub label_in : State → ℕ → List ℕ
-label_in s id = if id == 0 then [] else label_of (answer (ById 1 id) s)
+label_in s id = if id == 0 then [] else label_of s (answer (ById 1 id) s)
 
 -- the call of the label is open, and its function is to begin
 pub record BeginsLabel (id : ℕ) (call : Calling) : Type 0 where

@@ -2,7 +2,7 @@
 ghost use Rattle.std.specs.Prelude.{◌≡◌, ◌∷◌, [], IfOk};
 ghost use Rattle.std.specs.Option.{ForSome};
 ghost use Rattle.txc_rows.specs.declared.query.Query.TheVariants.{ById};
-ghost use Rattle.txc_caller_uses.specs.Labels.{label_call, label_of, rows_told};
+ghost use Rattle.txc_caller_uses.specs.Labels.{first_body, first_group, label_call, rows_told};
 
 use anyhow::{Result, bail};
 use std::alloc::{AllocError, Global};
@@ -72,15 +72,22 @@ fn rows(answer: &Answer) -> &[Row]
     }
 }
 
-/// What the function gives after this answer.
-pub(crate) fn label(alloc: Global, answer: &Answer) -> Result<Vec<u8>, AllocError>
-    ensures { IfOk result (λ bytes. bytes.items ≡ label_of (rows_told answer.now)) }
+/// The body of the first row of an answer; no bytes if it has none.
+pub(crate) fn body(alloc: Global, answer: &Answer) -> Result<Vec<u8>, AllocError>
+    ensures { IfOk result (λ bytes. bytes.items ≡ first_body (rows_told answer.now)) }
 {
-    let Some(row) = rows(answer).first() else {
-        return Ok(Vec::new(alloc));
-    };
-    if row.group() != 0 {
-        return Ok(Vec::new(alloc));
+    match rows(answer).first() {
+        Some(row) => Vec::from_slice(alloc, row.body()),
+        None => Ok(Vec::new(alloc)),
     }
-    Vec::from_slice(alloc, row.body())
+}
+
+/// The group of the first row of an answer; 0 if it has none.
+pub(crate) fn group(answer: &Answer) -> u32
+    ensures { result ≡ first_group (rows_told answer.now) }
+{
+    match rows(answer).first() {
+        Some(row) => row.group(),
+        None => 0,
+    }
 }

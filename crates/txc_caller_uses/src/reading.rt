@@ -1,10 +1,11 @@
 //! The label of a row, in a transaction that only reads.
 ghost use Rattle.std.specs.Prelude.{◌≡◌, ◌++◌, ◌∷◌, [], IfOk, None};
 ghost use Rattle.txc_caller.specs.Reading.{recorded_as, IsOf};
+ghost use Rattle.txc_caller.specs.Telling.{HaveAllFunctions};
 ghost use Rattle.txc_caller_uses.specs.Labels.{label_call, BeginsLabel, ShowsLabel};
 ghost use Rattle.txc_caller.specs.declared.step.Step.TheVariants.{Value as ValueStep};
 
-use crate::labels::{Labels, argument, key, label, query};
+use crate::labels::{Labels, argument, body, group, key, query};
 use anyhow::{Result, bail};
 use std::alloc::Global;
 use txc_caller::{Caller, CallerTxn, Step};
@@ -39,6 +40,7 @@ fn computed(
 ) -> Result<Value>
     requires of_caller { IsOf caller.old txn.old }
     requires begins { BeginsLabel asked txn.old.core.call }
+    requires functions { HaveAllFunctions txn.old.objects }
     ensures of_caller { IsOf caller.new txn.new }
     ensures recorded { IfOk result (λ value. txn.new.core.recorded
         ≡ txn.old.core.recorded ++ recorded_as (label_call asked) value ∷ []) }
@@ -53,7 +55,18 @@ fn computed(
     let Some(answer) = txn.answer() else {
         bail!("no answer");
     };
-    let bytes = label(alloc, answer)?;
+    let other = group(answer);
+    let bytes = body(alloc, answer)?;
+    if other == 0 {
+        return value(txn.finish(alloc, caller, bytes)?);
+    }
+    let Step::Answered = txn.query(alloc, caller, query(other))? else {
+        bail!("another function is to be computed");
+    };
+    let Some(answer) = txn.answer() else {
+        bail!("no answer");
+    };
+    let bytes = body(alloc, answer)?;
     value(txn.finish(alloc, caller, bytes)?)
 }
 
@@ -66,6 +79,7 @@ fn called(
 ) -> Result<Value>
     requires of_caller { IsOf caller.old txn.old }
     requires idle { txn.old.core.call.need ≡ None }
+    requires functions { HaveAllFunctions txn.old.objects }
     ensures of_caller { IsOf caller.new txn.new }
     ensures recorded { IfOk result (λ value. txn.new.core.recorded
         ≡ txn.old.core.recorded ++ recorded_as (label_call id) value ∷ []) }

@@ -3,10 +3,11 @@ ghost use Rattle.std.specs.Prelude.{◌≡◌, ◌++◌, ◌∷◌, [], IfOk, No
 ghost use Rattle.txc_db.specs.DatabaseValue.{newest};
 ghost use Rattle.txc_db.specs.History.{state_at};
 ghost use Rattle.txc_rw.specs.declared.given.Given.TheVariants as given;
+ghost use Rattle.txc_caller.specs.Telling.{HaveAllFunctions};
 ghost use Rattle.txc_caller.specs.Writing.{IsWriteOf};
 ghost use Rattle.txc_caller_uses.specs.Labels.{label_call, label_in, labels, BeginsLabel};
 
-use crate::labels::{Labels, argument, key, label, query, table};
+use crate::labels::{Labels, argument, body, group, key, query, table};
 use crate::reading::{Shown, value};
 use anyhow::{Context, Result, bail};
 use std::alloc::Global;
@@ -23,6 +24,7 @@ fn computed(
 ) -> Result<Value>
     requires of_caller { IsWriteOf labels caller.old write.old }
     requires begins { BeginsLabel asked write.old.core.call }
+    requires functions { HaveAllFunctions write.old.objects }
     ensures of_caller { IsWriteOf labels caller.new write.new }
     ensures caller { caller.new ≡ caller.old }
     ensures base { write.new.core.base ≡ write.old.core.base }
@@ -39,7 +41,18 @@ fn computed(
     let Some(answer) = write.answer() else {
         bail!("no answer");
     };
-    let bytes = label(alloc, answer)?;
+    let other = group(answer);
+    let bytes = body(alloc, answer)?;
+    if other == 0 {
+        return value(write.finish(alloc, caller, bytes)?);
+    }
+    let Step::Answered = write.query(alloc, caller, query(other))? else {
+        bail!("another function is to be computed");
+    };
+    let Some(answer) = write.answer() else {
+        bail!("no answer");
+    };
+    let bytes = body(alloc, answer)?;
     value(write.finish(alloc, caller, bytes)?)
 }
 
@@ -52,6 +65,7 @@ fn called(
 ) -> Result<Value>
     requires of_caller { IsWriteOf labels caller.old write.old }
     requires idle { write.old.core.call.need ≡ None }
+    requires functions { HaveAllFunctions write.old.objects }
     ensures of_caller { IsWriteOf labels caller.new write.new }
     ensures caller { caller.new ≡ caller.old }
     ensures base { write.new.core.base ≡ write.old.core.base }
@@ -75,6 +89,7 @@ fn copied(
 ) -> Result<Value>
     requires of_caller { IsWriteOf labels caller.old write.old }
     requires idle { write.old.core.call.need ≡ None }
+    requires functions { HaveAllFunctions write.old.objects }
     ensures of_caller { IsWriteOf labels caller.new write.new }
     ensures base { write.new.core.base ≡ write.old.core.base }
     ensures answers { IfOk result (λ value. write.new.core.answers
@@ -96,6 +111,7 @@ fn committed(
 ) -> Result<Value>
     requires of_caller { IsWriteOf labels caller.old write }
     requires idle { write.core.call.need ≡ None }
+    requires functions { HaveAllFunctions write.objects }
     requires new { write.core.answers ≡ [] }
     ensures copied { IfOk result (λ label. label
         ≡ label_in (state_at caller.new.ports.database.history write.core.base) from) }
