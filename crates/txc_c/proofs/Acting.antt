@@ -5,11 +5,11 @@ use Rattle.std.specs.Option.{ForSome}
 use Rattle.std.proofs.lemmas.List.{set-get_or}
 use Rattle.slab.specs.Slab.{Slab, get, with_value, Updates}
 use Rattle.slab.proofs.SlabLemmas.{Updates-with_value}
-use Rattle.txc_caller.specs.Ports.{HasGrown}
+use Rattle.txc_caller.specs.Ports.{HasGrownDatabase}
 use Rattle.txc_caller.specs.Reading.{CallerValue, KeepsCaller}
 use Rattle.txc_crossing.specs.declared.numbers.TheConstants.{NOT_OPEN}
 use Rattle.txc_c.specs.Opened.{IsOpenOf, OpenStays}
-use Rattle.txc_c.specs.Sites.{open_at, ForOpen, HasActed, IsSite, OfNumber, SiteValue}
+use Rattle.txc_c.specs.Sites.{open_at, ForOpen, OneHasActed, IsSite, OfNumber, SiteValue}
 use Rattle.txc_c.specs.declared.opened.Open.{Open}
 use Rattle.txc_c.specs.declared.opened.Opened.{Opened}
 use Rattle.txc_c.specs.declared.opened.TheConstants.{MAX_OPEN}
@@ -39,7 +39,7 @@ unchanged s place o there =
 -- ---- one made an act
 
 module _ (stay : OpenStays) (s : SiteValue) (site : IsSite s) (n : ℕ) (o : Opened) (there : get s.opened (n % MAX_OPEN) ≡ Some o) (same : o.number ≡ n)
-    (c' : CallerValue) (keeps : KeepsCaller s.caller c') (grown : HasGrown s.caller.ports.database c'.ports.database) (x' : Open) (is_of : IsOpenOf c' x') where
+    (c' : CallerValue) (keeps : KeepsCaller s.caller c') (grown : HasGrownDatabase s.caller.ports.database c'.ports.database) (x' : Open) (is_of : IsOpenOf c' x') where
   o' : Opened
   o' = record { number = o.number; txn = x' }
 
@@ -60,9 +60,9 @@ module _ (stay : OpenStays) (s : SiteValue) (site : IsSite s) (n : ℕ) (o : Ope
       }
 
   pub acted : (act : CallerValue → Open → ℕ → CallerValue → Open → Type 0) (unwritten : Type 0) (number : ℕ) → act s.caller o.txn number c' x'
-      → OfNumber (HasActed act n) unwritten n s number after_act
+      → OfNumber (OneHasActed act n) unwritten n s number after_act
   acted act unwritten number is =
-      subst (λ (x : Option Open). ForOpen (HasActed act n) unwritten x s number after_act) (sym (found n o (get s.opened (n % MAX_OPEN)) there same)) (record {
+      subst (λ (x : Option Open). ForOpen (OneHasActed act n) unwritten x s number after_act) (sym (found n o (get s.opened (n % MAX_OPEN)) there same)) (record {
         is = x';
         here = found n o' (get after_act.opened (n % MAX_OPEN)) updates.changed same;
         others = record {

@@ -4,10 +4,10 @@ use Rattle.std.specs.Prelude.{if◌then◌else◌}
 use Rattle.std.specs.Option.{ForSome}
 use Rattle.std.proofs.lemmas.Bool.{cases_eq}
 use Rattle.slab.specs.Slab.{Slab, get, Updates}
-use Rattle.txc_caller.specs.Ports.{HasGrown}
+use Rattle.txc_caller.specs.Ports.{HasGrownDatabase}
 use Rattle.txc_caller.specs.Reading.{CallerValue, KeepsCaller}
 use Rattle.txc_c.specs.Opened.{IsOpenOf, OpenStays}
-use Rattle.txc_c.specs.Sites.{of_number, ArePlaced, IsNumberOf, IsPlaced}
+use Rattle.txc_c.specs.Sites.{of_number, AreAtPlaces, IsNumberOf, IsPlaced}
 use Rattle.txc_c.specs.declared.opened.Open.{Open}
 use Rattle.txc_c.specs.declared.opened.Opened.{Opened}
 use Rattle.txc_c.specs.declared.opened.TheConstants.{MAX_OPEN}
@@ -60,8 +60,8 @@ module _ (opened opened' : Slab Opened) (n : ℕ) where
 -- ---- what is true of each place
 
 -- it stays so, with the caller as it is now
-pub placed_on : OpenStays → (c c' : CallerValue) (begun begun' : ℕ) (opened : Slab Opened) → KeepsCaller c c' → HasGrown c.ports.database c'.ports.database
-    → begun ≤ begun' → ArePlaced c begun opened → ArePlaced c' begun' opened
+pub placed_on : OpenStays → (c c' : CallerValue) (begun begun' : ℕ) (opened : Slab Opened) → KeepsCaller c c' → HasGrownDatabase c.ports.database c'.ports.database
+    → begun ≤ begun' → AreAtPlaces c begun opened → AreAtPlaces c' begun' opened
 placed_on stay c c' begun begun' opened keeps grown later all place o there =
     let is = all place o there in
     record {
@@ -73,7 +73,7 @@ placed_on stay c c' begun begun' opened keeps grown later all place o there =
 
 module _ (c : CallerValue) (begun : ℕ) (opened opened' : Slab Opened) (place : ℕ) where
   -- where one is changed or has come, it and the others
-  pub placed_with : (o : Opened) → Updates opened opened' place (Some o) → IsPlaced c begun place o → ArePlaced c begun opened → ArePlaced c begun opened'
+  pub placed_with : (o : Opened) → Updates opened opened' place (Some o) → IsPlaced c begun place o → AreAtPlaces c begun opened → AreAtPlaces c begun opened'
   placed_with o updates is all p x there =
       elim (cases_eq p place) [
         | inl here ↦
@@ -83,7 +83,7 @@ module _ (c : CallerValue) (begun : ℕ) (opened opened' : Slab Opened) (place :
       ]
 
   -- where one is gone, the others
-  pub placed_without : Updates opened opened' place None → ArePlaced c begun opened → ArePlaced c begun opened'
+  pub placed_without : Updates opened opened' place None → AreAtPlaces c begun opened → AreAtPlaces c begun opened'
   placed_without updates all p x there =
       elim (cases_eq p place) [
         | inl here ↦ absurd (none_some x (sym updates.changed ∙ (ap (get opened') (sym here) ∙ there)))

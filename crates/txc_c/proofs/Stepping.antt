@@ -4,9 +4,9 @@ use Rattle.txc_tags.specs.Keys.{Call}
 use Rattle.txc_app.specs.declared.ask.Ask.{Ask}
 use Rattle.txc_txn.specs.Kept.{IsTxn, TxnValue}
 use Rattle.txc_caller.specs.Looking.{IsComputedOnMiss}
-use Rattle.txc_caller.specs.Ports.{HasGrown}
+use Rattle.txc_caller.specs.Ports.{HasGrownDatabase}
 use Rattle.txc_caller.specs.Reading.{open_states, CallerValue, IsOf, IsReadingStep, KeepsCaller, KeepsTxn}
-use Rattle.txc_caller.specs.Telling.{IsToldSo, ObjectsFollow}
+use Rattle.txc_caller.specs.Telling.{IsToldAfterAsk, ObjectsFollow}
 use Rattle.txc_caller.specs.Writing.{base_states, queried_for, CallerWriting, IsWritingStep}
 use Rattle.txc_caller.specs.declared.step.CallerError.{CallerError}
 use Rattle.txc_caller.specs.declared.step.CallerError.TheVariants.{NoFunction}
@@ -19,9 +19,9 @@ use Rattle.txc_c.specs.declared.opened.Open.TheVariants.{Reading, Writing}
 -- ---- in one that only reads
 
 module _ (ask : Ask) (c : CallerValue) (t : TxnValue) (step : Result Step CallerError) (c' : CallerValue) (t' : TxnValue)
-    (told : IsToldSo opaque_next (open_states t'.core) t.core.call ask t'.core.call step) (objects : ObjectsFollow t.objects t.core.call ask t'.objects step)
+    (told : IsToldAfterAsk opaque_next (open_states t'.core) t.core.call ask t'.core.call step) (objects : ObjectsFollow t.objects t.core.call ask t'.objects step)
     (on_miss : IsComputedOnMiss t'.core c.ports.node c'.ports.node step) (keeps : KeepsTxn t t') (meant : IsTxn opaque_next t') (caller : KeepsCaller c c')
-    (grown : HasGrown c.ports.database c'.ports.database) where
+    (grown : HasGrownDatabase c.ports.database c'.ports.database) where
   pub reading_stepped : (k : Call) → IsReadingStep t.core t'.core k step → HasSteppedReading ask k c t step c' t'
   reading_stepped k is = record { is_step = is; told = told; objects = objects; on_miss = on_miss; keeps = keeps; meant = meant; caller = caller; grown = grown }
 
@@ -41,7 +41,7 @@ reading_of c c' t t' keeps caller is = record {
 -- ---- in one that writes
 
 module _ (ask : Ask) (c : CallerValue) (w : CallerWriting) (step : Result Step CallerError) (c' : CallerValue) (w' : CallerWriting)
-    (told : IsToldSo opaque_next (base_states c w.core) w.core.call ask w'.core.call step) (objects : ObjectsFollow w.objects w.core.call ask w'.objects step)
+    (told : IsToldAfterAsk opaque_next (base_states c w.core) w.core.call ask w'.core.call step) (objects : ObjectsFollow w.objects w.core.call ask w'.objects step)
     (queried : OnOk step (w'.core.queried ≡ w.core.queried ++ queried_for ask)) (unqueried : OnErr step (w'.core.queried ≡ w.core.queried))
     (same : w' ≡ record w {
       core = record w.core { queried = w'.core.queried; answers = w'.core.answers; call = w'.core.call };

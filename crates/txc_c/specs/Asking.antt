@@ -22,7 +22,7 @@ use Rattle.txc_rw.specs.Transitions.{IsQueryLeft}
 use Rattle.txc_rw.specs.declared.given.Given.TheVariants as given
 use Rattle.txc_caller.specs.Reading.{read_stamp, CallerValue, KeepsTxn}
 use Rattle.txc_caller.specs.Telling.{told_answer, top_call}
-use Rattle.txc_caller.specs.Writing.{CallerWriting, ChangeLeaves, IsReadRefused}
+use Rattle.txc_caller.specs.Writing.{CallerWriting, ChangeLeaves, IsOwnReadRefused}
 use Rattle.txc_caller.specs.declared.step.CallerError.{CallerError}
 use Rattle.txc_caller.specs.declared.step.Step.{Step}
 use Rattle.txc_crossing.specs.Crossing.{is_call, named_call, written_in}
@@ -30,10 +30,10 @@ use Rattle.txc_crossing.specs.Numbers.{bytes_number}
 use Rattle.txc_crossing.specs.declared.crossing.TxcKey.{TxcKey}
 use Rattle.txc_crossing.specs.declared.numbers.TheConstants.{ANSWERED, BAD_ARGUMENT, DONE, MISS, NO_MEMORY, NOT_OPEN, REFUSED}
 use Rattle.txc_c.specs.Opaque.{opaque_next}
-use Rattle.txc_c.specs.Opened.{call_of, IsStep}
+use Rattle.txc_c.specs.Opened.{calling_of, IsAskStep}
 use Rattle.txc_c.specs.Receipts.{crossing_row, is_query, query_of}
-use Rattle.txc_c.specs.Sites.{HasActed, OfNumber, SiteValue, Stays}
-use Rattle.txc_c.specs.Telling.{buffer, last_of, rows_found, step_bytes, step_len, step_number, Buffer, LastTold}
+use Rattle.txc_c.specs.Sites.{OneHasActed, OfNumber, SiteValue, Stays}
+use Rattle.txc_c.specs.Telling.{buffer, last_answer_of, rows_found, step_bytes, step_len, step_number, Buffer, LastTold}
 use Rattle.txc_c.specs.declared.opened.Open.{Open}
 use Rattle.txc_c.specs.declared.opened.Open.TheVariants.{Reading, Writing}
 use Rattle.txc_c.specs.declared.receipts.TxcQuery.{TxcQuery}
@@ -41,17 +41,17 @@ use Rattle.txc_c.specs.declared.receipts.TxcRow.{TxcRow}
 
 -- the transaction of that number made this act, and every other is as it was; or none of that number is open, and nothing is written
 abbrev pub ActsAs : (CallerValue → Open → ℕ → CallerValue → Open → Type 0) → Type 0 → ℕ → SiteValue → ℕ → SiteValue → Type 0
-ActsAs act unwritten n old number new = OfNumber (HasActed act n) unwritten n old number new
+ActsAs act unwritten n old number new = OfNumber (OneHasActed act n) unwritten n old number new
 
 -- ---- steps
 
 -- what comes of an ask, by this number and in the buffer
 pub record StepAct (ask : Ask) (was is : Buffer) (c : CallerValue) (x : Open) (number : ℕ) (c' : CallerValue) (x' : Open) : Type 0 where
   pub step : Result Step CallerError
-  pub is_step : IsStep ask c x step c' x'
-  pub number_is : number ≡ step_number (length was.bytes) (told_answer (call_of x')) step
-  pub len_is : is.len ≡ step_len (told_answer (call_of x')) step was.len
-  pub bytes_are : is.bytes ≡ step_bytes (told_answer (call_of x')) step was.bytes
+  pub is_step : IsAskStep ask c x step c' x'
+  pub number_is : number ≡ step_number (length was.bytes) (told_answer (calling_of x')) step
+  pub len_is : is.len ≡ step_len (told_answer (calling_of x')) step was.len
+  pub bytes_are : is.bytes ≡ step_bytes (told_answer (calling_of x')) step was.bytes
 
 -- an ask in the transaction of that number
 abbrev pub StepComesTo : Ask → Buffer → Buffer → ℕ → SiteValue → ℕ → SiteValue → Type 0
@@ -88,7 +88,7 @@ pub record HasFoundRows (query : Query) (c : CallerValue) (w : CallerWriting) (n
 pub record HasRefusedRows (query : Query) (c : CallerValue) (w : CallerWriting) (number count count' : ℕ) (w' : CallerWriting) : Type 0 where
   pub error : TxnError
   pub number_is : number ≡ txn_number error
-  pub refused : IsReadRefused c.ports.database w.core.base query error
+  pub refused : IsOwnReadRefused c.ports.database w.core.base query error
   pub left : IsQueryLeft w.core query w'.core error
   pub same : w' ≡ record w { core = w'.core }
   pub count_is : count' ≡ count
@@ -134,16 +134,16 @@ pub record HasGivenWritingUp (w w' : CallerWriting) : Type 0 where
   pub same : w' ≡ record w { core = record w.core { call = w'.core.call }; objects = w'.objects }
   pub objects : AllIdle w'.objects
 
-abbrev pub HasGivenUp : Open → Open → Type 0
-HasGivenUp (Reading t) (Reading t') = HasGivenReadingUp t t'
-HasGivenUp (Reading t) (Writing w') = ⊥
-HasGivenUp (Writing w) (Writing w') = HasGivenWritingUp w w'
-HasGivenUp (Writing w) (Reading t') = ⊥
+abbrev pub HasGivenCallUp : Open → Open → Type 0
+HasGivenCallUp (Reading t) (Reading t') = HasGivenReadingUp t t'
+HasGivenCallUp (Reading t) (Writing w') = ⊥
+HasGivenCallUp (Writing w) (Writing w') = HasGivenWritingUp w w'
+HasGivenCallUp (Writing w) (Reading t') = ⊥
 
 -- the whole open call is given up, if one is open
 pub record GiveUpAct (c : CallerValue) (x : Open) (number : ℕ) (c' : CallerValue) (x' : Open) : Type 0 where
-  pub number_is : number ≡ given_up_number (top_call (call_of x))
-  pub given_up : HasGivenUp x x'
+  pub number_is : number ≡ given_up_number (top_call (calling_of x))
+  pub given_up : HasGivenCallUp x x'
   pub caller : c' ≡ c
 
 abbrev pub GiveUpComesTo : ℕ → SiteValue → ℕ → SiteValue → Type 0
@@ -202,19 +202,19 @@ RowOf at row row' was is x number =
 
 -- what was answered last
 abbrev pub LastOf : Buffer → Buffer → Option Open → ℕ → Type 0
-LastOf was is x number = TellsOf (λ o n. LastTold (last_of o) n was is) (is ≡ was) x number
+LastOf was is x number = TellsOf (λ o n. LastTold (last_answer_of o) n was is) (is ≡ was) x number
 
 -- the stamp at which a transaction reads next; none if it pins the present first
-abbrev pub next_stamp : Open → Option ℕ
-next_stamp (Reading t) = read_stamp t.core
-next_stamp (Writing w) = Some w.core.base
+abbrev pub stamp_read_next : Open → Option ℕ
+stamp_read_next (Reading t) = read_stamp t.core
+stamp_read_next (Writing w) = Some w.core.base
 
 abbrev pub StampTold : Option ℕ → ℕ → ℕ → ℕ → Type 0
 StampTold (Some stamp) number was is = (number ≡ DONE) × (is ≡ stamp)
 StampTold None number was is = (number ≡ MISS) × (is ≡ was)
 
 abbrev pub ReadStampOf : ℕ → ℕ → Option Open → ℕ → Type 0
-ReadStampOf was is x number = TellsOf (λ o n. StampTold (next_stamp o) n was is) (is ≡ was) x number
+ReadStampOf was is x number = TellsOf (λ o n. StampTold (stamp_read_next o) n was is) (is ≡ was) x number
 
 -- one of the pins at which all is right that a transaction was answered, the newest first
 abbrev pub PinTold : Option Pin → ℕ → ℕ × ℕ → ℕ × ℕ → Type 0

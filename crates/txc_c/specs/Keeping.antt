@@ -3,7 +3,7 @@ use Rattle.std.specs.Prelude.{◌≡◌, ◌⊎◌, ℕ, length, Result, Ok, Err
 use Rattle.txc_cushion.specs.Cushion.{retired}
 use Rattle.txc_cushion.specs.declared.error.AddError.{AddError}
 use Rattle.txc_cushion.specs.declared.error.AddError.TheVariants as adds
-use Rattle.txc_caller.specs.Pinning.{HasNotPinned, HasPinned}
+use Rattle.txc_caller.specs.Pinning.{HasNotPinned, HasPinnedNewest}
 use Rattle.txc_caller.specs.declared.pinning.PinError.{PinError}
 use Rattle.txc_caller.specs.declared.pinning.PinError.TheVariants as pins
 use Rattle.txc_db.specs.DatabaseValue.{next_horizon}
@@ -101,7 +101,7 @@ pub record IsNotPinned (moment : ℕ) (old : CallerValue) (number : ℕ) (new : 
 
 -- the newest state has a pin of that moment, which no transaction uses, and its stamp is written
 abbrev pub HasPinnedOrNot : ℕ → ℕ → ℕ → CallerValue → ℕ → CallerValue → Type 0
-HasPinnedOrNot moment was is old number new = ((number ≡ DONE) × HasPinned moment old.ports is new.ports)
+HasPinnedOrNot moment was is old number new = ((number ≡ DONE) × HasPinnedNewest moment old.ports is new.ports)
     ⊎ (IsNotPinned moment old number new × (is ≡ was))
 
 -- whatever is open stays so

@@ -7,9 +7,9 @@ use Rattle.txc_registry.specs.Objects.{Objects}
 use Rattle.txc_call.specs.Calling.{Calling}
 use Rattle.txc_txn.specs.Kept.{IsTxn, TxnValue}
 use Rattle.txc_caller.specs.Looking.{IsComputedOnMiss}
-use Rattle.txc_caller.specs.Ports.{HasGrown}
+use Rattle.txc_caller.specs.Ports.{HasGrownDatabase}
 use Rattle.txc_caller.specs.Reading.{open_states, CallerValue, IsOf, IsReadingStep, KeepsCaller, KeepsTxn}
-use Rattle.txc_caller.specs.Telling.{top_call, top_or, AsksNext, IsToldSo, ObjectsFollow}
+use Rattle.txc_caller.specs.Telling.{top_call, top_or, AsksNext, IsToldAfterAsk, ObjectsFollow}
 use Rattle.txc_caller.specs.Writing.{base_states, queried_for, CallerWriting, IsWriteOf, IsWritingStep}
 use Rattle.txc_caller.specs.declared.step.CallerError.{CallerError}
 use Rattle.txc_caller.specs.declared.step.CallerError.TheVariants.{NoFunction}
@@ -21,9 +21,9 @@ use Rattle.txc_c.specs.declared.opened.Open.TheVariants.{Reading, Writing}
 -- ---- either transaction
 
 -- how its call stands
-abbrev pub call_of : Open → Calling
-call_of (Reading t) = t.core.call
-call_of (Writing w) = w.core.call
+abbrev pub calling_of : Open → Calling
+calling_of (Reading t) = t.core.call
+calling_of (Writing w) = w.core.call
 
 -- what its functions were told
 abbrev pub objects_of : Open → Objects
@@ -37,11 +37,11 @@ IsOpenOf c (Writing w) = IsWriteOf opaque_next c w
 
 -- What an act of another leaves: one of the caller as it was is one of the caller as it is.
 abbrev pub OpenStays : Type 0
-OpenStays = (c c' : CallerValue) (x : Open) → KeepsCaller c c' → HasGrown c.ports.database c'.ports.database → IsOpenOf c x → IsOpenOf c' x
+OpenStays = (c c' : CallerValue) (x : Open) → KeepsCaller c c' → HasGrownDatabase c.ports.database c'.ports.database → IsOpenOf c x → IsOpenOf c' x
 
 -- what the caller owes: the function that is computed asks this next, if one is
 abbrev pub OpenAsksNext : Ask → Open → Type 0
-OpenAsksNext ask x = AsksNext opaque_next (objects_of x) (call_of x) ask
+OpenAsksNext ask x = AsksNext opaque_next (objects_of x) (calling_of x) ask
 
 -- ---- a step
 
@@ -55,19 +55,19 @@ stepped_call ask call = top_call call
 pub record HasSteppedReading (ask : Ask) (k : Call) (c : CallerValue) (t : TxnValue) (step : Result Step CallerError) (c' : CallerValue)
     (t' : TxnValue) : Type 0 where
   pub is_step : IsReadingStep t.core t'.core k step
-  pub told : IsToldSo opaque_next (open_states t'.core) t.core.call ask t'.core.call step
+  pub told : IsToldAfterAsk opaque_next (open_states t'.core) t.core.call ask t'.core.call step
   pub objects : ObjectsFollow t.objects t.core.call ask t'.objects step
   pub on_miss : IsComputedOnMiss t'.core c.ports.node c'.ports.node step
   pub keeps : KeepsTxn t t'
   pub meant : IsTxn opaque_next t'
   pub caller : KeepsCaller c c'
-  pub grown : HasGrown c.ports.database c'.ports.database
+  pub grown : HasGrownDatabase c.ports.database c'.ports.database
 
 -- In one that writes the same, but that no node is asked. Each query that was answered counts as read, and the caller is as it was.
 pub record HasSteppedWriting (ask : Ask) (k : Call) (c : CallerValue) (w : CallerWriting) (step : Result Step CallerError) (c' : CallerValue)
     (w' : CallerWriting) : Type 0 where
   pub is_step : IsWritingStep w.core w'.core k step
-  pub told : IsToldSo opaque_next (base_states c w.core) w.core.call ask w'.core.call step
+  pub told : IsToldAfterAsk opaque_next (base_states c w.core) w.core.call ask w'.core.call step
   pub objects : ObjectsFollow w.objects w.core.call ask w'.objects step
   pub queried : OnOk step (w'.core.queried ≡ w.core.queried ++ queried_for ask)
   pub unqueried : OnErr step (w'.core.queried ≡ w.core.queried)
@@ -77,17 +77,17 @@ pub record HasSteppedWriting (ask : Ask) (k : Call) (c : CallerValue) (w : Calle
   }
   pub caller : c' ≡ c
 
-abbrev pub HasStepped : Ask → Call → CallerValue → Open → Result Step CallerError → CallerValue → Open → Type 0
-HasStepped ask k c (Reading t) step c' (Reading t') = HasSteppedReading ask k c t step c' t'
-HasStepped ask k c (Reading t) step c' (Writing w') = ⊥
-HasStepped ask k c (Writing w) step c' (Writing w') = HasSteppedWriting ask k c w step c' w'
-HasStepped ask k c (Writing w) step c' (Reading t') = ⊥
+abbrev pub HasMadeAsk : Ask → Call → CallerValue → Open → Result Step CallerError → CallerValue → Open → Type 0
+HasMadeAsk ask k c (Reading t) step c' (Reading t') = HasSteppedReading ask k c t step c' t'
+HasMadeAsk ask k c (Reading t) step c' (Writing w') = ⊥
+HasMadeAsk ask k c (Writing w) step c' (Writing w') = HasSteppedWriting ask k c w step c' w'
+HasMadeAsk ask k c (Writing w) step c' (Reading t') = ⊥
 
 -- a step of that call; or no function is computed that could ask, and all is as it was
 abbrev pub StepsIn : Option Call → Ask → CallerValue → Open → Result Step CallerError → CallerValue → Open → Type 0
-StepsIn (Some k) ask c x step c' x' = HasStepped ask k c x step c' x'
+StepsIn (Some k) ask c x step c' x' = HasMadeAsk ask k c x step c' x'
 StepsIn None ask c x step c' x' = (step ≡ Err NoFunction) × (x' ≡ x) × (c' ≡ c)
 
 -- what comes of an ask
-abbrev pub IsStep : Ask → CallerValue → Open → Result Step CallerError → CallerValue → Open → Type 0
-IsStep ask c x step c' x' = StepsIn (stepped_call ask (call_of x)) ask c x step c' x'
+abbrev pub IsAskStep : Ask → CallerValue → Open → Result Step CallerError → CallerValue → Open → Type 0
+IsAskStep ask c x step c' x' = StepsIn (stepped_call ask (calling_of x)) ask c x step c' x'

@@ -7,7 +7,7 @@ use Rattle.txc_caller.specs.Ports.{HasEventRoom, IsNewDatabase}
 use Rattle.txc_caller.specs.Reading.{CallerValue}
 use Rattle.txc_crossing.specs.declared.numbers.TheConstants.{NO_MEMORY, NOT_OPEN, REFUSED}
 use Rattle.txc_c.specs.Opened.{IsOpenOf}
-use Rattle.txc_c.specs.Settings.{node_of, renew_after_of, room_of}
+use Rattle.txc_c.specs.Settings.{site_node_of, renew_after_of, room_of}
 use Rattle.txc_c.specs.declared.opened.Open.{Open}
 use Rattle.txc_c.specs.declared.opened.Opened.{Opened}
 use Rattle.txc_c.specs.declared.opened.TheConstants.{MAX_OPEN, MOST_BEGUN}
@@ -43,11 +43,11 @@ pub record IsPlaced (c : CallerValue) (begun place : ℕ) (o : Opened) : Type 0 
   pub given : count ≤ begun
   pub of_caller : IsOpenOf c o.txn
 
-abbrev pub ArePlaced : CallerValue → ℕ → Slab Opened → Type 0
-ArePlaced c begun opened = (place : ℕ) → ForSome (get opened place) (IsPlaced c begun place)
+abbrev pub AreAtPlaces : CallerValue → ℕ → Slab Opened → Type 0
+AreAtPlaces c begun opened = (place : ℕ) → ForSome (get opened place) (IsPlaced c begun place)
 
 pub record IsSite (s : SiteValue) : Type 0 where
-  pub placed : ArePlaced s.caller s.begun s.opened
+  pub placed : AreAtPlaces s.caller s.begun s.opened
   pub few : s.begun ≤ MOST_BEGUN
 
 -- there is such room, nothing has happened, and none has begun
@@ -55,14 +55,14 @@ pub record IsNewSite (settings : TxcSiteSettings) (s : SiteValue) : Type 0 where
   pub room : HasEventRoom (room_of settings) s.caller.ports.database.events
   pub database : IsNewDatabase s.caller.ports.database
   pub cushion : s.caller.ports.cushion.entries ≡ []
-  pub node : s.caller.ports.node.cache ≡ start_of (node_of settings) 0
+  pub node : s.caller.ports.node.cache ≡ start_of (site_node_of settings) 0
   pub renew_after : s.caller.renew_after ≡ renew_after_of settings
   pub none : s.opened.slots ≡ []
   pub begun : s.begun ≡ 0
 
 -- one more may begin: there is a place for it, and a number
-abbrev pub has_place : SiteValue → Bool
-has_place s = nat_lt s.opened.vacant_key MAX_OPEN && nat_lt s.begun MOST_BEGUN
+abbrev pub may_begin : SiteValue → Bool
+may_begin s = nat_lt s.opened.vacant_key MAX_OPEN && nat_lt s.begun MOST_BEGUN
 
 -- ---- what a call leaves
 
@@ -76,22 +76,22 @@ pub record KeepsOpen (old new : SiteValue) : Type 0 where
   pub begun : new.begun ≡ old.begun
 
 -- each but the one of this number is as it was, and none has begun
-pub record KeepsOthers (n : ℕ) (old new : SiteValue) : Type 0 where
+pub record KeepsOtherTransactions (n : ℕ) (old new : SiteValue) : Type 0 where
   pub others : (m : ℕ) → m ≢ n → open_at new m ≡ open_at old m
   pub begun : new.begun ≡ old.begun
 
 -- the one of this number, which was so, made this act; every other is as it was
-pub record HasActed (act : CallerValue → Open → ℕ → CallerValue → Open → Type 0) (n : ℕ) (was : Open) (old : SiteValue) (number : ℕ)
+pub record OneHasActed (act : CallerValue → Open → ℕ → CallerValue → Open → Type 0) (n : ℕ) (was : Open) (old : SiteValue) (number : ℕ)
     (new : SiteValue) : Type 0 where
   pub is : Open
   pub here : open_at new n ≡ Some is
-  pub others : KeepsOthers n old new
+  pub others : KeepsOtherTransactions n old new
   pub acted : act old.caller was number new.caller is
 
 -- the one of this number has ended so; every other is as it was
 pub record HasEndedAt (end_is : CallerValue → CallerValue → Type 0) (n : ℕ) (old new : SiteValue) : Type 0 where
   pub gone : open_at new n ≡ None
-  pub others : KeepsOthers n old new
+  pub others : KeepsOtherTransactions n old new
   pub ended : end_is old.caller new.caller
 
 -- One has begun so, with this number, which none had before; every other is as it was.
@@ -109,23 +109,23 @@ pub record HasBegunAt (begin_is : CallerValue → CallerValue → Open → Type 
 
 -- there is room for one more, at the place that was the next one
 pub record HasMadeRoom (old new : SiteValue) : Type 0 where
-  pub may : has_place old ≡ true
+  pub may : may_begin old ≡ true
   pub room : HasRoomFor new.opened 1
   pub same : new ≡ record old { opened = record old.opened { capacity = new.opened.capacity } }
 
 -- memory is wanting for the place of one more
 pub record HasNoMemory (old : SiteValue) (number : ℕ) (new : SiteValue) : Type 0 where
-  pub may : has_place old ≡ true
+  pub may : may_begin old ≡ true
   pub number_is : number ≡ NO_MEMORY
   pub caller : new.caller ≡ old.caller
   pub keeps : KeepsOpen old new
 
 -- there is no place or no number for one more; or memory is wanting
 abbrev pub IsNoRoom : SiteValue → ℕ → SiteValue → Type 0
-IsNoRoom old number new = ((has_place old ≡ false) × Stays REFUSED old number new) ⊎ HasNoMemory old number new
+IsNoRoom old number new = ((may_begin old ≡ false) × Stays REFUSED old number new) ⊎ HasNoMemory old number new
 
 -- a transaction was put at a place, and has a number of it
-pub record HasAdded (txn : Open) (old : Slab Opened) (begun : ℕ) (new : Slab Opened) (begun' n : ℕ) : Type 0 where
+pub record HasPutAtPlace (txn : Open) (old : Slab Opened) (begun : ℕ) (new : Slab Opened) (begun' n : ℕ) : Type 0 where
   pub one_more : begun' ≡ begun + 1
   pub place : ℕ
   pub numbered : IsNumberOf place begun' n

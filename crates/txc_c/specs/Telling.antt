@@ -16,7 +16,7 @@ use Rattle.txc_caller.specs.declared.step.Step.TheVariants as steps
 use Rattle.txc_crossing.specs.Crossing.{written_in}
 use Rattle.txc_crossing.specs.Numbers.{bytes_number}
 use Rattle.txc_crossing.specs.declared.numbers.TheConstants.{DONE, MISS, COMPUTE, ANSWERED, NOT_OPEN, REFUSED}
-use Rattle.txc_c.specs.Opened.{call_of}
+use Rattle.txc_c.specs.Opened.{calling_of}
 use Rattle.txc_c.specs.declared.opened.Open.{Open}
 use Rattle.txc_c.specs.declared.opened.Open.TheVariants.{Reading, Writing}
 
@@ -115,20 +115,20 @@ last_while (Some top) told outside = last_told told
 last_while None told outside = outside
 
 -- what was answered last: to the function that is computed, or else outside all functions
-abbrev pub last_of : Open → Option Last
-last_of x = last_while (top_call (call_of x)) (told_answer (call_of x)) (last_outside x)
+abbrev pub last_answer_of : Open → Option Last
+last_answer_of x = last_while (top_call (calling_of x)) (told_answer (calling_of x)) (last_outside x)
 
 abbrev pub answer_rows : Answer → List RowValue
 answer_rows (answers.Rows rows) = rows
 answer_rows (answers.Value value) = []
 
-abbrev pub rows_in : Option Last → List RowValue
-rows_in (Some last) = answer_rows last.answer
-rows_in None = []
+abbrev pub rows_of_last : Option Last → List RowValue
+rows_of_last (Some last) = answer_rows last.answer
+rows_of_last None = []
 
 -- the rows that were found last, while nothing else was answered
 abbrev pub rows_found : Open → List RowValue
-rows_found x = rows_in (last_of x)
+rows_found x = rows_of_last (last_answer_of x)
 
 -- it is written, if there is one
 abbrev pub LastTold : Option Last → ℕ → Buffer → Buffer → Type 0

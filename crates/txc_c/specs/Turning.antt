@@ -18,14 +18,14 @@ use Rattle.txc_rw.specs.Answers.{AreRightIn}
 use Rattle.txc_rw.specs.Core.{tags_read}
 use Rattle.txc_rw.specs.Outcomes.{IsCommitted}
 use Rattle.txc_caller.specs.Ports.{MayHaveTaken}
-use Rattle.txc_caller.specs.Reading.{with_cushion, CallerValue, HasEnded, IsBegunReading}
+use Rattle.txc_caller.specs.Reading.{with_cushion, CallerValue, HasEndedReading, IsBegunReading}
 use Rattle.txc_caller.specs.Telling.{top_call}
 use Rattle.txc_caller.specs.Writing.{CallerWriting, HasAbortedWrite, HasCommittedWrite, IsBegunWrite, IsWriteLeft, IsWriteCommitRefused}
 use Rattle.txc_caller.specs.declared.step.WriteError.{WriteError}
 use Rattle.txc_caller.specs.declared.step.WriteError.TheVariants.{Database, MidCall}
 use Rattle.txc_c.specs.Opaque.{opaque_next}
 use Rattle.txc_c.specs.Receipts.{crossing_receipt}
-use Rattle.txc_c.specs.Sites.{has_place, HasBegunAt, HasEndedAt, IsNoRoom, KeepsOpen, OfNumber, SiteValue, Stays}
+use Rattle.txc_c.specs.Sites.{may_begin, HasBegunAt, HasEndedAt, IsNoRoom, KeepsOpen, OfNumber, SiteValue, Stays}
 use Rattle.txc_c.specs.declared.receipts.TxcReceipt.{TxcReceipt}
 use Rattle.txc_c.specs.declared.opened.Open.{Open}
 use Rattle.txc_c.specs.declared.opened.Open.TheVariants.{Reading, Writing}
@@ -76,7 +76,7 @@ BeginsOrNot bounds was is old number new = ((number ≡ DONE) × HasBegunAt (Beg
 -- if there is room for one more, this comes of it
 abbrev pub PlacedComesTo : (SiteValue → ℕ → SiteValue → Type 0) → Type 0 → SiteValue → ℕ → SiteValue → Type 0
 PlacedComesTo begins unwritten old number new =
-    ((has_place old ≡ true) × begins old number new) ⊎ (IsNoRoom old number new × unwritten)
+    ((may_begin old ≡ true) × begins old number new) ⊎ (IsNoRoom old number new × unwritten)
 
 -- of a transaction that only reads; its number is written if it has begun
 abbrev pub BeginPlaced : Bounds → ℕ → ℕ → SiteValue → ℕ → SiteValue → Type 0
@@ -138,7 +138,7 @@ pub record HasCommitted (t : TxnValue) (receipt : TxcReceipt) (c c' : CallerValu
       (receipt_pin t.core.recorded t.core.pins.members) t.core.recorded
   pub not_before : IsAtLeast t.core.bounds.at_least (receipt_pin t.core.recorded t.core.pins.members)
   pub row : t.core.seen.events ≡ c'.ports.database.events
-  pub ended : HasEnded t c c'
+  pub ended : HasEndedReading t c c'
 
 -- if its call stands so
 abbrev pub CommitsReading : Option Call → TxnValue → TxcReceipt → TxcReceipt → ℕ → SiteValue → ℕ → SiteValue → Type 0
@@ -181,7 +181,7 @@ CommitWriteComesTo was is n old number new = OfNumber (CommitsWriteAt was is n) 
 
 -- it is given up: its pins are given back, or the hold of its base is taken away
 abbrev pub HasAborted : Open → CallerValue → CallerValue → Type 0
-HasAborted (Reading t) c c' = HasEnded t c c'
+HasAborted (Reading t) c c' = HasEndedReading t c c'
 HasAborted (Writing w) c c' = HasAbortedWrite w c c'
 
 abbrev pub AbortsAt : ℕ → Open → SiteValue → ℕ → SiteValue → Type 0

@@ -1,6 +1,6 @@
 //! What keeps a site small, whatever is open, and pins for transactions that begin later.
 ghost use Rattle.std.specs.Prelude.{◌≡◌};
-ghost use Rattle.txc_caller.specs.Ports.{HasGrown};
+ghost use Rattle.txc_caller.specs.Ports.{HasGrownDatabase};
 ghost use Rattle.txc_caller.specs.Reading.{KeepsCaller};
 ghost use Rattle.txc_c.specs.Keeping.{add_number, node_number, pin_number, HasKept, KeepComesTo, PinComesTo};
 
@@ -58,7 +58,7 @@ fn pin_number(error: PinError) -> u32
 fn keep(alloc: Global, caller: &mut Caller<Opaque>, now: u64, age: u64, kept: &mut TxcKept) -> u32
     ensures kept { HasKept now age caller.old result kept.old kept.new caller.new }
     ensures caller { KeepsCaller caller.old caller.new }
-    ensures grown { HasGrown caller.old.ports.database caller.new.ports.database }
+    ensures grown { HasGrownDatabase caller.old.ports.database caller.new.ports.database }
 {
     let Ok(retired) = caller.retire(alloc, now, age) else {
         return NO_MEMORY;

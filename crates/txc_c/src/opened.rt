@@ -3,9 +3,9 @@ ghost use Rattle.std.specs.Prelude.{◌≡◌, ◌↔◌, ◌%◌, ◌<◌, IsSo
 ghost use Rattle.slab.specs.Slab.{HasRoomFor};
 ghost use Rattle.txc_caller.specs.Reading.{CallerValue};
 ghost use Rattle.txc_caller.specs.Telling.{told_answer, top_call};
-ghost use Rattle.txc_c.specs.Asking.{next_stamp, HasGivenUp};
-ghost use Rattle.txc_c.specs.Opened.{call_of, IsOpenOf, IsStep, OpenAsksNext, OpenStays};
-ghost use Rattle.txc_c.specs.Sites.{HasAdded};
+ghost use Rattle.txc_c.specs.Asking.{stamp_read_next, HasGivenCallUp};
+ghost use Rattle.txc_c.specs.Opened.{calling_of, IsOpenOf, IsAskStep, OpenAsksNext, OpenStays};
+ghost use Rattle.txc_c.specs.Sites.{HasPutAtPlace};
 
 use crate::opaque::Opaque;
 use slab::Slab;
@@ -47,7 +47,7 @@ pub(crate) fn add(opened: &mut Slab<Opened>, begun: &mut u64, txn: Open) -> u64
     requires room { HasRoomFor opened.old 1 }
     requires place { opened.old.vacant_key < MAX_OPEN }
     requires number { begun.old < MOST_BEGUN }
-    ensures { HasAdded txn opened.old begun.old opened.new begun.new result }
+    ensures { HasPutAtPlace txn opened.old begun.old opened.new begun.new result }
 {
     *begun += 1;
     let number = opened.vacant_key() as u64 + MAX_OPEN * *begun;
@@ -72,7 +72,7 @@ impl Open {
     ) -> Result<Step, CallerError>
         requires of_caller { IsOpenOf caller.old self.old }
         requires asks { OpenAsksNext ask self.old }
-        ensures step { IsStep ask caller.old self.old result caller.new self.new }
+        ensures step { IsAskStep ask caller.old self.old result caller.new self.new }
         ensures of_caller { IsOpenOf caller.new self.new }
     {
         match self {
@@ -91,8 +91,8 @@ impl Open {
 
     /// Gives the whole open call up, and returns whether one was open.
     pub(crate) fn give_up(&mut self) -> bool
-        ensures answer { IsTrue result ↔ IsSome (top_call (call_of self.old)) }
-        ensures given_up { HasGivenUp self.old self.new }
+        ensures answer { IsTrue result ↔ IsSome (top_call (calling_of self.old)) }
+        ensures given_up { HasGivenCallUp self.old self.new }
         ensures of_caller { (c : CallerValue) → IsOpenOf c self.old → IsOpenOf c self.new }
     {
         match self {
@@ -103,7 +103,7 @@ impl Open {
 
     /// Returns whether a function is computed.
     pub(crate) fn is_computing(&self) -> bool
-        ensures { IsTrue result ↔ IsSome (top_call (call_of self.now)) }
+        ensures { IsTrue result ↔ IsSome (top_call (calling_of self.now)) }
     {
         match self {
             Open::Reading(txn) => txn.is_computing(),
@@ -113,8 +113,8 @@ impl Open {
 
     /// Returns the answer with which the function that is computed continues; none if it is to begin, or if none is computed.
     pub(crate) fn told(&self) -> Option<&Answer>
-        ensures { MatchOption result (told_answer (call_of self.now) ≡ None)
-            (λ answer. told_answer (call_of self.now) ≡ Some answer.now) }
+        ensures { MatchOption result (told_answer (calling_of self.now) ≡ None)
+            (λ answer. told_answer (calling_of self.now) ≡ Some answer.now) }
     {
         match self {
             Open::Reading(txn) => txn.answer(),
@@ -124,7 +124,7 @@ impl Open {
 
     /// Returns the stamp of the state that its next query reads; none if that pins the present first.
     pub(crate) fn read_stamp(&self) -> Option<Stamp>
-        ensures { result ≡ next_stamp self.now }
+        ensures { result ≡ stamp_read_next self.now }
     {
         match self {
             Open::Reading(txn) => txn.read_stamp(),

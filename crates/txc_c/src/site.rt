@@ -2,7 +2,7 @@
 ghost use Rattle.std.specs.Prelude.{◌≡◌, IfErr, IfOk, MatchOption, None, Some, true};
 ghost use Rattle.txc_db.specs.Refusals.{IsWant};
 ghost use Rattle.txc_c.specs.Settings.{are_settings};
-ghost use Rattle.txc_c.specs.Sites.{has_place, open_at, IsNewSite};
+ghost use Rattle.txc_c.specs.Sites.{may_begin, open_at, IsNewSite};
 
 use crate::opaque::Opaque;
 use crate::opened::{MAX_OPEN, MOST_BEGUN, Open, Opened, place_of};
@@ -55,7 +55,7 @@ impl Site {
 
     /// Returns whether one more transaction may begin.
     pub(crate) fn has_place(&self) -> bool
-        ensures { result ≡ has_place self.now }
+        ensures { result ≡ may_begin self.now }
     {
         (self.opened.vacant_key() as u64) < MAX_OPEN && self.begun < MOST_BEGUN
     }

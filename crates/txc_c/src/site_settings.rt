@@ -1,6 +1,6 @@
 //! How a site is made, as it crosses.
 ghost use Rattle.std.specs.Prelude.{◌≡◌};
-ghost use Rattle.txc_c.specs.Settings.{are_settings, capacity_of, events_of, node_of, or_default, recent_of, renew_after_of, room_in, room_of, said};
+ghost use Rattle.txc_c.specs.Settings.{are_settings, capacity_of, stored_events_of, site_node_of, or_default, recent_of, renew_after_of, room_for_events, room_of, said};
 
 use txc_node::{MAX_CAPACITY, MAX_RECENT};
 use txc_shared::NodeSettings;
@@ -37,7 +37,7 @@ fn or_default(default: usize, value: usize) -> usize
 
 // For how many events there is to be room, if they are stored.
 fn room_in(events: usize) -> Option<usize>
-    ensures { result ≡ room_in events }
+    ensures { result ≡ room_for_events events }
 {
     if events == 0 { None } else { Some(events) }
 }
@@ -51,7 +51,7 @@ impl TxcSiteSettings {
     }
 
     fn events(&self) -> usize
-        ensures { result ≡ events_of self.now }
+        ensures { result ≡ stored_events_of self.now }
     {
         self.said(EVENTS_END, self.events)
     }
@@ -77,7 +77,7 @@ impl TxcSiteSettings {
 
     /// Returns the settings of the node.
     pub(crate) fn node(&self) -> NodeSettings
-        ensures { result ≡ node_of self.now }
+        ensures { result ≡ site_node_of self.now }
     {
         NodeSettings {
             number: 0,

@@ -1,8 +1,8 @@
 //! What is told of a step and of what was answered last, and written for the caller.
 ghost use Rattle.std.specs.Prelude.{◌≡◌, length};
 ghost use Rattle.txc_caller.specs.Telling.{told_answer};
-ghost use Rattle.txc_c.specs.Opened.{call_of};
-ghost use Rattle.txc_c.specs.Telling.{answer_bytes, answer_len, answer_number, buffer, error_number, last_of, last_outside, rows_found, rows_in, step_bytes, step_len, step_number, LastTold};
+ghost use Rattle.txc_c.specs.Opened.{calling_of};
+ghost use Rattle.txc_c.specs.Telling.{answer_bytes, answer_len, answer_number, buffer, error_number, last_answer_of, last_outside, rows_found, rows_of_last, step_bytes, step_len, step_number, LastTold};
 
 use crate::opened::Open;
 use txc_app::Answer;
@@ -43,9 +43,9 @@ pub(crate) fn tell_step(
     value: &mut [u8],
     len: &mut usize,
 ) -> u32
-    ensures number { result ≡ step_number (length value.old) (told_answer (call_of txn.now)) step }
-    ensures len { len.new ≡ step_len (told_answer (call_of txn.now)) step len.old }
-    ensures bytes { value.new ≡ step_bytes (told_answer (call_of txn.now)) step value.old }
+    ensures number { result ≡ step_number (length value.old) (told_answer (calling_of txn.now)) step }
+    ensures len { len.new ≡ step_len (told_answer (calling_of txn.now)) step len.old }
+    ensures bytes { value.new ≡ step_bytes (told_answer (calling_of txn.now)) step value.old }
 {
     match step {
         Ok(Step::Compute) => COMPUTE,
@@ -80,7 +80,7 @@ fn tell_outside(txn: &Open, value: &mut [u8], len: &mut usize) -> u32
 
 /// Writes what was answered last: to the function that is computed, or else outside all functions.
 pub(crate) fn tell_last(txn: &Open, value: &mut [u8], len: &mut usize) -> u32
-    ensures { LastTold (last_of txn.now) result (buffer value.old len.old) (buffer value.new len.new) }
+    ensures { LastTold (last_answer_of txn.now) result (buffer value.old len.old) (buffer value.new len.new) }
 {
     if !txn.is_computing() {
         return tell_outside(txn, value, len);
@@ -93,7 +93,7 @@ pub(crate) fn tell_last(txn: &Open, value: &mut [u8], len: &mut usize) -> u32
 
 // The rows that a transaction found itself, if that is what it was answered last outside all functions.
 fn rows_outside(txn: &Open) -> &[Row]
-    ensures { result.now ≡ rows_in (last_outside txn.now) }
+    ensures { result.now ≡ rows_of_last (last_outside txn.now) }
 {
     match txn {
         Open::Reading(_) => &[],

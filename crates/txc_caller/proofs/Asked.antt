@@ -39,7 +39,7 @@ use Rattle.txc_ports.specs.declared.reply.PortReply.{PortReply}
 use Rattle.txc_ports.specs.declared.reply.PortReply.TheVariants as replies
 use Rattle.txc_caller.proofs.Some.{for_none, for_this}
 use Rattle.txc_caller.proofs.Letting.{grown_by, grown_same}
-use Rattle.txc_caller.specs.Ports.{CallerPorts, AreCallerPorts, CallerAddTransition, CallerFindTransition, HasAskedPorts, HasGrown, CallerInsertTransition, KeepsNode, CallerLookupTransition, CallerPinTransition, CallerSweepTransition, CallerUnpinTransition}
+use Rattle.txc_caller.specs.Ports.{CallerPorts, AreCallerPorts, CallerAddTransition, CallerFindTransition, HasAskedPorts, HasGrownDatabase, CallerInsertTransition, KeepsNode, CallerLookupTransition, CallerPinTransition, CallerSweepTransition, CallerUnpinTransition}
 
 -- ---- the node
 
@@ -169,12 +169,12 @@ pinned_so now at_least p d (Ok pinned) after stamp moment front only_if left ref
     }
 pinned_so now at_least p d (Err e) after stamp moment front only_if left refused = record { is = refl; left = left; refused = refused }
 
-pub left_grown : (old new : DatabaseValue) (e : DbError) → IsLeft old new e → HasGrown old new
+pub left_grown : (old new : DatabaseValue) (e : DbError) → IsLeft old new e → HasGrownDatabase old new
 left_grown old new dberrors.Broken (inl same) = grown_same old new same.0
 left_grown old new dberrors.Broken (inr broke) = grown_by old new broke.events broke.history
 left_grown old new e left = grown_same old new left
 
-pub pinned_grown : (now : ℕ) (old new : DatabaseValue) (r : Result Pinned DbError) → OnOk r (new ≡ after_pin old now) → IfErr r (IsLeft old new) → HasGrown old new
+pub pinned_grown : (now : ℕ) (old new : DatabaseValue) (r : Result Pinned DbError) → OnOk r (new ≡ after_pin old now) → IfErr r (IsLeft old new) → HasGrownDatabase old new
 pinned_grown now old new (Ok pinned) after left = record {
   events = ap (λ (d : DatabaseValue). d.events) after;
   longer = subst (λ (L : History). IsPrefix old.history L) (sym (ap (λ (d : DatabaseValue). d.history) after)) (prefix_push old.history (pin_event now));
@@ -200,7 +200,7 @@ asked_so next seen request asked old was new reply is same h =
     subst (λ (r : PortRequest). HasAskedPorts next seen r old new reply) (sym is) (subst (λ (p : CallerPorts). HasAskedPorts next seen asked p new reply) same h)
 
 module _ (next : Next) (seen : FrontValue) (old new : CallerPorts) where
-  pub asked_pin : (now at_least : ℕ) (pinned : Result Pinned DbError) → HasGrown old.database new.database → CallerPinTransition now at_least old new pinned
+  pub asked_pin : (now at_least : ℕ) (pinned : Result Pinned DbError) → HasGrownDatabase old.database new.database → CallerPinTransition now at_least old new pinned
       → HasAskedPorts next seen (requests.Pin now at_least) old new (replies.Pin pinned)
   asked_pin now at_least (Ok pinned) grown h = record {
     answer = (h.moment, h.late, h.shown);
@@ -224,7 +224,7 @@ module _ (next : Next) (seen : FrontValue) (old new : CallerPorts) where
     grown = grown_same old.database new.database (ap (λ (p : CallerPorts). p.database) same);
   }
 
-  pub asked_unpin : (stamp : ℕ) (unpinned : Result (Unit {0}) DbError) → HasGrown old.database new.database → CallerUnpinTransition stamp old new unpinned
+  pub asked_unpin : (stamp : ℕ) (unpinned : Result (Unit {0}) DbError) → HasGrownDatabase old.database new.database → CallerUnpinTransition stamp old new unpinned
       → HasAskedPorts next seen (requests.Unpin stamp) old new (replies.Unpin unpinned)
   asked_unpin stamp unpinned grown h = record {
     answer = tt;

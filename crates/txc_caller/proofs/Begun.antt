@@ -10,7 +10,7 @@ use Rattle.txc_registry.specs.Objects.{AllIdle, Objects}
 use Rattle.txc_txn.specs.Core.{value_of, CoreHolds, CoreValue, IsCore, IsIdle}
 use Rattle.txc_txn.specs.declared.txn_core.TxnCore.{TxnCore}
 use Rattle.txc_txn.specs.Kept.{TxnValue}
-use Rattle.txc_caller.specs.Ports.{CallerPorts, HasGrown}
+use Rattle.txc_caller.specs.Ports.{CallerPorts, HasGrownDatabase}
 use Rattle.txc_caller.specs.Reading.{with_cushion, CallerValue, IsBegunCore, IsBegunReading, IsLent, KeepsCaller}
 use Rattle.txc_caller.proofs.Letting.{grown_same}
 
@@ -44,7 +44,7 @@ cushion_so old ports same = ap (λ (p : CallerPorts). record old { ports = p }) 
 pub keeps_cushion : (old new : CallerValue) → new ≡ with_cushion new.ports.cushion old → KeepsCaller old new
 keeps_cushion old new same = record { row = ap (λ (c : CallerValue). c.ports.database.events) same; renew_after = ap (λ (c : CallerValue). c.renew_after) same }
 
-pub grown_cushion : (old new : CallerValue) → new ≡ with_cushion new.ports.cushion old → HasGrown old.ports.database new.ports.database
+pub grown_cushion : (old new : CallerValue) → new ≡ with_cushion new.ports.cushion old → HasGrownDatabase old.ports.database new.ports.database
 grown_cushion old new same = grown_same old.ports.database new.ports.database (ap (λ (c : CallerValue). c.ports.database) same)
 
 -- a transaction that begins with such a core

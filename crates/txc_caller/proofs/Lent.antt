@@ -19,7 +19,7 @@ use Rattle.txc_ports.specs.Turns.{PortTurn, IsAsk}
 use Rattle.txc_txn.specs.declared.pinning.Pinning.{Pinning}
 use Rattle.txc_txn.specs.ByHand.{FirstExists, HandTurn, IsHandTurn, IsUnended, ObjectsLeft}
 use Rattle.txc_txn.specs.Core.{CoreValue, either_call, first_call, open_call, running_call, IsCore, IsIdle, IsTurn}
-use Rattle.txc_caller.specs.Reading.{IsResting}
+use Rattle.txc_caller.specs.Reading.{IsRestingCore}
 use Rattle.txc_caller.specs.Telling.{top_call, HaveAllFunctions}
 use Rattle.txc_caller.proofs.Some.{for_none}
 
@@ -113,7 +113,7 @@ start_left next objects c (Ended (Err error)) fits core = idle_objects next obje
 -- ---- at rest
 
 -- a call of the machine is open just if it needs something
-pub resting_runs : (c : CoreValue) (k : Call) → IsResting c → top_call c.call ≡ Some k → (c.pinning ≡ None) × NeedsFunction c.call.need × (k ≡ c.call.top)
+pub resting_runs : (c : CoreValue) (k : Call) → IsRestingCore c → top_call c.call ≡ Some k → (c.pinning ≡ None) × NeedsFunction c.call.need × (k ≡ c.call.top)
 resting_runs c k (inl idle) is = let no : None ≡ Some k = sym (ap (λ (n : Option Need). running_call n c.call.top) idle.0) ∙ is in absurd (cc no)
 resting_runs c k (inr runs) is =
     let one : Some c.call.top ≡ Some k = sym (runs_top c.call.need c.call.top runs.1) ∙ is in (runs.0, runs.1, (let same : c.call.top ≡ k = cc one in sym same))
@@ -123,11 +123,11 @@ top_some None top is = refl
 top_some (Some need) top is = absurd (cc is)
 
 -- if none is open, it is idle
-pub resting_idle : (c : CoreValue) → IsResting c → top_call c.call ≡ None → IsIdle c
+pub resting_idle : (c : CoreValue) → IsRestingCore c → top_call c.call ≡ None → IsIdle c
 resting_idle c (inl idle) closed = idle
 resting_idle c (inr runs) closed = absurd (subst NeedsFunction (top_some c.call.need c.call.top closed) runs.1)
 
 -- .. and no pin is under way
-pub resting_free : (c : CoreValue) → IsResting c → c.pinning ≡ None
+pub resting_free : (c : CoreValue) → IsRestingCore c → c.pinning ≡ None
 resting_free c (inl idle) = idle.1
 resting_free c (inr runs) = runs.0

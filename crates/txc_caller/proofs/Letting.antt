@@ -11,7 +11,7 @@ use Rattle.txc_cushion.specs.declared.error.UnknownPin.{UnknownPin}
 use mathlib.Core.List.{IsPrefix}
 use Rattle.txc_db.specs.History.{History}
 use Rattle.txc_stream.proofs.Offered.{prefix_self, prefix_trans}
-use Rattle.txc_caller.specs.Ports.{AreGivenBack, AreLetGo, HasGrown, IsLetGo}
+use Rattle.txc_caller.specs.Ports.{AreGivenBack, AreLetGo, HasGrownDatabase, IsLetGo}
 
 -- one more
 pub unpinned_more : (stamps : List ℕ) (i d stamp : ℕ) (old mid last : DatabaseValue) → i < length stamps → stamp ≡ get_or stamps i d → IsLetGo (Some stamp) old mid
@@ -44,17 +44,17 @@ let_go_events (Some stamp) old new (inr left) = ap (λ (d : DatabaseValue). d.ev
 
 -- ---- histories that only grow
 
-pub grown_by : (old new : DatabaseValue) → new.events ≡ old.events → new.history ≡ old.history → HasGrown old new
+pub grown_by : (old new : DatabaseValue) → new.events ≡ old.events → new.history ≡ old.history → HasGrownDatabase old new
 grown_by old new events history = record { events = events; longer = subst (λ (L : History). IsPrefix old.history L) (sym history) (prefix_self old.history) }
 
-pub grown_same : (old new : DatabaseValue) → new ≡ old → HasGrown old new
+pub grown_same : (old new : DatabaseValue) → new ≡ old → HasGrownDatabase old new
 grown_same old new is = grown_by old new (ap (λ (d : DatabaseValue). d.events) is) (ap (λ (d : DatabaseValue). d.history) is)
 
-pub grown_self : (d : DatabaseValue) → HasGrown d d
+pub grown_self : (d : DatabaseValue) → HasGrownDatabase d d
 grown_self d = record { events = refl; longer = prefix_self d.history }
 
-pub grown_then : (a b c : DatabaseValue) → HasGrown a b → HasGrown b c → HasGrown a c
+pub grown_then : (a b c : DatabaseValue) → HasGrownDatabase a b → HasGrownDatabase b c → HasGrownDatabase a c
 grown_then a b c one two = record { events = two.events ∙ one.events; longer = prefix_trans a.history b.history c.history one.longer two.longer }
 
-pub let_go_grown : (unpin : Option ℕ) (old new : DatabaseValue) → IsLetGo unpin old new → HasGrown old new
+pub let_go_grown : (unpin : Option ℕ) (old new : DatabaseValue) → IsLetGo unpin old new → HasGrownDatabase old new
 let_go_grown unpin old new is = grown_by old new (let_go_events unpin old new is) (let_go_history unpin old new is)

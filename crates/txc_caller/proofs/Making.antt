@@ -28,7 +28,7 @@ use Rattle.txc_txn.specs.ByHand.{HandTurn, HasGoneOnByHand, HearTransition, HitB
 use Rattle.txc_txn.specs.Core.{CoreAsks, CoreValue, IsAnswered, PinsAfter}
 use Rattle.txc_txn.specs.Kept.{TxnValue}
 use Rattle.txc_caller.specs.Looking.{HasLookedUp, HasMissed, IsLookedUp, IsMiss}
-use Rattle.txc_caller.specs.Serving.{pins_to_come, HasMade, IsHeldFor, NeedsAfter, WaitsForCall}
+use Rattle.txc_caller.specs.Serving.{pins_to_come, HasMadeRequest, IsHeldFor, NeedsAfter, WaitsForCall}
 use Rattle.txc_caller.proofs.Requests.{both_pinning, keeps_heard, keeps_self, objects_heard, of_call_heard}
 
 -- a request that is not about the pin is made while none is under way
@@ -151,7 +151,7 @@ rests_so c (ports.Insert stored) turn free to rests = rests
 -- the last request was made, and gone on with
 pub made_heard : (old new : TxnValue) (request : PortRequest) (reply : PortReply) (turn : HandTurn) → HasGoneOnByHand old.core reply new.core turn
     → ObjectsLeft old.objects turn new.objects → numbers_of new.objects ≡ numbers_of old.objects → CoreAsks old.core request
-    → pins_to_come (Some (Ask request)) ≡ 0 → IsAnswered old.core reply → HasMade old (Some (Ask request)) new turn
+    → pins_to_come (Some (Ask request)) ≡ 0 → IsAnswered old.core reply → HasMadeRequest old (Some (Ask request)) new turn
 made_heard old new request reply turn gone left functions asks last to =
     let free = not_pinning old.core request asks last in
     record {
@@ -182,7 +182,7 @@ held_same c (Some (needs.Value o)) is other = tt
 held_same c (Some (needs.Begin k)) is other = absurd (other k refl)
 held_same c (Some (needs.Resume x)) is other = subst (λ (n : Option Need). IsHeldFor n x) (sym is) refl
 
-pub made_none : (t : TxnValue) → IsHandTurn t.core None → ((k : Call) → t.core.call.need ≢ Some (needs.Begin k)) → HasMade t None t None
+pub made_none : (t : TxnValue) → IsHandTurn t.core None → ((k : Call) → t.core.call.need ≢ Some (needs.Begin k)) → HasMadeRequest t None t None
 made_none t fits other = record {
   fits = fits;
   rests = tt;
@@ -194,7 +194,7 @@ made_none t fits other = record {
   needs = λ none. held_same t.core t.core.call.need refl other;
 }
 
-pub made_ended : (t : TxnValue) (outcome : Result (List ℕ) TxnError) → IsHandTurn t.core (Some (Ended outcome)) → HasMade t (Some (Ended outcome)) t (Some (Ended outcome))
+pub made_ended : (t : TxnValue) (outcome : Result (List ℕ) TxnError) → IsHandTurn t.core (Some (Ended outcome)) → HasMadeRequest t (Some (Ended outcome)) t (Some (Ended outcome))
 made_ended t outcome fits = record {
   fits = fits;
   rests = λ asks. asks;

@@ -8,8 +8,8 @@ use Rattle.txc_ports.specs.declared.recorded.Recorded.{Recorded}
 use Rattle.txc_txn.specs.Core.{Explains}
 use Rattle.txc_txn.specs.Kept.{TxnValue}
 use Rattle.txc_txn.specs.Sessions.{IsAtLeast}
-use Rattle.txc_caller.specs.Ports.{AreGivenBack, CallerPorts, HasGrown}
-use Rattle.txc_caller.specs.Reading.{CallerValue, HasEnded, KeepsCaller}
+use Rattle.txc_caller.specs.Ports.{AreGivenBack, CallerPorts, HasGrownDatabase}
+use Rattle.txc_caller.specs.Reading.{CallerValue, HasEndedReading, KeepsCaller}
 use Rattle.txc_caller.proofs.Letting.{grown_same}
 
 -- what explains answers is not before the stamp that the bounds name
@@ -20,8 +20,8 @@ at_least_of next L bounds (Some pin) answers h = h.1.allowed.late
 -- its pins are given back
 pub ended_so : (t : TxnValue) (old : CallerValue) (before after : CallerPorts) (renewed : ℕ) (stamps : List ℕ) → record { ports = before; renew_after = renewed } ≡ old
     → stamps ≡ t.core.taken → AreGivenBack stamps before.cushion after.cushion → after ≡ record before { cushion = after.cushion }
-    → HasEnded t old (record { ports = after; renew_after = renewed })
-ended_so t old before after renewed stamps is taken given same = subst (λ (v : CallerValue). HasEnded t v (record { ports = after; renew_after = renewed })) is (record {
+    → HasEndedReading t old (record { ports = after; renew_after = renewed })
+ended_so t old before after renewed stamps is taken given same = subst (λ (v : CallerValue). HasEndedReading t v (record { ports = after; renew_after = renewed })) is (record {
   given_back = subst (λ (ss : List ℕ). AreGivenBack ss before.cushion after.cushion) taken given;
   same = ap (λ (p : CallerPorts). record { ports = p; renew_after = renewed }) same;
 })
@@ -35,6 +35,6 @@ ended_keeps old before after renewed is same = record {
 }
 
 pub ended_grown : (old : CallerValue) (before after : CallerPorts) (renewed : ℕ) → record { ports = before; renew_after = renewed } ≡ old
-    → after ≡ record before { cushion = after.cushion } → HasGrown old.ports.database after.database
+    → after ≡ record before { cushion = after.cushion } → HasGrownDatabase old.ports.database after.database
 ended_grown old before after renewed is same =
-    subst (λ (v : CallerValue). HasGrown v.ports.database after.database) is (grown_same before.database after.database (ap (λ (p : CallerPorts). p.database) same))
+    subst (λ (v : CallerValue). HasGrownDatabase v.ports.database after.database) is (grown_same before.database after.database (ap (λ (p : CallerPorts). p.database) same))

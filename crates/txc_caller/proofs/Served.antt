@@ -17,7 +17,7 @@ use Rattle.txc_txn.specs.Core.{either_call, first_call, running_call, CoreValue}
 use Rattle.txc_txn.specs.Kept.{TxnValue}
 use Rattle.txc_caller.specs.Looking.{HasMissed, IsComputedOnMiss}
 use Rattle.txc_caller.specs.Reading.{IsReadingStep}
-use Rattle.txc_caller.specs.Serving.{FunctionAfter, HasMade, HasPassed, HasServed, IsTurnOf, NeedsAfter}
+use Rattle.txc_caller.specs.Serving.{FunctionAfter, HasMadeRequest, HasPassed, HasServed, IsTurnOf, NeedsAfter}
 use Rattle.txc_caller.specs.Telling.{ended_step, is_begin, told_answer, told_in, top_call, IsNextStep, IsOpenWith}
 use Rattle.txc_caller.specs.declared.step.Step.{Step}
 use Rattle.txc_caller.specs.declared.step.Step.TheVariants.{Answered, Compute, Value}
@@ -41,7 +41,7 @@ continues_next (needs.Insert e) is runs = absurd runs
 continues_next (needs.Value o) is runs = absurd runs
 
 module _ (row : Name) (old mid new : TxnValue) (turn pinned : HandTurn) (passed : HasPassed row old turn mid pinned) where
-  module _ (made : HasMade mid pinned new None) where
+  module _ (made : HasMadeRequest mid pinned new None) where
     on : IsUnended pinned
     on = made.unended refl
 
@@ -73,7 +73,7 @@ module _ (row : Name) (old mid new : TxnValue) (turn pinned : HandTurn) (passed 
     }
 
   -- the call has ended
-  pub served_ended : (outcome : Result (List ℕ) TxnError) → HasMade mid pinned new (Some (Ended outcome)) → HasServed old turn new (ended_step outcome)
+  pub served_ended : (outcome : Result (List ℕ) TxnError) → HasMadeRequest mid pinned new (Some (Ended outcome)) → HasServed old turn new (ended_step outcome)
   served_ended (Ok value) made = record {
     keeps = keeps_then old mid new passed.keeps made.keeps;
     rests = inl made.fits;

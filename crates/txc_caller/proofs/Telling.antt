@@ -42,7 +42,7 @@ use Rattle.txc_txn.specs.Kept.{HasBegunCall, IsTxn, TxnValue}
 use Rattle.txc_txn.proofs.Held.{held_is_right}
 use Rattle.txc_caller.specs.Reading.{open_states}
 use Rattle.txc_caller.specs.Serving.{FunctionAfter, IsHeldFor, ObjectsAfter, WaitsForCall}
-use Rattle.txc_caller.specs.Telling.{calls_of, computed_calls, computed_in, told_answer, told_in, ContinuesWith, HasBegunFunction, IsToldRight, IsToldSo, ObjectsFollow}
+use Rattle.txc_caller.specs.Telling.{calls_of, computed_calls, computed_in, told_answer, told_in, ContinuesWith, HasBegunFunction, IsToldRight, IsToldAfterAsk, ObjectsFollow}
 use Rattle.txc_caller.specs.declared.step.CallerError.{CallerError}
 use Rattle.txc_caller.specs.declared.step.Step.{Step}
 use Rattle.txc_caller.specs.declared.step.Step.TheVariants.{Answered, Compute, Value}
@@ -341,7 +341,7 @@ module _ (next : Next) (old mid : TxnValue) (ask : Ask) (turn : HandTurn) (asked
         (sym (ap (λ (o : Option Need). computed_in old.core.call.frames o) n.1) ∙ computed))
 
     pub told_so : (step : Result Step CallerError) → FunctionAfter mid.core turn new.core.call step → ObjectsAfter (objects_after_ask old.objects old.core.call ask) new.objects step
-        → IsToldSo next (open_states new.core) old.core.call ask new.core.call step
+        → IsToldAfterAsk next (open_states new.core) old.core.call ask new.core.call step
     told_so (Ok Compute) goes same =
         let n = stands_next goes.0 in
         begun_so next (computed_calls old.core.call) mid.core new.core new.objects turn (fits_at goes.0 same) meant.fits meant.holds ask n.0 n.1 n.2
@@ -387,7 +387,7 @@ module _ (next : Next) (old mid new : TxnValue) (key : Call) (turn : PortTurn) (
       go k call none (inr first) = let no : None ≡ Some k = sym (ap first_call none) ∙ first in absurd (cc no)
 
   pub first_told : (step : Result Step CallerError) → FunctionAfter mid.core (Some turn) new.core.call step
-      → IsToldSo next (open_states new.core) old.core.call (asks.Call key) new.core.call step
+      → IsToldAfterAsk next (open_states new.core) old.core.call (asks.Call key) new.core.call step
   first_told (Ok Compute) goes =
       let at = first_waits old.core.pins.members refl in (
         ap (λ (n : Option Need). computed_in new.core.call.frames n) goes.1.2 ∙ ap (λ (fs : List Frame). goes.1.0 ∷ calls_of fs) (goes.1.3 ∙ at.0)

@@ -39,9 +39,9 @@ use Rattle.txc_rw.specs.declared.given.Given.TheVariants as given
 use Rattle.txc_rw.specs.ByHand.{RwHandTurn, RwHandTransition, RwHearTransition, RwObjectsLeft, without_node, answers_by_hand, IsRwHandTurn, IsRwUnended}
 use Rattle.txc_rw.specs.Core.{IsFoundAt, IsRightReply, RwValue}
 use Rattle.txc_rw.specs.Transitions.{IsQueryLeft, RowsTransition}
-use Rattle.txc_caller.specs.Telling.{ContinuesWith, HasBegunFunction, IsNextStep, IsOpenWith, IsToldRight, IsToldSo, ObjectsFollow, calls_of, computed_calls, computed_in, ended_step, told_answer, told_in, top_call}
+use Rattle.txc_caller.specs.Telling.{ContinuesWith, HasBegunFunction, IsNextStep, IsOpenWith, IsToldRight, IsToldAfterAsk, ObjectsFollow, calls_of, computed_calls, computed_in, ended_step, told_answer, told_in, top_call}
 use Rattle.txc_db.specs.Calls.{IsQueryRefused}
-use Rattle.txc_caller.specs.Writing.{HasLed, IsActRefused, IsAskedQueryRefused, IsHeard, IsReadRefused, IsReplyAt, IsStepAfter, IsWritingStep, queried_for}
+use Rattle.txc_caller.specs.Writing.{HasLed, IsActRefused, IsAskedQueryRefused, IsHeard, IsOwnReadRefused, IsReplyAt, IsStepAfter, IsWritingStep, queried_for}
 use Rattle.txc_caller.specs.declared.step.CallerError.{CallerError}
 use Rattle.txc_caller.specs.declared.step.CallerError.TheVariants.{Txn}
 use Rattle.txc_caller.specs.declared.step.Step.{Step}
@@ -420,7 +420,7 @@ module _ (next : Next) (after : Objects) (s : State) (old call : Calling) where
 
   -- with this answer it continues
   pub told_this : (ask : Ask) (x : HeldAnswer) (step : Step) → call.need ≡ Some (needs.Resume x) → IsNextStep call step → ContinuesWith next (s ∷ []) old ask call x.answer
-      → IsToldSo next (s ∷ []) old ask call (Ok step)
+      → IsToldAfterAsk next (s ∷ []) old ask call (Ok step)
   told_this ask x Compute is says h =
       let e : Some (needs.Begin says.0) ≡ Some (needs.Resume x) = sym says.1 ∙ is in absurd (cc e)
   told_this ask x Answered is says h = (x.answer, ap (λ (need : Option Need). told_in need) is, h)
@@ -428,7 +428,7 @@ module _ (next : Next) (after : Objects) (s : State) (old call : Calling) where
 
   -- it begins
   pub told_nothing : (k : Call) (step : Step) → calls_of call.frames ≡ computed_calls old → call.need ≡ Some (needs.Begin k) → IsNextStep call step
-      → IsToldSo next (s ∷ []) old (asks.Call k) call (Ok step)
+      → IsToldAfterAsk next (s ∷ []) old (asks.Call k) call (Ok step)
   told_nothing k Compute same is says =
       (ap (λ (need : Option Need). computed_in call.frames need) is ∙ ap (λ (ks : List Call). k ∷ ks) same, ap (λ (need : Option Need). told_in need) is)
   told_nothing k Answered same is says =
@@ -443,7 +443,7 @@ module _ (next : Next) (after : Objects) (s : State) (old call : Calling) where
 
   -- a function goes on at once
   told_at_once : (ask : Ask) (step : Step) → Asked ask → HeldIsRight → GoesOnFrom (computed_calls old) ask call → IsNextStep call step
-      → IsToldSo next (s ∷ []) old ask call (Ok step)
+      → IsToldAfterAsk next (s ∷ []) old ask call (Ok step)
   told_at_once (asks.Query q) step asked right goes says = absurd goes
   told_at_once (asks.Call k) step asked right goes says = told_nothing k step goes.0 goes.1 says
   told_at_once (asks.Done bytes) step asked right (done, computed, held) says =
@@ -453,7 +453,7 @@ module _ (next : Next) (after : Objects) (s : State) (old call : Calling) where
 
   -- .. or once its query was answered
   told_once_read : (ask : Ask) (q : Query) (x : HeldAnswer) (step : Step) (frames : List Frame) → Asked ask → HeldIsRight → AsksFrom (computed_calls old) ask call.frames q
-      → call.need ≡ Some (needs.Resume x) → call.frames ≡ frames → IsNextStep call step → IsToldSo next (s ∷ []) old ask call (Ok step)
+      → call.need ≡ Some (needs.Resume x) → call.frames ≡ frames → IsNextStep call step → IsToldAfterAsk next (s ∷ []) old ask call (Ok step)
   told_once_read (asks.Query p) q x step [] asked right from is at says = absurd (asked.some (sym from.0 ∙ ap (λ (fs : List Frame). calls_of fs) at))
   told_once_read (asks.Query p) q x step (frame ∷ outer) asked right from is at says =
       told_this (asks.Query p) x step is says
@@ -462,14 +462,14 @@ module _ (next : Next) (after : Objects) (s : State) (old call : Calling) where
   told_once_read (asks.Call k) q x step frames asked right from is at says = absurd from
   told_once_read (asks.Done bytes) q x step frames asked right from is at says = absurd from
 
-  told_ended : (ask : Ask) (outcome : Result (List ℕ) TxnError) → IsToldSo next (s ∷ []) old ask call (ended_step outcome)
+  told_ended : (ask : Ask) (outcome : Result (List ℕ) TxnError) → IsToldAfterAsk next (s ∷ []) old ask call (ended_step outcome)
   told_ended ask (Ok value) = tt
   told_ended ask (Err error) = tt
 
 -- what the function is told after an act
 module _ (next : Next) (after : Objects) (s : State) (old : Calling) (d : DatabaseValue) (mid new : RwValue) (ask : Ask) (result : Result Step CallerError) where
   abbrev ToldSo : Result Step CallerError → Type 0
-  ToldSo r = IsToldSo next (s ∷ []) old ask new.call r
+  ToldSo r = IsToldAfterAsk next (s ∷ []) old ask new.call r
 
   pub told_when_led : (turn last : RwHandTurn) → (last ≡ None → Asked next after s old new.call ask) → HeldIsRight next after s old new.call
       → HasAskedFrom (computed_calls old) ask mid.call turn → HasLed d mid turn new last → IsStepAfter new.call last result → ToldSo result
@@ -579,11 +579,11 @@ module _ (d : DatabaseValue) (core mid new : RwValue) (q : Query) (asking : mid 
       subst (λ (r : Result (Vec RowValue Global) TxnError). IfOk r (λ rows. new ≡ record core { queried = core.queried ++ q ∷ []; answers = core.answers ++ given.Rows q rows.items ∷ [] })) (sym leads.0) tt
 
   pub read_refused : (base : ℕ) (reply : Result Found DbError) (result : Result (Vec RowValue Global) TxnError) → RowsTransition mid q reply new result → IsReplyAt d base q reply
-      → IfErr result (IsReadRefused d base q)
+      → IfErr result (IsOwnReadRefused d base q)
   read_refused base (Ok found) (Ok rows) leads at = tt
   read_refused base (Ok found) (Err error) leads at = inl leads.0
   read_refused base (Err cause) result leads at =
-      subst (λ (r : Result (Vec RowValue Global) TxnError). IfErr r (IsReadRefused d base q)) (sym leads.0) (inr (cause, at, refl))
+      subst (λ (r : Result (Vec RowValue Global) TxnError). IfErr r (IsOwnReadRefused d base q)) (sym leads.0) (inr (cause, at, refl))
 
   pub read_left : (reply : Result Found DbError) (result : Result (Vec RowValue Global) TxnError) → RowsTransition mid q reply new result → IfErr result (IsQueryLeft core q new)
   read_left (Ok found) (Ok rows) leads = tt

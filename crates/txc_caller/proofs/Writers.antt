@@ -27,7 +27,7 @@ use Rattle.txc_rw.specs.Outcomes.{IsCommitted}
 use Rattle.txc_rw.proofs.Commits.{answer_lent, commits_are_right, event_tags_are_sound}
 use Rattle.txc_rw.proofs.Holding.{holds_in_longer}
 use Rattle.txc_ports.specs.declared.error.TxnError.{TxnError}
-use Rattle.txc_caller.specs.Ports.{CallerPorts, HasGrown, IsLetGo, MayHaveTaken}
+use Rattle.txc_caller.specs.Ports.{CallerPorts, HasGrownDatabase, IsLetGo, MayHaveTaken}
 use Rattle.txc_caller.specs.Reading.{CallerValue, KeepsCaller}
 use Rattle.txc_caller.specs.Telling.{top_call}
 use Rattle.txc_caller.specs.Writing.{CallerWriting, ChangeLeaves, HasCommittedWrite, IsCallerWrite, IsWriteCommitRefused, IsWriteLeft, held_base}
@@ -139,16 +139,16 @@ module _ (old : CallerValue) (p0 p1 : CallerPorts) (renew : ℕ) (w : CallerWrit
       (left, ap (λ (p : CallerPorts). caller_of p renew) same)
 
 -- what every act keeps of its caller
-pub keeps_ports : (old : CallerValue) (p q : CallerPorts) (renew : ℕ) → caller_of p renew ≡ old → HasGrown p.database q.database
+pub keeps_ports : (old : CallerValue) (p q : CallerPorts) (renew : ℕ) → caller_of p renew ≡ old → HasGrownDatabase p.database q.database
     → KeepsCaller old (caller_of q renew)
 keeps_ports old p q renew was grown = record {
   row = grown.events ∙ ap (λ (c : CallerValue). c.ports.database.events) was;
   renew_after = ap (λ (c : CallerValue). c.renew_after) was;
 }
 
-pub grown_ports : (old : CallerValue) (p q : CallerPorts) (renew : ℕ) → caller_of p renew ≡ old → HasGrown p.database q.database
-    → HasGrown old.ports.database q.database
-grown_ports old p q renew was grown = subst (λ (c : CallerValue). HasGrown c.ports.database q.database) was grown
+pub grown_ports : (old : CallerValue) (p q : CallerPorts) (renew : ℕ) → caller_of p renew ≡ old → HasGrownDatabase p.database q.database
+    → HasGrownDatabase old.ports.database q.database
+grown_ports old p q renew was grown = subst (λ (c : CallerValue). HasGrownDatabase c.ports.database q.database) was grown
 
 -- ---- a change more
 

@@ -13,7 +13,7 @@ use Rattle.txc_caller.specs.declared.pinning.PinError.TheVariants.{Database, Pin
 
 -- A pin of that moment is one event more, and the database holds its stamp, which is the newest. The pincushion has it, and no
 -- transaction uses it. The node is as it was.
-pub record HasPinned (moment : ℕ) (old : CallerPorts) (stamp : ℕ) (new : CallerPorts) : Type 0 where
+pub record HasPinnedNewest (moment : ℕ) (old : CallerPorts) (stamp : ℕ) (new : CallerPorts) : Type 0 where
   pub could : IsPinnable old.database 0
   pub stamp_is : stamp ≡ newest new.database
   pub addable : IsAddable old.cushion stamp
@@ -29,7 +29,7 @@ pub record HasRefusedEvent (old : CallerPorts) (error : DbError) (new : CallerPo
   pub same : new ≡ record old { database = new.database }
 
 -- The pincushion refused it. The event has happened, and its hold is taken away.
-pub record HasRefusedPin (moment : ℕ) (old : CallerPorts) (error : AddError) (new : CallerPorts) : Type 0 where
+pub record HasRefusedUnusedPin (moment : ℕ) (old : CallerPorts) (error : AddError) (new : CallerPorts) : Type 0 where
   pub refused : IsAddRefused old.cushion (newest (after_pin old.database moment)) error
   pub unheld : IsLetGo (Some (newest (after_pin old.database moment))) (after_pin old.database moment) new.database
   pub same : new ≡ record old { database = new.database }
@@ -37,4 +37,4 @@ pub record HasRefusedPin (moment : ℕ) (old : CallerPorts) (error : AddError) (
 -- why there is no pin, and what that leaves
 abbrev pub HasNotPinned : ℕ → CallerPorts → PinError → CallerPorts → Type 0
 HasNotPinned moment old (Database error) new = HasRefusedEvent old error new
-HasNotPinned moment old (Pincushion error) new = HasRefusedPin moment old error new
+HasNotPinned moment old (Pincushion error) new = HasRefusedUnusedPin moment old error new

@@ -43,7 +43,7 @@ use Rattle.txc_ports.specs.Exchanges.{Exchange, IsExchange}
 use Rattle.txc_ports.specs.Exchanges as exchanges
 
 -- it is of the same row, and its history has only grown
-pub record HasGrown (old new : DatabaseValue) : Type 0 where
+pub record HasGrownDatabase (old new : DatabaseValue) : Type 0 where
   pub events : new.events ≡ old.events
   pub longer : IsPrefix old.history new.history
 
@@ -254,4 +254,4 @@ pub record HasAskedPorts (next : Next) (seen : FrontValue) (request : PortReques
   pub answer : IsReplyTo next request reply
   pub row : IsOfRow old.database.events reply
   pub leads : IsExchange (CallerExchangeTransition seen old new) request reply
-  pub grown : HasGrown old.database new.database
+  pub grown : HasGrownDatabase old.database new.database

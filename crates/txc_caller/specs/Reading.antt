@@ -40,13 +40,13 @@ pub record IsLent (next : Next) (t : TxnValue) : Type 0 where
   pub nodes : t.core.nodes ≡ 1
 
 -- no call is open; or a function of it is to begin or to continue, and no pin is under way
-abbrev pub IsResting : CoreValue → Type 0
-IsResting c = IsIdle c ⊎ ((c.pinning ≡ None) × NeedsFunction c.call.need)
+abbrev pub IsRestingCore : CoreValue → Type 0
+IsRestingCore c = IsIdle c ⊎ ((c.pinning ≡ None) × NeedsFunction c.call.need)
 
 -- Between two acts it asks no port. Nothing of it is said of a caller, so that it stays true whatever others do.
 pub record IsCallerTxn (next : Next) (t : TxnValue) : Type 0 where
   pub lent : IsLent next t
-  pub rests : IsResting t.core
+  pub rests : IsRestingCore t.core
 
 -- the transaction is of this caller: what it has seen is of the caller's row, and it renews pins as the caller does
 pub record IsOf (c : CallerValue) (t : TxnValue) : Type 0 where
@@ -119,6 +119,6 @@ pub record IsBegunReading (next : Next) (asked : Bounds) (old new : CallerValue)
   pub users : new ≡ with_cushion (after_fresh old.ports.cushion asked.now asked.staleness asked.at_least) old
 
 -- its pins are given back, and all else of the caller stays
-pub record HasEnded (t : TxnValue) (old new : CallerValue) : Type 0 where
+pub record HasEndedReading (t : TxnValue) (old new : CallerValue) : Type 0 where
   pub given_back : AreGivenBack t.core.taken old.ports.cushion new.ports.cushion
   pub same : new ≡ with_cushion new.ports.cushion old

@@ -20,7 +20,7 @@ use Rattle.txc_ports.specs.declared.turn.Turn.TheVariants.{Ask}
 use Rattle.txc_txn.specs.ByHand.{HandTurn, IsHandTurn, IsUnended, ObjectsLeft, recorded_by_hand}
 use Rattle.txc_txn.specs.Core.{CoreValue, first_call, open_call, IsAnswered}
 use Rattle.txc_txn.specs.Kept.{TxnValue, IsShownRight}
-use Rattle.txc_caller.specs.Reading.{IsReadingStep, IsResting, KeepsTxn}
+use Rattle.txc_caller.specs.Reading.{IsReadingStep, IsRestingCore, KeepsTxn}
 use Rattle.txc_caller.specs.declared.step.CallerError.{CallerError}
 use Rattle.txc_caller.specs.declared.step.Step.{Step}
 use Rattle.txc_caller.specs.declared.step.Step.TheVariants.{Answered, Compute, Value}
@@ -94,7 +94,7 @@ NeedsAfter old (Some (needs.Resume x)) = IsHeldFor old.call.need x
 NeedsAfter old need = Unit {0}
 
 -- what comes of a turn whose request was made, if it was one: nothing more is asked
-pub record HasMade (old : TxnValue) (turn : HandTurn) (new : TxnValue) (after : HandTurn) : Type 0 where
+pub record HasMadeRequest (old : TxnValue) (turn : HandTurn) (new : TxnValue) (after : HandTurn) : Type 0 where
   pub fits : IsHandTurn new.core after
   pub rests : IfSome after (λ t. ¬ (IsAsk t))
   pub of_call : (before : List Recorded) (k : Call) → IsTurnOf before k old.core turn → IsTurnOf before k new.core after
@@ -107,7 +107,7 @@ pub record HasMade (old : TxnValue) (turn : HandTurn) (new : TxnValue) (after : 
 -- What comes of a turn whose requests were all made.
 pub record HasServed (old : TxnValue) (turn : HandTurn) (new : TxnValue) (step : Result Step CallerError) : Type 0 where
   pub keeps : KeepsTxn old new
-  pub rests : IsResting new.core
+  pub rests : IsRestingCore new.core
   pub goes_on : FunctionAfter old.core turn new.core.call step
   pub objects : (was : Objects) → ObjectsLeft was turn old.objects → ObjectsAfter was new.objects step
   pub step_is : (before : List Recorded) (k : Call) → IsTurnOf before k old.core turn

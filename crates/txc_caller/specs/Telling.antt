@@ -94,11 +94,11 @@ ContinuesWith next states old (asks.Done bytes) new x = (done : Call) × (comput
 ContinuesWith next states old ask new x = (computed_calls new ≡ computed_calls old) × IsToldRight next states new ask x
 
 -- What a function is told after an ask. The states are those in which the transaction may still be serialised.
-abbrev pub IsToldSo : Next → List State → Calling → Ask → Calling → Result Step CallerError → Type 0
-IsToldSo next states old ask new (Ok Compute) = HasBegunFunction old ask new
-IsToldSo next states old ask new (Ok Answered) =
+abbrev pub IsToldAfterAsk : Next → List State → Calling → Ask → Calling → Result Step CallerError → Type 0
+IsToldAfterAsk next states old ask new (Ok Compute) = HasBegunFunction old ask new
+IsToldAfterAsk next states old ask new (Ok Answered) =
     (x : Answer) × (told_answer new ≡ Some x) × ContinuesWith next states old ask new x
-IsToldSo next states old ask new step = Unit {0}
+IsToldAfterAsk next states old ask new step = Unit {0}
 
 -- what each function was told until now, after an ask: a refusal ends the call, and all are idle
 abbrev pub ObjectsFollow : Objects → Calling → Ask → Objects → Result Step CallerError → Type 0

@@ -123,8 +123,8 @@ queried_for (asks.Query query) = query ∷ []
 queried_for ask = []
 
 -- of a query by no function: out of memory; or the database refused it
-abbrev pub IsReadRefused : DatabaseValue → ℕ → Query → TxnError → Type 0
-IsReadRefused d base query error =
+abbrev pub IsOwnReadRefused : DatabaseValue → ℕ → Query → TxnError → Type 0
+IsOwnReadRefused d base query error =
     (error ≡ Memory) ⊎ ((cause : DbError) × IsQueryRefused d query base cause × (error ≡ refused_request cause))
 
 -- ---- changes

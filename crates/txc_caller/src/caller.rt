@@ -8,7 +8,7 @@ ghost use Rattle.txc_shared.specs.Nodes.{start_of};
 ghost use Rattle.txc_txn.specs.Core.{value_of, CoreHolds, IsCore, IsIdle};
 ghost use Rattle.txc_node.specs.declared.node.TheConstants.{MAX_CAPACITY, MAX_RECENT};
 ghost use Rattle.txc_stream.specs.declared.row.TheConstants.{MAX_CAPACITY as MAX_ROW};
-ghost use Rattle.txc_caller.specs.Ports.{GoesOnByEvents, HasEventRoom, HasGrown, HasNoEventFor, IsBehind, IsNewDatabase};
+ghost use Rattle.txc_caller.specs.Ports.{GoesOnByEvents, HasEventRoom, HasGrownDatabase, HasNoEventFor, IsBehind, IsNewDatabase};
 ghost use Rattle.txc_caller.specs.Reading.{with_cushion, IsBegunReading, KeepsCaller};
 
 use crate::caller_txn::CallerTxn;
@@ -131,7 +131,7 @@ impl<A: App> Caller<A> {
         ensures idle { IfOk result (λ txn. AllIdle txn.objects) }
         ensures left { OnErr result (self.new ≡ with_cushion self.new.ports.cushion self.old) }
         ensures caller { KeepsCaller self.old self.new }
-        ensures grown { HasGrown self.old.ports.database self.new.ports.database }
+        ensures grown { HasGrownDatabase self.old.ports.database self.new.ports.database }
     {
         let core = self.ports.begin(alloc, self.renew_after, bounds)?;
         Ok(CallerTxn {
@@ -147,7 +147,7 @@ impl<A: App> Caller<A> {
         ensures left { result ≡ false → IsBehind self.old.ports.database self.old.ports.node }
         ensures same { self.new ≡ record self.old { ports = record self.old.ports { node = self.new.ports.node } } }
         ensures caller { KeepsCaller self.old self.new }
-        ensures grown { HasGrown self.old.ports.database self.new.ports.database }
+        ensures grown { HasGrownDatabase self.old.ports.database self.new.ports.database }
     {
         self.ports.take_events(alloc)
     }

@@ -7,9 +7,9 @@ ghost use Rattle.txc_txn.specs.Core.{receipt_pin, Explains, IsIdle};
 ghost use Rattle.txc_txn.specs.Kept.{IsTxn};
 ghost use Rattle.txc_txn.specs.Sessions.{IsAtLeast};
 ghost use Rattle.txc_caller.specs.Looking.{IsComputedOnMiss};
-ghost use Rattle.txc_caller.specs.Ports.{HasGrown};
-ghost use Rattle.txc_caller.specs.Reading.{open_states, read_stamp, HasEnded, IsOf, IsReadingStep, KeepsCaller, KeepsTxn};
-ghost use Rattle.txc_caller.specs.Telling.{computed_calls, told_answer, top_call, top_or, AsksNext, IsToldSo, ObjectsFollow};
+ghost use Rattle.txc_caller.specs.Ports.{HasGrownDatabase};
+ghost use Rattle.txc_caller.specs.Reading.{open_states, read_stamp, HasEndedReading, IsOf, IsReadingStep, KeepsCaller, KeepsTxn};
+ghost use Rattle.txc_caller.specs.Telling.{computed_calls, told_answer, top_call, top_or, AsksNext, IsToldAfterAsk, ObjectsFollow};
 ghost use Rattle.txc_caller.specs.declared.step.CallerError.TheVariants.{NoFunction};
 
 use crate::caller::Caller;
@@ -67,13 +67,13 @@ impl<A: App> CallerTxn<A> {
             → (result ≡ Err NoFunction) × (self.new ≡ self.old) × (caller.new ≡ caller.old) }
         ensures step { (k : Call) → top_call self.old.core.call ≡ Some k
             → IsReadingStep self.old.core self.new.core k result }
-        ensures told { IsToldSo A.next (open_states self.new.core) self.old.core.call ask self.new.core.call result }
+        ensures told { IsToldAfterAsk A.next (open_states self.new.core) self.old.core.call ask self.new.core.call result }
         ensures objects { ObjectsFollow self.old.objects self.old.core.call ask self.new.objects result }
         ensures on_miss { IsComputedOnMiss self.new.core caller.old.ports.node caller.new.ports.node result }
         ensures keeps { KeepsTxn self.old self.new }
         ensures meant { IsTxn A.next self.new }
         ensures caller { KeepsCaller caller.old caller.new }
-        ensures grown { HasGrown caller.old.ports.database caller.new.ports.database }
+        ensures grown { HasGrownDatabase caller.old.ports.database caller.new.ports.database }
     {
         if !self.is_computing() {
             self.txn.is_lent();
@@ -99,14 +99,14 @@ impl<A: App> CallerTxn<A> {
         requires row { IsOf caller.old self.old }
         requires asks { AsksNext A.next self.old.objects self.old.core.call (asks.Call key) }
         ensures step { IsReadingStep self.old.core self.new.core (top_or self.old.core.call key) result }
-        ensures told { IsToldSo A.next (open_states self.new.core) self.old.core.call (asks.Call key)
+        ensures told { IsToldAfterAsk A.next (open_states self.new.core) self.old.core.call (asks.Call key)
             self.new.core.call result }
         ensures objects { ObjectsFollow self.old.objects self.old.core.call (asks.Call key) self.new.objects result }
         ensures on_miss { IsComputedOnMiss self.new.core caller.old.ports.node caller.new.ports.node result }
         ensures keeps { KeepsTxn self.old self.new }
         ensures meant { IsTxn A.next self.new }
         ensures caller { KeepsCaller caller.old caller.new }
-        ensures grown { HasGrown caller.old.ports.database caller.new.ports.database }
+        ensures grown { HasGrownDatabase caller.old.ports.database caller.new.ports.database }
     {
         let _function = key.function();
         if self.is_computing() {
@@ -131,14 +131,14 @@ impl<A: App> CallerTxn<A> {
             → (result ≡ Err NoFunction) × (self.new ≡ self.old) × (caller.new ≡ caller.old) }
         ensures step { (k : Call) → top_call self.old.core.call ≡ Some k
             → IsReadingStep self.old.core self.new.core k result }
-        ensures told { IsToldSo A.next (open_states self.new.core) self.old.core.call (asks.Query query)
+        ensures told { IsToldAfterAsk A.next (open_states self.new.core) self.old.core.call (asks.Query query)
             self.new.core.call result }
         ensures objects { ObjectsFollow self.old.objects self.old.core.call (asks.Query query) self.new.objects result }
         ensures on_miss { IsComputedOnMiss self.new.core caller.old.ports.node caller.new.ports.node result }
         ensures keeps { KeepsTxn self.old self.new }
         ensures meant { IsTxn A.next self.new }
         ensures caller { KeepsCaller caller.old caller.new }
-        ensures grown { HasGrown caller.old.ports.database caller.new.ports.database }
+        ensures grown { HasGrownDatabase caller.old.ports.database caller.new.ports.database }
     {
         self.act(alloc, caller, Ask::Query(query))
     }
@@ -159,7 +159,7 @@ impl<A: App> CallerTxn<A> {
             → (result ≡ Err NoFunction) × (self.new ≡ self.old) × (caller.new ≡ caller.old) }
         ensures step { (k : Call) → top_call self.old.core.call ≡ Some k
             → IsReadingStep self.old.core self.new.core k result }
-        ensures told { IsToldSo A.next (open_states self.new.core) self.old.core.call (asks.Done bytes.items)
+        ensures told { IsToldAfterAsk A.next (open_states self.new.core) self.old.core.call (asks.Done bytes.items)
             self.new.core.call result }
         ensures objects { ObjectsFollow self.old.objects self.old.core.call (asks.Done bytes.items)
             self.new.objects result }
@@ -167,7 +167,7 @@ impl<A: App> CallerTxn<A> {
         ensures keeps { KeepsTxn self.old self.new }
         ensures meant { IsTxn A.next self.new }
         ensures caller { KeepsCaller caller.old caller.new }
-        ensures grown { HasGrown caller.old.ports.database caller.new.ports.database }
+        ensures grown { HasGrownDatabase caller.old.ports.database caller.new.ports.database }
     {
         self.act(alloc, caller, Ask::Done(Bytes::new(bytes)))
     }
@@ -253,12 +253,12 @@ impl<A: App> CallerTxn<A> {
         ensures not_before { IfOk result (λ it. IsAtLeast self.core.bounds.at_least it.pin) }
         ensures seen { IfOk result (λ it. it.seen ≡ self.core.seen) }
         ensures row { IfOk result (λ it. it.seen.events ≡ caller.new.ports.database.events) }
-        ensures ended { OnOk result (HasEnded self caller.old caller.new) }
+        ensures ended { OnOk result (HasEndedReading self caller.old caller.new) }
         ensures only_if { IsOk result → top_call self.core.call ≡ None }
         ensures handed_back { IfErr result (λ it. (it ≡ self) × IsSome (top_call self.core.call)) }
         ensures unchanged { OnErr result (caller.new ≡ caller.old) }
         ensures caller { KeepsCaller caller.old caller.new }
-        ensures grown { HasGrown caller.old.ports.database caller.new.ports.database }
+        ensures grown { HasGrownDatabase caller.old.ports.database caller.new.ports.database }
     {
         if self.is_computing() {
             return Err(self);
@@ -272,9 +272,9 @@ impl<A: App> CallerTxn<A> {
     /// Gives the transaction up, in the middle of a call too. It does not allocate.
     pub fn abort(self, caller: &mut Caller<A>)
         requires row { IsOf caller.old self }
-        ensures ended { HasEnded self caller.old caller.new }
+        ensures ended { HasEndedReading self caller.old caller.new }
         ensures caller { KeepsCaller caller.old caller.new }
-        ensures grown { HasGrown caller.old.ports.database caller.new.ports.database }
+        ensures grown { HasGrownDatabase caller.old.ports.database caller.new.ports.database }
     {
         let CallerTxn { txn } = self;
         let left = txn.cancel();

@@ -13,10 +13,10 @@ ghost use Rattle.txc_rw.specs.Answers.{AreRightIn};
 ghost use Rattle.txc_rw.specs.Core.{tags_read, IsRwIdle};
 ghost use Rattle.txc_rw.specs.Outcomes.{IsCommitted};
 ghost use Rattle.txc_rw.specs.Transitions.{IsQueryLeft};
-ghost use Rattle.txc_caller.specs.Ports.{HasGrown};
+ghost use Rattle.txc_caller.specs.Ports.{HasGrownDatabase};
 ghost use Rattle.txc_caller.specs.Reading.{CallerValue, KeepsCaller};
-ghost use Rattle.txc_caller.specs.Telling.{computed_calls, told_answer, top_call, top_or, AsksNext, IsToldSo, ObjectsFollow};
-ghost use Rattle.txc_caller.specs.Writing.{base_states, held_base, queried_for, HasAbortedWrite, HasCommittedWrite, IsActRefused, IsReadRefused, IsWriteCommitRefused, IsWriteLeft, IsWriteOf, IsWritingStep};
+ghost use Rattle.txc_caller.specs.Telling.{computed_calls, told_answer, top_call, top_or, AsksNext, IsToldAfterAsk, ObjectsFollow};
+ghost use Rattle.txc_caller.specs.Writing.{base_states, held_base, queried_for, HasAbortedWrite, HasCommittedWrite, IsActRefused, IsOwnReadRefused, IsWriteCommitRefused, IsWriteLeft, IsWriteOf, IsWritingStep};
 ghost use Rattle.txc_caller.specs.declared.step.CallerError.TheVariants.{NoFunction};
 
 use crate::call_ports::CallPorts;
@@ -84,7 +84,7 @@ impl<A: App> Caller<A> {
         ensures refused { IfErr result (IsHoldRefused self.old.ports.database) }
         ensures unchanged { OnErr result (self.new ≡ self.old) }
         ensures caller { KeepsCaller self.old self.new }
-        ensures grown { HasGrown self.old.ports.database self.new.ports.database }
+        ensures grown { HasGrownDatabase self.old.ports.database self.new.ports.database }
     {
         let base = self.ports.hold(alloc)?;
         Ok(CallerWrite::over(alloc, base, true))
@@ -129,7 +129,7 @@ impl<A: App> CallerWrite<A> {
         ensures none { top_call self.old.core.call ≡ None → (result ≡ Err NoFunction) × (self.new ≡ self.old) }
         ensures step { (k : Call) → top_call self.old.core.call ≡ Some k
             → IsWritingStep self.old.core self.new.core k result }
-        ensures told { IsToldSo A.next (base_states caller.old self.old.core) self.old.core.call ask
+        ensures told { IsToldAfterAsk A.next (base_states caller.old self.old.core) self.old.core.call ask
             self.new.core.call result }
         ensures objects { ObjectsFollow self.old.objects self.old.core.call ask self.new.objects result }
         ensures queried { OnOk result (self.new.core.queried ≡ self.old.core.queried ++ queried_for ask) }
@@ -171,7 +171,7 @@ impl<A: App> CallerWrite<A> {
         requires of_caller { IsWriteOf A.next caller.old self.old }
         requires asks { AsksNext A.next self.old.objects self.old.core.call (asks.Call key) }
         ensures step { IsWritingStep self.old.core self.new.core (top_or self.old.core.call key) result }
-        ensures told { IsToldSo A.next (base_states caller.old self.old.core) self.old.core.call (asks.Call key)
+        ensures told { IsToldAfterAsk A.next (base_states caller.old self.old.core) self.old.core.call (asks.Call key)
             self.new.core.call result }
         ensures objects { ObjectsFollow self.old.objects self.old.core.call (asks.Call key) self.new.objects result }
         ensures refused { IfErr result (IsActRefused A.next.limits caller.old.ports.database self.old.core
@@ -204,7 +204,7 @@ impl<A: App> CallerWrite<A> {
         ensures none { top_call self.old.core.call ≡ None → (result ≡ Err NoFunction) × (self.new ≡ self.old) }
         ensures step { (k : Call) → top_call self.old.core.call ≡ Some k
             → IsWritingStep self.old.core self.new.core k result }
-        ensures told { IsToldSo A.next (base_states caller.old self.old.core) self.old.core.call (asks.Query query)
+        ensures told { IsToldAfterAsk A.next (base_states caller.old self.old.core) self.old.core.call (asks.Query query)
             self.new.core.call result }
         ensures objects { ObjectsFollow self.old.objects self.old.core.call (asks.Query query) self.new.objects result }
         ensures refused { IfErr result (IsActRefused A.next.limits caller.old.ports.database self.old.core
@@ -233,7 +233,7 @@ impl<A: App> CallerWrite<A> {
         ensures none { top_call self.old.core.call ≡ None → (result ≡ Err NoFunction) × (self.new ≡ self.old) }
         ensures step { (k : Call) → top_call self.old.core.call ≡ Some k
             → IsWritingStep self.old.core self.new.core k result }
-        ensures told { IsToldSo A.next (base_states caller.old self.old.core) self.old.core.call
+        ensures told { IsToldAfterAsk A.next (base_states caller.old self.old.core) self.old.core.call
             (asks.Done bytes.items) self.new.core.call result }
         ensures objects { ObjectsFollow self.old.objects self.old.core.call (asks.Done bytes.items)
             self.new.objects result }
@@ -265,7 +265,7 @@ impl<A: App> CallerWrite<A> {
           queried = self.old.core.queried ++ query ∷ [];
           answers = self.old.core.answers ++ Given.Rows query rows.items ∷ [];
         }) }
-        ensures refused { IfErr result (IsReadRefused caller.old.ports.database self.old.core.base query) }
+        ensures refused { IfErr result (IsOwnReadRefused caller.old.ports.database self.old.core.base query) }
         ensures left { IfErr result (IsQueryLeft self.old.core query self.new.core) }
         ensures same { self.new ≡ record self.old { core = self.new.core } }
         ensures of_caller { IsWriteOf A.next caller.new self.new }
@@ -365,7 +365,7 @@ impl<A: App> CallerWrite<A> {
         ensures handed_back { IfErr result (λ back. back.1 ≡ self) }
         ensures left { IfErr result (λ back. IsWriteLeft caller.old back.0 caller.new) }
         ensures caller { KeepsCaller caller.old caller.new }
-        ensures grown { HasGrown caller.old.ports.database caller.new.ports.database }
+        ensures grown { HasGrownDatabase caller.old.ports.database caller.new.ports.database }
     {
         if self.is_computing() {
             return Err((WriteError::MidCall, self));
@@ -394,7 +394,7 @@ impl<A: App> CallerWrite<A> {
     pub fn abort(self, caller: &mut Caller<A>)
         ensures ended { HasAbortedWrite self caller.old caller.new }
         ensures caller { KeepsCaller caller.old caller.new }
-        ensures grown { HasGrown caller.old.ports.database caller.new.ports.database }
+        ensures grown { HasGrownDatabase caller.old.ports.database caller.new.ports.database }
     {
         caller.ports.let_go(self.held_base());
     }

@@ -2,7 +2,7 @@
 ghost use Rattle.std.specs.Prelude.{◌≡◌, IfErr, IfOk, OnErr, OnOk, length};
 ghost use Rattle.txc_cushion.specs.Cushion.{retired};
 ghost use Rattle.txc_db.specs.DatabaseValue.{next_horizon};
-ghost use Rattle.txc_caller.specs.Ports.{CallerSweepTransition, GoesOnByEvents, HasGrown, HasRetired, HasVacuumedPorts, IsKeepRefused};
+ghost use Rattle.txc_caller.specs.Ports.{CallerSweepTransition, GoesOnByEvents, HasGrownDatabase, HasRetired, HasVacuumedPorts, IsKeepRefused};
 ghost use Rattle.txc_caller.specs.Reading.{KeepsCaller};
 
 use crate::caller::Caller;
@@ -21,7 +21,7 @@ impl<A: App> Caller<A> {
         ensures same { self.new ≡ record self.old { ports = self.new.ports } }
         ensures unchanged { OnErr result (self.new ≡ self.old) }
         ensures caller { KeepsCaller self.old self.new }
-        ensures grown { HasGrown self.old.ports.database self.new.ports.database }
+        ensures grown { HasGrownDatabase self.old.ports.database self.new.ports.database }
     {
         self.ports.retire(alloc, now, age)
     }
@@ -36,7 +36,7 @@ impl<A: App> Caller<A> {
         ensures unchanged { OnErr result (self.new.ports ≡ record self.old.ports { node = self.new.ports.node }) }
         ensures same { self.new ≡ record self.old { ports = self.new.ports } }
         ensures caller { KeepsCaller self.old self.new }
-        ensures grown { HasGrown self.old.ports.database self.new.ports.database }
+        ensures grown { HasGrownDatabase self.old.ports.database self.new.ports.database }
     {
         self.ports.vacuum(alloc)
     }
@@ -46,7 +46,7 @@ impl<A: App> Caller<A> {
         ensures leads { CallerSweepTransition horizon self.old.ports.node self.new.ports.node result }
         ensures same { self.new ≡ record self.old { ports = record self.old.ports { node = self.new.ports.node } } }
         ensures caller { KeepsCaller self.old self.new }
-        ensures grown { HasGrown self.old.ports.database self.new.ports.database }
+        ensures grown { HasGrownDatabase self.old.ports.database self.new.ports.database }
     {
         self.ports.sweep(alloc, horizon)
     }

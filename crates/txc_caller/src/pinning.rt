@@ -1,7 +1,7 @@
 //! Pins of the newest state that no transaction uses yet.
 ghost use Rattle.std.specs.Prelude.{◌≡◌, IfErr, IfOk};
-ghost use Rattle.txc_caller.specs.Pinning.{HasNotPinned, HasPinned};
-ghost use Rattle.txc_caller.specs.Ports.{HasGrown};
+ghost use Rattle.txc_caller.specs.Pinning.{HasNotPinned, HasPinnedNewest};
+ghost use Rattle.txc_caller.specs.Ports.{HasGrownDatabase};
 ghost use Rattle.txc_caller.specs.Reading.{KeepsCaller};
 
 use crate::caller::Caller;
@@ -28,9 +28,9 @@ pub enum PinError {
 impl<A: App> PlainPorts<A> {
     /// Pins the newest state for no transaction. If the pincushion refuses the pin, its hold is taken away.
     pub(crate) fn pin(&mut self, alloc: Global, moment: u64) -> Result<Stamp, PinError>
-        ensures pinned { IfOk result (λ stamp. HasPinned moment self.old stamp self.new) }
+        ensures pinned { IfOk result (λ stamp. HasPinnedNewest moment self.old stamp self.new) }
         ensures refused { IfErr result (λ error. HasNotPinned moment self.old error self.new) }
-        ensures grown { HasGrown self.old.database self.new.database }
+        ensures grown { HasGrownDatabase self.old.database self.new.database }
     {
         let pinned = match self.database.pin(alloc, moment, Stamp::ZERO) {
             Ok(pinned) => pinned,
@@ -52,9 +52,9 @@ impl<A: App> PlainPorts<A> {
 impl<A: App> Ports<A> {
     /// Pins the newest state for no transaction.
     pub(crate) fn pin(&mut self, alloc: Global, moment: u64) -> Result<Stamp, PinError>
-        ensures pinned { IfOk result (λ stamp. HasPinned moment self.old stamp self.new) }
+        ensures pinned { IfOk result (λ stamp. HasPinnedNewest moment self.old stamp self.new) }
         ensures refused { IfErr result (λ error. HasNotPinned moment self.old error self.new) }
-        ensures grown { HasGrown self.old.database self.new.database }
+        ensures grown { HasGrownDatabase self.old.database self.new.database }
     {
         let mut plain = self.slot.take(self.alloc);
         let pinned = plain.pin(alloc, moment);
@@ -67,11 +67,11 @@ impl<A: App> Caller<A> {
     /// Pins the newest state with this moment, for transactions that begin later, and returns its stamp. The pin is an event. No
     /// transaction uses it yet.
     pub fn pin(&mut self, alloc: Global, moment: u64) -> Result<Stamp, PinError>
-        ensures pinned { IfOk result (λ stamp. HasPinned moment self.old.ports stamp self.new.ports) }
+        ensures pinned { IfOk result (λ stamp. HasPinnedNewest moment self.old.ports stamp self.new.ports) }
         ensures refused { IfErr result (λ error. HasNotPinned moment self.old.ports error self.new.ports) }
         ensures same { self.new ≡ record self.old { ports = self.new.ports } }
         ensures caller { KeepsCaller self.old self.new }
-        ensures grown { HasGrown self.old.ports.database self.new.ports.database }
+        ensures grown { HasGrownDatabase self.old.ports.database self.new.ports.database }
     {
         self.ports.pin(alloc, moment)
     }

@@ -7,7 +7,7 @@ ghost use Rattle.txc_node.specs.declared.node.TheConstants.{MAX_CAPACITY, MAX_RE
 ghost use Rattle.txc_stream.specs.Names.{HasRow};
 ghost use Rattle.txc_stream.specs.declared.row.TheConstants.{MAX_CAPACITY as MAX_ROW};
 ghost use Rattle.txc_shared.specs.Nodes.{start_of};
-ghost use Rattle.txc_caller.specs.Ports.{CallerFindTransition, AreLetGo, AreGivenBack, HasGrown, HasEventRoom, HasNoEventFor, GoesOnByEvents, IsBehind, IsLetGo, IsNewDatabase};
+ghost use Rattle.txc_caller.specs.Ports.{CallerFindTransition, AreLetGo, AreGivenBack, HasGrownDatabase, HasEventRoom, HasNoEventFor, GoesOnByEvents, IsBehind, IsLetGo, IsNewDatabase};
 
 use crate::call_ports::CallPorts;
 use crate::nodes;
@@ -74,7 +74,7 @@ pub(crate) fn let_go(database: &mut DbCore, unpin: Option<Stamp>)
     ensures unpinned { IsLetGo unpin database.old database.new }
     ensures history { database.new.history ≡ database.old.history }
     ensures events { database.new.events ≡ database.old.events }
-    ensures grown { HasGrown database.old database.new }
+    ensures grown { HasGrownDatabase database.old database.new }
 {
     match unpin {
         Some(stamp) => {

@@ -10,7 +10,7 @@ ghost use Rattle.txc_validity.specs.Answers.{IsAnswer};
 ghost use Rattle.txc_cushion.specs.Cushion.{after_fresh};
 ghost use Rattle.txc_txn.specs.Core.{value_of};
 ghost use Rattle.txc_caller.specs.Reading.{IsBegunCore};
-ghost use Rattle.txc_caller.specs.Ports.{AreGivenBack, CallerSweepTransition, GoesOnByEvents, HasGrown, HasNoEventFor, HasRetired, HasVacuumedPorts, IsBehind, IsKeepRefused, IsLetGo, MayHaveTaken};
+ghost use Rattle.txc_caller.specs.Ports.{AreGivenBack, CallerSweepTransition, GoesOnByEvents, HasGrownDatabase, HasNoEventFor, HasRetired, HasVacuumedPorts, IsBehind, IsKeepRefused, IsLetGo, MayHaveTaken};
 
 use crate::call_ports::CallPorts;
 use crate::caller::begun;
@@ -91,7 +91,7 @@ impl<A: App> Ports<A> {
         ensures only_if { IsOk result → IsHoldable self.old.database }
         ensures refused { IfErr result (IsHoldRefused self.old.database) }
         ensures unchanged { OnErr result (self.new ≡ self.old) }
-        ensures grown { HasGrown self.old.database self.new.database }
+        ensures grown { HasGrownDatabase self.old.database self.new.database }
     {
         let mut plain = self.slot.take(self.alloc);
         let held = plain.database.hold(alloc);
@@ -150,7 +150,7 @@ impl<A: App> Ports<A> {
         ensures refused { IfErr result (IsCommitRefused self.old.database base read.now changes.now) }
         ensures left { IfErr result (IsLeft self.old.database self.new.database) }
         ensures unchanged { OnErr result (self.new ≡ record self.old { database = self.new.database }) }
-        ensures grown { HasGrown self.old.database self.new.database }
+        ensures grown { HasGrownDatabase self.old.database self.new.database }
     {
         let mut plain = self.slot.take(self.alloc);
         let committed = plain.database.commit(alloc, base, read, changes);
@@ -195,7 +195,7 @@ impl<A: App> Ports<A> {
         ensures retired { OnOk result (HasRetired now age self.old self.new) }
         ensures answer { IfOk result (λ count. count ≡ length (retired self.old.cushion now age)) }
         ensures unchanged { OnErr result (self.new ≡ self.old) }
-        ensures grown { HasGrown self.old.database self.new.database }
+        ensures grown { HasGrownDatabase self.old.database self.new.database }
     {
         let mut plain = self.slot.take(self.alloc);
         match plain.cushion.retire(alloc, now, age) {
@@ -219,7 +219,7 @@ impl<A: App> Ports<A> {
         ensures answer { IfOk result (λ horizon. horizon ≡ next_horizon self.old.database) }
         ensures refused { IfErr result (IsKeepRefused self.old.database self.old.node) }
         ensures unchanged { OnErr result (self.new ≡ record self.old { node = self.new.node }) }
-        ensures grown { HasGrown self.old.database self.new.database }
+        ensures grown { HasGrownDatabase self.old.database self.new.database }
     {
         if !self.take_events(alloc) {
             return Err(DbError::Memory);

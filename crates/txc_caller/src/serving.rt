@@ -3,9 +3,9 @@ ghost use Rattle.std.specs.Prelude.{◌≡◌, ◌≢◌, true, None, Some};
 ghost use Rattle.txc_tags.specs.Keys.{Call};
 ghost use Rattle.txc_call.specs.declared.need.Need.{Need};
 ghost use Rattle.txc_caller.specs.Looking.{HasMissed, IsComputedOnMiss, IsLookedUp};
-ghost use Rattle.txc_caller.specs.Ports.{is_of_pin, HasGrown};
+ghost use Rattle.txc_caller.specs.Ports.{is_of_pin, HasGrownDatabase};
 ghost use Rattle.txc_caller.specs.Reading.{IsLent};
-ghost use Rattle.txc_caller.specs.Serving.{pins_to_come, HasMade, HasPassed, HasServed, IsGoing, IsRightReplyTo};
+ghost use Rattle.txc_caller.specs.Serving.{pins_to_come, HasMadeRequest, HasPassed, HasServed, IsGoing, IsRightReplyTo};
 
 use crate::call_ports::CallPorts;
 use crate::lent_txn::LentTxn;
@@ -44,7 +44,7 @@ fn asked<A: App, P: CallPorts<A>>(
     ensures right { IsRightReplyTo A.next txn.now result }
     ensures looked_up { IsLookedUp txn.now.core (P.ports ports.old).node (P.ports ports.new).node result }
     ensures node { is_of_pin request ≡ true → (P.ports ports.new).node ≡ (P.ports ports.old).node }
-    ensures grown { HasGrown (P.ports ports.old).database (P.ports ports.new).database }
+    ensures grown { HasGrownDatabase (P.ports ports.old).database (P.ports ports.new).database }
 {
     txn.is_lent();
     ports.ask(alloc, txn.core().seen(), request)
@@ -60,7 +60,7 @@ fn pass_pin<A: App, P: CallPorts<A>>(
     requires { IsGoing (P.ports ports.old).database.events txn.old.core turn }
     ensures passed { HasPassed (P.ports ports.old).database.events txn.old turn txn.new result }
     ensures node { (P.ports ports.new).node ≡ (P.ports ports.old).node }
-    ensures grown { HasGrown (P.ports ports.old).database (P.ports ports.new).database }
+    ensures grown { HasGrownDatabase (P.ports ports.old).database (P.ports ports.new).database }
 {
     match turn {
         Some(Turn::Ask(request)) => {
@@ -87,7 +87,7 @@ fn pass_pins<A: App, P: CallPorts<A>>(
     ensures passed { HasPassed (P.ports ports.old).database.events txn.old turn txn.new result }
     ensures last { pins_to_come result ≡ 0 }
     ensures node { (P.ports ports.new).node ≡ (P.ports ports.old).node }
-    ensures grown { HasGrown (P.ports ports.old).database (P.ports ports.new).database }
+    ensures grown { HasGrownDatabase (P.ports ports.old).database (P.ports ports.new).database }
 {
     let first = pass_pin(alloc, ports, txn, turn);
     let second = pass_pin(alloc, ports, txn, first);
@@ -104,10 +104,10 @@ fn pass_last<A: App, P: CallPorts<A>>(
     requires going { IsGoing (P.ports ports.old).database.events txn.old.core turn }
     requires last { pins_to_come turn ≡ 0 }
     requires looked_up { (k : Call) → turn ≡ None → txn.old.core.call.need ≢ Some (Need.Begin k) }
-    ensures made { HasMade txn.old turn txn.new result }
+    ensures made { HasMadeRequest txn.old turn txn.new result }
     ensures missed { (k : Call) → result ≡ None → txn.new.core.call.need ≡ Some (Need.Begin k)
         → HasMissed txn.new.core.pins.members k (P.ports ports.old).node (P.ports ports.new).node }
-    ensures grown { HasGrown (P.ports ports.old).database (P.ports ports.new).database }
+    ensures grown { HasGrownDatabase (P.ports ports.old).database (P.ports ports.new).database }
 {
     match turn {
         Some(Turn::Ask(request)) => {
@@ -130,7 +130,7 @@ pub(crate) fn serve<A: App, P: CallPorts<A>>(
     requires looked_up { (k : Call) → turn ≡ None → txn.old.core.call.need ≢ Some (Need.Begin k) }
     ensures served { HasServed txn.old turn txn.new result }
     ensures on_miss { IsComputedOnMiss txn.new.core (P.ports ports.old).node (P.ports ports.new).node result }
-    ensures grown { HasGrown (P.ports ports.old).database (P.ports ports.new).database }
+    ensures grown { HasGrownDatabase (P.ports ports.old).database (P.ports ports.new).database }
 {
     let pinned = pass_pins(alloc, ports, txn, turn);
     let last = pass_last(alloc, ports, txn, pinned);

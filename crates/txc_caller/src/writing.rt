@@ -19,8 +19,8 @@ ghost use Rattle.txc_rw.specs.ByHand.{IsRwByHand, IsRwHandTurn, RwObjectsLeft};
 ghost use Rattle.txc_rw.specs.Core.{IsFoundAt, RwHolds};
 ghost use Rattle.txc_rw.specs.Transitions.{IsQueryLeft};
 ghost use Rattle.txc_rw.specs.declared.given.Given.{Given};
-ghost use Rattle.txc_caller.specs.Telling.{top_call, AsksNext, HaveAllFunctions, IsNextStep, IsToldSo, ObjectsFollow};
-ghost use Rattle.txc_caller.specs.Writing.{base_states_in, queried_for, HasLed, IsActRefused, IsHeard, IsReadRefused, IsStepAfter, IsWritingStep};
+ghost use Rattle.txc_caller.specs.Telling.{top_call, AsksNext, HaveAllFunctions, IsNextStep, IsToldAfterAsk, ObjectsFollow};
+ghost use Rattle.txc_caller.specs.Writing.{base_states_in, queried_for, HasLed, IsActRefused, IsHeard, IsOwnReadRefused, IsStepAfter, IsWritingStep};
 
 use crate::ports::Ports;
 use crate::step::{CallerError, Step, ended};
@@ -73,7 +73,7 @@ pub(crate) fn read<A: App>(
       queried = core.old.queried ++ query ∷ [];
       answers = core.old.answers ++ Given.Rows query rows.items ∷ [];
     }) }
-    ensures refused { IfErr result (IsReadRefused ports.old.database core.old.base query) }
+    ensures refused { IfErr result (IsOwnReadRefused ports.old.database core.old.base query) }
     ensures left { IfErr result (IsQueryLeft core.old query core.new) }
     ensures holds { (next : Next) (objects : Objects) → RwHolds next ports.old.database.history objects core.old
         → RwHolds next ports.old.database.history objects core.new }
@@ -172,7 +172,7 @@ pub(crate) fn act<A: App>(
     ensures functions { numbers_of told.new.objects ≡ numbers_of told.old.objects }
     ensures rests { core.new.reading ≡ None }
     ensures step { (k : Call) → top_call core.old.call ≡ Some k → IsWritingStep core.old core.new k result }
-    ensures told { IsToldSo A.next (base_states_in ports.old.database.history core.old) core.old.call ask
+    ensures told { IsToldAfterAsk A.next (base_states_in ports.old.database.history core.old) core.old.call ask
         core.new.call result }
     ensures objects { ObjectsFollow told.old.objects core.old.call ask told.new.objects result }
     ensures queried { OnOk result (core.new.queried ≡ core.old.queried ++ queried_for ask) }

@@ -12,7 +12,7 @@ use Rattle.txc_call.specs.declared.need.Need.{Need}
 use Rattle.txc_call.specs.declared.need.Need.TheVariants as needs
 use Rattle.txc_txn.specs.Kept.{TxnValue}
 use Rattle.txc_caller.specs.Reading.{CallerValue, IsOf, KeepsCaller, KeepsTxn}
-use Rattle.txc_caller.specs.Telling.{computed_calls, computed_in, told_answer, top_call, top_or, IsOpenWith, IsToldSo}
+use Rattle.txc_caller.specs.Telling.{computed_calls, computed_in, told_answer, top_call, top_or, IsOpenWith, IsToldAfterAsk}
 use Rattle.txc_caller.specs.declared.step.Step.TheVariants.{Answered, Compute}
 use Rattle.txc_caller_uses.specs.Labels.{label_call, labels, BeginsLabel}
 

@@ -3,7 +3,7 @@ use Rattle.txc_tags.specs.Keys.{Call}
 use Rattle.txc_call.specs.declared.need.Need.TheVariants as needs
 use Rattle.txc_ports.specs.declared.turn.Turn.TheVariants.{Ask, Ended}
 use Rattle.txc_txn.specs.ByHand.{HandTurn, IsHandTurn}
-use Rattle.txc_caller.specs.Serving.{pins_to_come, HasMade, IsGoing}
+use Rattle.txc_caller.specs.Serving.{pins_to_come, HasMadeRequest, IsGoing}
 use Rattle.txc_caller.proofs.Making.{made_ended, made_heard, made_none, missed_heard}
 use Rattle.txc_caller.proofs.serving.pass_last.Goals as goal
 
@@ -20,7 +20,7 @@ returns-in-Some-Ask-clause-made g c =
     let is : c.args.turn ≡ Some (Ask c.in-Some-Ask.request) = cc in
     let going = subst (IsGoing (g.P.CallPorts.ports c.args.ports.now).database.events c.args.txn.now.core) is c.requires.going in
     let last = subst (λ (t : HandTurn). pins_to_come t ≡ 0) is c.requires.last in
-    subst (λ (t : HandTurn). HasMade c.args.txn.now t c.hear.new.self c.hear.result) (sym is)
+    subst (λ (t : HandTurn). HasMadeRequest c.args.txn.now t c.hear.new.self c.hear.result) (sym is)
     (made_heard c.args.txn.now c.hear.new.self c.in-Some-Ask.request c.asked-reply.result c.hear.result c.hear.ensures.gone_on c.hear.ensures.objects c.hear.ensures.functions going.fits last
     c.asked-reply.ensures.right.answers)
 
@@ -35,12 +35,12 @@ returns-in-Some-Ask-clause-missed g c = λ k none begins.
 pub returns-in-Some-Ended-clause-made : goal.returns-in-Some-Ended-clause-made
 returns-in-Some-Ended-clause-made g c =
     let is : c.args.turn ≡ Some (Ended c.in-Some-Ended.outcome) = cc in
-    subst (λ (t : HandTurn). HasMade c.args.txn.now t c.args.txn.now (Some (Ended c.in-Some-Ended.outcome))) (sym is)
+    subst (λ (t : HandTurn). HasMadeRequest c.args.txn.now t c.args.txn.now (Some (Ended c.in-Some-Ended.outcome))) (sym is)
     (made_ended c.args.txn.now c.in-Some-Ended.outcome (subst (IsHandTurn c.args.txn.now.core) is c.requires.going.fits))
 
 pub returns-in-None-clause-made : goal.returns-in-None-clause-made
 returns-in-None-clause-made g c =
-    subst (λ (t : HandTurn). HasMade c.args.txn.now t c.args.txn.now None) (sym c.in-None.is)
+    subst (λ (t : HandTurn). HasMadeRequest c.args.txn.now t c.args.txn.now None) (sym c.in-None.is)
     (made_none c.args.txn.now (subst (IsHandTurn c.args.txn.now.core) c.in-None.is c.requires.going.fits) (λ k. c.requires.looked_up k c.in-None.is))
 
 pub returns-in-None-clause-missed : goal.returns-in-None-clause-missed

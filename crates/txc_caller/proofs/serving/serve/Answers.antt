@@ -7,7 +7,7 @@ use Rattle.txc_ports.specs.declared.turn.Turn.TheVariants.{Ask, Ended}
 use Rattle.txc_txn.specs.ByHand.{HandTurn, IsHandTurn}
 use Rattle.txc_txn.specs.Core.{CoreValue}
 use Rattle.txc_caller.specs.Looking.{HasMissed, IsComputedOnMiss}
-use Rattle.txc_caller.specs.Serving.{HasMade, HasServed, IsGoing}
+use Rattle.txc_caller.specs.Serving.{HasMadeRequest, HasServed, IsGoing}
 use Rattle.txc_caller.specs.Telling.{IsNextStep}
 use Rattle.txc_caller.specs.declared.step.CallerError.{CallerError}
 use Rattle.txc_caller.specs.declared.step.Step.{Step}
@@ -33,7 +33,7 @@ pub returns-in-None-clause-served : goal.returns-in-None-clause-served
 returns-in-None-clause-served g c =
     let mid = c.pass_pins-pinned.new.txn in
     let new = c.pass_last-last.new.txn in
-    let made = subst (λ (t : HandTurn). HasMade mid c.pass_pins-pinned.result new t) c.in-None.is c.pass_last-last.ensures.made in
+    let made = subst (λ (t : HandTurn). HasMadeRequest mid c.pass_pins-pinned.result new t) c.in-None.is c.pass_last-last.ensures.made in
     let same : c.machine.result.now ≡ new.core.call = c.machine.ensures ∙ ap (λ (v : CoreValue). v.call) c.core.ensures in
     served_open (g.P.CallPorts.ports c.args.ports.now).database.events c.args.txn.now mid new c.args.turn c.pass_pins-pinned.result c.pass_pins-pinned.ensures.passed made c.next.result
     (subst (λ (m : Calling). IsNextStep m c.next.result) same c.next.ensures)
@@ -56,7 +56,7 @@ returns-in-Some-Ended-clause-served g c =
     let mid = c.pass_pins-pinned.new.txn in
     let new = c.pass_last-last.new.txn in
     let is : c.pass_last-last.result ≡ Some (Ended c.in-Some-Ended.outcome) = cc in
-    let made = subst (λ (t : HandTurn). HasMade mid c.pass_pins-pinned.result new t) is c.pass_last-last.ensures.made in
+    let made = subst (λ (t : HandTurn). HasMadeRequest mid c.pass_pins-pinned.result new t) is c.pass_last-last.ensures.made in
     subst (λ (r : Result Step CallerError). HasServed c.args.txn.now c.args.turn new r) (sym c.ended.ensures)
     (served_ended (g.P.CallPorts.ports c.args.ports.now).database.events c.args.txn.now mid new c.args.turn c.pass_pins-pinned.result c.pass_pins-pinned.ensures.passed c.in-Some-Ended.outcome made)
 

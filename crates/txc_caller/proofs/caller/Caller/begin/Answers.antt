@@ -1,6 +1,6 @@
 use Rattle.std.proofs.Common.{ap, inl, sym, subst, ◌∙◌}
 use Rattle.txc_txn.specs.Core.{value_of, IsIdle}
-use Rattle.txc_caller.specs.Ports.{CallerPorts, HasGrown}
+use Rattle.txc_caller.specs.Ports.{CallerPorts, HasGrownDatabase}
 use Rattle.txc_caller.specs.Reading.{with_cushion, CallerValue, IsBegunReading}
 use Rattle.txc_caller.proofs.Begun.{begun_reading, cushion_so}
 use Rattle.txc_caller.proofs.Letting.{grown_same}
@@ -33,7 +33,7 @@ returns-clause-caller g c = record {
 
 pub returns-clause-grown : goal.returns-clause-grown
 returns-clause-grown g c =
-    subst (λ (v : CallerValue). HasGrown v.ports.database c.begin-core.new.self.database) c.self.view_is
+    subst (λ (v : CallerValue). HasGrownDatabase v.ports.database c.begin-core.new.self.database) c.self.view_is
     (grown_same c.self.inside.ports.database c.begin-core.new.self.database (ap (λ (p : CallerPorts). p.database) c.begin-core.ensures.same))
 
 pub returns-in_err-core-clause-left : goal.returns-in_err-core-clause-left
@@ -49,5 +49,5 @@ returns-in_err-core-clause-caller g c = record {
 
 pub returns-in_err-core-clause-grown : goal.returns-in_err-core-clause-grown
 returns-in_err-core-clause-grown g c =
-    subst (λ (v : CallerValue). HasGrown v.ports.database c.begin-core.new.self.database) c.self.view_is
+    subst (λ (v : CallerValue). HasGrownDatabase v.ports.database c.begin-core.new.self.database) c.self.view_is
     (grown_same c.self.inside.ports.database c.begin-core.new.self.database (ap (λ (p : CallerPorts). p.database) c.begin-core.ensures.same))

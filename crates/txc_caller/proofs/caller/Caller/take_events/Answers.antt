@@ -1,5 +1,5 @@
 use Rattle.std.proofs.Common.{ap, subst, ◌∙◌}
-use Rattle.txc_caller.specs.Ports.{CallerPorts, HasGrown}
+use Rattle.txc_caller.specs.Ports.{CallerPorts, HasGrownDatabase}
 use Rattle.txc_caller.specs.Reading.{CallerValue}
 use Rattle.txc_caller.proofs.Letting.{grown_same}
 use Rattle.txc_caller.proofs.caller.Caller.take_events.Goals as goal
@@ -12,5 +12,5 @@ returns-clause-caller g c = record {
 
 pub returns-clause-grown : goal.returns-clause-grown
 returns-clause-grown g c =
-    subst (λ (v : CallerValue). HasGrown v.ports.database c.take_events.new.self.database) c.self.view_is
+    subst (λ (v : CallerValue). HasGrownDatabase v.ports.database c.take_events.new.self.database) c.self.view_is
     (grown_same c.self.inside.ports.database c.take_events.new.self.database (ap (λ (p : CallerPorts). p.database) c.take_events.ensures.same))

@@ -4,9 +4,9 @@ use Rattle.txc_tags.specs.Keys.{Call}
 use Rattle.txc_txn.specs.Kept.{TxnValue}
 use Rattle.txc_told.specs.Steps.{objects_after_ask}
 use Rattle.txc_caller.specs.Looking.{IsComputedOnMiss}
-use Rattle.txc_caller.specs.Ports.{HasGrown}
+use Rattle.txc_caller.specs.Ports.{HasGrownDatabase}
 use Rattle.txc_caller.specs.Reading.{open_states, CallerValue, IsReadingStep, KeepsTxn}
-use Rattle.txc_caller.specs.Telling.{top_call, AsksNext, IsToldSo, ObjectsFollow}
+use Rattle.txc_caller.specs.Telling.{top_call, AsksNext, IsToldAfterAsk, ObjectsFollow}
 use Rattle.txc_caller.proofs.Lent.{idle_objects, resting_idle, resting_runs}
 use Rattle.txc_caller.proofs.Requests.{going_ran, keeps_seen, keeps_self, keeps_then, of_call_ran}
 use Rattle.txc_caller.proofs.Letting.{grown_self}
@@ -87,7 +87,7 @@ returns-clause-told g c =
     let top = some_of (top_call old.core.call) there in
     let runs = resting_runs old.core top.0 c.self.invariant.rests top.1 in
     let served = c.serve-step.ensures.served in
-    subst (λ (t : TxnValue). IsToldSo g.A.App.next (open_states new.core) t.core.call c.args.ask new.core.call c.serve-step.result) c.self.view_is
+    subst (λ (t : TxnValue). IsToldAfterAsk g.A.App.next (open_states new.core) t.core.call c.args.ask new.core.call c.serve-step.result) c.self.view_is
     (told_so g.A.App.next old mid c.args.ask c.ran-turn.result c.ran-turn.ensures.asked runs.1 c.self.invariant.lent.meant.fits c.ran-turn.ensures.objects c.is_lent-2.ensures.meant.fits
     new c.is_lent-3.ensures.meant c.serve-step.result served.goes_on (served.objects (objects_after_ask old.objects old.core.call c.args.ask) c.ran-turn.ensures.objects))
 
@@ -127,4 +127,4 @@ returns-clause-caller g c = record {
 }
 
 pub returns-clause-grown : goal.returns-clause-grown
-returns-clause-grown g c = subst (λ (v : CallerValue). HasGrown v.ports.database c.serve-step.new.ports.database) c.caller.view_is c.serve-step.ensures.grown
+returns-clause-grown g c = subst (λ (v : CallerValue). HasGrownDatabase v.ports.database c.serve-step.new.ports.database) c.caller.view_is c.serve-step.ensures.grown

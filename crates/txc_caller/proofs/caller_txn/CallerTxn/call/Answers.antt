@@ -4,9 +4,9 @@ use Rattle.txc_tags.specs.Keys.{Call}
 use Rattle.txc_app.specs.declared.ask.Ask.TheVariants as asks
 use Rattle.txc_txn.specs.Kept.{TxnValue}
 use Rattle.txc_caller.specs.Looking.{IsComputedOnMiss}
-use Rattle.txc_caller.specs.Ports.{HasGrown}
+use Rattle.txc_caller.specs.Ports.{HasGrownDatabase}
 use Rattle.txc_caller.specs.Reading.{open_states, CallerValue, IsReadingStep, KeepsTxn}
-use Rattle.txc_caller.specs.Telling.{call_or, top_call, IsToldSo, ObjectsFollow}
+use Rattle.txc_caller.specs.Telling.{call_or, top_call, IsToldAfterAsk, ObjectsFollow}
 use Rattle.txc_caller.proofs.Lent.{resting_idle}
 use Rattle.txc_caller.proofs.Requests.{going_begun, keeps_begun, keeps_then, of_call_begun}
 use Rattle.txc_caller.proofs.Some.{none_of, some_of}
@@ -52,7 +52,7 @@ returns-clause-told g c =
     let new = c.serve-step.new.txn in
     let closed = none_of (top_call old.core.call)
     (λ there. let yes : c.is_computing.result ≡ true = c.is_computing.ensures.1 (subst (λ (t : TxnValue). IsSome (top_call t.core.call)) c.self.view_is there) in absurd (cc (yes, c.if-is_computing.false))) in
-    subst (λ (t : TxnValue). IsToldSo g.A.App.next (open_states new.core) t.core.call (asks.Call c.args.key) new.core.call c.serve-step.result) c.self.view_is
+    subst (λ (t : TxnValue). IsToldAfterAsk g.A.App.next (open_states new.core) t.core.call (asks.Call c.args.key) new.core.call c.serve-step.result) c.self.view_is
     (first_told g.A.App.next old c.start-turn.new.self new c.args.key c.start-turn.result c.start-turn.ensures.begun (resting_idle old.core c.self.invariant.rests closed)
     (c.self.invariant.lent.functions c.args.key.function c.function-function.ensures.bound) c.self.invariant.lent.meant.fits c.is_lent.ensures.meant c.serve-step.result c.serve-step.ensures.served.goes_on)
 
@@ -89,4 +89,4 @@ returns-clause-caller g c = record {
 }
 
 pub returns-clause-grown : goal.returns-clause-grown
-returns-clause-grown g c = subst (λ (v : CallerValue). HasGrown v.ports.database c.serve-step.new.ports.database) c.caller.view_is c.serve-step.ensures.grown
+returns-clause-grown g c = subst (λ (v : CallerValue). HasGrownDatabase v.ports.database c.serve-step.new.ports.database) c.caller.view_is c.serve-step.ensures.grown

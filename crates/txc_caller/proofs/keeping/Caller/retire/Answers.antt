@@ -1,5 +1,5 @@
 use Rattle.std.proofs.Common.{ap, subst, ◌∙◌}
-use Rattle.txc_caller.specs.Ports.{HasGrown}
+use Rattle.txc_caller.specs.Ports.{HasGrownDatabase}
 use Rattle.txc_caller.specs.Reading.{CallerValue}
 use Rattle.txc_caller.proofs.keeping.Caller.retire.Goals as goal
 
@@ -10,4 +10,4 @@ returns-clause-caller g c = record {
 }
 
 pub returns-clause-grown : goal.returns-clause-grown
-returns-clause-grown g c = subst (λ (v : CallerValue). HasGrown v.ports.database c.retire.new.self.database) c.self.view_is c.retire.ensures.grown
+returns-clause-grown g c = subst (λ (v : CallerValue). HasGrownDatabase v.ports.database c.retire.new.self.database) c.self.view_is c.retire.ensures.grown
