@@ -13,8 +13,9 @@ usage: scripts/boundary.py [--all] [--proved | --library FOLDER] [--rows FOLDER]
              compiled for it with no proof
 
 The header's sizes, places and numbers are those of the sources; the examples, and the random scripts, are answered byte for byte as
-`txcache` does; the same with every allocation refused in its turn; odd uses; threads that share a site, beside a plain model. Then the tests of the
-bindings for Rust and Python. The last line is `N passed, M failed`; what the machine lacks is skipped by its name.
+`txcache` does; the same with every allocation refused in its turn; odd uses; threads that share a site, beside a plain model; work done again and
+again, in memory that does not grow. Then the tests of the bindings for Rust and Python. The last line is `N passed, M failed`; what the machine
+lacks is skipped by its name.
 """
 
 import argparse
@@ -39,12 +40,18 @@ SANITIZERS = ["-fsanitize=address,undefined", "-fno-sanitize-recover=all", "-g",
 OF_THREADS = ["-fsanitize=thread", "-g", "-O1"]
 WARNINGS = ["-std=c11", "-Wall", "-Wextra", "-Werror"]
 COMPILERS = ("gcc", "clang")
+# The functions of the allocator in whose place a program has its own.
+WRAPPED = {
+    "tests/play.c": ("malloc", "realloc"),
+    "tests/odd_site.c": ("malloc", "realloc"),
+    "tests/odd_many.c": ("malloc", "realloc"),
+    "tests/flat.c": ("malloc", "realloc", "free"),
+}
 # How many random scripts of each kind are played, by default and with --all.
 SCRIPTS, ALL_SCRIPTS = 200, 2000
-# The programs in C, and those of them in which allocations are refused.
-PROGRAMS = ("tests/play.c", "tests/play_site.c", "tests/odd.c", "tests/odd_site.c", "tests/odd_many.c", "tests/threads_site.c", "example.c", "page.c",
-            "threads.c")
-REFUSING = ("tests/play.c", "tests/odd_site.c", "tests/odd_many.c")
+# The programs in C.
+PROGRAMS = ("tests/play.c", "tests/play_site.c", "tests/odd.c", "tests/odd_site.c", "tests/odd_many.c", "tests/threads_site.c", "tests/flat.c",
+            "example.c", "page.c", "threads.c")
 # The least share of a site's acts that are between another's call and its end.
 BETWEEN = 1 / 3
 
@@ -216,7 +223,7 @@ def try_worlds(trial, what, room, said_before, program, played):
 def build_c(trial, room, compiler, name, flags, archive):
     """Builds each program in C over the archive, and returns whether all were built."""
     for file in PROGRAMS:
-        wrap = ["-Wl,--wrap=malloc", "-Wl,--wrap=realloc"] if file in REFUSING else []
+        wrap = [f"-Wl,--wrap={it}" for it in WRAPPED.get(file, ())]
         words = [compiler, *WARNINGS, *flags, "-pthread", "-I", C, f"{C}/{file}", archive, *wrap, "-o", f"{room}/{os.path.basename(file)[:-2]}"]
         if trial.ran(f"{compiler}: {file}{name}", words).returncode:
             return False
@@ -254,7 +261,7 @@ def try_c(trial, room, compiler, archives, played, wanted, of_sites):
     for name, flags, archive in (("", ["-O2"], archives[""]), (" under sanitizers", SANITIZERS, archives.get("addresses"))):
         if not archive or not build_c(trial, room, compiler, name, flags, archive):
             continue
-        for program in ("odd", "odd_site", "odd_many", "threads_site"):
+        for program in ("odd", "odd_site", "odd_many", "threads_site", "flat"):
             trial.ran(f"{compiler}{name}", [f"{room}/{program}"])
         for program in ("example", "page", "threads"):
             trial.ran(f"{compiler}: the example {program}{name}", [f"{room}/{program}"])

@@ -11,7 +11,8 @@ This script reads the size of the process from outside (VmRSS of /proc/PID/statu
 lookups and hits there were in the last second of the generation before, and in the first of this; which share of the last LOOKUPS
 there and of the first here were hits; and how long no visitor was there. It fails where a page was torn or refused or a bid lost, where
 there were fewer generations, where the greatest size of the last one is more than GROWTH_KB above that of the second, or where
-the share of hits is less than WARM of what it was before.
+the share of hits is less than WARM of what it was before. Where no events are stored it also fails if the size at the end of a
+generation is more than GROWTH_KB above that at a third of its time.
 """
 import os
 import re
@@ -109,6 +110,11 @@ def read(said):
     return found
 
 
+def sizes_of(it, sizes, ahead):
+    """What the process had in memory during a generation, in order."""
+    return [kb for at, kb in sizes if it.begun <= at - ahead <= it.ended] or [0]
+
+
 def text_of(it, before, most, wrong):
     """The line of a generation; what it lacks of the one before comes to what is wrong."""
     text = f"{it.number:2}: {it.ended - it.begun:,} ms, {it.pages:,} pages, {it.bids:,} bids, {it.conflicts:,} conflicts, at {it.stamp:,}, {most:,} KB at most"
@@ -121,7 +127,7 @@ def text_of(it, before, most, wrong):
     return text
 
 
-def judge(said, sizes, seconds, generations):
+def judge(said, sizes, seconds, generations, is_stored):
     """Prints what came, and returns what was not as it is to be."""
     found, wrong, most, before, bids = read(said), [], [], None, 0
     print("".join(f"{it}\n" for it in re.findall(r"^  refused at .*$", said, re.M)), end="")
@@ -129,8 +135,12 @@ def judge(said, sizes, seconds, generations):
     ahead = sizes[0][0] - found[0].begun if found and abs(sizes[0][0] - found[0].begun) > 10_000 else 0
     for it in found:
         bids += it.bids
-        most.append(max([kb for at, kb in sizes if it.begun <= at - ahead <= it.ended] or [0]))
-        print(text_of(it, before, most[-1], wrong))
+        within = sizes_of(it, sizes, ahead)
+        third, end = within[len(within) // 3], within[-1]
+        most.append(max(within))
+        print(f"{text_of(it, before, most[-1], wrong)}; {third:,} KB after a third, {end:,} KB at the end")
+        if not is_stored and end > third + GROWTH_KB:
+            wrong.append(f"{it.number}: {third:,} KB after a third, {end:,} KB at the end")
         if it.torn or it.refused or it.seen != bids:
             wrong.append(f"{it.number}: {it.torn} torn, {it.refused} refused, {bids - it.seen} lost")
         before = it
@@ -147,7 +157,7 @@ def main():
     numbers += [3, 1_000_000, 11, 4, 900][len(numbers):]
     with tempfile.TemporaryDirectory() as room:
         said, sizes, seconds = run(built(room), [*map(str, numbers), *sys.argv[6:7]], numbers[4])
-    wrong = judge(said, sizes, seconds, numbers[2])
+    wrong = judge(said, sizes, seconds, numbers[2], "stored" in sys.argv[6:7])
     if wrong:
         sys.exit("\n".join(["soak_site.py: not so", *wrong]))
 

@@ -1,6 +1,7 @@
 -- What jobs run over, and what changes and pins make of it.
 use Rattle.std.specs.Prelude.{◌≡◌, ℕ, false, [], ◌∷◌, length, Result, Ok, Err}
 use Rattle.txc_db.specs.Room.{HasCapacity}
+use Rattle.txc_rows.specs.declared.store_error.TheConstants.{MAX_MATCHING}
 use Rattle.txc_rows.specs.declared.query.Change.{Change}
 use Rattle.txc_db.specs.declared.error.DbError.{DbError}
 use Rattle.txc_db.specs.declared.pinned.Pinned.{Pinned}
@@ -23,6 +24,7 @@ pub record IsNewSource (row_cap : ℕ) (s : SourceValue) : Type 0 where
   pub room : HasCapacity s.database.events row_cap
   pub versions : s.database.versions ≡ []
   pub horizon : s.database.horizon ≡ 0
+  pub limit : s.database.most ≡ MAX_MATCHING
   pub holds : s.database.holds ≡ []
   pub whole : s.database.broken ≡ false
   pub cushion : s.cushion ≡ empty_cushion (front_of s.database)

@@ -162,6 +162,7 @@ pinned_so now at_least p d (Ok pinned) after stamp moment front only_if left ref
     let next : pinned.stamp ≡ newest p.database + 1 = stamp ∙ (ap newest after ∙ length_push p.database.history (pin_event now)) in
     record {
       after = ap (λ (v : DatabaseValue). record p { database = v }) after;
+      stamp = stamp;
       moment = moment;
       late = subst (λ (n : ℕ). at_least ≤ n) (sym next) (only_if refl).late;
       front = front;

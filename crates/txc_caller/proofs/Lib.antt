@@ -1,6 +1,8 @@
 pub mod Some
 pub mod Looking
 pub mod Fresh
+pub mod GivingBack
+pub mod Pins
 pub mod Reading
 pub mod Asked
 pub mod Begun
@@ -10,10 +12,10 @@ pub mod Requests
 pub mod Making
 pub mod Served
 pub mod Telling
+pub mod Acting
 pub mod Letting
 pub mod Growing
 pub mod Taken
 pub mod PortsAsBox
 pub mod WriteActs
-pub mod WriteAsks
 pub mod Writers

@@ -243,7 +243,7 @@ step_of c (requests.Lookup node key lo hi) asks of = absurd (cc of)
 step_of c (requests.Query query stamp) asks of = absurd (cc of)
 step_of c (requests.Insert node entry) asks of = absurd (cc of)
 
-one_step : (c : CoreValue) (a b : PinStep) → IsPinningAt c a → IsPinningAt c b → a ≡ b
+pub one_step : (c : CoreValue) (a b : PinStep) → IsPinningAt c a → IsPinningAt c b → a ≡ b
 one_step c a b x y =
     let one : Some (record { step = a; first = x.0 }) ≡ Some (record { step = b; first = y.0 }) = sym x.1 ∙ y.1 in
     let two : record { step = a; first = x.0 } ≡ record { step = b; first = y.0 } = cc one in

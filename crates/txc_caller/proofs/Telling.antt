@@ -112,7 +112,7 @@ one_next limits outer asked frame ask objects turn h =
     unless (frame.key ∷ calls_of outer) ask (count_refusal limits.asks frame.answers asked) turn _ h
     (λ counted. unless (frame.key ∷ calls_of outer) ask (form_refusal limits.value frame.key.function ask) turn _ counted (allowed_next outer asked frame ask objects turn))
 
-ran_next : (limits : Limits) (frames : List Frame) (asked : ℕ) (objects : Objects) (need : Need) (ask : Ask) (turn : Turn) → AfterRan limits frames asked objects need ask turn
+pub ran_next : (limits : Limits) (frames : List Frame) (asked : ℕ) (objects : Objects) (need : Need) (ask : Ask) (turn : Turn) → AfterRan limits frames asked objects need ask turn
     → StandsNext (computed_in frames (Some need)) ask turn
 ran_next limits frames asked objects (needs.Begin k) ask turn h =
     in_memory (k ∷ calls_of frames) ask turn _ h (one_next limits frames asked (begun_frame k) ask (with_begun objects k) turn)
@@ -136,7 +136,7 @@ no_value_begin : (frames : List Frame) (o : Outcome) (k : Call) → needs.Begin 
 no_value_begin [] o k is = cc is
 no_value_begin (frame ∷ frames) o k is = cc is
 
-no_value_lookup : (frames : List Frame) (o : Outcome) (k : Call) → needs.Lookup k ≡ value_need frames o → ⊥
+pub no_value_lookup : (frames : List Frame) (o : Outcome) (k : Call) → needs.Lookup k ≡ value_need frames o → ⊥
 no_value_lookup [] o k is = cc is
 no_value_lookup (frame ∷ frames) o k is = cc is
 
@@ -186,7 +186,7 @@ module _ (next : Next) (objects : Objects) (top : Call) (bytes : List ℕ) where
       (subst (λ (ks : List Call). InnermostAsks next os ks (asks.Call k)) other (around_asks next objects k a idle frames rising (stack_asks next objects top (asks.Call k) frames stack)))
 
   -- once a function is done, the one around it is that which asked the call of that
-  done_around : (frames : List Frame) (need : Need) → NeedFits next objects top (Some need) frames → NeedsFunction (Some need)
+  pub done_around : (frames : List Frame) (need : Need) → NeedFits next objects top (Some need) frames → NeedsFunction (Some need)
       → (done : Call) (around : List Call) → computed_in frames (Some need) ≡ done ∷ around
       → InnermostAsks next (objects_after objects frames need (asks.Done bytes)) around (asks.Call done)
   done_around frames (needs.Begin k) fits runs done around is =
@@ -197,7 +197,7 @@ module _ (next : Next) (objects : Objects) (top : Call) (bytes : List ℕ) where
   done_around frames need fits runs done around is = absurd runs
 
 -- what waits for an answer asked that
-asked_by : (next : Next) (objects : Objects) (top : Call) (frames : List Frame) (need : Option Need) → NeedFits next objects top need frames
+pub asked_by : (next : Next) (objects : Objects) (top : Call) (frames : List Frame) (need : Option Need) → NeedFits next objects top need frames
     → ((q : Query) → need ≡ Some (needs.Query q) → InnermostAsks next objects (calls_of frames) (asks.Query q))
     × ((k : Call) → need ≡ Some (needs.Lookup k) → InnermostAsks next objects (calls_of frames) (asks.Call k))
     × ((e : Entry) → need ≡ Some (needs.Insert e) → InnermostAsks next objects (calls_of frames) (asks.Call e.key))
@@ -302,7 +302,7 @@ module _ (next : Next) (computed : List Call) (mid new : CoreValue) (objects : O
 -- ---- what an act tells
 
 module _ (next : Next) (old mid : TxnValue) (ask : Ask) (turn : HandTurn) (asked : HasAskedByHand next.limits old.core ask mid.core turn) (runs : NeedsFunction old.core.call.need) where
-  stands_next : IsUnended turn → (need : Need) × (mid.core.call.need ≡ Some need) × NeedsNext (computed_calls old.core.call) ask mid.core.call.frames need
+  pub stands_next : IsUnended turn → (need : Need) × (mid.core.call.need ≡ Some need) × NeedsNext (computed_calls old.core.call) ask mid.core.call.frames need
   stands_next on =
       let n = some_need old.core.call.need runs in
       let leads = asked.leads n.0 n.1 [] in

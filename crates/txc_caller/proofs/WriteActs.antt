@@ -13,12 +13,10 @@ use Rattle.txc_db.specs.declared.error.DbError.{DbError}
 use Rattle.txc_app.specs.Answering.{IsRight}
 use Rattle.txc_app.specs.declared.app.Limits.{Limits}
 use Rattle.txc_app.specs.Eval.{Next}
-use Rattle.txc_app.specs.declared.ask.Answer.{Answer}
 use Rattle.txc_app.specs.declared.ask.Answer.TheVariants as answers
 use Rattle.txc_app.specs.declared.ask.Ask.{Ask}
 use Rattle.txc_app.specs.declared.ask.Ask.TheVariants as asks
-use Rattle.txc_registry.specs.Objects.{AllIdle, Objects}
-use Rattle.txc_call.specs.declared.error.CallError.{CallError}
+use Rattle.txc_registry.specs.Objects.{Objects}
 use Rattle.txc_call.specs.declared.frame.Frame.{Frame}
 use Rattle.txc_call.specs.declared.need.HeldAnswer.{HeldAnswer}
 use Rattle.txc_call.specs.declared.need.Need.{Need}
@@ -27,7 +25,7 @@ use Rattle.txc_call.specs.declared.need.Outcome.{Outcome}
 use Rattle.txc_call.specs.Calling.{Calling, IsCalling}
 use Rattle.txc_call.specs.Needs.{NeedFits}
 use Rattle.txc_call.specs.Frames.{answers_in}
-use Rattle.txc_call.specs.Running.{AfterRan, due_ask, is_done, objects_after, value_need, NeedsFunction}
+use Rattle.txc_call.specs.Running.{AfterRan, is_done, objects_after, value_need, NeedsFunction}
 use Rattle.txc_call.specs.Turns.{Standing, Turn, outcome_of, value_held}
 use Rattle.txc_ports.specs.declared.turn.Turn.TheVariants.{Ask as AskTurn, Ended}
 use Rattle.txc_ports.specs.declared.error.TxnError.{TxnError}
@@ -39,14 +37,14 @@ use Rattle.txc_rw.specs.declared.given.Given.TheVariants as given
 use Rattle.txc_rw.specs.ByHand.{RwHandTurn, RwHandTransition, RwHearTransition, RwObjectsLeft, without_node, answers_by_hand, IsRwHandTurn, IsRwUnended}
 use Rattle.txc_rw.specs.Core.{IsFoundAt, IsRightReply, RwValue}
 use Rattle.txc_rw.specs.Transitions.{IsQueryLeft, RowsTransition}
-use Rattle.txc_caller.specs.Telling.{ContinuesWith, HasBegunFunction, IsNextStep, IsOpenWith, IsToldRight, IsToldAfterAsk, ObjectsFollow, calls_of, computed_calls, computed_in, ended_step, told_answer, told_in, top_call}
+use Rattle.txc_caller.specs.Telling.{ContinuesWith, IsNextStep, IsToldRight, IsToldAfterAsk, ObjectsFollow, calls_of, computed_calls, computed_in, ended_step, told_in, top_call}
 use Rattle.txc_db.specs.Calls.{IsQueryRefused}
 use Rattle.txc_caller.specs.Writing.{HasLed, IsActRefused, IsAskedQueryRefused, IsHeard, IsOwnReadRefused, IsReplyAt, IsStepAfter, IsWritingStep, queried_for}
 use Rattle.txc_caller.specs.declared.step.CallerError.{CallerError}
 use Rattle.txc_caller.specs.declared.step.CallerError.TheVariants.{Txn}
 use Rattle.txc_caller.specs.declared.step.Step.{Step}
 use Rattle.txc_caller.specs.declared.step.Step.TheVariants.{Answered, Compute, Value}
-use Rattle.txc_caller.proofs.WriteAsks.{AsksAt, IsValueNeed, NeedsNext, StandsNext, call_asked, open_asking, query_asked}
+use Rattle.txc_caller.proofs.Telling.{asked_by, done_around, InnermostAsks, IsValueNeed, NeedsNext, StandsNext}
 
 -- ---- what the core does after an ask, before the database answers a query
 
@@ -109,14 +107,14 @@ held_value frames need o bytes value is runs =
     subst (λ (n : Option Need). HeldWithout frames bytes n) (sym same)
     (held_some frames o bytes value (subst (λ (n : Option Need). NeedsFunction n) same runs))
 
-held_for : (frames : List Frame) (need : Need) (bytes : List ℕ) → IsValueNeed frames bytes need → NeedsFunction (without_node frames (Some need))
+held_for : (done : Call) (frames : List Frame) (need : Need) (bytes : List ℕ) → IsValueNeed done frames bytes need → NeedsFunction (without_node frames (Some need))
     → HeldWithout frames bytes (without_node frames (Some need))
-held_for frames (needs.Insert e) bytes value runs = held_some frames (outcome_of e.key e.value e.reach e.tags) bytes value runs
-held_for frames (needs.Lookup k) bytes h runs = held_value frames (needs.Lookup k) h.0 bytes h.1 h.2 runs
-held_for frames (needs.Query q) bytes h runs = held_value frames (needs.Query q) h.0 bytes h.1 h.2 runs
-held_for frames (needs.Value o) bytes h runs = held_value frames (needs.Value o) h.0 bytes h.1 h.2 runs
-held_for frames (needs.Begin k) bytes h runs = held_value frames (needs.Begin k) h.0 bytes h.1 h.2 runs
-held_for frames (needs.Resume x) bytes h runs = held_value frames (needs.Resume x) h.0 bytes h.1 h.2 runs
+held_for done frames (needs.Insert e) bytes h runs = held_some frames (outcome_of e.key e.value e.reach e.tags) bytes h.1 runs
+held_for done frames (needs.Lookup k) bytes h runs = held_value frames (needs.Lookup k) h.0 bytes h.2 h.3 runs
+held_for done frames (needs.Query q) bytes h runs = held_value frames (needs.Query q) h.0 bytes h.2 h.3 runs
+held_for done frames (needs.Value o) bytes h runs = held_value frames (needs.Value o) h.0 bytes h.2 h.3 runs
+held_for done frames (needs.Begin k) bytes h runs = held_value frames (needs.Begin k) h.0 bytes h.2 h.3 runs
+held_for done frames (needs.Resume x) bytes h runs = held_value frames (needs.Resume x) h.0 bytes h.2 h.3 runs
 
 -- it is no query
 value_no_query : (frames : List Frame) (o : Outcome) (q : Query) → Some (value_need frames o) ≡ Some (needs.Query q) → ⊥
@@ -127,13 +125,13 @@ no_query_by : (frames : List Frame) (need : Need) (o : Outcome) (q : Query) → 
 no_query_by frames need o q is asked =
     value_no_query frames o q (sym (without_value frames o) ∙ (ap (λ (n : Need). without_node frames (Some n)) (sym is) ∙ asked))
 
-no_query : (frames : List Frame) (need : Need) (bytes : List ℕ) (q : Query) → IsValueNeed frames bytes need → without_node frames (Some need) ≡ Some (needs.Query q) → ⊥
-no_query frames (needs.Insert e) bytes q value asked = value_no_query frames (outcome_of e.key e.value e.reach e.tags) q asked
-no_query frames (needs.Lookup k) bytes q h asked = no_query_by frames (needs.Lookup k) h.0 q h.2 asked
-no_query frames (needs.Query p) bytes q h asked = no_query_by frames (needs.Query p) h.0 q h.2 asked
-no_query frames (needs.Value o) bytes q h asked = no_query_by frames (needs.Value o) h.0 q h.2 asked
-no_query frames (needs.Begin k) bytes q h asked = no_query_by frames (needs.Begin k) h.0 q h.2 asked
-no_query frames (needs.Resume x) bytes q h asked = no_query_by frames (needs.Resume x) h.0 q h.2 asked
+no_query : (done : Call) (frames : List Frame) (need : Need) (bytes : List ℕ) (q : Query) → IsValueNeed done frames bytes need → without_node frames (Some need) ≡ Some (needs.Query q) → ⊥
+no_query done frames (needs.Insert e) bytes q h asked = value_no_query frames (outcome_of e.key e.value e.reach e.tags) q asked
+no_query done frames (needs.Lookup k) bytes q h asked = no_query_by frames (needs.Lookup k) h.0 q h.3 asked
+no_query done frames (needs.Query p) bytes q h asked = no_query_by frames (needs.Query p) h.0 q h.3 asked
+no_query done frames (needs.Value o) bytes q h asked = no_query_by frames (needs.Value o) h.0 q h.3 asked
+no_query done frames (needs.Begin k) bytes q h asked = no_query_by frames (needs.Begin k) h.0 q h.3 asked
+no_query done frames (needs.Resume x) bytes q h asked = no_query_by frames (needs.Resume x) h.0 q h.3 asked
 
 module _ (computed : List Call) (frames : List Frame) (need : Need) (call : Calling) where
   -- a function is needed
@@ -145,7 +143,7 @@ module _ (computed : List Call) (frames : List Frame) (need : Need) (call : Call
   goes_on_from (asks.Call k) next at is runs =
       (ap (λ (fs : List Frame). calls_of fs) at ∙ next.0, is ∙ ap (λ (n : Need). without_node frames (Some n)) next.1)
   goes_on_from (asks.Done bytes) next at is runs =
-      let h = held_for frames need bytes next.2 (subst (λ (n : Option Need). NeedsFunction n) is runs) in (
+      let h = held_for next.0 frames need bytes next.2 (subst (λ (n : Option Need). NeedsFunction n) is runs) in (
         next.0,
         next.1 ∙ ap (λ (fs : List Frame). next.0 ∷ calls_of fs) (sym at),
         record { frame = h.0; outer = h.1; held = h.2; at = at ∙ h.3; need = is ∙ h.4; value = h.5 },
@@ -161,7 +159,7 @@ module _ (computed : List Call) (frames : List Frame) (need : Need) (call : Call
   asks_from (asks.Call k) p next at is asked =
       let e : Some (needs.Query p) ≡ Some (needs.Begin k) = sym asked ∙ (is ∙ ap (λ (n : Need). without_node frames (Some n)) next.1) in
       absurd (cc e)
-  asks_from (asks.Done bytes) p next at is asked = no_query frames need bytes p next.2 (sym is ∙ asked)
+  asks_from (asks.Done bytes) p next at is asked = no_query next.0 frames need bytes p next.2 (sym is ∙ asked)
 
   -- a value is there
   done_from : (ask : Ask) (o : Outcome) → NeedsNext computed ask frames need → without_node frames (Some need) ≡ Some (needs.Value o) → IsDoneBy ask
@@ -382,6 +380,10 @@ module _ (computed : List Call) (before : List Given) (k : Call) where
 
 -- ---- what the function is told
 
+-- the function of this call, by the answers that its object was given, asks this
+abbrev pub AsksAt : Next → Objects → Call → Ask → Type 0
+AsksAt next objects k ask = next.says k.function k.args (answers_in objects k.function) ≡ Some ask
+
 -- what is right in one state is right in all of them
 in_all : (P : State → Type 0) (s : State) → P s → All P (s ∷ [])
 in_all P s h = All-push P [] s (All-nil P) h
@@ -435,32 +437,31 @@ module _ (next : Next) (after : Objects) (s : State) (old call : Calling) where
       let e : Some (needs.Begin k) ≡ Some (needs.Resume says.0) = sym is ∙ says.1 in absurd (cc e)
   told_nothing k (Value value) same is says = absurd says
 
-  -- what the functions asked, by the calls that were computed
-  pub record Asked (ask : Ask) : Type 0 where
-    pub some : computed_calls old ≢ []
-    pub query : (q : Query) (k : Call) (around : List Call) → ask ≡ asks.Query q → computed_calls old ≡ k ∷ around → AsksAt next after k (asks.Query q)
-    pub call_of : (bytes : List ℕ) (done k : Call) (around : List Call) → ask ≡ asks.Done bytes → computed_calls old ≡ done ∷ (k ∷ around) → AsksAt next after k (asks.Call done)
+  -- the function around one that is done asked the call of that
+  abbrev pub AroundAsked : Ask → Type 0
+  AroundAsked ask = (bytes : List ℕ) (done : Call) (calls : List Call) → ask ≡ asks.Done bytes → computed_calls old ≡ done ∷ calls → InnermostAsks next after calls (asks.Call done)
 
   -- a function goes on at once
-  told_at_once : (ask : Ask) (step : Step) → Asked ask → HeldIsRight → GoesOnFrom (computed_calls old) ask call → IsNextStep call step
+  told_at_once : (ask : Ask) (step : Step) → AroundAsked ask → HeldIsRight → GoesOnFrom (computed_calls old) ask call → IsNextStep call step
       → IsToldAfterAsk next (s ∷ []) old ask call (Ok step)
   told_at_once (asks.Query q) step asked right goes says = absurd goes
   told_at_once (asks.Call k) step asked right goes says = told_nothing k step goes.0 goes.1 says
   told_at_once (asks.Done bytes) step asked right (done, computed, held) says =
       told_this (asks.Done bytes) held.held step held.need says
       (told_value bytes done right computed held
-      (asked.call_of bytes done held.frame.key (calls_of held.outer) refl (computed ∙ ap (λ (fs : List Frame). done ∷ calls_of fs) held.at)))
+      (asked bytes done (calls_of call.frames) refl computed held.frame.key (calls_of held.outer) (ap calls_of held.at)))
 
   -- .. or once its query was answered
-  told_once_read : (ask : Ask) (q : Query) (x : HeldAnswer) (step : Step) (frames : List Frame) → Asked ask → HeldIsRight → AsksFrom (computed_calls old) ask call.frames q
-      → call.need ≡ Some (needs.Resume x) → call.frames ≡ frames → IsNextStep call step → IsToldAfterAsk next (s ∷ []) old ask call (Ok step)
-  told_once_read (asks.Query p) q x step [] asked right from is at says = absurd (asked.some (sym from.0 ∙ ap (λ (fs : List Frame). calls_of fs) at))
-  told_once_read (asks.Query p) q x step (frame ∷ outer) asked right from is at says =
+  told_once_read : (ask : Ask) (q : Query) (x : HeldAnswer) (step : Step) (frames : List Frame) → HeldIsRight → AsksFrom (computed_calls old) ask call.frames q
+      → InnermostAsks next after (calls_of call.frames) (asks.Query q) → call.need ≡ Some (needs.Resume x) → call.frames ≡ frames → frames ≢ [] → IsNextStep call step
+      → IsToldAfterAsk next (s ∷ []) old ask call (Ok step)
+  told_once_read (asks.Query p) q x step [] right from asked is at some says = absurd (some refl)
+  told_once_read (asks.Query p) q x step (frame ∷ outer) right from asked is at some says =
       told_this (asks.Query p) x step is says
       (told_rows p x frame outer right is at from.0
-      (asked.query p frame.key (calls_of outer) refl (sym from.0 ∙ ap (λ (fs : List Frame). calls_of fs) at)))
-  told_once_read (asks.Call k) q x step frames asked right from is at says = absurd from
-  told_once_read (asks.Done bytes) q x step frames asked right from is at says = absurd from
+      (subst (λ (r : Query). AsksAt next after frame.key (asks.Query r)) from.1 (asked frame.key (calls_of outer) (ap calls_of at))))
+  told_once_read (asks.Call k) q x step frames right from asked is at some says = absurd from
+  told_once_read (asks.Done bytes) q x step frames right from asked is at some says = absurd from
 
   told_ended : (ask : Ask) (outcome : Result (List ℕ) TxnError) → IsToldAfterAsk next (s ∷ []) old ask call (ended_step outcome)
   told_ended ask (Ok value) = tt
@@ -471,42 +472,38 @@ module _ (next : Next) (after : Objects) (s : State) (old : Calling) (d : Databa
   abbrev ToldSo : Result Step CallerError → Type 0
   ToldSo r = IsToldAfterAsk next (s ∷ []) old ask new.call r
 
-  pub told_when_led : (turn last : RwHandTurn) → (last ≡ None → Asked next after s old new.call ask) → HeldIsRight next after s old new.call
+  pub told_when_led : (turn last : RwHandTurn) → (last ≡ None → AroundAsked next after s old new.call ask) → HeldIsRight next after s old new.call
+      → ((q : Query) → turn ≡ Some (AskTurn q) → last ≡ None → IsCalling next after mid.call) → IsRwHandTurn mid turn → IsCalling next after new.call
       → HasAskedFrom (computed_calls old) ask mid.call turn → HasLed d mid turn new last → IsStepAfter new.call last result → ToldSo result
-  told_when_led None last asked right from led says =
+  told_when_led None last asked right at_mid fits_mid fits from led says =
       let then = subst (λ (t : RwHandTurn). IsStepAfter new.call t result) led.1 says in
       subst ToldSo (sym then.1)
       (told_at_once next after s old new.call ask then.0 (asked led.1) right (subst (λ (v : RwValue). GoesOnFrom (computed_calls old) ask v.call) (sym led.0) from) then.2)
-  told_when_led (Some (Ended outcome)) last asked right from led says =
+  told_when_led (Some (Ended outcome)) last asked right at_mid fits_mid fits from led says =
       let ends : result ≡ ended_step outcome = subst (λ (t : RwHandTurn). IsStepAfter new.call t result) led.1 says in
       subst ToldSo (sym ends) (told_ended next after s old new.call ask outcome)
-  told_when_led (Some (AskTurn q)) last asked right from (Ok found, at, heard) says =
+  told_when_led (Some (AskTurn q)) last asked right at_mid fits_mid fits from (Ok found, at, heard) says =
       let then = subst (λ (t : RwHandTurn). IsStepAfter new.call t result) heard.0 says in
       let frames : new.call.frames ≡ mid.call.frames = ap (λ (v : RwValue). v.call.frames) heard.1 in
+      let need = ap (λ (v : RwValue). v.call.need) heard.1 in
+      let this = (asked_by next after mid.call.top mid.call.frames mid.call.need (at_mid q refl heard.0)).0 q fits_mid.1 in
       subst ToldSo (sym then.1)
-      (told_once_read next after s old new.call ask q _ then.0 new.call.frames (asked heard.0) right
-      (subst (λ (fs : List Frame). AsksFrom (computed_calls old) ask fs q) (sym frames) from) (ap (λ (v : RwValue). v.call.need) heard.1) refl then.2)
-  told_when_led (Some (AskTurn q)) last asked right from (Err error, at, heard) says =
+      (told_once_read next after s old new.call ask q _ then.0 new.call.frames right
+      (subst (λ (fs : List Frame). AsksFrom (computed_calls old) ask fs q) (sym frames) from)
+      (subst (λ (fs : List Frame). InnermostAsks next after (calls_of fs) (asks.Query q)) (sym frames) this) need refl
+      (subst (λ (n : Option Need). NeedFits next after new.call.top n new.call.frames) need fits).1 then.2)
+  told_when_led (Some (AskTurn q)) last asked right at_mid fits_mid fits from (Err error, at, heard) says =
       let ends : result ≡ ended_step (Err (refused_request error)) = subst (λ (t : RwHandTurn). IsStepAfter new.call t result) heard.0 says in
       subst ToldSo (sym ends) (told_ended next after s old new.call ask (Err (refused_request error)))
 
--- the functions asked so, by what they owe
-pub asked_so : (next : Next) (objects after : Objects) (s : State) (old call : Calling) (need : Need) (ask : Ask) → old.need ≡ Some need → IsCalling next objects old
-    → due_ask next objects old.frames need ≡ Some ask → after ≡ objects_after objects old.frames need ask → Asked next after s old call ask
-asked_so next objects after s old call need ask is calling due left =
+-- the function around one that is done asked its call, by what it owes
+pub around_asked : (next : Next) (objects after : Objects) (s : State) (old call : Calling) (need : Need) (ask : Ask) → old.need ≡ Some need → IsCalling next objects old
+    → NeedsFunction old.need → after ≡ objects_after objects old.frames need ask → AroundAsked next after s old call ask
+around_asked next objects after s old call need ask is calling runs left = λ bytes done calls same at.
     let fits : NeedFits next objects old.top (Some need) old.frames = subst (λ (n : Option Need). NeedFits next objects old.top n old.frames) is calling in
     let in_need : computed_in old.frames (Some need) ≡ computed_calls old = sym (ap (λ (n : Option Need). computed_in old.frames n) is) in
-    record {
-      some = λ none.
-          let one = open_asking next objects old.top old.frames need ask fits due in
-          let no : one.frame.key ∷ calls_of one.outer ≡ [] = sym one.computed ∙ (in_need ∙ none) in absurd (cc no);
-      query = λ q k around same at.
-          subst (λ (os : Objects). AsksAt next os k (asks.Query q)) (sym (left ∙ ap (λ (a : Ask). objects_after objects old.frames need a) same))
-          (query_asked next objects old.top old.frames need q k around fits (due ∙ ap (λ (a : Ask). Some a) same) (in_need ∙ at));
-      call_of = λ bytes done k around same at.
-          subst (λ (os : Objects). AsksAt next os k (asks.Call done)) (sym (left ∙ ap (λ (a : Ask). objects_after objects old.frames need a) same))
-          (call_asked next objects old.top old.frames need bytes done k around fits (due ∙ ap (λ (a : Ask). Some a) same) (in_need ∙ at));
-    }
+    subst (λ (os : Objects). InnermostAsks next os calls (asks.Call done)) (sym (left ∙ ap (λ (a : Ask). objects_after objects old.frames need a) same))
+    (done_around next objects old.top bytes old.frames need fits (subst (λ (n : Option Need). NeedsFunction n) is runs) done calls (in_need ∙ at))
 
 -- ---- what stays
 

@@ -1,13 +1,12 @@
 -- Pins of the newest state that no transaction uses yet.
-use Rattle.std.specs.Prelude.{◌≡◌, ℕ, Some}
+use Rattle.std.specs.Prelude.{◌≡◌, ℕ}
 use Rattle.txc_cushion.specs.Entries.{with_entry}
 use Rattle.txc_cushion.specs.Refusals.{IsAddable, IsAddRefused}
 use Rattle.txc_cushion.specs.declared.error.AddError.{AddError}
 use Rattle.txc_db.specs.Calls.{IsLeft, IsPinnable, IsPinRefused}
-use Rattle.txc_db.specs.DatabaseValue.{after_pin, newest}
+use Rattle.txc_db.specs.DatabaseValue.{after_pin, after_unpin, newest}
 use Rattle.txc_db.specs.declared.error.DbError.{DbError}
-use Rattle.txc_caller.specs.Ports.{CallerPorts, IsLetGo}
-use Rattle.txc_caller.specs.Reading.{CallerValue}
+use Rattle.txc_caller.specs.Ports.{CallerPorts}
 use Rattle.txc_caller.specs.declared.pinning.PinError.{PinError}
 use Rattle.txc_caller.specs.declared.pinning.PinError.TheVariants.{Database, Pincushion}
 
@@ -28,10 +27,11 @@ pub record HasRefusedEvent (old : CallerPorts) (error : DbError) (new : CallerPo
   pub left_so : IsLeft old.database new.database error
   pub same : new ≡ record old { database = new.database }
 
--- The pincushion refused it. The event has happened, and its hold is taken away.
+-- The pincushion refused it. The event has happened, and its hold is taken away. The pincushion and the node are as they were.
 pub record HasRefusedUnusedPin (moment : ℕ) (old : CallerPorts) (error : AddError) (new : CallerPorts) : Type 0 where
+  pub could : IsPinnable old.database 0
   pub refused : IsAddRefused old.cushion (newest (after_pin old.database moment)) error
-  pub unheld : IsLetGo (Some (newest (after_pin old.database moment))) (after_pin old.database moment) new.database
+  pub unheld : new.database ≡ after_unpin (after_pin old.database moment) (newest (after_pin old.database moment))
   pub same : new ≡ record old { database = new.database }
 
 -- why there is no pin, and what that leaves

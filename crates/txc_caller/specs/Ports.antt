@@ -77,9 +77,10 @@ pub record IsNewDatabase (d : DatabaseValue) : Type 0 where
 
 -- ---- pins
 
--- a pin of the moment is one event more, and its front shows it
+-- a pin of the moment is one event more, its stamp is the newest, and its front shows it
 pub record HasPinnedForCaller (now at_least : ℕ) (old new : CallerPorts) (pinned : Pinned) : Type 0 where
   pub after : new ≡ record old { database = after_pin old.database now }
+  pub stamp : pinned.stamp ≡ newest new.database
   pub moment : pinned.moment ≡ now
   pub late : at_least ≤ pinned.stamp
   pub front : pinned.front ≡ front_of new.database

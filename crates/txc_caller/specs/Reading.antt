@@ -104,16 +104,19 @@ pub record IsBegunCore (renewed : ℕ) (asked : Bounds) (row : Name) (cushion : 
   pub nodes : c.nodes ≡ 1
   pub recorded : c.recorded ≡ []
   pub members : c.pins.members ≡ handed_out cushion asked.now asked.staleness asked.at_least
+  pub taken : c.taken ≡ map (λ p. p.stamp) (handed_out cushion asked.now asked.staleness asked.at_least)
   pub present : c.pins.has_present ≡ true
 
--- It has the newest of the pins that its bounds allow, and the present, and no call is open. Each of its pins has one user
--- more, and nothing else of the caller has changed.
+-- It has the newest of the pins that its bounds allow, and the present, an object for each function, and no call is open. Each of
+-- its pins has one user more, which is to be given back at its end, and nothing else of the caller has changed.
 pub record IsBegunReading (next : Next) (asked : Bounds) (old new : CallerValue) (t : TxnValue) : Type 0 where
   pub bounds : t.core.bounds ≡ asked
   pub recorded : t.core.recorded ≡ []
   pub meant : IsTxn next t
+  pub functions : HaveAllFunctions t.objects
   pub idle : IsIdle t.core
   pub members : t.core.pins.members ≡ handed_out old.ports.cushion asked.now asked.staleness asked.at_least
+  pub taken : t.core.taken ≡ map (λ p. p.stamp) (handed_out old.ports.cushion asked.now asked.staleness asked.at_least)
   pub present : t.core.pins.has_present ≡ true
   pub of_caller : IsOf new t
   pub users : new ≡ with_cushion (after_fresh old.ports.cushion asked.now asked.staleness asked.at_least) old

@@ -1,5 +1,5 @@
 -- A caller's transactions that write.
-use Rattle.std.specs.Prelude.{◌≡◌, ◌⊎◌, ℕ, ◌≤◌, ◌<◌, Bool, true, false, List, [], ◌∷◌, ◌++◌, length, Option, Some, None, Result, Ok, Err}
+use Rattle.std.specs.Prelude.{◌≡◌, ◌⊎◌, ℕ, ◌<◌, Bool, true, false, List, [], ◌∷◌, ◌++◌, length, Option, Some, None, Result, Ok, Err}
 use Rattle.txc_tags.specs.Keys.{Call}
 use Rattle.txc_rows.specs.States.{State}
 use Rattle.txc_rows.specs.declared.query.Change.{Change}
@@ -59,10 +59,11 @@ base_states_in L core = state_at L core.base ∷ []
 abbrev pub base_states : CallerValue → RwValue → List State
 base_states c core = base_states_in c.ports.database.history core
 
--- nothing is read, changed or computed yet
+-- Nothing is read, changed or computed yet. There is an object for each function, and none runs.
 pub record IsBegunWrite (base : ℕ) (held : Bool) (w : CallerWriting) : Type 0 where
   pub core : IsBegun base w.core
   pub idle : AllIdle w.objects
+  pub functions : HaveAllFunctions w.objects
   pub is_held : w.is_held ≡ held
 
 -- ---- acts

@@ -1,7 +1,8 @@
 //! A caller that computes the functions of its calls itself.
-ghost use Rattle.std.specs.Prelude.{◌≡◌, ◌≤◌, [], IfErr, IfOk, IfSome, OnErr, OnOk, true, false};
+ghost use Rattle.std.specs.Prelude.{◌≡◌, ◌≤◌, [], IfErr, IfOk, IfSome, OnErr, OnOk, map, true, false};
 ghost use Rattle.txc_app.specs.Eval.{Next};
-ghost use Rattle.txc_cushion.specs.Cushion.{after_fresh, handed_out};
+ghost use Rattle.txc_cushion.specs.Cushion.{after_fresh, after_give_back, handed_out};
+ghost use Rattle.txc_cushion.specs.Refusals.{HaveUsers};
 ghost use Rattle.txc_db.specs.Refusals.{IsWant};
 ghost use Rattle.txc_registry.specs.Objects.{AllIdle, Objects};
 ghost use Rattle.txc_shared.specs.Nodes.{start_of};
@@ -9,7 +10,7 @@ ghost use Rattle.txc_txn.specs.Core.{value_of, CoreHolds, IsCore, IsIdle};
 ghost use Rattle.txc_node.specs.declared.node.TheConstants.{MAX_CAPACITY, MAX_RECENT};
 ghost use Rattle.txc_stream.specs.declared.row.TheConstants.{MAX_CAPACITY as MAX_ROW};
 ghost use Rattle.txc_caller.specs.Ports.{GoesOnByEvents, HasEventRoom, HasGrownDatabase, HasNoEventFor, IsBehind, IsNewDatabase};
-ghost use Rattle.txc_caller.specs.Reading.{with_cushion, IsBegunReading, KeepsCaller};
+ghost use Rattle.txc_caller.specs.Reading.{IsBegunReading, KeepsCaller};
 
 use crate::caller_txn::CallerTxn;
 use crate::lent_txn::LentTxn;
@@ -51,7 +52,9 @@ impl<A: App> Model for Caller<A> {
 
 // Gives one user of each of the pins back. It takes no memory.
 fn give_back_each(cushion: &mut CushionCore, pins: &Pins)
-    ensures { cushion.new.events ≡ cushion.old.events }
+    ensures given_back { HaveUsers cushion.old.entries (map (λ pin. pin.stamp) pins.now.pins.items)
+        → cushion.new ≡ after_give_back cushion.old (map (λ pin. pin.stamp) pins.now.pins.items) }
+    ensures events { cushion.new.events ≡ cushion.old.events }
 {
     for pin in &pins.pins {
         give_back(cushion, &[pin.stamp]);
@@ -77,11 +80,15 @@ pub(crate) fn begun(
     ensures recorded { IfOk result (λ core. (value_of core).recorded ≡ []) }
     ensures members { IfOk result (λ core. (value_of core).pins.members
         ≡ handed_out cushion.old bounds.now bounds.staleness bounds.at_least) }
+    ensures taken { IfOk result (λ core. (value_of core).taken
+        ≡ map (λ pin. pin.stamp) (handed_out cushion.old bounds.now bounds.staleness bounds.at_least)) }
     ensures present { IfOk result (λ core. (value_of core).pins.has_present ≡ true) }
     ensures users { OnOk result (cushion.new
         ≡ after_fresh cushion.old bounds.now bounds.staleness bounds.at_least) }
+    ensures unchanged { OnErr result (cushion.new ≡ cushion.old) }
     ensures events { cushion.new.events ≡ cushion.old.events }
 {
+    cushion.is_cushion();
     let Bounds {
         now,
         staleness,
@@ -125,11 +132,12 @@ impl<A: App> Caller<A> {
         })
     }
 
-    /// Begins a transaction that only reads, with the newest of the pins that its bounds allow, and the present.
+    /// Begins a transaction that only reads, with the newest of the pins that its bounds allow, and the present. If an allocation
+    /// fails, the pins have no user more.
     pub fn begin(&mut self, alloc: Global, bounds: Bounds) -> Result<CallerTxn<A>, AllocError>
         ensures begun { IfOk result (IsBegunReading A.next bounds self.old self.new) }
         ensures idle { IfOk result (λ txn. AllIdle txn.objects) }
-        ensures left { OnErr result (self.new ≡ with_cushion self.new.ports.cushion self.old) }
+        ensures unchanged { OnErr result (self.new ≡ self.old) }
         ensures caller { KeepsCaller self.old self.new }
         ensures grown { HasGrownDatabase self.old.ports.database self.new.ports.database }
     {

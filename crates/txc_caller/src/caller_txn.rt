@@ -6,6 +6,7 @@ ghost use Rattle.txc_registry.specs.Objects.{AllIdle};
 ghost use Rattle.txc_txn.specs.Core.{receipt_pin, Explains, IsIdle};
 ghost use Rattle.txc_txn.specs.Kept.{IsTxn};
 ghost use Rattle.txc_txn.specs.Sessions.{IsAtLeast};
+ghost use Rattle.txc_caller.specs.Acting.{step_error, ActLeads};
 ghost use Rattle.txc_caller.specs.Looking.{IsComputedOnMiss};
 ghost use Rattle.txc_caller.specs.Ports.{HasGrownDatabase};
 ghost use Rattle.txc_caller.specs.Reading.{open_states, read_stamp, HasEndedReading, IsOf, IsReadingStep, KeepsCaller, KeepsTxn};
@@ -70,6 +71,8 @@ impl<A: App> CallerTxn<A> {
         ensures told { IsToldAfterAsk A.next (open_states self.new.core) self.old.core.call ask self.new.core.call result }
         ensures objects { ObjectsFollow self.old.objects self.old.core.call ask self.new.objects result }
         ensures on_miss { IsComputedOnMiss self.new.core caller.old.ports.node caller.new.ports.node result }
+        ensures leads { ActLeads A.next.limits caller.old.ports self.old ask caller.new.ports self.new.core.taken
+            (step_error result) }
         ensures keeps { KeepsTxn self.old self.new }
         ensures meant { IsTxn A.next self.new }
         ensures caller { KeepsCaller caller.old caller.new }
@@ -103,6 +106,8 @@ impl<A: App> CallerTxn<A> {
             self.new.core.call result }
         ensures objects { ObjectsFollow self.old.objects self.old.core.call (asks.Call key) self.new.objects result }
         ensures on_miss { IsComputedOnMiss self.new.core caller.old.ports.node caller.new.ports.node result }
+        ensures leads { ActLeads A.next.limits caller.old.ports self.old (asks.Call key) caller.new.ports self.new.core.taken
+            (step_error result) }
         ensures keeps { KeepsTxn self.old self.new }
         ensures meant { IsTxn A.next self.new }
         ensures caller { KeepsCaller caller.old caller.new }
@@ -135,6 +140,8 @@ impl<A: App> CallerTxn<A> {
             self.new.core.call result }
         ensures objects { ObjectsFollow self.old.objects self.old.core.call (asks.Query query) self.new.objects result }
         ensures on_miss { IsComputedOnMiss self.new.core caller.old.ports.node caller.new.ports.node result }
+        ensures leads { ActLeads A.next.limits caller.old.ports self.old (asks.Query query) caller.new.ports self.new.core.taken
+            (step_error result) }
         ensures keeps { KeepsTxn self.old self.new }
         ensures meant { IsTxn A.next self.new }
         ensures caller { KeepsCaller caller.old caller.new }
@@ -164,6 +171,8 @@ impl<A: App> CallerTxn<A> {
         ensures objects { ObjectsFollow self.old.objects self.old.core.call (asks.Done bytes.items)
             self.new.objects result }
         ensures on_miss { IsComputedOnMiss self.new.core caller.old.ports.node caller.new.ports.node result }
+        ensures leads { ActLeads A.next.limits caller.old.ports self.old (asks.Done bytes.items) caller.new.ports self.new.core.taken
+            (step_error result) }
         ensures keeps { KeepsTxn self.old self.new }
         ensures meant { IsTxn A.next self.new }
         ensures caller { KeepsCaller caller.old caller.new }

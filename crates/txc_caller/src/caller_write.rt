@@ -1,5 +1,5 @@
 //! A caller's transaction that writes.
-ghost use Rattle.std.specs.Prelude.{◌≡◌, ◌⊎◌, ◌<◌, ◌≤◌, ◌++◌, ◌∷◌, ◌↔◌, [], true, false, List, Err, IfErr, IfOk, IsOk, IsSome, IsTrue, MatchOption, None, OnErr, OnOk, Some, length};
+ghost use Rattle.std.specs.Prelude.{◌≡◌, ◌⊎◌, ◌≤◌, ◌++◌, ◌∷◌, ◌↔◌, [], true, false, List, Err, IfErr, IfOk, IsOk, IsSome, IsTrue, MatchOption, None, Ok, OnErr, OnOk, Some};
 ghost use Rattle.txc_tags.specs.Keys.{Call};
 ghost use Rattle.txc_tags.specs.declared.key.TheConstants.{LAST_FUNCTION};
 ghost use Rattle.txc_rows.specs.States.{answer};
@@ -8,7 +8,7 @@ ghost use Rattle.txc_db.specs.DatabaseValue.{after_hold, newest};
 ghost use Rattle.txc_db.specs.History.{state_at};
 ghost use Rattle.txc_db.specs.Shared.{IsEventIn, IsQuietIn};
 ghost use Rattle.txc_db.specs.Steps.{IsBaseRefused};
-ghost use Rattle.txc_registry.specs.Objects.{AllIdle};
+ghost use Rattle.txc_registry.specs.Objects.{numbers_of, AllIdle};
 ghost use Rattle.txc_rw.specs.Answers.{AreRightIn};
 ghost use Rattle.txc_rw.specs.Core.{tags_read, IsRwIdle};
 ghost use Rattle.txc_rw.specs.Outcomes.{IsCommitted};
@@ -18,6 +18,7 @@ ghost use Rattle.txc_caller.specs.Reading.{CallerValue, KeepsCaller};
 ghost use Rattle.txc_caller.specs.Telling.{computed_calls, told_answer, top_call, top_or, AsksNext, IsToldAfterAsk, ObjectsFollow};
 ghost use Rattle.txc_caller.specs.Writing.{base_states, held_base, queried_for, HasAbortedWrite, HasCommittedWrite, IsActRefused, IsOwnReadRefused, IsWriteCommitRefused, IsWriteLeft, IsWriteOf, IsWritingStep};
 ghost use Rattle.txc_caller.specs.declared.step.CallerError.TheVariants.{NoFunction};
+ghost use Rattle.txc_caller.specs.declared.step.Step.TheVariants as steps;
 
 use crate::call_ports::CallPorts;
 use crate::caller::Caller;
@@ -132,6 +133,7 @@ impl<A: App> CallerWrite<A> {
         ensures told { IsToldAfterAsk A.next (base_states caller.old self.old.core) self.old.core.call ask
             self.new.core.call result }
         ensures objects { ObjectsFollow self.old.objects self.old.core.call ask self.new.objects result }
+        ensures functions { numbers_of self.new.objects ≡ numbers_of self.old.objects }
         ensures queried { OnOk result (self.new.core.queried ≡ self.old.core.queried ++ queried_for ask) }
         ensures unqueried { OnErr result (self.new.core.queried ≡ self.old.core.queried) }
         ensures undone { is_done ask ≡ false → self.new.core.answers ≡ self.old.core.answers }
@@ -161,7 +163,7 @@ impl<A: App> CallerWrite<A> {
     }
 
     /// Asks for the value of a call: by no function the outermost one, else by the function that is computed. No node is asked, so
-    /// the caller is to compute the function of this call next, under this key.
+    /// the caller is to compute the function of this call next, under this key. An outermost call takes no memory.
     pub fn call(
         &mut self,
         alloc: Global,
@@ -170,10 +172,12 @@ impl<A: App> CallerWrite<A> {
     ) -> Result<Step, CallerError>
         requires of_caller { IsWriteOf A.next caller.old self.old }
         requires asks { AsksNext A.next self.old.objects self.old.core.call (asks.Call key) }
+        ensures begins { top_call self.old.core.call ≡ None → result ≡ Ok steps.Compute }
         ensures step { IsWritingStep self.old.core self.new.core (top_or self.old.core.call key) result }
         ensures told { IsToldAfterAsk A.next (base_states caller.old self.old.core) self.old.core.call (asks.Call key)
             self.new.core.call result }
         ensures objects { ObjectsFollow self.old.objects self.old.core.call (asks.Call key) self.new.objects result }
+        ensures functions { numbers_of self.new.objects ≡ numbers_of self.old.objects }
         ensures refused { IfErr result (IsActRefused A.next.limits caller.old.ports.database self.old.core
             self.old.objects (asks.Call key)) }
         ensures same { self.new ≡ record self.old {
@@ -207,6 +211,7 @@ impl<A: App> CallerWrite<A> {
         ensures told { IsToldAfterAsk A.next (base_states caller.old self.old.core) self.old.core.call (asks.Query query)
             self.new.core.call result }
         ensures objects { ObjectsFollow self.old.objects self.old.core.call (asks.Query query) self.new.objects result }
+        ensures functions { numbers_of self.new.objects ≡ numbers_of self.old.objects }
         ensures refused { IfErr result (IsActRefused A.next.limits caller.old.ports.database self.old.core
             self.old.objects (asks.Query query)) }
         ensures queried { OnOk result (self.new.core.queried ≡ self.old.core.queried ++ query ∷ []) }
@@ -237,6 +242,7 @@ impl<A: App> CallerWrite<A> {
             (asks.Done bytes.items) self.new.core.call result }
         ensures objects { ObjectsFollow self.old.objects self.old.core.call (asks.Done bytes.items)
             self.new.objects result }
+        ensures functions { numbers_of self.new.objects ≡ numbers_of self.old.objects }
         ensures refused { IfErr result (IsActRefused A.next.limits caller.old.ports.database self.old.core
             self.old.objects (asks.Done bytes.items)) }
         ensures same { self.new ≡ record self.old {
@@ -258,7 +264,7 @@ impl<A: App> CallerWrite<A> {
         query: Query,
     ) -> Result<Vec<Row>, TxnError>
         requires of_caller { IsWriteOf A.next caller.old self.old }
-        requires idle { IsRwIdle self.old.core }
+        requires closed { top_call self.old.core.call ≡ None }
         ensures answer { IfOk result (λ rows.
             rows.items ≡ answer query (state_at caller.old.ports.database.history self.old.core.base)) }
         ensures after { IfOk result (λ rows. self.new.core ≡ record self.old.core {
@@ -283,6 +289,7 @@ impl<A: App> CallerWrite<A> {
           objects = self.new.objects;
         } }
         ensures objects { AllIdle self.new.objects }
+        ensures functions { numbers_of self.new.objects ≡ numbers_of self.old.objects }
         ensures of_caller { (c : CallerValue) → IsWriteOf A.next c self.old → IsWriteOf A.next c self.new }
     {
         let was_open = self.is_computing();

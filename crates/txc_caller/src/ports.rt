@@ -171,6 +171,7 @@ impl<A: App> Ports<A> {
             (value_of core)) }
         ensures users { OnOk result (self.new.cushion
             ≡ after_fresh self.old.cushion bounds.now bounds.staleness bounds.at_least) }
+        ensures unchanged { OnErr result (self.new ≡ self.old) }
         ensures same { self.new ≡ record self.old { cushion = self.new.cushion } }
     {
         let mut plain = self.slot.take(self.alloc);

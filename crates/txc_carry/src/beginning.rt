@@ -1,6 +1,7 @@
 //! Databases without events.
 ghost use Rattle.std.specs.Prelude.{◌≡◌, ◌≤◌, [], false, IfErr, IfOk, IfSome};
 ghost use Rattle.txc_db.specs.Refusals.{IsWant};
+ghost use Rattle.txc_rows.specs.declared.store_error.TheConstants.{MAX_MATCHING};
 ghost use Rattle.txc_carry.specs.Rooms.{IsHistoryFor};
 
 use std::alloc::Global;
@@ -14,6 +15,7 @@ pub fn new_database(alloc: Global, room: Option<usize>) -> Result<DbCore, DbErro
     ensures history { IfOk result (λ d. d.history ≡ []) }
     ensures room { IfOk result (λ d. IsHistoryFor room d.events) }
     ensures kept { IfOk result (λ d. (d.versions ≡ []) × (d.horizon ≡ 0)) }
+    ensures limit { IfOk result (λ d. d.most ≡ MAX_MATCHING) }
     ensures holds { IfOk result (λ d. (d.holds ≡ []) × (d.broken ≡ false)) }
     ensures refused { IfErr result IsWant }
 {

@@ -1,6 +1,7 @@
 -- The ports of a new world.
 use Rattle.std.specs.Prelude.{◌≡◌, ℕ, ◌+◌, false, List, [], Some, length, slice_get}
 use Rattle.txc_stream.specs.Names.{stored}
+use Rattle.txc_rows.specs.declared.store_error.TheConstants.{MAX_MATCHING}
 use Rattle.txc_db.specs.Seen.{FrontValue}
 use Rattle.txc_shared.specs.declared.settings.NodeSettings.{NodeSettings}
 use Rattle.txc_shared.specs.Nodes.{NodeValue, start_of}
@@ -38,6 +39,7 @@ pub record AreNewPorts (settings : WorldSettings) (actors : ℕ) (p : PortsValue
   pub events : HasCapacity p.database.events settings.row_cap
   pub holds : p.database.holds ≡ []
   pub horizon : p.database.horizon ≡ 0
+  pub limit : p.database.most ≡ MAX_MATCHING
   pub entries : p.cushion.entries ≡ []
   pub spare : p.spare ≡ []
   pub count : length p.nodes ≡ settings.nodes

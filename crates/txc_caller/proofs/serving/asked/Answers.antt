@@ -4,6 +4,7 @@ use Rattle.txc_ports.specs.Asking.{MayAsk}
 use Rattle.txc_txn.specs.Core.{CoreValue}
 use Rattle.txc_txn.proofs.Offered.{is_answered, is_right, may_ask}
 use Rattle.txc_caller.proofs.Looking.{lookup_made, node_kept}
+use Rattle.txc_caller.specs.Ports.{HasAskedPorts}
 use Rattle.txc_caller.proofs.serving.asked.Goals as goal
 
 pub ask-requires : goal.ask-requires
@@ -29,3 +30,8 @@ returns-clause-looked_up g c = lookup_made c.seen.result.now (g.P.CallPorts.port
 
 pub returns-clause-node : goal.returns-clause-node
 returns-clause-node g c = λ of. node_kept c.seen.result.now (g.P.CallPorts.ports c.args.ports.now) (g.P.CallPorts.ports c.ask.new.self) c.args.request c.ask.result of c.ask.ensures.leads
+
+pub returns-clause-asked : goal.returns-clause-asked
+returns-clause-asked g c =
+    let same : c.seen.result.now ≡ c.args.txn.now.core.seen = c.seen.ensures ∙ ap (λ (w : CoreValue). w.seen) c.core.ensures in
+    subst (λ (f : FrontValue). HasAskedPorts g.A.App.next f c.args.request (g.P.CallPorts.ports c.args.ports.now) (g.P.CallPorts.ports c.ask.new.self) c.ask.result) same c.ask.ensures

@@ -38,3 +38,7 @@ returns-clause-grown g c =
     let d = (g.P.CallPorts.ports c.pass_pin-second.new.ports).database in
     let e = (g.P.CallPorts.ports c.pass_pin.new.ports).database in
     grown_then a d e (grown_then a b d c.pass_pin-first.ensures.grown c.pass_pin-second.ensures.grown) c.pass_pin.ensures.grown
+
+pub returns-clause-leads : goal.returns-clause-leads
+returns-clause-leads g c = λ new taken failed h.
+    c.pass_pin-first.ensures.leads new taken failed (c.pass_pin-second.ensures.leads new taken failed (c.pass_pin.ensures.leads new taken failed h))

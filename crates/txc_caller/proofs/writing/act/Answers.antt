@@ -1,16 +1,14 @@
-use Rattle.std.proofs.Common.{◌≡◌, ◌∙◌, ◌++◌, List, Option, None, Some, refl, sym, ap, subst}
+use Rattle.std.proofs.Common.{◌≡◌, ◌∙◌, ◌++◌, List, Option, Some, refl, sym, ap, subst}
 use Rattle.std.specs.Prelude.{OnErr, OnOk}
 use Rattle.txc_tags.specs.Keys.{Call}
-use Rattle.txc_rows.specs.States.{State}
-use Rattle.txc_rows.specs.declared.query.Query.{Query}
 use Rattle.txc_db.specs.DatabaseValue.{DatabaseValue}
-use Rattle.txc_db.specs.History.{History, state_at}
+use Rattle.txc_db.specs.History.{state_at}
 use Rattle.txc_app.specs.Answering.{IsRight}
 use Rattle.txc_app.specs.declared.app.Limits.{Limits}
 use Rattle.txc_app.specs.Eval.{Next}
 use Rattle.txc_app.specs.declared.ask.Ask.{Ask}
 use Rattle.txc_registry.specs.Objects.{Objects}
-use Rattle.txc_call.specs.Calling.{Calling}
+use Rattle.txc_call.specs.Calling.{Calling, IsCalling}
 use Rattle.txc_call.specs.Frames.{answers_in}
 use Rattle.txc_call.specs.declared.need.Need.{Need}
 use Rattle.txc_call.specs.Running.{objects_after, AfterRan}
@@ -21,8 +19,8 @@ use Rattle.txc_caller.specs.Ports.{CallerPorts}
 use Rattle.txc_caller.specs.Telling.{computed_calls, computed_in}
 use Rattle.txc_caller.specs.Writing.{queried_for}
 use Rattle.txc_caller.proofs.Lent.{ask_there, some_need}
-use Rattle.txc_caller.proofs.WriteAsks.{StandsNext, ran_next}
-use Rattle.txc_caller.proofs.WriteActs.{asked_from, asked_so, is_top, led_answers, led_same, led_top, led_unended, no_answer_more, objects_follow, read_once, rests_after, same_but, stepped, told_when_led, unread_once, why_refused}
+use Rattle.txc_caller.proofs.Telling.{StandsNext, ran_next}
+use Rattle.txc_caller.proofs.WriteActs.{around_asked, asked_from, is_top, led_answers, led_same, led_top, led_unended, no_answer_more, objects_follow, read_once, rests_after, same_but, stepped, told_when_led, unread_once, why_refused}
 use Rattle.txc_caller.proofs.writing.act.Goals as goal
 
 pub ran-first-requires : goal.ran-first-requires
@@ -103,12 +101,15 @@ returns g c =
           (subst (λ (j : Call). new.answers ≡ answers_by_hand old.answers j last) is (answers ∙ led_answers d mid new old.answers old.call.top first last led))
           (λ on. led_top d mid new first last led ∙ (asked.goes_on (led_unended d mid new first last led on) ∙ is));
       told = told_when_led next after (state_at d.history old.base) old.call d mid new ask c.step_after.result first last
-          (λ none. asked_so next objects after (state_at d.history old.base) old.call new.call need.0 ask need.1 c.requires.fits.call due
+          (λ none. around_asked next objects after (state_at d.history old.base) old.call new.call need.0 ask need.1 c.requires.fits.call c.requires.runs
           (subst (λ (t : RwHandTurn). RwObjectsLeft os t after) none left))
           (λ x frame outer is at.
           subst (λ (v : RwValue). IsRight next frame.key.function (state_at d.history v.base) (next.says frame.key.function frame.key.args (answers_in after frame.key.function)) x.answer) same
           (c.step_after.ensures.right next after d.history x frame outer fits holds is at))
-          from led step;
+          (λ q is none.
+          subst (λ (x : Objects). IsCalling next x mid.call) (sym (subst (λ (t : RwHandTurn). RwObjectsLeft os t after) none left))
+          (first_fits os (subst (λ (t : RwHandTurn). RwObjectsLeft os t os) (sym is) refl)).call)
+          asked.turn_fits fits.call from led step;
       objects = objects_follow objects c.ran-after.result.objects after old.call new.call ask last c.step_after.result at_ask c.settle.ensures.left step;
       queried = subst (λ (v : RwValue). OnOk c.step_after.result (new.queried ≡ v.queried ++ queried_for ask)) asked.same
           (read_once d computed mid new ask first last c.step_after.result from led step);

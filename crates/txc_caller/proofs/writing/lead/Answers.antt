@@ -1,5 +1,4 @@
-use Rattle.std.proofs.Common.{◌≡◌, Some, None, refl, sym, subst}
-use Rattle.txc_registry.specs.Objects.{Objects}
+use Rattle.std.proofs.Common.{◌≡◌, Some, refl, sym, subst}
 use Rattle.txc_ports.specs.declared.turn.Turn.TheVariants.{Ask, Ended}
 use Rattle.txc_rw.specs.ByHand.{RwHandTurn, RwObjectsLeft, IsRwHandTurn}
 use Rattle.txc_caller.proofs.WriteActs.{heard_after, right_reply_to}

@@ -1,15 +1,15 @@
 use Rattle.std.proofs.Common.{ap, inl, sym, subst, ◌∙◌}
 use Rattle.txc_txn.specs.Core.{value_of, IsIdle}
 use Rattle.txc_caller.specs.Ports.{CallerPorts, HasGrownDatabase}
-use Rattle.txc_caller.specs.Reading.{with_cushion, CallerValue, IsBegunReading}
-use Rattle.txc_caller.proofs.Begun.{begun_reading, cushion_so}
+use Rattle.txc_caller.specs.Reading.{CallerValue, IsBegunReading}
+use Rattle.txc_caller.proofs.Begun.{begun_reading}
 use Rattle.txc_caller.proofs.Letting.{grown_same}
 use Rattle.txc_caller.proofs.caller.Caller.begin.Goals as goal
 
 pub new-requires : goal.new-requires
 new-requires g c = record {
-  fits = c.in_ok-core.ensures.begun.fits g.A.App.next;
-  holds = c.in_ok-core.ensures.begun.holds g.A.App.next;
+  fits = c.in_ok-core.ensures.begun.fits;
+  holds = c.in_ok-core.ensures.begun.holds;
   idle = c.in_ok-core.ensures.begun.idle;
   nodes = c.in_ok-core.ensures.begun.nodes;
 }
@@ -20,34 +20,29 @@ invariant_of-result g c = record { lent = c.new.ensures.lent; rests = inl (subst
 pub returns-clause-begun : goal.returns-clause-begun
 returns-clause-begun g c =
     let old : CallerValue = record { ports = c.self.inside.ports; renew_after = c.self.inside.renew_after } in
-    let new : CallerValue = record { ports = c.begin-core.new.self; renew_after = c.self.inside.renew_after } in
+    let new : CallerValue = record { ports = c.begin.new.self; renew_after = c.self.inside.renew_after } in
     subst (λ (v : CallerValue). IsBegunReading g.A.App.next c.args.bounds v new c.new.result) c.self.view_is
-    (begun_reading g.A.App.next c.args.bounds old c.begin-core.new.self c.new.result (value_of c.in_ok-core.core) c.new.ensures.core c.new.ensures.lent
-    c.in_ok-core.ensures.begun c.in_ok-core.ensures.users c.begin-core.ensures.same)
+    (begun_reading g.A.App.next c.args.bounds old c.begin.new.self c.new.result (value_of c.in_ok-core.core) c.new.ensures.core c.new.ensures.lent
+    c.in_ok-core.ensures.begun c.in_ok-core.ensures.users c.begin.ensures.same)
 
 pub returns-clause-caller : goal.returns-clause-caller
 returns-clause-caller g c = record {
-  row = ap (λ (p : CallerPorts). p.database.events) c.begin-core.ensures.same ∙ ap (λ (v : CallerValue). v.ports.database.events) c.self.view_is;
+  row = ap (λ (p : CallerPorts). p.database.events) c.begin.ensures.same ∙ ap (λ (v : CallerValue). v.ports.database.events) c.self.view_is;
   renew_after = ap (λ (v : CallerValue). v.renew_after) c.self.view_is;
 }
 
 pub returns-clause-grown : goal.returns-clause-grown
 returns-clause-grown g c =
-    subst (λ (v : CallerValue). HasGrownDatabase v.ports.database c.begin-core.new.self.database) c.self.view_is
-    (grown_same c.self.inside.ports.database c.begin-core.new.self.database (ap (λ (p : CallerPorts). p.database) c.begin-core.ensures.same))
-
-pub returns-in_err-core-clause-left : goal.returns-in_err-core-clause-left
-returns-in_err-core-clause-left g c =
-    let old : CallerValue = record { ports = c.self.inside.ports; renew_after = c.self.inside.renew_after } in
-    cushion_so old c.begin-core.new.self c.begin-core.ensures.same ∙ ap (λ (v : CallerValue). with_cushion c.begin-core.new.self.cushion v) c.self.view_is
+    subst (λ (v : CallerValue). HasGrownDatabase v.ports.database c.begin.new.self.database) c.self.view_is
+    (grown_same c.self.inside.ports.database c.begin.new.self.database (ap (λ (p : CallerPorts). p.database) c.begin.ensures.same))
 
 pub returns-in_err-core-clause-caller : goal.returns-in_err-core-clause-caller
 returns-in_err-core-clause-caller g c = record {
-  row = ap (λ (p : CallerPorts). p.database.events) c.begin-core.ensures.same ∙ ap (λ (v : CallerValue). v.ports.database.events) c.self.view_is;
+  row = ap (λ (p : CallerPorts). p.database.events) c.begin.ensures.same ∙ ap (λ (v : CallerValue). v.ports.database.events) c.self.view_is;
   renew_after = ap (λ (v : CallerValue). v.renew_after) c.self.view_is;
 }
 
 pub returns-in_err-core-clause-grown : goal.returns-in_err-core-clause-grown
 returns-in_err-core-clause-grown g c =
-    subst (λ (v : CallerValue). HasGrownDatabase v.ports.database c.begin-core.new.self.database) c.self.view_is
-    (grown_same c.self.inside.ports.database c.begin-core.new.self.database (ap (λ (p : CallerPorts). p.database) c.begin-core.ensures.same))
+    subst (λ (v : CallerValue). HasGrownDatabase v.ports.database c.begin.new.self.database) c.self.view_is
+    (grown_same c.self.inside.ports.database c.begin.new.self.database (ap (λ (p : CallerPorts). p.database) c.begin.ensures.same))

@@ -1,7 +1,8 @@
 use Rattle.std.proofs.Common.{◌≡◌, ◌∙◌, true, None, Option, Some, ap, refl, sym, subst}
 use Rattle.std.specs.Prelude.{IsSome}
 use Rattle.txc_tags.specs.Keys.{Call}
-use Rattle.txc_txn.specs.Kept.{TxnValue}
+use Rattle.txc_registry.specs.Objects.{AllIdle}
+use Rattle.txc_txn.specs.Kept.{IsTxn, TxnValue}
 use Rattle.txc_told.specs.Steps.{objects_after_ask}
 use Rattle.txc_caller.specs.Looking.{IsComputedOnMiss}
 use Rattle.txc_caller.specs.Ports.{HasGrownDatabase}
@@ -12,6 +13,8 @@ use Rattle.txc_caller.proofs.Requests.{going_ran, keeps_seen, keeps_self, keeps_
 use Rattle.txc_caller.proofs.Letting.{grown_self}
 use Rattle.txc_caller.proofs.Some.{none_of, some_of}
 use Rattle.txc_caller.proofs.Telling.{follow_so, no_begun, told_so}
+use Rattle.txc_caller.specs.Acting.{step_error, ActLeads}
+use Rattle.txc_caller.proofs.Acting.{none_acts, ran_leads}
 use Rattle.txc_caller.proofs.caller_txn.CallerTxn.act.Goals as goal
 
 pub ran-turn-requires : goal.ran-turn-requires
@@ -50,7 +53,8 @@ returns-then-not-is_computing-clause-objects g c =
     let old = c.self.inside.txn in
     let closed = none_of (top_call old.core.call)
     (λ there. let yes : c.is_computing.result ≡ true = c.is_computing.ensures.1 (subst (λ (t : TxnValue). IsSome (top_call t.core.call)) c.self.view_is there) in absurd (cc (yes, c.if-not-is_computing.true))) in
-    idle_objects g.A.App.next old.objects old.core (resting_idle old.core c.self.invariant.rests closed) c.self.invariant.lent.meant.fits
+    subst (λ (t : TxnValue). AllIdle t.objects) c.self.view_is
+    (idle_objects g.A.App.next old.objects old.core (resting_idle old.core c.self.invariant.rests closed) c.self.invariant.lent.meant.fits)
 
 pub returns-then-not-is_computing-clause-step : goal.returns-then-not-is_computing-clause-step
 returns-then-not-is_computing-clause-step g c = λ k is.
@@ -59,10 +63,10 @@ returns-then-not-is_computing-clause-step g c = λ k is.
     absurd (cc (yes, c.if-not-is_computing.true))
 
 pub returns-then-not-is_computing-clause-keeps : goal.returns-then-not-is_computing-clause-keeps
-returns-then-not-is_computing-clause-keeps g c = subst (λ (t : TxnValue). KeepsTxn t c.self.inside.txn) c.self.view_is (keeps_self c.self.inside.txn)
+returns-then-not-is_computing-clause-keeps g c = keeps_self c.args.self.now
 
 pub returns-then-not-is_computing-clause-meant : goal.returns-then-not-is_computing-clause-meant
-returns-then-not-is_computing-clause-meant g c = c.self.invariant.lent.meant
+returns-then-not-is_computing-clause-meant g c = subst (IsTxn g.A.App.next) c.self.view_is c.self.invariant.lent.meant
 
 pub returns-then-not-is_computing-clause-grown : goal.returns-then-not-is_computing-clause-grown
 returns-then-not-is_computing-clause-grown g c = grown_self c.args.caller.now.ports.database
@@ -128,3 +132,21 @@ returns-clause-caller g c = record {
 
 pub returns-clause-grown : goal.returns-clause-grown
 returns-clause-grown g c = subst (λ (v : CallerValue). HasGrownDatabase v.ports.database c.serve-step.new.ports.database) c.caller.view_is c.serve-step.ensures.grown
+
+pub returns-then-not-is_computing-clause-leads : goal.returns-then-not-is_computing-clause-leads
+returns-then-not-is_computing-clause-leads g c =
+    none_acts g.A.App.next.limits c.args.caller.now.ports c.args.self.now c.args.self.now c.args.ask refl
+
+pub returns-clause-leads : goal.returns-clause-leads
+returns-clause-leads g c =
+    let next = g.A.App.next in
+    let old = c.self.inside.txn in
+    let mid = c.ran-turn.new.self in
+    let new = c.serve-step.new.txn in
+    let there = subst (λ (t : TxnValue). IsSome (top_call t.core.call)) (sym c.self.view_is) (c.is_computing.ensures.0 c.if-not-is_computing.false) in
+    let top = some_of (top_call old.core.call) there in
+    let runs = resting_runs old.core top.0 c.self.invariant.rests top.1 in
+    subst (λ (v : CallerValue). ActLeads next.limits v.ports c.args.self.now c.args.ask c.serve-step.new.ports new.core.taken (step_error c.serve-step.result)) c.caller.view_is
+    (subst (λ (t : TxnValue). ActLeads next.limits c.caller.inside.ports t c.args.ask c.serve-step.new.ports new.core.taken (step_error c.serve-step.result)) c.self.view_is
+    (ran_leads next old mid c.args.ask c.ran-turn.result c.ran-turn.ensures.asked runs.1 c.is_lent-2.ensures.meant.fits c.caller.inside.ports c.serve-step.new.ports new.core.taken
+    (step_error c.serve-step.result) c.serve-step.ensures.leads))

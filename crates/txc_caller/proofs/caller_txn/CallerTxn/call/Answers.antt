@@ -11,6 +11,8 @@ use Rattle.txc_caller.proofs.Lent.{resting_idle}
 use Rattle.txc_caller.proofs.Requests.{going_begun, keeps_begun, keeps_then, of_call_begun}
 use Rattle.txc_caller.proofs.Some.{none_of, some_of}
 use Rattle.txc_caller.proofs.Telling.{first_follow, first_told}
+use Rattle.txc_caller.specs.Acting.{step_error, ActLeads}
+use Rattle.txc_caller.proofs.Acting.{begun_leads}
 use Rattle.txc_caller.proofs.caller_txn.CallerTxn.call.Goals as goal
 
 pub returns-then-is_computing-clause-step : goal.returns-then-is_computing-clause-step
@@ -90,3 +92,16 @@ returns-clause-caller g c = record {
 
 pub returns-clause-grown : goal.returns-clause-grown
 returns-clause-grown g c = subst (λ (v : CallerValue). HasGrownDatabase v.ports.database c.serve-step.new.ports.database) c.caller.view_is c.serve-step.ensures.grown
+
+pub returns-clause-leads : goal.returns-clause-leads
+returns-clause-leads g c =
+    let next = g.A.App.next in
+    let old = c.self.inside.txn in
+    let new = c.serve-step.new.txn in
+    let closed = none_of (top_call old.core.call)
+    (λ there. let yes : c.is_computing.result ≡ true = c.is_computing.ensures.1 (subst (λ (t : TxnValue). IsSome (top_call t.core.call)) c.self.view_is there) in absurd (cc (yes, c.if-is_computing.false))) in
+    subst (λ (v : CallerValue). ActLeads next.limits v.ports c.args.self.now (asks.Call c.args.key) c.serve-step.new.ports new.core.taken (step_error c.serve-step.result)) c.caller.view_is
+    (subst (λ (t : TxnValue). ActLeads next.limits c.caller.inside.ports t (asks.Call c.args.key) c.serve-step.new.ports new.core.taken (step_error c.serve-step.result)) c.self.view_is
+    (begun_leads next old c.start-turn.new.self c.args.key c.start-turn.result c.start-turn.ensures.begun (resting_idle old.core c.self.invariant.rests closed)
+    (c.self.invariant.lent.functions c.args.key.function c.function-function.ensures.bound) c.caller.inside.ports c.serve-step.new.ports new.core.taken
+    (step_error c.serve-step.result) c.serve-step.ensures.leads))

@@ -1,4 +1,4 @@
-use Rattle.std.proofs.Common.{◌≡◌, ◌∙◌, false, true, IsSome, refl, sym, ap, subst}
+use Rattle.std.proofs.Common.{◌≡◌, ◌∙◌, true, IsSome, refl, sym, ap, subst}
 use Rattle.txc_db.specs.DatabaseValue.{DatabaseValue}
 use Rattle.txc_rw.specs.Core.{RwHolds, tags_read}
 use Rattle.txc_rw.proofs.Holding.{right_at_base}

@@ -12,4 +12,4 @@ returns-clause-begun g c =
     begun_core c.begun-core.result c.args.renew_after c.args.bounds inside.cushion.events c.put.new.self.value.database.events inside.cushion c.args.self.now.cushion
     (c.behind-plain.invariant.cushion ∙ sym (ap (λ (p : CallerPorts). p.database.events) c.put.ensures.1))
     (ap (λ (p : CallerPorts). p.cushion) is)
-    done.fits done.holds done.idle done.row done.bounds done.renew_after done.nodes done.recorded done.members done.present
+    done.fits done.holds done.idle done.row done.bounds done.renew_after done.nodes done.recorded done.members done.taken done.present

@@ -2,7 +2,7 @@ use Rattle.std.proofs.Common.{ap, subst, ◌∙◌}
 use Rattle.txc_caller.specs.Ports.{CallerPorts, HasGrownDatabase}
 use Rattle.txc_caller.specs.Reading.{CallerValue}
 use Rattle.txc_caller.proofs.Letting.{grown_same}
-use Rattle.txc_caller.proofs.keeping.Caller.sweep.Goals as goal
+use Rattle.txc_caller.proofs.caller.Caller.sweep.Goals as goal
 
 pub returns-clause-caller : goal.returns-clause-caller
 returns-clause-caller g c = record {

@@ -1,7 +1,7 @@
 use Rattle.std.proofs.Common.{ap, subst, ◌∙◌}
 use Rattle.txc_caller.specs.Ports.{HasGrownDatabase}
 use Rattle.txc_caller.specs.Reading.{CallerValue}
-use Rattle.txc_caller.proofs.keeping.Caller.retire.Goals as goal
+use Rattle.txc_caller.proofs.caller.Caller.retire.Goals as goal
 
 pub returns-clause-caller : goal.returns-clause-caller
 returns-clause-caller g c = record {

@@ -1,7 +1,7 @@
 use Rattle.std.proofs.Common.{refl}
 use Rattle.txc_rw.proofs.Holding.{holds_at_first}
 use Rattle.txc_caller.proofs.Writers.{base_within}
-use Rattle.txc_caller.proofs.caller_write.Caller.begin_write_at.Goals as goal
+use Rattle.txc_caller.proofs.caller.Caller.begin_write_at.Goals as goal
 
 pub returns-clause-of_caller : goal.returns-clause-of_caller
 returns-clause-of_caller g c =

@@ -1,6 +1,6 @@
 use Rattle.txc_rw.proofs.Holding.{holds_at_first}
 use Rattle.txc_caller.proofs.Writers.{held_within}
-use Rattle.txc_caller.proofs.caller_write.Caller.begin_write.Goals as goal
+use Rattle.txc_caller.proofs.caller.Caller.begin_write.Goals as goal
 
 pub returns-clause-of_caller : goal.returns-clause-of_caller
 returns-clause-of_caller g c =
