@@ -61,7 +61,7 @@ shows_by L bounds None id value answers explained are = absurd (cc (explained, a
 shows_by L bounds (Some p) id value answers explained are =
     let right = λ (r : Recorded). eval labels r.key (state_at L p.stamp) ≡ Some r.value in
     let shown = recorded_as (label_call id) value in
-    (p, refl, label_is id (state_at L p.stamp) value (All-head right shown [] (All-same right (shown ∷ []) answers (sym are) explained.2.1)))
+    (p, refl, label_is id (state_at L p.stamp) value (All-head right shown [] (All-same right (shown ∷ []) answers (sym are) explained.2)))
 
 pub shows_label : (bounds : Bounds) (id : ℕ) (value : List ℕ) (receipt : Receipt)
     → Explains labels receipt.seen.history bounds receipt.pin receipt.answers.items → receipt.answers.items ≡ recorded_as (label_call id) value ∷ []

@@ -45,7 +45,7 @@ pub(crate) fn key(id: u32) -> Key
 
 /// The id of the row whose label the function of this call gives.
 pub(crate) fn argument(key: Option<&Key>) -> Result<u32>
-    ensures { IfOk result (λ id. ForSome key (λ k. k.now.args ≡ id ∷ [])) }
+    ensures { IfOk result (λ id. ForSome key.entry (λ k. k.now.args ≡ id ∷ [])) }
 {
     let Some(key) = key else {
         bail!("no function is computed");

@@ -97,7 +97,12 @@ fn copied(
 {
     let label = called(alloc, caller, write, from)?;
     let body = Vec::from_slice(alloc, label.bytes())?;
-    write.put(Row::of_bytes(table(), to, 0, body)?)?;
+    let Ok(row) = Row::of_bytes(table(), to, 0, body) else {
+        bail!("a long label");
+    };
+    let Ok(()) = write.put(row) else {
+        bail!("too many changes");
+    };
     Ok(label)
 }
 
