@@ -1,6 +1,6 @@
 -- What the function asks while its caller computes it.
 use denote.Ref.{Bor}
-use Rattle.std.proofs.Common.{◌≡◌, ◌∙◌, ℕ, ◌==◌, List, [], ◌∷◌, ◌++◌, Bool, true, false, eqb, IsSome, MatchOption, Option, Some, None, refl, ap, sym, subst}
+use Rattle.std.proofs.Common.{◌≡◌, ◌≢◌, ◌∙◌, ℕ, zero, suc, ◌==◌, List, [], ◌∷◌, ◌++◌, Bool, true, false, eqb, IsSome, MatchOption, Option, Some, None, refl, ap, sym, subst}
 use Rattle.std.specs.Prelude.{if◌then◌else◌, unwrap_or}
 use Rattle.std.specs.Option.{ForSome}
 use Rattle.txc_tags.specs.Keys.{Call}
@@ -179,6 +179,10 @@ if_false false x y is = refl
 is_zero : (n : ℕ) → n ≡ 0 → (n == 0) ≡ true
 is_zero n is = rw is refl
 
+is_other : (n : ℕ) → n ≢ 0 → (n == 0) ≡ false
+is_other zero no = absurd (no refl)
+is_other (suc n) no = refl
+
 -- of the id 0 it is done at once
 pub says_nothing : (id : ℕ) (bytes : List ℕ) → id ≡ 0 → bytes ≡ [] → asks_label (id ∷ []) [] ≡ Some (asks.Done bytes)
 says_nothing id bytes zero none = if_true (id == 0) _ _ (is_zero id zero) ∙ ap (λ (bs : List ℕ). Some (asks.Done bs)) (sym none)
@@ -193,9 +197,9 @@ pub says_body : (id : ℕ) (x : Answer) (bytes : List ℕ) → first_group (rows
 says_body id x bytes zero is = if_true (first_group (rows_told x) == 0) _ _ (is_zero _ zero) ∙ ap (λ (bs : List ℕ). Some (asks.Done bs)) (sym is)
 
 -- after any other it asks for the row whose id is the group
-pub says_other : (id : ℕ) (x : Answer) (query : Query) → (first_group (rows_told x) == 0) ≡ false → query ≡ ById 1 (first_group (rows_told x))
+pub says_other : (id : ℕ) (x : Answer) (query : Query) → first_group (rows_told x) ≢ 0 → query ≡ ById 1 (first_group (rows_told x))
     → asks_label (id ∷ []) ([] ++ x ∷ []) ≡ Some (asks.Query query)
-says_other id x query other is = if_false (first_group (rows_told x) == 0) _ _ other ∙ ap (λ (q : Query). Some (asks.Query q)) (sym is)
+says_other id x query other is = if_false (first_group (rows_told x) == 0) _ _ (is_other _ other) ∙ ap (λ (q : Query). Some (asks.Query q)) (sym is)
 
 -- and gives the body of that
 pub says_last : (id : ℕ) (x y : Answer) (bytes : List ℕ) → bytes ≡ first_body (rows_told y) → asks_label (id ∷ []) ((x ∷ []) ++ y ∷ []) ≡ Some (asks.Done bytes)

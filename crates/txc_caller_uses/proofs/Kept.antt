@@ -1,9 +1,14 @@
 -- What stays true of a transaction from act to act.
-use Rattle.std.proofs.Common.{◌≡◌, ◌∙◌, ℕ, List, [], ◌∷◌, ◌++◌, Option, Some, None, Ok, refl, ap, sym, subst}
+use Rattle.std.proofs.Common.{◌≡◌, ◌∙◌, ℕ, List, [], ◌∷◌, ◌++◌, Option, Some, None, Ok, Err, refl, ap, sym, subst}
 use Rattle.std.specs.Prelude.{Result}
 use Rattle.txc_tags.specs.Keys.{Call}
 use Rattle.txc_rows.specs.States.{State}
+use Rattle.txc_rows.specs.declared.query.Change.{Change}
 use Rattle.txc_rows.specs.declared.query.Query.{Query}
+use Rattle.txc_db.specs.History.{History}
+use Rattle.txc_ports.specs.declared.error.TxnError.{TxnError}
+use Rattle.txc_rw.specs.Core.{RwHolds}
+use Rattle.txc_caller.specs.Writing.{CallerWriting, ChangeLeaves}
 use Rattle.txc_app.specs.Eval.{Next}
 use Rattle.txc_app.specs.declared.ask.Answer.{Answer}
 use Rattle.txc_app.specs.declared.ask.Ask.TheVariants as asks
@@ -39,3 +44,10 @@ begins old new id k is none stands calls = record {
   only = calls ∙ (ap (λ (cs : List Call). k ∷ cs) (none_computed old none) ∙ ap (λ (k' : Call). k' ∷ []) is);
   untold = stands.told_is;
 }
+
+-- a change leaves what was answered
+pub change_leaves : (L : History) (change : Change) (old new : CallerWriting) (kept : Result (Unit {0}) TxnError) → ChangeLeaves change old new kept
+    → RwHolds labels L old.objects old.core → RwHolds labels L new.objects new.core
+change_leaves L change old new (Ok kept) leaves holds = subst (λ (w : CallerWriting). RwHolds labels L w.objects w.core) (sym leaves.1)
+    (record { within = holds.within; answers = holds.answers; call = holds.call })
+change_leaves L change old new (Err error) leaves holds = subst (λ (w : CallerWriting). RwHolds labels L w.objects w.core) (sym leaves.0) holds
