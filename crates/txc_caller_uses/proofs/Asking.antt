@@ -180,12 +180,12 @@ is_zero : (n : ℕ) → n ≡ 0 → (n == 0) ≡ true
 is_zero n is = rw is refl
 
 is_other : (n : ℕ) → n ≢ 0 → (n == 0) ≡ false
-is_other zero no = absurd (no refl)
-is_other (suc n) no = refl
+is_other zero apart = absurd (apart refl)
+is_other (suc n) apart = refl
 
 -- of the id 0 it is done at once
 pub says_nothing : (id : ℕ) (bytes : List ℕ) → id ≡ 0 → bytes ≡ [] → asks_label (id ∷ []) [] ≡ Some (asks.Done bytes)
-says_nothing id bytes zero none = if_true (id == 0) _ _ (is_zero id zero) ∙ ap (λ (bs : List ℕ). Some (asks.Done bs)) (sym none)
+says_nothing id bytes is none = if_true (id == 0) _ _ (is_zero id is) ∙ ap (λ (bs : List ℕ). Some (asks.Done bs)) (sym none)
 
 -- of any other it asks for the row
 pub says_row : (id : ℕ) (query : Query) → (id == 0) ≡ false → query ≡ ById 1 id → asks_label (id ∷ []) [] ≡ Some (asks.Query query)
@@ -194,7 +194,7 @@ says_row id query other is = if_false (id == 0) _ _ other ∙ ap (λ (q : Query)
 -- a row of group 0, or none, is the last
 pub says_body : (id : ℕ) (x : Answer) (bytes : List ℕ) → first_group (rows_told x) ≡ 0 → bytes ≡ first_body (rows_told x)
     → asks_label (id ∷ []) ([] ++ x ∷ []) ≡ Some (asks.Done bytes)
-says_body id x bytes zero is = if_true (first_group (rows_told x) == 0) _ _ (is_zero _ zero) ∙ ap (λ (bs : List ℕ). Some (asks.Done bs)) (sym is)
+says_body id x bytes none is = if_true (first_group (rows_told x) == 0) _ _ (is_zero _ none) ∙ ap (λ (bs : List ℕ). Some (asks.Done bs)) (sym is)
 
 -- after any other it asks for the row whose id is the group
 pub says_other : (id : ℕ) (x : Answer) (query : Query) → first_group (rows_told x) ≢ 0 → query ≡ ById 1 (first_group (rows_told x))
