@@ -1,5 +1,6 @@
 """Pages over both stores: with the site of the library, and with a plain model of it (tests/model.py)."""
 
+import contextlib
 import gc
 import logging
 import os
@@ -14,6 +15,7 @@ import unittest
 import weakref
 
 from txcache import _driver
+from txcache._layout import Read
 from txcache._store import db_of
 from txcache._versions import MAX_PLACES, Places, Versions
 from txcache.cache import TxCache
@@ -227,9 +229,11 @@ class Pages(Case):
                 yield 1
         with self.assertRaisesRegex(TypeError, "two cacheable functions"):
             self.functions(cache)
-        for words in ({"audit": 2}, {"refresh": 0}, {"max_bytes": 5}):
-            self.assertRaises(ValueError, TxCache, self.new_store(), **words)
-        self.assertRaises(ValueError, cache.read, -1)
+        for words, said in (({"audit": 2}, "audit is 2"), ({"refresh": 0}, "refresh is 0 seconds"), ({"max_bytes": 5}, "max_bytes is 5"), ({"hold": -1}, "hold is -1 seconds"),
+                            ({"capacity": 70_000}, "capacity is 70000, and is from 1 to 65,536"), ({"connections": 0}, "connections is 0")):
+            self.assertRaisesRegex(ValueError, said, TxCache, self.new_store(), **words)
+        for age in (-1, float("inf")):
+            self.assertRaisesRegex(ValueError, f"max_age is {age} seconds", cache.read, age)
         self.assertRaisesRegex(TypeError, "the argument number has a value of type builtins.list", self.page, (self.balance, [1]))
 
     def test_db_is_its_functions_own(self):
@@ -801,6 +805,98 @@ class Keeping(Case):
                 cache._follower.let_go()
                 self.balance(0)
 
+    def test_a_snapshot_that_was_let_go_is_read_no_more(self):
+        """Its connection may have another by then."""
+        store = self.new_store()
+        self.addCleanup(store.close)
+        first = store.look()
+        first.snapshot.close()
+        self.write("UPDATE accounts SET balance = 5 WHERE id = 0")
+        second = store.look(first.mark)
+        self.addCleanup(second.snapshot.close)
+        self.assertRaises(SnapshotLost, db_of(first.snapshot).rows, "accounts")
+        self.assertRaises(SnapshotLost, db_of(first.snapshot).sql, "SELECT * FROM accounts")
+        self.assertEqual(db_of(second.snapshot).row("accounts", id=0)["balance"], 5)
+
+    def test_a_query_that_ends_its_transaction(self):
+        cache, store = self.open(), self.new_store()
+        self.addCleanup(store.close)
+
+        @cache.cacheable
+        def ends(db, text):
+            return db.sql(text, tags=["accounts"])
+
+        for text in ("COMMIT", " /* ; */ rollback", "SELECT 1; COMMIT", "SELECT 'a;b', \";\"; BEGIN"):
+            self.assertRaisesRegex(ValueError, "more than one statement|begins or ends a transaction", self.page, (ends, text))
+        self.assertEqual(self.page((ends, "SELECT ';' AS it; -- the end")), [[{"it": ";"}]])
+        found = store.look().snapshot
+        self.addCleanup(found.close)
+        self.write("UPDATE accounts SET balance = 5 WHERE id = 0")
+        self.assertRaises((ValueError, SnapshotLost), found.rows, Read("COMMIT", (), ()))
+        with contextlib.suppress(SnapshotLost):
+            self.assertEqual(db_of(found).row("accounts", id=0)["balance"], 100)
+
+    def test_no_page_is_at_the_present(self):
+        """If the pins within a page's bounds were retired as it began, the library would pin the present, which may be the middle of a step."""
+        cache = self.open(refresh=1000.0)
+        self.page((self.balance, 0), (self.balance, 1))
+        self.write("UPDATE accounts SET balance = 93 WHERE id = 0", "UPDATE accounts SET balance = 107 WHERE id = 1")
+        begin = cache._versions.begin
+
+        def begin_where_no_pin_is(now, staleness, at_least):
+            cache._versions.begin = begin
+            return begin(now, staleness, 2**32 - 2)
+
+        cache._versions.begin = begin_where_no_pin_is
+        self.assertEqual(self.page((self.balance, 0), (self.balance, 1)), [100, 100])
+        self.assertEqual((self.last.receipt.snapshot, cache._follower.numbers), (1, [1, 2]))
+
+    def test_a_child_of_a_page_has_pages_of_its_own(self):
+        self.open()
+        out, into = os.pipe()
+        with self.cache.read():
+            self.balance(0)
+            child = os.fork()
+            if child == 0:
+                try:
+                    os.write(into, pickle.dumps(self.page((self.balance, 0), (self.balance, 1))))
+                finally:
+                    os._exit(0)
+            os.waitpid(child, 0)
+        self.assertEqual(pickle.loads(os.read(out, 1000)), [100, 100])
+
+    def test_what_is_logged(self):
+        cache = self.open(audit=1.0)
+
+        @cache.cacheable
+        def other_each_time(db):
+            return random.random()
+
+        with self.assertLogs("txcache", "INFO") as logged:
+            self.assertRaises(AuditError, self.page, (other_each_time,))
+            cache.audit = 0.0
+            with self.assertRaises(SnapshotLost):
+                with cache.read():
+                    self.balance(0)
+                    cache._follower.let_go()
+                    self.balance(1)
+        said = "\n".join(logged.output)
+        for it in ("begins cold: the first snapshot", "other_each_time() is not what it gives", "a page lost its snapshot"):
+            self.assertIn(it, said)
+
+    def test_notes_are_purged_beside_pages(self):
+        cache, purged = self.open(), []
+        cache.store.purge = lambda age: purged.append(age)
+        self.page((self.balance, 0))
+        cache._rest_or_look()
+        cache._last_purge -= 61
+        cache._rest_or_look()
+        cache._rest_or_look()
+        self.assertEqual(purged, [600.0])
+        cache.store.purge = lambda age: 1 // 0
+        cache._last_purge -= 61
+        cache._rest_or_look()
+
     def test_cold_leaves_nothing_behind(self):
         cache = self.open()
         self.page((self.balance, 0), (self.bids, 7))
@@ -915,45 +1011,6 @@ class OverAServer(Case):
         self.assertEqual(cache.stats()["cold"], 3)
 
 
-class Judge(Case):
-    """Random histories: each answer against its function in the snapshot that the receipt names."""
-
-    def test_random_histories(self):
-        rand = random.Random(11)
-        for _ in range(20):
-            cache = self.open(refresh=rand.choice((1e-6, 1000.0)), hold=1000.0)
-            self.page((self.balance, 0))
-            for _ in range(40):
-                act = rand.random()
-                if act < 0.35:
-                    n, by = rand.randrange(4), rand.randrange(-9, 9)
-                    self.write(f"UPDATE accounts SET balance = balance + {by} WHERE id = {n}", f"UPDATE accounts SET pair = {rand.randrange(2)} WHERE id = {rand.randrange(4)}")
-                elif act < 0.4:
-                    cache._look()
-                elif act < 0.43:
-                    cache._follower.let_go()
-                elif act < 0.46:
-                    cache.clear()
-                else:
-                    self.judge(cache, rand)
-            cache.close()
-
-    def judge(self, cache, rand):
-        calls = [rand.choice([(self.balance, rand.randrange(4)), (self.pair, rand.randrange(2)), (self.total,), (self.bids, 7), (self.highest, 7)]) for _ in range(rand.randrange(1, 6))]
-        try:
-            with cache.read(max_age=rand.choice((0.0, 0.01, 1000.0))) as page:
-                shown = [function(*args) for function, *args in calls]
-        except SnapshotLost:
-            return
-        try:
-            db = db_of(cache._follower.snapshot(page.receipt.snapshot))
-        except SnapshotLost:
-            return
-        for value, (function, *args) in zip(shown, calls):
-            body = (lambda db, item: max([row["price"] for row in db.rows("bids", item=item)])) if function is self.highest else function.__wrapped__
-            self.assertEqual(value, body(db, *args))
-
-
 class Numbers(unittest.TestCase):
     def test_places_go_in_the_order_of_first_use(self):
         places = Places()
@@ -969,7 +1026,7 @@ class Numbers(unittest.TestCase):
 def load_tests(loader, tests, pattern):
     suite = unittest.TestSuite([loader.loadTestsFromTestCase(Numbers)])
     for store in (OfSqlite, OfPostgres):
-        for case in (Pages, Threads, Keeping, Judge):
+        for case in (Pages, Threads, Keeping):
             for name, versions in (("", Versions), ("OverAModel", model.Versions)):
                 made = type(f"{case.__name__}{store.__name__}{name}", (store, case), {"__module__": __name__, "versions": versions})
                 suite.addTests(loader.loadTestsFromTestCase(made))

@@ -32,12 +32,12 @@ class _Held:
 
 class Follower:
     """Looks at a store. A snapshot has the number of its step. One in which nothing has changed has the number of the one before, and takes its place once
-    that is half as old as it may be. None stays open for longer than `hold` seconds."""
+    that is half as old as it may be. None stays open for longer than `hold` seconds, if somebody looks every `every` seconds."""
 
-    def __init__(self, store: Store, hold: float, clock: Callable[[], float] = time.monotonic):
+    def __init__(self, store: Store, hold: float, clock: Callable[[], float] = time.monotonic, every: float = 0.0):
         if hold <= 0:
             raise ValueError(f"hold is {hold} seconds, and is more than 0")
-        self.store, self.hold, self._clock = store, hold, clock
+        self.store, self.hold, self._clock, self._every = store, hold, clock, min(every, hold / 4)
         self._held: List[_Held] = []
         self._lock, self._looks = threading.Lock(), threading.Lock()
         self._mark: Any = None
@@ -94,7 +94,8 @@ class Follower:
             return self._clock() - self._held[-1].taken > self.hold / 2 if self._held else True
 
     def _let_old_go(self) -> None:
-        self._close_if(lambda it: self._clock() - it.taken > self.hold)
+        """Closes the snapshots that would be too old before the next look."""
+        self._close_if(lambda it: self._clock() - it.taken > self.hold - self._every)
 
     def let_go(self, below: Optional[int] = None) -> None:
         """Closes the snapshots below a number, or all. What is cached stays, and the next look follows on."""

@@ -197,6 +197,7 @@ class Db:
         Without them they are the tables that the database says it read."""
         if isinstance(tags, str):
             raise TypeError(f"tags is a list, as [{tags!r}]")
+        refuse_all_but_one_query(query)
         found = None if tags is None else self._layout.tags(tags)
         return self._run(Read(query, tuple(args), None) if found is None else Read(query, tuple(args), tuple(found), tuple(found.values())))
 
@@ -207,6 +208,21 @@ def dicts(names: Sequence[str], rows: Iterable[Sequence[Any]]) -> List[Row]:
         twice = next(it for it in names if list(names).count(it) > 1)
         raise ValueError(f"two columns of the query are named {twice!r}")
     return [dict(zip(names, row)) for row in rows]
+
+
+# What may have a semicolon in it: texts, names, comments.
+_QUOTED = re.compile(r"""\be'(?:[^'\\]|''|\\.)*'|'(?:[^']|'')*'|"(?:[^"]|"")*"|\$(\w*)\$.*?\$\1\$|--[^\n]*|/\*.*?\*/""", re.I | re.S)
+_ENDS = re.compile(r"\s*(begin|start|commit|end|rollback|abort|savepoint|release|prepare|discard)\b", re.I)
+
+
+def refuse_all_but_one_query(query: str) -> None:
+    """Fails with ValueError if a text is several statements, or one that begins or ends a transaction: what it then read would be of no snapshot."""
+    plain = _QUOTED.sub(" ", query)
+    if re.search(r";\s*\S", plain):
+        raise ValueError(f"{query[:64]!r} is more than one statement")
+    found = _ENDS.match(plain)
+    if found:
+        raise ValueError(f"the query is {found[1]!r}, which begins or ends a transaction")
 
 
 # What depends on the time, on chance or on the session: words, functions, functions that are given no argument, and texts of times.

@@ -12,6 +12,7 @@ from .errors import TxCacheError
 from .node import MAX_VALUE_LEN, _Handle, _Key
 
 MAX_ASKS = 63  # of one function that is computed; what it gives is the last of 64
+MAX_CAPACITY = 65_536
 MAX_PINS = 1024
 MAX_PLACES = 65_536
 UNCHANGING_PLACE = MAX_PLACES  # of no tag

@@ -19,7 +19,7 @@ from ._forms import Growth
 from ._keys import Arguments, digest
 from ._layout import Db, Read, Row, refuse_time_and_chance
 from ._store import PURGE_AGE, Snapshot, Store, db_of
-from ._versions import MAX_ASKS, MAX_PINS, UNCHANGING_PLACE, Places, Versions
+from ._versions import MAX_ASKS, MAX_CAPACITY, MAX_PINS, UNCHANGING_PLACE, Places, Versions
 from .errors import AuditError, NotSeen, SnapshotLost
 
 LOG = logging.getLogger("txcache")
@@ -27,6 +27,8 @@ MAX_SNAPSHOTS = 4  # that are open at once
 MAX_ROW_TAGS = 40  # of one function: beyond that it depends on whole tables, so that some of its `MAX_ASKS` are left for calls
 KEPT_PINS = MAX_PINS // 4
 PURGE_EVERY = 60.0  # seconds
+LOOK_TIME = 0.5  # seconds that a look may take beside its wait for the next
+LONGEST = 1e9  # seconds
 _PAGE: "contextvars.ContextVar[Optional[Page]]" = contextvars.ContextVar("txcache_page", default=None)
 _INHERITED: List[Any] = []  # of a parent: never called and never closed by its child
 _CACHES: "weakref.WeakSet[TxCache]" = weakref.WeakSet()
@@ -152,8 +154,8 @@ class Page:
     """What is read in a block of `TxCache.read`. Its receipt is there once the block has ended."""
 
     def __init__(self, cache: "TxCache", max_age: float, after: Optional[str]):
-        if max_age < 0:
-            raise ValueError(f"max_age is {max_age} seconds, and is at least 0")
+        if not 0 <= max_age < LONGEST:
+            raise ValueError(f"max_age is {max_age} seconds, and is from 0 to less than {LONGEST:,.0f}")
         self.cache, self.max_age, self.after, self.receipt = cache, max_age, after, None
         self._frames: List[_Frame] = []
         self._failed: Optional[BaseException] = None
@@ -165,7 +167,8 @@ class Page:
         self._txn, self._process = 0, os.getpid()
 
     def __enter__(self) -> "Page":
-        if _PAGE.get() is not None:
+        around = _PAGE.get()
+        if around is not None and around._process == os.getpid():
             raise RuntimeError("a page is open already: a page stands within no other")
         if self._txn:
             raise RuntimeError("a page is used once: cache.read() gives another")
@@ -423,10 +426,15 @@ class TxCache:
                  audit: float = 0.0, *, thread: bool = True, on_audit_error: Optional[Callable[[AuditError], None]] = None, versions: Callable[[int], Any] = Versions):
         if max_bytes is not None:
             raise ValueError(f"max_bytes is {max_bytes}, and this library has no budget of bytes: only None")
+        if not 1 <= capacity <= MAX_CAPACITY:
+            raise ValueError(f"capacity is {capacity}, and is from 1 to {MAX_CAPACITY:,}")
         if not 0 <= audit <= 1:
             raise ValueError(f"audit is {audit}, and is a share from 0 to 1")
-        if refresh <= 0:
-            raise ValueError(f"refresh is {refresh} seconds, and is more than 0")
+        if connections < 1:
+            raise ValueError(f"connections is {connections}, and is at least 1")
+        for name, value in (("refresh", refresh), ("hold", hold)):
+            if not 0 < value < LONGEST:
+                raise ValueError(f"{name} is {value} seconds, and is more than 0 and less than {LONGEST:,.0f}")
         self.store, self.refresh, self.hold, self.audit, self.on_audit_error = store, refresh, hold, audit, on_audit_error
         self._capacity, self._connections, self._has_thread, self._make_versions = capacity, connections, thread, versions
         self._functions: Dict[str, Function] = {}
@@ -507,7 +515,7 @@ class TxCache:
             with self._opening:
                 if self._versions is None:
                     self.store.prepare(self._connections, self.hold)
-                    self._follower = Follower(self.store, self.hold)
+                    self._follower = Follower(self.store, self.hold, every=self.refresh + LOOK_TIME)
                     self._ended = threading.Event()
                     self._versions = self._make_versions(self._capacity)
                     if self._has_thread:

@@ -39,14 +39,15 @@ _NEWEST = "SELECT coalesce(max(seq), 0) FROM sqlite_sequence WHERE name = 'txcac
 
 @dataclass(frozen=True)
 class Mark:
-    """Where a snapshot stands: the file, its last note, its shape; and `version`, by which the file says that it has changed."""
+    """Where a snapshot stands: the file, its last note, its shape; and `version`, by which the file says that it has changed: a number that means
+    something to one connection alone, after the number of that."""
 
     file: Tuple[int, int]
     name: str
     newest: int
     shape: int
     upto: int
-    version: int
+    version: Tuple[int, int]
 
 
 class SqliteStore:
@@ -69,6 +70,7 @@ class SqliteStore:
         inherited = vars(self).get("_probe"), vars(self).get("_spare")
         self._lock = threading.RLock()
         self._probe: Optional[sqlite3.Connection] = None
+        self._probes = 0
         self._spare: List[sqlite3.Connection] = []
         self._file: Optional[Tuple[int, int]] = None
         self._layout: Optional[Layout] = None
@@ -194,10 +196,11 @@ class SqliteStore:
             self.close()
             self._file = self._identity()
             self._probe = self._connect()
+            self._probes += 1
             if self._file != self._identity():
                 raise SnapshotLost("the file was changed for another while it was opened")
         # read before the snapshot is taken: a commit between the two is found by the next look
-        (version,), = self._probe.execute("PRAGMA data_version")
+        version = self._probes, self._probe.execute("PRAGMA data_version").fetchone()[0]
         if last is not None and not is_wanted and version == last.version and last.file == self._file:
             return Look(None, last, frozenset())
         link = self._spare.pop() if self._spare else self._connect()
@@ -207,7 +210,7 @@ class SqliteStore:
             link.close()
             raise
 
-    def _taken(self, link: sqlite3.Connection, last: Optional[Mark], version: int) -> Look:
+    def _taken(self, link: sqlite3.Connection, last: Optional[Mark], version: Tuple[int, int]) -> Look:
         link.execute("BEGIN")
         (shape,), = link.execute("PRAGMA schema_version")
         # the first that reads, so it takes the snapshot
