@@ -5,6 +5,7 @@ usage: python3 -m tests.beside write|read WHERE SECONDS SEED [THREADS]    at bin
 It prints what it counted, as JSON.
 """
 
+import contextlib
 import json
 import random
 import sqlite3
@@ -13,7 +14,7 @@ import sys
 import threading
 import time
 from collections import Counter
-from typing import Any, Callable, Dict, List
+from typing import Any, Callable, Dict, Iterator, List
 
 from txcache import SnapshotLost, TxCache, _driver
 
@@ -42,18 +43,18 @@ def store_of(where: str) -> Any:
     return PostgresStore(where, TOLD)
 
 
-def asker(where: str) -> Callable[[str], List[Any]]:
-    """Returns what runs a statement over a connection of its own, each a transaction unless BEGIN says otherwise."""
-    if is_path(where):
-        link = sqlite3.connect(where, isolation_level=None, timeout=60)
-        return lambda text: link.execute(text).fetchall()
-    return _driver.Link(where).ask
+@contextlib.contextmanager
+def asker(where: str) -> Iterator[Callable[[str], List[Any]]]:
+    """Lends what runs a statement over a connection of its own, each a transaction unless BEGIN says otherwise."""
+    link: Any = sqlite3.connect(where, isolation_level=None, timeout=60) if is_path(where) else _driver.Link(where)
+    with contextlib.closing(link):
+        yield (lambda text: link.execute(text).fetchall()) if is_path(where) else link.ask
 
 
 def prepare(where: str) -> None:
-    ask = asker(where)
-    for text in TABLES:
-        ask(text)
+    with asker(where) as ask:
+        for text in TABLES:
+            ask(text)
     store_of(where).install()
 
 
@@ -71,11 +72,12 @@ def commit(ask: Callable[[str], List[Any]], rand: random.Random, is_file: bool) 
 
 
 def write(where: str, seconds: float, seed: int, pause: float = 0.01) -> Dict[str, int]:
-    ask, rand, ended, counts = asker(where), random.Random(seed), time.monotonic() + seconds, Counter()
-    while time.monotonic() < ended:
-        commit(ask, rand, is_path(where))
-        counts["commits"] += 1
-        time.sleep(rand.random() * 2 * pause)
+    rand, ended, counts = random.Random(seed), time.monotonic() + seconds, Counter()
+    with asker(where) as ask:
+        while time.monotonic() < ended:
+            commit(ask, rand, is_path(where))
+            counts["commits"] += 1
+            time.sleep(rand.random() * 2 * pause)
     return counts
 
 
@@ -128,7 +130,7 @@ class Pages:
         """Returns True if the parts of a page are of one moment."""
         return it["copy"] == (it["top"], it["balance"]) and it["highest"] == it["top"] and it["balance"] + it["other"] == it["pair"] == 200 and it["total"] == 200 * ITEMS
 
-    def read(self, seconds: float, seed: int, counts: Counter) -> None:
+    def read(self, seconds: float, seed: int, counts: Counter, pause: float = 0.0) -> None:
         rand, ended = random.Random(seed), time.monotonic() + seconds
         while time.monotonic() < ended:
             try:
@@ -141,6 +143,7 @@ class Pages:
             if not self.is_whole(found):
                 counts["torn"] += 1
                 print(f"torn: {found}", file=sys.stderr, flush=True)
+            time.sleep(pause)
 
 
 def read(where: str, seconds: float, seed: int, threads: int, **settings: Any) -> Dict[str, Any]:

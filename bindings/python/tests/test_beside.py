@@ -27,13 +27,17 @@ class Beside:
         self.assertGreater(counts["commits"], 5)
         self.assertLess(counts["lost"], counts["pages"] / 10, counts)
         self.assertEqual(counts["cold"], 2)
-        pages, ask, rand = beside.Pages(self.where), beside.asker(self.where), random.Random(1)
+        self.each_gives_what_its_query_gives()
+
+    def each_gives_what_its_query_gives(self):
+        pages, rand = beside.Pages(self.where), random.Random(1)
         self.addCleanup(pages.cache.close)
-        for item in range(beside.ITEMS):
-            with pages.cache.read(max_age=0.0):
-                shown = pages.shown(item, rand)
-            (top, balance), = ask(f"SELECT top, balance FROM copies WHERE id = {item}")
-            self.assertEqual((shown["top"], shown["balance"], shown["highest"]), (top, balance, ask(f"SELECT max(price) FROM bids WHERE item = {item}")[0][0]))
+        with beside.asker(self.where) as ask:
+            for item in range(beside.ITEMS):
+                with pages.cache.read(max_age=0.0):
+                    shown = pages.shown(item, rand)
+                (top, balance), = ask(f"SELECT top, balance FROM copies WHERE id = {item}")
+                self.assertEqual((shown["top"], shown["balance"], shown["highest"]), (top, balance, ask(f"SELECT max(price) FROM bids WHERE item = {item}")[0][0]))
 
 
 class OverAFile(Beside, unittest.TestCase):

@@ -42,6 +42,7 @@ class Follower:
         self._lock, self._looks = threading.Lock(), threading.Lock()
         self._mark: Any = None
         self._number = 0
+        self.oldest: Optional[int] = None  # the number of the oldest snapshot that is open
 
     def look(self) -> Step:
         """Takes a new snapshot. Fails with SnapshotRefused, and lets all go so that whoever changes a table goes on; with SnapshotLost if the
@@ -82,6 +83,7 @@ class Follower:
                 over = snapshot  # the one before is young, and connections have joined it
             elif snapshot:
                 self._held = [it for it in self._held if it is not before] + [_Held(number, snapshot, moment)]
+                self.oldest = self._held[0].number
             else:
                 over = None
         if over:
@@ -105,6 +107,7 @@ class Follower:
         with self._lock:
             over = [it for it in self._held if is_over(it)]
             self._held = [it for it in self._held if not is_over(it)]
+            self.oldest = self._held[0].number if self._held else None
         for it in over:
             it.snapshot.close()
 
