@@ -380,7 +380,7 @@ class Pages(Case):
         def long(db):
             return b"x" * 100
 
-        self.assertRaisesRegex(ValueError, "gave a value of 101 bytes, and at most 100", self.page, (long,))
+        self.assertRaisesRegex(ValueError, "gave a value of 100 bytes, and at most 99", self.page, (long,))
 
     def test_errors(self):
         cache = self.open()
@@ -948,6 +948,30 @@ class Keeping(Case):
         self.assertEqual(self.page((self.balance, 0), max_age=0.0), [5])
 
 
+class OverAFile(Case):
+    """What only a file does."""
+
+    def test_another_file_at_the_path(self):
+        """A connection of the former file, whose snapshot was open meanwhile, is not used for the next."""
+        cache = self.open()
+        self.page((self.balance, 0), (self.balance, 1))
+        other = sqlite3.connect(f"{self.room}/b.db", isolation_level=None)
+        self.it.execute(f"VACUUM INTO '{self.room}/c.db'")
+        os.replace(f"{self.room}/c.db", f"{self.room}/b.db")
+        other.close()
+        other = sqlite3.connect(f"{self.room}/b.db", isolation_level=None)
+        self.addCleanup(other.close)
+        other.execute("PRAGMA journal_mode = WAL")
+        other.execute("UPDATE accounts SET balance = 5 WHERE id = 0")
+        os.replace(f"{self.room}/b.db", f"{self.room}/a.db")
+        for end in ("-wal", "-shm"):
+            os.replace(f"{self.room}/b.db{end}", f"{self.room}/a.db{end}")
+        for balance in (5, 6, 7):
+            self.assertEqual(self.page((self.balance, 0), (self.balance, 1), max_age=0.0), [balance, 100])
+            other.execute(f"UPDATE accounts SET balance = {balance + 1} WHERE id = 0")
+        self.assertEqual(cache.stats()["cold"], 2)
+
+
 class OverAServer(Case):
     """What only a server does."""
 
@@ -1030,6 +1054,7 @@ def load_tests(loader, tests, pattern):
             for name, versions in (("", Versions), ("OverAModel", model.Versions)):
                 made = type(f"{case.__name__}{store.__name__}{name}", (store, case), {"__module__": __name__, "versions": versions})
                 suite.addTests(loader.loadTestsFromTestCase(made))
+    suite.addTests(loader.loadTestsFromTestCase(type("OverSqlite", (OfSqlite, OverAFile), {"__module__": __name__})))
     suite.addTests(loader.loadTestsFromTestCase(type("OverPostgres", (OfPostgres, OverAServer), {"__module__": __name__})))
     return suite
 

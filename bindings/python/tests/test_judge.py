@@ -147,8 +147,11 @@ class Writer:
 
     def finish(self):
         if self.left:
-            self.ask("COMMIT")
             self.left = 0
+            try:
+                self.ask("COMMIT")
+            except self._errors:
+                pass
 
 
 class SqliteActs(OfSqlite):

@@ -4,7 +4,7 @@ import logging
 import threading
 import time
 from dataclasses import dataclass
-from typing import Any, Callable, FrozenSet, List, Optional
+from typing import Any, Callable, FrozenSet, List, NamedTuple, Optional
 
 from ._store import Snapshot, Store
 from .errors import SnapshotLost, SnapshotRefused
@@ -12,8 +12,7 @@ from .errors import SnapshotLost, SnapshotRefused
 LOG = logging.getLogger("txcache")
 
 
-@dataclass(frozen=True)
-class Step:
+class Step(NamedTuple):
     """What a look found: the snapshot's number, when it was not yet taken, and the tags that it is the first to see changed. Where `cold` says
     why, nothing is known of what changed, and all that is cached must go."""
 
@@ -105,6 +104,8 @@ class Follower:
 
     def _close_if(self, is_over: Callable[[_Held], bool]) -> None:
         with self._lock:
+            if not self._held or not is_over(self._held[0]):
+                return  # the others are younger
             over = [it for it in self._held if is_over(it)]
             self._held = [it for it in self._held if not is_over(it)]
             self.oldest = self._held[0].number if self._held else None

@@ -81,17 +81,20 @@ class Versions:
 
     def touch(self, places: Sequence[int], version: int) -> None:
         """Gives these places a version. A long step lets go of the lock now and then; no page reads its middle, since none reads the present."""
-        body = str(version).encode()
+        body, site, put = str(version).encode(), self._at, _TXC.put
+        size = len(body)
         for at in range(0, len(places), _TABLES * _ROWS):
             with self._lock:
                 txn = c.c_uint64()
-                _do(_TXC.begin_write, self._site, txn)
+                _do(_TXC.begin_write, site, txn)
                 try:
                     for place in places[at:at + _TABLES * _ROWS]:
-                        _do(_TXC.put, self._site, txn, place % _TABLES, place // _TABLES, 0, body, len(body))
-                    _do(_TXC.commit_write, self._site, txn, c.c_uint32())
+                        number = put(site, txn, place % _TABLES, place // _TABLES, 0, body, size)
+                        if number:
+                            raise _error(put, number)
+                    _do(_TXC.commit_write, site, txn, self._stamp_at)
                 except BaseException:
-                    _TXC.abort(self._site, txn)
+                    _TXC.abort(site, txn)
                     raise
 
     def pin(self, moment: int) -> int:
@@ -216,4 +219,5 @@ class Places:
         return found
 
     def all_of(self, tags: Iterable[str]) -> Sequence[int]:
-        return sorted({self.of(it) for it in tags})
+        known = self._known
+        return sorted({found if (found := known.get(it)) is not None else self.of(it) for it in tags})

@@ -10,8 +10,8 @@ import random
 import threading
 import time
 import weakref
-from dataclasses import dataclass, replace
-from typing import Any, Callable, Dict, Iterator, List, Optional, Sequence, Tuple
+from dataclasses import dataclass
+from typing import Any, Callable, Dict, List, NamedTuple, Optional, Sequence, Tuple
 
 from . import _values
 from ._follower import Follower, Step
@@ -27,6 +27,7 @@ MAX_SNAPSHOTS = 4  # that are open at once
 MAX_KNOWN = 65_536  # keys of calls that a function remembers, so that a call that was made before is not encoded again
 MAX_ROW_TAGS = 40  # of one function: beyond that it depends on whole tables, so that some of its `MAX_ASKS` are left for calls
 KEPT_PINS = MAX_PINS // 4
+KEEP_EVERY = 8  # steps
 PURGE_EVERY = 60.0  # seconds
 LOOK_TIME = 0.5  # seconds that a look may take beside its wait for the next
 LONGEST = 1e9  # seconds
@@ -58,16 +59,14 @@ class CacheInfo:
     computed: int
 
 
-@dataclass(frozen=True)
-class _Pin:
+class _Pin(NamedTuple):
     stamp: int
     moment: float
     number: int
     mark: Any
 
 
-@dataclass(frozen=True)
-class _State:
+class _State(NamedTuple):
     """The pins of pages, the oldest first; the number in keys, and the first stamp of what is cached under it. It is replaced as a whole, so a page that
     begins waits for no look."""
 
@@ -87,10 +86,13 @@ class _Frame:
 
 
 class _Work:
-    """A call that a thread computes, in the snapshot of a stamp."""
+    """A call that a thread computes, in the snapshot of a stamp. `turn` is held until it has ended."""
+
+    __slots__ = "stamp", "owner", "turn"
 
     def __init__(self, stamp: Optional[int]):
-        self.stamp, self.ended, self.owner = stamp, threading.Event(), threading.get_ident()
+        self.stamp, self.owner, self.turn = stamp, threading.get_ident(), threading.Lock()
+        self.turn.acquire()
 
 
 class _Works:
@@ -106,21 +108,22 @@ class _Works:
             works = list(self.known.get(key, ()))
         found = next((it for it in works if it.stamp is not None and it.owner != threading.get_ident() and may_read(it.stamp)), None)
         if found:
-            found.ended.wait()
+            with found.turn:
+                pass
 
-    @contextlib.contextmanager
-    def at(self, key: bytes, stamp: Optional[int]):
+    def begin(self, key: bytes, stamp: Optional[int]) -> _Work:
         work = _Work(stamp)
         with self._lock:
             self.known.setdefault(key, []).append(work)
-        try:
-            yield
-        finally:
-            with self._lock:
-                self.known[key].remove(work)
-                if not self.known[key]:
-                    del self.known[key]
-            work.ended.set()
+        return work
+
+    def end(self, key: bytes, work: _Work) -> None:
+        with self._lock:
+            left = self.known[key]
+            left.remove(work)
+            if not left:
+                del self.known[key]
+        work.turn.release()
 
 
 class Function:
@@ -313,18 +316,20 @@ class Page:
         return data
 
     def _computed_data(self, function: Function, key: Any, args: Sequence[Any], named: Dict[str, Any]) -> bytes:
-        frame = _Frame(function, key.level, {})
+        cache, frame = self.cache, _Frame(function, key.level, {})
+        stamp = cache._versions.read_stamp(self._txn)
         self._frames.append(frame)
+        work = cache._works.begin(key.digest, stamp)
         try:
-            with self.cache._works.at(key.digest, self.cache._versions.read_stamp(self._txn)):
-                value = function.body(Db(self._snapshot().layout, self._read), *args, **named)
-                self._refuse_after_failure(frame)
-                self._ask_once(frame)
-                data = _values.encode(value, function.codec)
-                if len(data) > self.cache._versions.longest:
-                    raise ValueError(f"{function.name} gave a value of {len(data)} bytes, and at most {self.cache._versions.longest} are kept")
-                self.cache._versions.finish(self._txn, data)
+            value = function.body(Db(cache._snapshot(stamp).layout, self._read), *args, **named)
+            self._refuse_after_failure(frame)
+            self._ask_once(frame)
+            data = _values.encode(value, function.codec)
+            if len(data) > cache._versions.longest:
+                raise ValueError(f"{function.name} gave a value of {len(data) - 1} bytes, and at most {cache._versions.longest - 1} are kept")
+            cache._versions.finish(self._txn, data)
         finally:
+            cache._works.end(key.digest, work)
             self._frames.pop()
         self.computed += 1
         function._computed += 1
@@ -485,7 +490,7 @@ class TxCache:
         self._state = _State()
         self._least: Tuple[Any, Optional[int], int] = (None, None, 0)  # of a state and the oldest open snapshot: the first stamp at which a page may begin
         self._numbers: Dict[int, int] = {}
-        self._is_to_be_cold = False
+        self._is_to_be_cold, self._steps = False, 0
         self._ended: Optional[threading.Event] = None
         self._last_page = self._last_purge = self._last_try = time.monotonic()
         self._lost, self._cold = 0, 0
@@ -523,7 +528,7 @@ class TxCache:
     def clear(self) -> None:
         """Has all calls be computed again."""
         with self._stepping:
-            self._state = replace(self._state, era=self._state.era + 1)
+            self._state = self._state._replace(era=self._state.era + 1)
 
     def close(self) -> None:
         """Ends the thread, the connections and the library's site. The next page opens all anew."""
@@ -615,16 +620,25 @@ class TxCache:
         self._versions.touch(self._places.all_of(step.tags), step.number)
         stamp = self._versions.pin(_us(step.moment))
         self._numbers[stamp] = step.number
-        pin, before = _Pin(stamp, step.moment, step.number, self._follower.mark), self._state
-        young = [it for it in before.pins if it.moment >= step.moment - self.hold]
-        self._state = replace(before, pins=(*young[1 - KEPT_PINS:], pin), first=stamp if step.cold else before.first)
+        before, pin = self._state, _Pin(stamp, step.moment, step.number, self._follower.mark)
+        self._state = _State((*before.pins[self._count_old(before.pins, step.moment):], pin), before.era, stamp if step.cold else before.first)
         self._tidy()
+
+    def _count_old(self, pins: Sequence[_Pin], now: float) -> int:
+        """Returns how many pins, the oldest first, are too old, or too many beside one more."""
+        count = max(0, len(pins) + 1 - KEPT_PINS)
+        while count < len(pins) and pins[count].moment < now - self.hold:
+            count += 1
+        return count
 
     def _tidy(self) -> None:
         """Lets go the snapshots that are too many, and what no page can read any more."""
         numbers = self._follower.numbers
         if len(numbers) > MAX_SNAPSHOTS:
             self._follower.let_go(below=numbers[-MAX_SNAPSHOTS])
+        self._steps += 1
+        if self._steps % KEEP_EVERY:
+            return
         horizon = self._versions.keep(_us(self._state.pins[0].moment))
         if len(self._numbers) > 2 * MAX_PINS:
             self._numbers = {stamp: number for stamp, number in self._numbers.items() if stamp >= horizon}
