@@ -749,6 +749,24 @@ class Keeping(Case):
         self.assertLessEqual(len(cache._follower.numbers), 4)
         self.assertLessEqual(len(cache._state.pins), 256)
 
+    def test_a_snapshot_in_which_a_page_computes_stays(self):
+        cache = self.open(refresh=1e-6)
+        with cache.read(max_age=60.0):
+            self.assertEqual(self.balance(0), 100)
+            for n in range(10):
+                self.write(f"UPDATE accounts SET balance = {n} WHERE id = 0")
+                cache._look()
+            self.assertEqual((self.balance(1), self.balance(0)), (100, 100))
+            self.assertEqual(cache._follower.numbers, [1, 9, 10, 11])
+            self.assertEqual(cache._follower.oldest, 9)
+            for n in range(20):
+                self.write(f"UPDATE accounts SET balance = {n} WHERE id = 0")
+                cache._look()
+            self.assertEqual(self.balance(2), 100)
+        self.write("UPDATE accounts SET balance = 5 WHERE id = 0")
+        self.assertEqual(self.page((self.balance, 0), (self.balance, 3), max_age=0.0), [5, 100])
+        self.assertEqual(cache._follower.numbers, [29, 30, 31, 32])
+
     def test_a_snapshot_that_is_gone(self):
         cache = self.open(refresh=1000.0)
         self.page((self.balance, 0))
@@ -851,6 +869,16 @@ class Keeping(Case):
         self.assertEqual(self.page((self.balance, 0), (self.balance, 1)), [100, 100])
         self.assertEqual((self.last.receipt.snapshot, cache._follower.numbers), (1, [1, 2]))
 
+    def test_a_miss_is_read_at_the_pin_that_is_there(self):
+        """However old that is: the library renews none by itself."""
+        cache, looks = self.open(refresh=1000.0), []
+        self.page((self.balance, 0))
+        look = cache.store.look
+        cache.store.look = lambda *words, **named: looks.append(1) or look(*words, **named)
+        time.sleep(0.05)
+        self.assertEqual(self.page((self.balance, 1)), [100])
+        self.assertEqual((looks, self.last.receipt.snapshot), ([], 1))
+
     def test_a_child_of_a_page_has_pages_of_its_own(self):
         self.open()
         out, into = os.pipe()
@@ -883,6 +911,14 @@ class Keeping(Case):
         said = "\n".join(logged.output)
         for it in ("begins cold: the first snapshot", "other_each_time() is not what it gives", "a page lost its snapshot"):
             self.assertIn(it, said)
+
+    def test_triggers_that_do_not_stand_are_logged_once(self):
+        cache = self.open(thread=True, refresh=0.02)
+        with self.assertLogs("txcache", "ERROR") as logged:
+            cache.store.look = lambda *words, **named: (_ for _ in ()).throw(NotInstalled(["no trigger stands on accounts"]))
+            self.assertRaises(NotInstalled, self.page, (self.balance, 0))
+            time.sleep(0.3)
+        self.assertEqual(logged.output, ["ERROR:txcache:no page begins until the triggers stand: no trigger stands on accounts"])
 
     def test_notes_are_purged_beside_pages(self):
         cache, purged = self.open(), []

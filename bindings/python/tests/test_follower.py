@@ -104,6 +104,23 @@ class Looks(unittest.TestCase):
             it.look()
             self.assertEqual(it.numbers, held)
 
+    def test_what_is_used_stays(self):
+        it = self.follower("the first snapshot", *({"a"} for _ in range(9)))
+        for number in range(1, 11):
+            self.assertEqual(it.look().number, number)
+            it.trim(3, 5)
+            if number in (1, 3, 6):
+                it.use(number)
+            if number == 5:
+                self.assertEqual((it.numbers, it.oldest), ([1, 3, 5], 5))
+        self.assertEqual((it.numbers, it.oldest), ([1, 3, 6, 10], 10))
+        it.leave(3)
+        it.trim(3, 5)
+        self.assertEqual(it.numbers, [1, 6, 10])
+        self.assertRaises(SnapshotLost, it.use, 3)
+        it.trim(0, 2)
+        self.assertEqual((it.numbers, it.oldest), ([6, 10], 10))
+
     def test_what_is_forgotten_begins_cold(self):
         it = self.follower("the first snapshot", "the first snapshot")
         it.look()

@@ -94,7 +94,7 @@ WRONG = [
     Wrong("a snapshot that is held for ever", "_follower.py", "            self._let_old_go()\n", "", "tests.test_follower -k test_none_is_held"),
     Wrong("a shared value", "_values.py", "return pickle.loads(data)", "return globals().setdefault('_known', {}).setdefault(data, pickle.loads(data))",
           "tests.test_keys -k test_no_two_get_one_object"),
-    Wrong("a snapshot closed that a page may read", "cache.py", "        return max(state.first, found)\n", "        return state.first\n",
+    Wrong("a snapshot closed that a page may read", "cache.py", "self._least = state, oldest, max(state.first, found)", "self._least = state, oldest, state.first",
           of_each_store("test_a_page_begins_where")),
     Wrong("a pin within a step", "cache.py",
           "        self._versions.touch(self._places.all_of(step.tags), step.number)\n        stamp = self._versions.pin(_us(step.moment))\n",
@@ -114,14 +114,16 @@ WRONG = [
           "tests.test_cache -k test_places"),
     Wrong("a page at the present", "_versions.py", "            if number == DONE:\n                return txn\n", "            return txn\n",
           of_each_store("test_no_page_is_at_the_present")),
-    Wrong("a site that renews pins by itself", "_versions.py", "_EVER = 2**64 - 1", "_EVER = 1", of_each_store("test_hits_and_changes")),
+    Wrong("a site that renews pins by itself", "_versions.py", "_EVER = 2**64 - 1", "_EVER = 1", of_each_store("test_a_miss_is_read_at")),
     Wrong("a query after its transaction has ended", "postgres.py", "            if reader.link.is_idle:\n", "            if False:\n", of_each_store("test_a_query_that_ends")),
     Wrong("a query after its transaction has ended, of SQLite", "sqlite.py", "if self.is_open and not self._link.in_transaction:", "if False:", of_each_store("test_a_query_that_ends")),
     Wrong("a query that begins anew", "_layout.py", "        refuse_all_but_one_query(query)\n", "", of_each_store("test_a_query_that_ends")),
     Wrong("a snapshot that was let go is read", "postgres.py", "            if not snapshot.is_open:\n                raise SnapshotLost(\"the snapshot was let go\")\n        except",
           "        except", of_each_store("test_a_snapshot_that_was_let_go"), (("        if not self.is_open:\n            raise SnapshotLost(\"the snapshot was let go\")\n        try:", "        try:"),)),
     Wrong("a snapshot that becomes too old before the next look", "_follower.py", "it.taken > self.hold - self._every)", "it.taken > self.hold)", "tests.test_follower -k test_none_becomes"),
-    Wrong("a page of a parent's", "cache.py", "around is not None and around._process == os.getpid()", "around is not None", of_each_store("test_a_child_of_a_page")),
+    Wrong("a snapshot closed in which a page computes", "_follower.py", "if not self._uses.get(it)]", "if True]", of_each_store("test_a_snapshot_in_which")),
+    Wrong("a page that begins where a snapshot between is closed", "_follower.py", "            if number != after - 1:\n                return after\n", "", "tests.test_follower -k test_what_is_used"),
+    Wrong("a page of a parent's", "cache.py", "around is not None and around._process == _process", "around is not None", of_each_store("test_a_child_of_a_page")),
     Wrong("nothing is ever purged", "cache.py", "if now - self._last_purge > PURGE_EVERY:", "if False:", of_each_store("test_notes_are_purged")),
     Wrong("an audit that leaves the cache warm", "cache.py", "        self.cache.clear()\n", "", of_each_store("test_audit")),
     Wrong("a page that is older than it may be", "cache.py", "if self._is_older(begun - max_age):\n            with", "if not self._state.pins:\n            with", "tests.test_judge"),
@@ -156,7 +158,8 @@ def fails(wrong: Wrong, room: str) -> str:
         try:
             ran = subprocess.run([sys.executable, "-m", "unittest", "-q", *wrong.test.split()], cwd=room, stdout=subprocess.PIPE, stderr=subprocess.STDOUT, text=True, timeout=180)
         except subprocess.TimeoutExpired:
-            return ""  # it hangs: that is seen
+            print(f"{wrong.name}: its test did not end", flush=True)
+            return ""  # that is seen too
         return "" if "\nFAILED (" in ran.stdout else f"its test passes: {ran.stdout[-300:]}"
     finally:
         with open(path, "w", encoding="utf-8") as file:

@@ -20,10 +20,11 @@ from ._keys import Arguments, digest
 from ._layout import Db, Read, Row, refuse_time_and_chance
 from ._store import PURGE_AGE, Snapshot, Store, db_of
 from ._versions import MAX_ASKS, MAX_CAPACITY, MAX_PINS, UNCHANGING_PLACE, Places, Versions
-from .errors import AuditError, NotSeen, SnapshotLost
+from .errors import AuditError, NotInstalled, NotSeen, SnapshotLost
 
 LOG = logging.getLogger("txcache")
-MAX_SNAPSHOTS = 4  # that are open at once
+MAX_SNAPSHOTS = 4  # that are open at once, beside those in which pages compute
+MAX_USED_SNAPSHOTS = 16  # that are open at once
 MAX_KNOWN = 65_536  # keys of calls that a function remembers, so that a call that was made before is not encoded again
 MAX_ROW_TAGS = 40  # of one function: beyond that it depends on whole tables, so that some of its `MAX_ASKS` are left for calls
 KEPT_PINS = MAX_PINS // 4
@@ -187,6 +188,7 @@ class Page:
             raise ValueError(f"max_age is {max_age} seconds, and is from 0 to less than {LONGEST:,.0f}")
         self.cache, self.max_age, self.after = cache, max_age, after
         self._frames: List[_Frame] = []
+        self._uses: List[int] = []  # the snapshots that stay open for this page
         self._failed: Optional[BaseException] = None
         self._turn = threading.RLock()
         self._direct: Optional[Db] = None
@@ -210,7 +212,14 @@ class Page:
         _PAGE.reset(self._token)
         if self._process != _process:
             return
-        if kind is None:
+        try:
+            self._ended(error)
+        finally:
+            if self._uses:
+                self._leave_snapshots()
+
+    def _ended(self, error: Optional[BaseException]) -> None:
+        if error is None:
             pin = self.cache._versions.commit(self._txn)[1]
             self._end = time.monotonic(), pin, pin and self.cache._numbers.get(pin.stamp)
             if self._is_audited and pin is not None:
@@ -321,7 +330,7 @@ class Page:
         self._frames.append(frame)
         work = cache._works.begin(key.digest, stamp)
         try:
-            value = function.body(Db(cache._snapshot(stamp).layout, self._read), *args, **named)
+            value = function.body(Db(self._snapshot(stamp).layout, self._read), *args, **named)
             self._refuse_after_failure(frame)
             self._ask_once(frame)
             data = _values.encode(value, function.codec)
@@ -342,6 +351,7 @@ class Page:
     def _renew(self) -> None:
         """Begins the page anew, of which nothing was shown."""
         self._has_renewed = True
+        self._leave_snapshots()
         self.cache._versions.abort(self._txn)
         self.cache._look_again()
         self._txn, self._era = self.cache._begin(self.max_age, self.after)
@@ -395,17 +405,29 @@ class Page:
         if not frame.asks:
             self.cache._versions.version(self._txn, UNCHANGING_PLACE)
 
-    def _snapshot(self) -> Snapshot:
+    def _snapshot(self, stamp: Optional[int]) -> Snapshot:
+        """Returns the snapshot in which a stamp is read, which stays open for this page."""
+        number, follower = self.cache._number_of(stamp), self.cache._follower
+        if number not in self._uses:
+            follower.use(number)
+            self._uses.append(number)
+        return follower.snapshot(number)
+
+    def _leave_snapshots(self) -> None:
+        while self._uses:
+            self.cache._follower.leave(self._uses.pop())
+
+    def _snapshot_now(self) -> Snapshot:
         """Returns the snapshot in which the next query reads."""
-        return self.cache._snapshot(self.cache._versions.read_stamp(self._txn))
+        return self._snapshot(self.cache._versions.read_stamp(self._txn))
 
     def _in_snapshot(self, read: Callable[[Snapshot], Any]) -> Any:
         """Reads in the snapshot of the next query. If that was let go meanwhile, for one in which nothing had changed, in that one."""
-        snapshot = self._snapshot()
+        snapshot = self._snapshot_now()
         try:
             return read(snapshot)
         except SnapshotLost:
-            other = self._snapshot()
+            other = self._snapshot_now()
             if other is snapshot:
                 raise
             return read(other)
@@ -633,9 +655,7 @@ class TxCache:
 
     def _tidy(self) -> None:
         """Lets go the snapshots that are too many, and what no page can read any more."""
-        numbers = self._follower.numbers
-        if len(numbers) > MAX_SNAPSHOTS:
-            self._follower.let_go(below=numbers[-MAX_SNAPSHOTS])
+        self._follower.trim(MAX_SNAPSHOTS, MAX_USED_SNAPSHOTS)
         self._steps += 1
         if self._steps % KEEP_EVERY:
             return
@@ -662,11 +682,12 @@ class TxCache:
                 self._look()
         raise NotSeen("a new snapshot does not see the transaction of the token")
 
-    def _snapshot(self, stamp: Optional[int]) -> Snapshot:
+    def _number_of(self, stamp: Optional[int]) -> int:
+        """Returns the number of the snapshot in which a stamp is read."""
         number = self._numbers.get(stamp) if stamp is not None else None
         if number is None:
             raise SnapshotLost("the page's moment is kept no more")
-        return self._follower.snapshot(number)
+        return number
 
     # ---- beside pages
 
@@ -697,16 +718,23 @@ def _us(seconds: float) -> int:
 
 def _keep_looking(cache_of: Callable[[], Optional[TxCache]], ended: threading.Event, refresh: float) -> None:
     """The thread of a cache, which ends with it."""
+    last = ""
     while not ended.wait(refresh):
         cache = cache_of()
         if cache is None:
             return
+        said = ""
         try:
             cache._rest_or_look()
         except SnapshotLost:
             pass  # the follower has logged it
+        except NotInstalled as error:
+            said = str(error)
+            if said != last:
+                LOG.error("no page begins until the triggers stand: %s", error)
         except Exception:
             LOG.exception("the database was not looked at")
+        last = said
         del cache
 
 
