@@ -16,7 +16,7 @@ from . import model
 from .test_cache import OfPostgres, OfSqlite
 from .test_cache import Case as CacheCase
 
-HISTORIES = int(os.environ.get("TXC_HISTORIES", 500))
+HISTORIES = int(os.environ.get("TXC_HISTORIES", 0))  # of each store; by default those for which `make test` has time
 ACTS = 16  # of one history
 TABLES = "items", "bids", "accounts"
 SUM, MOST = "SELECT sum(balance) AS it FROM accounts", "SELECT max(price) AS it FROM bids WHERE price > -1000"
@@ -209,10 +209,10 @@ class PostgresActs(OfPostgres):
 class Judge(unittest.TestCase):
     """Of each history a cache; of all of them one database."""
 
-    versions, histories, addresses = Versions, HISTORIES, CacheCase.setUp
+    versions, histories, begin = Versions, 1, CacheCase.setUp
 
     def setUp(self):
-        self.addresses()
+        self.begin()
         self.counts = {"pages": 0, "lost": 0, "judged": 0, "hits": 0, "computed": 0, "cold": 0}
 
     def test_random_histories(self):
@@ -352,8 +352,9 @@ class Judge(unittest.TestCase):
 
 def load_tests(loader, tests, pattern):
     suite = unittest.TestSuite()
-    for store in (SqliteActs, PostgresActs):
-        for name, versions, histories in (("", Versions, HISTORIES), ("OverAModel", model.Versions, HISTORIES // 10)):
+    for store, few in ((SqliteActs, 300), (PostgresActs, 50)):
+        count = HISTORIES or few
+        for name, versions, histories in (("", Versions, count), ("OverAModel", model.Versions, count // 10)):
             made = type(f"Judge{store.__name__}{name}", (store, Judge), {"__module__": __name__, "versions": versions, "histories": histories})
             suite.addTests(loader.loadTestsFromTestCase(made))
     return suite
