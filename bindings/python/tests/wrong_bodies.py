@@ -122,7 +122,7 @@ WRONG = [
           "        except", of_each_store("test_a_snapshot_that_was_let_go"), (("        if not self.is_open:\n            raise SnapshotLost(\"the snapshot was let go\")\n        try:", "        try:"),)),
     Wrong("a snapshot that becomes too old before the next look", "_follower.py", "it.taken > self.hold - self._every)", "it.taken > self.hold)", "tests.test_follower -k test_none_becomes"),
     Wrong("a snapshot closed in which a page computes", "_follower.py", "if not self._uses.get(it)]", "if True]", of_each_store("test_a_snapshot_in_which")),
-    Wrong("a page that begins where a snapshot between is closed", "_follower.py", "            if number != after - 1:\n                return after\n", "", "tests.test_follower -k test_what_is_used"),
+    Wrong("a page that begins where a snapshot between is closed", "_follower.py", "            if number != after - 1:\n", "            if False:\n", "tests.test_follower -k test_what_is_used"),
     Wrong("a page of a parent's", "cache.py", "around is not None and around._process == _process", "around is not None", of_each_store("test_a_child_of_a_page")),
     Wrong("nothing is ever purged", "cache.py", "if now - self._last_purge > PURGE_EVERY:", "if False:", of_each_store("test_notes_are_purged")),
     Wrong("an audit that leaves the cache warm", "cache.py", "        self.cache.clear()\n", "", of_each_store("test_audit")),
