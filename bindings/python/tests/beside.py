@@ -20,6 +20,7 @@ from txcache import SnapshotLost, TxCache, _driver
 
 TOLD = {"items": ["id"], "bids": ["item"], "accounts": ["id", "pair"], "copies": ["id"]}
 ITEMS, BIDS = 6, 4  # items, and bids of each
+LEAST = 12  # commits, and pages, of each on a machine that is busy
 TABLES = ["CREATE TABLE items (id INTEGER PRIMARY KEY, top INTEGER)", "CREATE TABLE bids (id INTEGER PRIMARY KEY, item INTEGER, price INTEGER)",
           "CREATE INDEX bids_item ON bids (item)", "CREATE TABLE accounts (id INTEGER PRIMARY KEY, pair INTEGER, balance INTEGER)",
           "CREATE TABLE copies (id INTEGER PRIMARY KEY, top INTEGER, balance INTEGER)",
@@ -74,7 +75,7 @@ def commit(ask: Callable[[str], List[Any]], rand: random.Random, is_file: bool) 
 def write(where: str, seconds: float, seed: int, pause: float = 0.01) -> Dict[str, int]:
     rand, ended, counts = random.Random(seed), time.monotonic() + seconds, Counter()
     with asker(where) as ask:
-        while time.monotonic() < ended:
+        while time.monotonic() < ended or counts["commits"] < LEAST:
             commit(ask, rand, is_path(where))
             counts["commits"] += 1
             time.sleep(rand.random() * 2 * pause)
@@ -132,7 +133,7 @@ class Pages:
 
     def read(self, seconds: float, seed: int, counts: Counter, pause: float = 0.0) -> None:
         rand, ended = random.Random(seed), time.monotonic() + seconds
-        while time.monotonic() < ended:
+        while time.monotonic() < ended or counts["pages"] < LEAST:
             try:
                 with self.cache.read(max_age=rand.choice((0.0, 0.1, 1.0, 5.0))):
                     found = self.shown(rand.randrange(ITEMS), rand)
