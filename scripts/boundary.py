@@ -284,9 +284,10 @@ def python_of_tests():
     return (found or [sys.executable])[0]
 
 
-def try_bindings(trial, folder):
-    """The tests and examples of the bindings, over the library of a folder."""
-    where = {**os.environ, "TXC_LIBRARY": folder}
+def try_bindings(trial, folder, is_all):
+    """The tests and examples of the bindings, over the library of a folder. With --all Python's random ones go on for longer."""
+    longer = {"TXC_HISTORIES": "500", "TXC_SECONDS": "60"} if is_all else {}
+    where = {**longer, **os.environ, "TXC_LIBRARY": folder}
     if shutil.which("cargo"):
         with tempfile.TemporaryDirectory(prefix="cargo-") as target:
             words = ["cargo", "--quiet", "test", "--offline", "--target-dir", target]
@@ -331,7 +332,7 @@ def try_all(trial, given, room):
     of_sites = {}, program, sites
     for compiler in compilers(given.all):
         try_c(trial, room, compiler, archives, played, wanted, of_sites)
-    try_bindings(trial, given.library or f"{room}/library")
+    try_bindings(trial, given.library or f"{room}/library", given.all)
 
 
 def main():

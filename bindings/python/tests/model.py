@@ -45,6 +45,11 @@ class Txn:
             self.frames[-1].meet(span)
 
 
+class Key(NamedTuple):
+    level: int
+    digest: bytes
+
+
 class Versions:
     """As `txcache._versions.Versions`."""
 
@@ -87,10 +92,15 @@ class Versions:
             self.entries = {digest: left for digest, entries in self.entries.items() if (left := [it for it in entries if it.hi >= horizon])}
             return horizon
 
-    def begin(self, now: int, staleness: int, at_least: int) -> int:
+    key = Key
+
+    def begin(self, now: int, staleness: int, at_least: int) -> Optional[int]:
         with self.lock:
+            members = [it for it in reversed(self.pins) if it.moment >= now - staleness and it.stamp >= at_least]
+            if not members:
+                return None
             self.given += 1
-            self.txns[self.given] = Txn([it for it in reversed(self.pins) if it.moment >= now - staleness and it.stamp >= at_least])
+            self.txns[self.given] = Txn(members)
             return self.given
 
     def member(self, txn: int, at: int) -> Optional[Pin]:
@@ -103,7 +113,8 @@ class Versions:
             members = self.txns[txn].members
             return members[0].stamp if members else None
 
-    def call(self, txn: int, level: int, digest: bytes) -> Optional[bytes]:
+    def call(self, txn: int, key: Key) -> Optional[bytes]:
+        level, digest = key
         with self.lock:
             it = self.txns[txn]
             self._ask(it)

@@ -1,5 +1,6 @@
 """Pages over both stores: with the site of the library, and with a plain model of it (tests/model.py)."""
 
+import contextlib
 import gc
 import logging
 import os
@@ -14,6 +15,7 @@ import unittest
 import weakref
 
 from txcache import _driver
+from txcache._layout import Read
 from txcache._store import db_of
 from txcache._versions import MAX_PLACES, Places, Versions
 from txcache.cache import TxCache
@@ -227,9 +229,11 @@ class Pages(Case):
                 yield 1
         with self.assertRaisesRegex(TypeError, "two cacheable functions"):
             self.functions(cache)
-        for words in ({"audit": 2}, {"refresh": 0}, {"max_bytes": 5}):
-            self.assertRaises(ValueError, TxCache, self.new_store(), **words)
-        self.assertRaises(ValueError, cache.read, -1)
+        for words, said in (({"audit": 2}, "audit is 2"), ({"refresh": 0}, "refresh is 0 seconds"), ({"max_bytes": 5}, "max_bytes is 5"), ({"hold": -1}, "hold is -1 seconds"),
+                            ({"capacity": 70_000}, "capacity is 70000, and is from 1 to 65,536"), ({"connections": 0}, "connections is 0")):
+            self.assertRaisesRegex(ValueError, said, TxCache, self.new_store(), **words)
+        for age in (-1, float("inf")):
+            self.assertRaisesRegex(ValueError, f"max_age is {age} seconds", cache.read, age)
         self.assertRaisesRegex(TypeError, "the argument number has a value of type builtins.list", self.page, (self.balance, [1]))
 
     def test_db_is_its_functions_own(self):
@@ -376,7 +380,7 @@ class Pages(Case):
         def long(db):
             return b"x" * 100
 
-        self.assertRaisesRegex(ValueError, "gave a value of 101 bytes, and at most 100", self.page, (long,))
+        self.assertRaisesRegex(ValueError, "gave a value of 100 bytes, and at most 99", self.page, (long,))
 
     def test_errors(self):
         cache = self.open()
@@ -745,6 +749,24 @@ class Keeping(Case):
         self.assertLessEqual(len(cache._follower.numbers), 4)
         self.assertLessEqual(len(cache._state.pins), 256)
 
+    def test_a_snapshot_in_which_a_page_computes_stays(self):
+        cache = self.open(refresh=1e-6)
+        with cache.read(max_age=60.0):
+            self.assertEqual(self.balance(0), 100)
+            for n in range(10):
+                self.write(f"UPDATE accounts SET balance = {n} WHERE id = 0")
+                cache._look()
+            self.assertEqual((self.balance(1), self.balance(0)), (100, 100))
+            self.assertEqual(cache._follower.numbers, [1, 9, 10, 11])
+            self.assertEqual(cache._follower.oldest, 9)
+            for n in range(20):
+                self.write(f"UPDATE accounts SET balance = {n} WHERE id = 0")
+                cache._look()
+            self.assertEqual(self.balance(2), 100)
+        self.write("UPDATE accounts SET balance = 5 WHERE id = 0")
+        self.assertEqual(self.page((self.balance, 0), (self.balance, 3), max_age=0.0), [5, 100])
+        self.assertEqual(cache._follower.numbers, [29, 30, 31, 32])
+
     def test_a_snapshot_that_is_gone(self):
         cache = self.open(refresh=1000.0)
         self.page((self.balance, 0))
@@ -801,6 +823,116 @@ class Keeping(Case):
                 cache._follower.let_go()
                 self.balance(0)
 
+    def test_a_snapshot_that_was_let_go_is_read_no_more(self):
+        """Its connection may have another by then."""
+        store = self.new_store()
+        self.addCleanup(store.close)
+        first = store.look()
+        first.snapshot.close()
+        self.write("UPDATE accounts SET balance = 5 WHERE id = 0")
+        second = store.look(first.mark)
+        self.addCleanup(second.snapshot.close)
+        self.assertRaises(SnapshotLost, db_of(first.snapshot).rows, "accounts")
+        self.assertRaises(SnapshotLost, db_of(first.snapshot).sql, "SELECT * FROM accounts")
+        self.assertEqual(db_of(second.snapshot).row("accounts", id=0)["balance"], 5)
+
+    def test_a_query_that_ends_its_transaction(self):
+        cache, store = self.open(), self.new_store()
+        self.addCleanup(store.close)
+
+        @cache.cacheable
+        def ends(db, text):
+            return db.sql(text, tags=["accounts"])
+
+        for text in ("COMMIT", " /* ; */ rollback", "SELECT 1; COMMIT", "SELECT 'a;b', \";\"; BEGIN"):
+            self.assertRaisesRegex(ValueError, "more than one statement|begins or ends a transaction", self.page, (ends, text))
+        self.assertEqual(self.page((ends, "SELECT ';' AS it; -- the end")), [[{"it": ";"}]])
+        found = store.look().snapshot
+        self.addCleanup(found.close)
+        self.write("UPDATE accounts SET balance = 5 WHERE id = 0")
+        self.assertRaises((ValueError, SnapshotLost), found.rows, Read("COMMIT", (), ()))
+        with contextlib.suppress(SnapshotLost):
+            self.assertEqual(db_of(found).row("accounts", id=0)["balance"], 100)
+
+    def test_no_page_is_at_the_present(self):
+        """If the pins within a page's bounds were retired as it began, the library would pin the present, which may be the middle of a step."""
+        cache = self.open(refresh=1000.0)
+        self.page((self.balance, 0), (self.balance, 1))
+        self.write("UPDATE accounts SET balance = 93 WHERE id = 0", "UPDATE accounts SET balance = 107 WHERE id = 1")
+        begin = cache._versions.begin
+
+        def begin_where_no_pin_is(now, staleness, at_least):
+            cache._versions.begin = begin
+            return begin(now, staleness, 2**32 - 2)
+
+        cache._versions.begin = begin_where_no_pin_is
+        self.assertEqual(self.page((self.balance, 0), (self.balance, 1)), [100, 100])
+        self.assertEqual((self.last.receipt.snapshot, cache._follower.numbers), (1, [1, 2]))
+
+    def test_a_miss_is_read_at_the_pin_that_is_there(self):
+        """However old that is: the library renews none by itself."""
+        cache, looks = self.open(refresh=1000.0), []
+        self.page((self.balance, 0))
+        look = cache.store.look
+        cache.store.look = lambda *words, **named: looks.append(1) or look(*words, **named)
+        time.sleep(0.05)
+        self.assertEqual(self.page((self.balance, 1)), [100])
+        self.assertEqual((looks, self.last.receipt.snapshot), ([], 1))
+
+    def test_a_child_of_a_page_has_pages_of_its_own(self):
+        self.open()
+        out, into = os.pipe()
+        with self.cache.read():
+            self.balance(0)
+            child = os.fork()
+            if child == 0:
+                try:
+                    os.write(into, pickle.dumps(self.page((self.balance, 0), (self.balance, 1))))
+                finally:
+                    os._exit(0)
+            os.waitpid(child, 0)
+        self.assertEqual(pickle.loads(os.read(out, 1000)), [100, 100])
+
+    def test_what_is_logged(self):
+        cache = self.open(audit=1.0)
+
+        @cache.cacheable
+        def other_each_time(db):
+            return random.random()
+
+        with self.assertLogs("txcache", "INFO") as logged:
+            self.assertRaises(AuditError, self.page, (other_each_time,))
+            cache.audit = 0.0
+            with self.assertRaises(SnapshotLost):
+                with cache.read():
+                    self.balance(0)
+                    cache._follower.let_go()
+                    self.balance(1)
+        said = "\n".join(logged.output)
+        for it in ("begins cold: the first snapshot", "other_each_time() is not what it gives", "a page lost its snapshot"):
+            self.assertIn(it, said)
+
+    def test_triggers_that_do_not_stand_are_logged_once(self):
+        cache = self.open(thread=True, refresh=0.02)
+        with self.assertLogs("txcache", "ERROR") as logged:
+            cache.store.look = lambda *words, **named: (_ for _ in ()).throw(NotInstalled(["no trigger stands on accounts"]))
+            self.assertRaises(NotInstalled, self.page, (self.balance, 0))
+            time.sleep(0.3)
+        self.assertEqual(logged.output, ["ERROR:txcache:no page begins until the triggers stand: no trigger stands on accounts"])
+
+    def test_notes_are_purged_beside_pages(self):
+        cache, purged = self.open(), []
+        cache.store.purge = lambda age: purged.append(age)
+        self.page((self.balance, 0))
+        cache._rest_or_look()
+        cache._last_purge -= 61
+        cache._rest_or_look()
+        cache._rest_or_look()
+        self.assertEqual(purged, [600.0])
+        cache.store.purge = lambda age: 1 // 0
+        cache._last_purge -= 61
+        cache._rest_or_look()
+
     def test_cold_leaves_nothing_behind(self):
         cache = self.open()
         self.page((self.balance, 0), (self.bids, 7))
@@ -850,6 +982,30 @@ class Keeping(Case):
         self.assertEqual(said[1:], [True, [100, 100], (0, 2)])
         self.write("UPDATE accounts SET balance = 5 WHERE id = 0")
         self.assertEqual(self.page((self.balance, 0), max_age=0.0), [5])
+
+
+class OverAFile(Case):
+    """What only a file does."""
+
+    def test_another_file_at_the_path(self):
+        """A connection of the former file, whose snapshot was open meanwhile, is not used for the next."""
+        cache = self.open()
+        self.page((self.balance, 0), (self.balance, 1))
+        other = sqlite3.connect(f"{self.room}/b.db", isolation_level=None)
+        self.it.execute(f"VACUUM INTO '{self.room}/c.db'")
+        os.replace(f"{self.room}/c.db", f"{self.room}/b.db")
+        other.close()
+        other = sqlite3.connect(f"{self.room}/b.db", isolation_level=None)
+        self.addCleanup(other.close)
+        other.execute("PRAGMA journal_mode = WAL")
+        other.execute("UPDATE accounts SET balance = 5 WHERE id = 0")
+        os.replace(f"{self.room}/b.db", f"{self.room}/a.db")
+        for end in ("-wal", "-shm"):
+            os.replace(f"{self.room}/b.db{end}", f"{self.room}/a.db{end}")
+        for balance in (5, 6, 7):
+            self.assertEqual(self.page((self.balance, 0), (self.balance, 1), max_age=0.0), [balance, 100])
+            other.execute(f"UPDATE accounts SET balance = {balance + 1} WHERE id = 0")
+        self.assertEqual(cache.stats()["cold"], 2)
 
 
 class OverAServer(Case):
@@ -915,45 +1071,6 @@ class OverAServer(Case):
         self.assertEqual(cache.stats()["cold"], 3)
 
 
-class Judge(Case):
-    """Random histories: each answer against its function in the snapshot that the receipt names."""
-
-    def test_random_histories(self):
-        rand = random.Random(11)
-        for _ in range(20):
-            cache = self.open(refresh=rand.choice((1e-6, 1000.0)), hold=1000.0)
-            self.page((self.balance, 0))
-            for _ in range(40):
-                act = rand.random()
-                if act < 0.35:
-                    n, by = rand.randrange(4), rand.randrange(-9, 9)
-                    self.write(f"UPDATE accounts SET balance = balance + {by} WHERE id = {n}", f"UPDATE accounts SET pair = {rand.randrange(2)} WHERE id = {rand.randrange(4)}")
-                elif act < 0.4:
-                    cache._look()
-                elif act < 0.43:
-                    cache._follower.let_go()
-                elif act < 0.46:
-                    cache.clear()
-                else:
-                    self.judge(cache, rand)
-            cache.close()
-
-    def judge(self, cache, rand):
-        calls = [rand.choice([(self.balance, rand.randrange(4)), (self.pair, rand.randrange(2)), (self.total,), (self.bids, 7), (self.highest, 7)]) for _ in range(rand.randrange(1, 6))]
-        try:
-            with cache.read(max_age=rand.choice((0.0, 0.01, 1000.0))) as page:
-                shown = [function(*args) for function, *args in calls]
-        except SnapshotLost:
-            return
-        try:
-            db = db_of(cache._follower.snapshot(page.receipt.snapshot))
-        except SnapshotLost:
-            return
-        for value, (function, *args) in zip(shown, calls):
-            body = (lambda db, item: max([row["price"] for row in db.rows("bids", item=item)])) if function is self.highest else function.__wrapped__
-            self.assertEqual(value, body(db, *args))
-
-
 class Numbers(unittest.TestCase):
     def test_places_go_in_the_order_of_first_use(self):
         places = Places()
@@ -969,10 +1086,11 @@ class Numbers(unittest.TestCase):
 def load_tests(loader, tests, pattern):
     suite = unittest.TestSuite([loader.loadTestsFromTestCase(Numbers)])
     for store in (OfSqlite, OfPostgres):
-        for case in (Pages, Threads, Keeping, Judge):
+        for case in (Pages, Threads, Keeping):
             for name, versions in (("", Versions), ("OverAModel", model.Versions)):
                 made = type(f"{case.__name__}{store.__name__}{name}", (store, case), {"__module__": __name__, "versions": versions})
                 suite.addTests(loader.loadTestsFromTestCase(made))
+    suite.addTests(loader.loadTestsFromTestCase(type("OverSqlite", (OfSqlite, OverAFile), {"__module__": __name__})))
     suite.addTests(loader.loadTestsFromTestCase(type("OverPostgres", (OfPostgres, OverAServer), {"__module__": __name__})))
     return suite
 

@@ -10,6 +10,7 @@ import tempfile
 import threading
 import unittest
 
+from txcache._layout import Read
 from txcache._store import db_of
 from txcache.errors import NotInstalled, SnapshotLost
 from txcache.sqlite import SqliteStore
@@ -243,12 +244,20 @@ class Reading(Case):
         self.addCleanup(found.snapshot.close)
         self.assertIn("items:id=7", found.tags)
 
+    def test_the_number_of_a_files_changes_is_a_connections_own(self):
+        """A new connection counts anew."""
+        self.s.close()
+        self.ask("UPDATE items SET v = 0 WHERE id = 7")  # nobody counts it
+        found = self.s.look(self.mark, is_wanted=False)
+        self.assertIsNotNone(found.snapshot)
+        self.addCleanup(found.snapshot.close)
+
     def test_a_query_that_fails_spoils_nothing(self):
         for query in ("SELECT nothing FROM items", "UPDATE items SET v = 1", "SEL", "SELECT abs(-9223372036854775808) FROM items"):
             for given in (None, ["items"]):
                 self.assertRaises(sqlite3.Error, self.db().sql, query, (), given)
                 self.assertEqual(len(self.db().rows("items")), 3)
-        self.assertRaises(SnapshotLost, self.db().sql, "COMMIT", tags=[])
+        self.assertRaises(SnapshotLost, self.held.rows, Read("COMMIT", (), ()))
         self.assertRaises(SnapshotLost, self.db().rows, "items")
 
     def test_the_tables_of_a_query_are_those_that_the_compiler_names(self):

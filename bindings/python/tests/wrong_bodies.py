@@ -10,7 +10,7 @@ import shutil
 import subprocess
 import sys
 import tempfile
-from typing import NamedTuple
+from typing import NamedTuple, Tuple
 
 PYTHON = os.path.dirname(os.path.dirname(os.path.abspath(__file__)))
 
@@ -23,6 +23,7 @@ class Wrong(NamedTuple):
     text: str
     put: str
     test: str
+    more: Tuple[Tuple[str, str], ...] = ()  # other texts, and what is put in their places
 
 
 def of_each_store(test: str) -> str:
@@ -81,16 +82,19 @@ WRONG = [
     Wrong("a collation of SQLite is not looked at", "sqlite.py", "return count == 3", "return True", "tests.test_sqlite -k test_what_is_refused"),
     Wrong("a file of SQLite that was changed for another", "sqlite.py", "if self._probe is None or self._file != self._identity():", "if self._probe is None:",
           "tests.test_sqlite -k test_another_file"),
+    Wrong("the number of a file's changes by another connection", "sqlite.py", "            self._probes += 1\n", "",
+          "tests.test_sqlite -k test_the_number_of_a_files_changes"),
+    Wrong("a connection of the former file", "sqlite.py", "len(self._spare) < 2 and file == self._file:", "len(self._spare) < 2:", "tests.test_cache -k test_another_file_at"),
     Wrong("the schema of SQLite is not looked at", "sqlite.py", "if mark.shape != last.shape:", "if False:", "tests.test_sqlite -k test_what_changes_the_schema"),
-    Wrong("a key without types", "_keys.py", "kinds = tuple(map(type, args))", "kinds = ()", "tests.test_keys -k test_exact_types"),
+    Wrong("a key without types", "_keys.py", "return (kinds, args) if", "return ((), args) if", "tests.test_keys -k test_exact_types"),
     Wrong("a key without types, whole", "_keys.py", "    bool: lambda it: b\"T\" if it else b\"F\",", "    bool: lambda it: b\"i%x;\" % it,", "tests.test_keys -k test_each_value"),
     Wrong("the look that fails forgets where it stood", "_follower.py", "            except SnapshotRefused as error:\n                self.let_go()\n", "            except SnapshotRefused as error:\n                self.forget()\n",
           "tests.test_follower -k test_a_lock_that_is_waited_for"),
     Wrong("a moment after its snapshot", "_follower.py", "return Step(number, moment,", "return Step(number, self._clock(),", "tests.test_follower -k test_the_moment"),
     Wrong("a snapshot that is held for ever", "_follower.py", "            self._let_old_go()\n", "", "tests.test_follower -k test_none_is_held"),
-    Wrong("a shared value", "_values.py", "return pickle.loads(data[1:])", "return globals().setdefault('_known', {}).setdefault(data, pickle.loads(data[1:]))",
+    Wrong("a shared value", "_values.py", "return pickle.loads(data)", "return globals().setdefault('_known', {}).setdefault(data, pickle.loads(data))",
           "tests.test_keys -k test_no_two_get_one_object"),
-    Wrong("a snapshot closed that a page may read", "cache.py", "        return max(state.first, found)\n", "        return state.first\n",
+    Wrong("a snapshot closed that a page may read", "cache.py", "self._least = state, oldest, max(state.first, found)", "self._least = state, oldest, state.first",
           of_each_store("test_a_page_begins_where")),
     Wrong("a pin within a step", "cache.py",
           "        self._versions.touch(self._places.all_of(step.tags), step.number)\n        stamp = self._versions.pin(_us(step.moment))\n",
@@ -103,11 +107,26 @@ WRONG = [
           "found = self._state.pins[-1].stamp",
           of_each_store("test_tokens")),
     Wrong("a wait for a snapshot that one may not read", "cache.py", "and may_read(it.stamp)), None)", "), None)", of_each_store("test_nobody_waits")),
-    Wrong("nobody waits", "cache.py", "                found.ended.wait()", "                pass", of_each_store("test_who_asks")),
+    Wrong("nobody waits", "cache.py", "            with found.turn:\n                pass", "            pass", of_each_store("test_who_asks")),
     Wrong("an audit in another snapshot", "cache.py", "self.cache._follower.snapshot(self.receipt.snapshot)", "self.cache._follower.snapshot(self.cache._follower.numbers[-1])",
           of_each_store("test_an_audit_is_of_the_receipts_snapshot")),
     Wrong("a place of the version table forgotten", "_versions.py", "found = self._numbers.setdefault(slot, len(self._numbers))", "found = len(self._numbers); self._numbers[slot] = found",
           "tests.test_cache -k test_places"),
+    Wrong("a page at the present", "_versions.py", "            if number == DONE:\n                return txn\n", "            return txn\n",
+          of_each_store("test_no_page_is_at_the_present")),
+    Wrong("a site that renews pins by itself", "_versions.py", "_EVER = 2**64 - 1", "_EVER = 1", of_each_store("test_a_miss_is_read_at")),
+    Wrong("a query after its transaction has ended", "postgres.py", "            if reader.link.is_idle:\n", "            if False:\n", of_each_store("test_a_query_that_ends")),
+    Wrong("a query after its transaction has ended, of SQLite", "sqlite.py", "if self.is_open and not self._link.in_transaction:", "if False:", of_each_store("test_a_query_that_ends")),
+    Wrong("a query that begins anew", "_layout.py", "        refuse_all_but_one_query(query)\n", "", of_each_store("test_a_query_that_ends")),
+    Wrong("a snapshot that was let go is read", "postgres.py", "            if not snapshot.is_open:\n                raise SnapshotLost(\"the snapshot was let go\")\n        except",
+          "        except", of_each_store("test_a_snapshot_that_was_let_go"), (("        if not self.is_open:\n            raise SnapshotLost(\"the snapshot was let go\")\n        try:", "        try:"),)),
+    Wrong("a snapshot that becomes too old before the next look", "_follower.py", "it.taken > self.hold - self._every)", "it.taken > self.hold)", "tests.test_follower -k test_none_becomes"),
+    Wrong("a snapshot closed in which a page computes", "_follower.py", "if not self._uses.get(it)]", "if True]", of_each_store("test_a_snapshot_in_which")),
+    Wrong("a page that begins where a snapshot between is closed", "_follower.py", "            if number != after - 1:\n", "            if False:\n", "tests.test_follower -k test_what_is_used"),
+    Wrong("a page of a parent's", "cache.py", "around is not None and around._process == _process", "around is not None", of_each_store("test_a_child_of_a_page")),
+    Wrong("nothing is ever purged", "cache.py", "if now - self._last_purge > PURGE_EVERY:", "if False:", of_each_store("test_notes_are_purged")),
+    Wrong("an audit that leaves the cache warm", "cache.py", "        self.cache.clear()\n", "", of_each_store("test_audit")),
+    Wrong("a page that is older than it may be", "cache.py", "if self._is_older(begun - max_age):\n            with", "if not self._state.pins:\n            with", "tests.test_judge"),
     Wrong("a failed step goes on", "cache.py", "            self._is_to_be_cold = True  # until", "            self._is_to_be_cold = False  # until", of_each_store("test_a_step_that_fails_midway")),
     Wrong("an error that was shown is forgotten", "cache.py", "self._has_shown |= not isinstance(found, SnapshotLost)", "pass", of_each_store("test_an_error_shown")),
     Wrong("a caught failure goes on", "cache.py", "        if self._failed is not None:\n", "        if False:\n", of_each_store("test_errors")),
@@ -118,7 +137,7 @@ WRONG = [
           "        stamp = self._versions.pin(_us(step.moment))\n", "            pass\n        self._versions.touch(self._places.all_of(step.tags), step.number)\n"
           "        stamp = self._versions.pin(_us(step.moment))\n        self._state = _State((), self._state.era + 1) if step.cold else self._state\n",
           of_each_store("test_a_page_that_begins_within_a_cold_step")),
-    Wrong("a page of a number that is no more", "cache.py", "if self._state.era == state.era and self", "if self", of_each_store("test_a_page_is_not_begun_under")),
+    Wrong("a page of a number that is no more", "cache.py", "if txn is not None and self._state.era == state.era:", "if txn is not None:", of_each_store("test_a_page_is_not_begun_under")),
     Wrong("a child that goes on with its parent's", "cache.py", "os.register_at_fork(after_in_child=_after_fork_in_child)", "", of_each_store("test_after_a_fork")),
 ]
 
@@ -128,15 +147,19 @@ def fails(wrong: Wrong, room: str) -> str:
     path = f"{room}/txcache/{wrong.file}"
     with open(path, encoding="utf-8") as file:
         right = file.read()
-    if right.count(wrong.text) != 1:
-        return f"its text stands {right.count(wrong.text)} times in {wrong.file}"
+    body = right
+    for text, put in ((wrong.text, wrong.put), *wrong.more):
+        if right.count(text) != 1:
+            return f"its text stands {right.count(text)} times in {wrong.file}: {text!r}"
+        body = body.replace(text, put)
     try:
         with open(path, "w", encoding="utf-8") as file:
-            file.write(right.replace(wrong.text, wrong.put))
+            file.write(body)
         try:
             ran = subprocess.run([sys.executable, "-m", "unittest", "-q", *wrong.test.split()], cwd=room, stdout=subprocess.PIPE, stderr=subprocess.STDOUT, text=True, timeout=180)
         except subprocess.TimeoutExpired:
-            return ""  # it hangs: that is seen
+            print(f"{wrong.name}: its test did not end", flush=True)
+            return ""  # that is seen too
         return "" if "\nFAILED (" in ran.stdout else f"its test passes: {ran.stdout[-300:]}"
     finally:
         with open(path, "w", encoding="utf-8") as file:

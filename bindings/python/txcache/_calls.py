@@ -54,3 +54,10 @@ def declared():
         function.argtypes, function.restype = [c.POINTER(_Handle), *kinds], u32
         setattr(calls, name, function)
     return calls
+
+
+def undeclared(name):
+    """Returns a short call whose arguments are objects of C already: then nothing is looked at or made anew, which takes a third of a hit."""
+    function = _library.load(c.PyDLL)[f"txc_{name}"]
+    function.restype = c.c_uint32
+    return function

@@ -115,6 +115,7 @@ class Layout:
     def __init__(self, relations: Iterable[Relation], mark: str, booleans: Tuple[str, str]):
         self.relations = {it.given: it for it in relations}
         self._mark, self._booleans = mark, booleans
+        self._queries: Dict[Any, str] = {}
 
     def relation(self, table: str) -> Relation:
         found = self.relations.get(table)
@@ -127,10 +128,19 @@ class Layout:
         relation = self.relation(table)
         values = self._values(relation, columns)
         args = tuple(value for value, _ in values.values() if value is not None)
-        where = [f"{self._escaped(quote(it), args)} " + ("IS NULL" if value is None else f"= {self._mark}") for it, (value, _) in values.items()]
-        query = "SELECT * FROM " + self._escaped(relation.name.quoted, args) + (f" WHERE {' AND '.join(where)}" if where else "")
-        query += " ORDER BY " + self._escaped(relation.order, args) + (f" LIMIT {limit}" if limit else "")
+        shape = table, tuple((it, value is None) for it, (value, _) in values.items()), limit
+        query = self._queries.get(shape)
+        if query is None:
+            query = self._queries[shape] = self._query(relation, shape[1], limit)
         return Read(query, args, (self._tag(relation, values),), (relation.tag,))
+
+    def _query(self, relation: Relation, columns: Sequence[Tuple[str, bool]], limit: Optional[int]) -> str:
+        """Returns the text of a query by columns, of which each has a value, or is NULL."""
+        where = [f"{quote(it)} " + ("IS NULL" if is_null else "= \0") for it, is_null in columns]
+        query = f"SELECT * FROM {relation.name.quoted}" + (f" WHERE {' AND '.join(where)}" if where else "")
+        query += f" ORDER BY {relation.order}" + (f" LIMIT {limit}" if limit else "")
+        has_args = any(not is_null for _, is_null in columns)
+        return (query.replace("%", "%%") if has_args and self._mark == "%s" else query).replace("\0", self._mark)
 
     def tags(self, given: Iterable[Union[str, Sequence[Any]]]) -> Dict[str, str]:
         """Returns the tags of tables, each its name, and of rows, each a table, its columns and their values by turns; each with its table's."""
@@ -169,9 +179,6 @@ class Layout:
     def _tag(relation: Relation, values: Mapping[str, Tuple[Any, str]]) -> str:
         return relation.tag + (prefix_of(tuple(values)) + ",".join(text for _, text in values.values()) if values else "")
 
-    def _escaped(self, text: str, args: Tuple[Any, ...]) -> str:
-        return text.replace("%", "%%") if args and self._mark == "%s" else text
-
 
 class Db:
     """Reads of a service's database, all in one snapshot. `run` gives the rows of a `Read`."""
@@ -197,6 +204,7 @@ class Db:
         Without them they are the tables that the database says it read."""
         if isinstance(tags, str):
             raise TypeError(f"tags is a list, as [{tags!r}]")
+        refuse_all_but_one_query(query)
         found = None if tags is None else self._layout.tags(tags)
         return self._run(Read(query, tuple(args), None) if found is None else Read(query, tuple(args), tuple(found), tuple(found.values())))
 
@@ -207,6 +215,21 @@ def dicts(names: Sequence[str], rows: Iterable[Sequence[Any]]) -> List[Row]:
         twice = next(it for it in names if list(names).count(it) > 1)
         raise ValueError(f"two columns of the query are named {twice!r}")
     return [dict(zip(names, row)) for row in rows]
+
+
+# What may have a semicolon in it: texts, names, comments.
+_QUOTED = re.compile(r"""\be'(?:[^'\\]|''|\\.)*'|'(?:[^']|'')*'|"(?:[^"]|"")*"|\$(\w*)\$.*?\$\1\$|--[^\n]*|/\*.*?\*/""", re.I | re.S)
+_ENDS = re.compile(r"\s*(begin|start|commit|end|rollback|abort|savepoint|release|prepare|discard)\b", re.I)
+
+
+def refuse_all_but_one_query(query: str) -> None:
+    """Fails with ValueError if a text is several statements, or one that begins or ends a transaction: what it then read would be of no snapshot."""
+    plain = _QUOTED.sub(" ", query)
+    if re.search(r";\s*\S", plain):
+        raise ValueError(f"{query[:64]!r} is more than one statement")
+    found = _ENDS.match(plain)
+    if found:
+        raise ValueError(f"the query is {found[1]!r}, which begins or ends a transaction")
 
 
 # What depends on the time, on chance or on the session: words, functions, functions that are given no argument, and texts of times.

@@ -10,26 +10,32 @@ import random
 import threading
 import time
 import weakref
-from dataclasses import dataclass, replace
-from typing import Any, Callable, Dict, Iterator, List, Optional, Sequence, Tuple
+from dataclasses import dataclass
+from typing import Any, Callable, Dict, List, NamedTuple, Optional, Sequence, Tuple
 
 from . import _values
 from ._follower import Follower, Step
-from ._forms import Growth
+from ._forms import Forms, Growth
 from ._keys import Arguments, digest
 from ._layout import Db, Read, Row, refuse_time_and_chance
 from ._store import PURGE_AGE, Snapshot, Store, db_of
-from ._versions import MAX_ASKS, MAX_PINS, UNCHANGING_PLACE, Places, Versions
-from .errors import AuditError, NotSeen, SnapshotLost
+from ._versions import MAX_ASKS, MAX_CAPACITY, MAX_PINS, UNCHANGING_PLACE, Places, Versions
+from .errors import AuditError, NotInstalled, NotSeen, SnapshotLost
 
 LOG = logging.getLogger("txcache")
-MAX_SNAPSHOTS = 4  # that are open at once
+MAX_SNAPSHOTS = 4  # that are open at once, beside those in which pages compute
+MAX_USED_SNAPSHOTS = 16  # that are open at once
+MAX_KNOWN = 65_536  # keys of calls that a function remembers, so that a call that was made before is not encoded again
 MAX_ROW_TAGS = 40  # of one function: beyond that it depends on whole tables, so that some of its `MAX_ASKS` are left for calls
 KEPT_PINS = MAX_PINS // 4
+KEEP_EVERY = 8  # steps
 PURGE_EVERY = 60.0  # seconds
+LOOK_TIME = 0.5  # seconds that a look may take beside its wait for the next
+LONGEST = 1e9  # seconds
 _PAGE: "contextvars.ContextVar[Optional[Page]]" = contextvars.ContextVar("txcache_page", default=None)
 _INHERITED: List[Any] = []  # of a parent: never called and never closed by its child
 _CACHES: "weakref.WeakSet[TxCache]" = weakref.WeakSet()
+_process = os.getpid()
 
 
 class _Again(BaseException):
@@ -54,16 +60,14 @@ class CacheInfo:
     computed: int
 
 
-@dataclass(frozen=True)
-class _Pin:
+class _Pin(NamedTuple):
     stamp: int
     moment: float
     number: int
     mark: Any
 
 
-@dataclass(frozen=True)
-class _State:
+class _State(NamedTuple):
     """The pins of pages, the oldest first; the number in keys, and the first stamp of what is cached under it. It is replaced as a whole, so a page that
     begins waits for no look."""
 
@@ -83,41 +87,44 @@ class _Frame:
 
 
 class _Work:
-    """A call that a thread computes, in the snapshot of a stamp."""
+    """A call that a thread computes, in the snapshot of a stamp. `turn` is held until it has ended."""
+
+    __slots__ = "stamp", "owner", "turn"
 
     def __init__(self, stamp: Optional[int]):
-        self.stamp, self.ended, self.owner = stamp, threading.Event(), threading.get_ident()
+        self.stamp, self.owner, self.turn = stamp, threading.get_ident(), threading.Lock()
+        self.turn.acquire()
 
 
 class _Works:
     """The calls that are computed now, by their keys."""
 
     def __init__(self) -> None:
-        self._works: Dict[bytes, List[_Work]] = {}
+        self.known: Dict[bytes, List[_Work]] = {}
         self._lock = threading.Lock()
 
     def wait(self, key: bytes, may_read: Callable[[int], bool]) -> None:
         """Waits for another thread that computes the call in a snapshot which the page may read too. Calls go down by levels, so nobody waits in a circle."""
-        if key in self._works:
-            with self._lock:
-                works = list(self._works.get(key, ()))
-            found = next((it for it in works if it.stamp is not None and it.owner != threading.get_ident() and may_read(it.stamp)), None)
-            if found:
-                found.ended.wait()
+        with self._lock:
+            works = list(self.known.get(key, ()))
+        found = next((it for it in works if it.stamp is not None and it.owner != threading.get_ident() and may_read(it.stamp)), None)
+        if found:
+            with found.turn:
+                pass
 
-    @contextlib.contextmanager
-    def at(self, key: bytes, stamp: Optional[int]):
+    def begin(self, key: bytes, stamp: Optional[int]) -> _Work:
         work = _Work(stamp)
         with self._lock:
-            self._works.setdefault(key, []).append(work)
-        try:
-            yield
-        finally:
-            with self._lock:
-                self._works[key].remove(work)
-                if not self._works[key]:
-                    del self._works[key]
-            work.ended.set()
+            self.known.setdefault(key, []).append(work)
+        return work
+
+    def end(self, key: bytes, work: _Work) -> None:
+        with self._lock:
+            left = self.known[key]
+            left.remove(work)
+            if not left:
+                del self.known[key]
+        work.turn.release()
 
 
 class Function:
@@ -129,6 +136,7 @@ class Function:
             raise TypeError(f"{self.name} is a coroutine or generator function: a cacheable function returns its value")
         self.arguments = Arguments(self.name, body, key)
         self._hits = self._computed = 0
+        self._known: Tuple[Any, Any, Dict[Any, Any]] = (None, None, {})
         functools.update_wrapper(self, body)
 
     def __repr__(self) -> str:
@@ -139,6 +147,30 @@ class Function:
         if page is None or page.cache is not self.cache:
             raise RuntimeError(f"{self.name} is called outside of a page of its cache: with cache.read(): ..")
         return page.answer(self, args, named)
+
+    def key(self, era: int, forms: Forms, args: Sequence[Any], named: Dict[str, Any]) -> Any:
+        """Returns the key of a call; of one that was asked for before, the former."""
+        known_era, known_forms, known = self._known
+        if known_era == era and known_forms is forms and not named:
+            try:
+                found = known.get((tuple(map(type, args)), args))
+            except TypeError:  # an argument that is no plain data
+                found = None
+            if found is not None:
+                return found
+        return self._new_key(era, forms, args, named)
+
+    def _new_key(self, era: int, forms: Forms, args: Sequence[Any], named: Dict[str, Any]) -> Any:
+        known_era, known_forms, known = self._known
+        if known_era != era or known_forms is not forms or len(known) >= MAX_KNOWN:
+            known = {}
+            self._known = era, forms, known
+        text = digest(b"%d" % era, self.name.encode(), b"%d" % forms.number(self), self.arguments.encoded(args, named))
+        found = self.cache._versions.key(forms.level(self), text)
+        mark = self.arguments.mark(args, named)
+        if mark is not None:
+            known[mark] = found
+        return found
 
     def cache_info(self) -> CacheInfo:
         return CacheInfo(self._hits, self._computed)
@@ -152,37 +184,44 @@ class Page:
     """What is read in a block of `TxCache.read`. Its receipt is there once the block has ended."""
 
     def __init__(self, cache: "TxCache", max_age: float, after: Optional[str]):
-        if max_age < 0:
-            raise ValueError(f"max_age is {max_age} seconds, and is at least 0")
-        self.cache, self.max_age, self.after, self.receipt = cache, max_age, after, None
+        if not 0 <= max_age < LONGEST:
+            raise ValueError(f"max_age is {max_age} seconds, and is from 0 to less than {LONGEST:,.0f}")
+        self.cache, self.max_age, self.after = cache, max_age, after
         self._frames: List[_Frame] = []
+        self._uses: List[int] = []  # the snapshots that stay open for this page
         self._failed: Optional[BaseException] = None
         self._turn = threading.RLock()
         self._direct: Optional[Db] = None
+        self._is_audited = cache.audit > 0 and random.random() < cache.audit
         self._shown: List[Tuple[Function, Sequence[Any], Dict[str, Any], bytes]] = []
         self._has_shown = self._has_renewed = False
-        self.hits = self.computed = 0
-        self._txn, self._process = 0, os.getpid()
+        self.hits = self.computed = self._txn = 0
+        self._process, self._end = _process, None
 
     def __enter__(self) -> "Page":
-        if _PAGE.get() is not None:
+        around = _PAGE.get()
+        if around is not None and around._process == _process:
             raise RuntimeError("a page is open already: a page stands within no other")
         if self._txn:
             raise RuntimeError("a page is used once: cache.read() gives another")
-        self._begin()
+        self._txn, self._era = self.cache._begin(self.max_age, self.after)
         self._token = _PAGE.set(self)
         return self
 
-    def _begin(self) -> None:
-        self._txn, self._era = self.cache._begin(self.max_age, self.after)
-
     def __exit__(self, kind: Any, error: Any, trace: Any) -> None:
         _PAGE.reset(self._token)
-        if self._process != os.getpid():
+        if self._process != _process:
             return
-        if kind is None:
-            answers, pin = self.cache._versions.commit(self._txn)
-            self.receipt = self.cache._receipt(self, pin)
+        try:
+            self._ended(error)
+        finally:
+            if self._uses:
+                self._leave_snapshots()
+
+    def _ended(self, error: Optional[BaseException]) -> None:
+        if error is None:
+            pin = self.cache._versions.commit(self._txn)[1]
+            self._end = time.monotonic(), pin, pin and self.cache._numbers.get(pin.stamp)
             if self._is_audited and pin is not None:
                 self._audit()
             return
@@ -191,33 +230,43 @@ class Page:
             self.cache._lost += 1
             LOG.warning("a page lost its snapshot: %s", error)
 
+    @property
+    def receipt(self) -> Optional[Receipt]:
+        """What the page showed, once the block has ended well; else None."""
+        if self._end is None:
+            return None
+        ended, pin, number = self._end
+        if pin is None:
+            return Receipt(None, None, None, self.hits, self.computed)
+        age = ended - pin.moment / 1e6
+        return Receipt(time.time() - (time.monotonic() - ended) - age, age, number, self.hits, self.computed)
+
     # ---- calls
 
     def answer(self, function: Function, args: Sequence[Any], named: Dict[str, Any]) -> Any:
         """Returns the value of a call."""
-        with self._one_thread(function.name):
+        if self._process != _process or not self._turn.acquire(False):
+            raise self._not_its_turn(function.name)
+        try:
+            if self._frames:
+                return _values.decode(self._inner(function, args, named), function.codec)
             if self._direct is not None:
                 return function.body(self._direct, *args, **named)
-            if self._frames:
-                return self._inner(function, args, named)
-            return self._outermost(function, args, named)
-
-    @contextlib.contextmanager
-    def _one_thread(self, name: str) -> Iterator[None]:
-        if self._process != os.getpid():
-            raise RuntimeError(f"{name}: the page was begun before a fork, by the parent")
-        if not self._turn.acquire(blocking=False):
-            raise RuntimeError(f"{name}: another thread uses this page")
-        try:
-            yield
+            return _values.decode(self._outermost(function, args, named), function.codec)
         finally:
             self._turn.release()
 
-    def _outermost(self, function: Function, args: Sequence[Any], named: Dict[str, Any]) -> Any:
+    def _not_its_turn(self, name: str) -> RuntimeError:
+        """Returns why this thread may not use the page now."""
+        if self._process != _process:
+            return RuntimeError(f"{name}: the page was begun before a fork, by the parent")
+        return RuntimeError(f"{name}: another thread uses this page")
+
+    def _outermost(self, function: Function, args: Sequence[Any], named: Dict[str, Any]) -> bytes:
         while True:
             self._forms, self._failed = self.cache._growth.forms, None
             try:
-                value, data = self._value(function, args, named)
+                data = self._data(function, args, named)
                 break
             except BaseException as error:
                 # a function may have caught what was not for it
@@ -233,9 +282,9 @@ class Page:
         self._has_shown = True
         if self._is_audited:
             self._shown.append((function, args, named, data))
-        return value
+        return data
 
-    def _inner(self, function: Function, args: Sequence[Any], named: Dict[str, Any]) -> Any:
+    def _inner(self, function: Function, args: Sequence[Any], named: Dict[str, Any]) -> bytes:
         caller = self._frames[-1]
         self._refuse_after_failure(caller)
         if any(it.function is function for it in self._frames):
@@ -247,7 +296,7 @@ class Page:
             raise _Again
         self._count_ask(caller)
         try:
-            return self._value(function, args, named)[0]
+            return self._data(function, args, named)
         except BaseException as error:
             self._failed = self._failed or error
             raise
@@ -262,31 +311,34 @@ class Page:
         if frame.asks > MAX_ASKS:
             raise ValueError(f"{frame.function.name} asks for more than {MAX_ASKS} tables, rows and calls")
 
-    def _value(self, function: Function, args: Sequence[Any], named: Dict[str, Any]) -> Tuple[Any, bytes]:
-        versions, level = self.cache._versions, self._forms.level(function)
-        key = digest(self._era, function.name.encode(), b"%d" % self._forms.number(function), function.arguments.encoded(args, named))
-        self.cache._works.wait(key, self._may_read)
-        data = versions.call(self._txn, level, key)
-        if data is not None:
-            self.hits += 1
-            function._hits += 1
-        else:
-            data = self._computed_value(function, level, key, args, named)
-        return _values.decode(data, function.codec), data
+    def _data(self, function: Function, args: Sequence[Any], named: Dict[str, Any]) -> bytes:
+        """Returns the value of a call, as bytes."""
+        cache = self.cache
+        key = function.key(self._era, self._forms, args, named)
+        if key.digest in cache._works.known:
+            cache._works.wait(key.digest, self._may_read)
+        data = cache._versions.call(self._txn, key)
+        if data is None:
+            return self._computed_data(function, key, args, named)
+        self.hits += 1
+        function._hits += 1
+        return data
 
-    def _computed_value(self, function: Function, level: int, key: bytes, args: Sequence[Any], named: Dict[str, Any]) -> bytes:
-        frame = _Frame(function, level, {})
+    def _computed_data(self, function: Function, key: Any, args: Sequence[Any], named: Dict[str, Any]) -> bytes:
+        cache, frame = self.cache, _Frame(function, key.level, {})
+        stamp = cache._versions.read_stamp(self._txn)
         self._frames.append(frame)
+        work = cache._works.begin(key.digest, stamp)
         try:
-            with self.cache._works.at(key, self.cache._versions.read_stamp(self._txn)):
-                value = function.body(Db(self._snapshot().layout, self._read), *args, **named)
-                self._refuse_after_failure(frame)
-                self._ask_once(frame)
-                data = _values.encode(value, function.codec)
-                if len(data) > self.cache._versions.longest:
-                    raise ValueError(f"{function.name} gave a value of {len(data)} bytes, and at most {self.cache._versions.longest} are kept")
-                self.cache._versions.finish(self._txn, data)
+            value = function.body(Db(self._snapshot(stamp).layout, self._read), *args, **named)
+            self._refuse_after_failure(frame)
+            self._ask_once(frame)
+            data = _values.encode(value, function.codec)
+            if len(data) > cache._versions.longest:
+                raise ValueError(f"{function.name} gave a value of {len(data) - 1} bytes, and at most {cache._versions.longest - 1} are kept")
+            cache._versions.finish(self._txn, data)
         finally:
+            cache._works.end(key.digest, work)
             self._frames.pop()
         self.computed += 1
         function._computed += 1
@@ -299,17 +351,22 @@ class Page:
     def _renew(self) -> None:
         """Begins the page anew, of which nothing was shown."""
         self._has_renewed = True
+        self._leave_snapshots()
         self.cache._versions.abort(self._txn)
         self.cache._look_again()
-        self._begin()
+        self._txn, self._era = self.cache._begin(self.max_age, self.after)
 
     # ---- reads
 
     def _read(self, read: Read) -> List[Row]:
-        with self._one_thread("db"):
+        if self._process != _process or not self._turn.acquire(False):
+            raise self._not_its_turn("db")
+        try:
             if not self._frames:
                 raise RuntimeError("db is used after its function has returned")
             return self._read_within(self._frames[-1], read)
+        finally:
+            self._turn.release()
 
     def _read_within(self, frame: _Frame, read: Read) -> List[Row]:
         self._refuse_after_failure(frame)
@@ -348,17 +405,29 @@ class Page:
         if not frame.asks:
             self.cache._versions.version(self._txn, UNCHANGING_PLACE)
 
-    def _snapshot(self) -> Snapshot:
+    def _snapshot(self, stamp: Optional[int]) -> Snapshot:
+        """Returns the snapshot in which a stamp is read, which stays open for this page."""
+        number, follower = self.cache._number_of(stamp), self.cache._follower
+        if number not in self._uses:
+            follower.use(number)
+            self._uses.append(number)
+        return follower.snapshot(number)
+
+    def _leave_snapshots(self) -> None:
+        while self._uses:
+            self.cache._follower.leave(self._uses.pop())
+
+    def _snapshot_now(self) -> Snapshot:
         """Returns the snapshot in which the next query reads."""
-        return self.cache._snapshot(self.cache._versions.read_stamp(self._txn))
+        return self._snapshot(self.cache._versions.read_stamp(self._txn))
 
     def _in_snapshot(self, read: Callable[[Snapshot], Any]) -> Any:
         """Reads in the snapshot of the next query. If that was let go meanwhile, for one in which nothing had changed, in that one."""
-        snapshot = self._snapshot()
+        snapshot = self._snapshot_now()
         try:
             return read(snapshot)
         except SnapshotLost:
-            other = self._snapshot()
+            other = self._snapshot_now()
             if other is snapshot:
                 raise
             return read(other)
@@ -374,10 +443,6 @@ class Page:
             at += 1
 
     # ---- audit
-
-    @functools.cached_property
-    def _is_audited(self) -> bool:
-        return self.cache.audit > 0 and random.random() < self.cache.audit
 
     def _audit(self) -> None:
         """Computes what was shown once more, uncached, in the one snapshot of the receipt."""
@@ -423,10 +488,15 @@ class TxCache:
                  audit: float = 0.0, *, thread: bool = True, on_audit_error: Optional[Callable[[AuditError], None]] = None, versions: Callable[[int], Any] = Versions):
         if max_bytes is not None:
             raise ValueError(f"max_bytes is {max_bytes}, and this library has no budget of bytes: only None")
+        if not 1 <= capacity <= MAX_CAPACITY:
+            raise ValueError(f"capacity is {capacity}, and is from 1 to {MAX_CAPACITY:,}")
         if not 0 <= audit <= 1:
             raise ValueError(f"audit is {audit}, and is a share from 0 to 1")
-        if refresh <= 0:
-            raise ValueError(f"refresh is {refresh} seconds, and is more than 0")
+        if connections < 1:
+            raise ValueError(f"connections is {connections}, and is at least 1")
+        for name, value in (("refresh", refresh), ("hold", hold)):
+            if not 0 < value < LONGEST:
+                raise ValueError(f"{name} is {value} seconds, and is more than 0 and less than {LONGEST:,.0f}")
         self.store, self.refresh, self.hold, self.audit, self.on_audit_error = store, refresh, hold, audit, on_audit_error
         self._capacity, self._connections, self._has_thread, self._make_versions = capacity, connections, thread, versions
         self._functions: Dict[str, Function] = {}
@@ -440,8 +510,9 @@ class TxCache:
         self._versions: Any = None
         self._follower: Optional[Follower] = None
         self._state = _State()
+        self._least: Tuple[Any, Optional[int], int] = (None, None, 0)  # of a state and the oldest open snapshot: the first stamp at which a page may begin
         self._numbers: Dict[int, int] = {}
-        self._is_to_be_cold = False
+        self._is_to_be_cold, self._steps = False, 0
         self._ended: Optional[threading.Event] = None
         self._last_page = self._last_purge = self._last_try = time.monotonic()
         self._lost, self._cold = 0, 0
@@ -479,7 +550,7 @@ class TxCache:
     def clear(self) -> None:
         """Has all calls be computed again."""
         with self._stepping:
-            self._state = replace(self._state, era=self._state.era + 1)
+            self._state = self._state._replace(era=self._state.era + 1)
 
     def close(self) -> None:
         """Ends the thread, the connections and the library's site. The next page opens all anew."""
@@ -507,28 +578,29 @@ class TxCache:
             with self._opening:
                 if self._versions is None:
                     self.store.prepare(self._connections, self.hold)
-                    self._follower = Follower(self.store, self.hold)
+                    self._follower = Follower(self.store, self.hold, every=self.refresh + LOOK_TIME)
                     self._ended = threading.Event()
                     self._versions = self._make_versions(self._capacity)
                     if self._has_thread:
                         threading.Thread(target=_keep_looking, args=(weakref.ref(self), self._ended, self.refresh), name="txcache", daemon=True).start()
 
-    def _begin(self, max_age: float, after: Optional[str]) -> Tuple[int, bytes]:
+    def _begin(self, max_age: float, after: Optional[str]) -> Tuple[int, int]:
         """Begins a page: its transaction, and the number in its keys."""
-        self._open()
+        if self._versions is None:
+            self._open()
         self._last_page = begun = time.monotonic()
         self._look_if_old(begun, max_age)
         at_least = self._stamp_of(after) if after is not None else 0
         for _ in range(3):
             state = self._state
             if state.pins:
-                now = max(begun, state.pins[-1].moment)
-                least = max(at_least, self._oldest_open_stamp(state))
-                txn = self._versions.begin(_us(now), max(0, _us(now) - _us(begun - max_age)), least)
+                now, since = _us(max(begun, state.pins[-1].moment)), _us(begun - max_age)
+                txn = self._versions.begin(now, max(0, now - since), max(at_least, self._oldest_open_stamp(state)))
                 # one that began under a number which is no more may have a pin of the next
-                if self._state.era == state.era and self._versions.member(txn, 0) is not None:
-                    return txn, b"%d" % state.era
-                self._versions.abort(txn)
+                if txn is not None and self._state.era == state.era:
+                    return txn, state.era
+                if txn is not None:
+                    self._versions.abort(txn)
             self._look()
         raise SnapshotLost(f"no snapshot of the last {max_age} seconds")
 
@@ -539,7 +611,7 @@ class TxCache:
             with self._stepping:
                 if self._is_older(begun - max_age):
                     self._look()
-        elif begun - self._last_try > self.refresh and (not self._follower.numbers or not self._has_thread and self._is_older(begun - self.refresh)):
+        elif begun - self._last_try > self.refresh and (self._follower.oldest is None or not self._has_thread and self._is_older(begun - self.refresh)):
             self._look_again()
 
     def _is_older(self, moment: float) -> bool:
@@ -570,25 +642,35 @@ class TxCache:
         self._versions.touch(self._places.all_of(step.tags), step.number)
         stamp = self._versions.pin(_us(step.moment))
         self._numbers[stamp] = step.number
-        pin, before = _Pin(stamp, step.moment, step.number, self._follower.mark), self._state
-        young = [it for it in before.pins if it.moment >= step.moment - self.hold]
-        self._state = replace(before, pins=(*young[1 - KEPT_PINS:], pin), first=stamp if step.cold else before.first)
+        before, pin = self._state, _Pin(stamp, step.moment, step.number, self._follower.mark)
+        self._state = _State((*before.pins[self._count_old(before.pins, step.moment):], pin), before.era, stamp if step.cold else before.first)
         self._tidy()
+
+    def _count_old(self, pins: Sequence[_Pin], now: float) -> int:
+        """Returns how many pins, the oldest first, are too old, or too many beside one more."""
+        count = max(0, len(pins) + 1 - KEPT_PINS)
+        while count < len(pins) and pins[count].moment < now - self.hold:
+            count += 1
+        return count
 
     def _tidy(self) -> None:
         """Lets go the snapshots that are too many, and what no page can read any more."""
-        numbers = self._follower.numbers
-        if len(numbers) > MAX_SNAPSHOTS:
-            self._follower.let_go(below=numbers[-MAX_SNAPSHOTS])
+        self._follower.trim(MAX_SNAPSHOTS, MAX_USED_SNAPSHOTS)
+        self._steps += 1
+        if self._steps % KEEP_EVERY:
+            return
         horizon = self._versions.keep(_us(self._state.pins[0].moment))
         if len(self._numbers) > 2 * MAX_PINS:
             self._numbers = {stamp: number for stamp, number in self._numbers.items() if stamp >= horizon}
 
     def _oldest_open_stamp(self, state: _State) -> int:
         """Returns the stamp from which on each pin has its snapshot open; if none is, the first of what is cached now."""
-        numbers = self._follower.numbers
-        found = next((it.stamp for it in state.pins if numbers and it.number >= numbers[0]), state.first)
-        return max(state.first, found)
+        oldest, known = self._follower.oldest, self._least
+        if known[0] is state and known[1] == oldest:
+            return known[2]
+        found = next((it.stamp for it in state.pins if it.number >= oldest), state.first) if oldest is not None else state.first
+        self._least = state, oldest, max(state.first, found)
+        return self._least[2]
 
     def _stamp_of(self, token: str) -> int:
         """Returns the first stamp that sees the transaction of a token. Fails with NotSeen if a new snapshot does not."""
@@ -600,17 +682,12 @@ class TxCache:
                 self._look()
         raise NotSeen("a new snapshot does not see the transaction of the token")
 
-    def _snapshot(self, stamp: Optional[int]) -> Snapshot:
+    def _number_of(self, stamp: Optional[int]) -> int:
+        """Returns the number of the snapshot in which a stamp is read."""
         number = self._numbers.get(stamp) if stamp is not None else None
         if number is None:
             raise SnapshotLost("the page's moment is kept no more")
-        return self._follower.snapshot(number)
-
-    def _receipt(self, page: Page, pin: Any) -> Receipt:
-        if pin is None:
-            return Receipt(None, None, None, page.hits, page.computed)
-        age = time.monotonic() - pin.moment / 1e6
-        return Receipt(time.time() - age, age, self._numbers.get(pin.stamp), page.hits, page.computed)
+        return number
 
     # ---- beside pages
 
@@ -636,25 +713,34 @@ class TxCache:
 
 
 def _us(seconds: float) -> int:
-    return max(0, int(seconds * 1e6))
+    return int(seconds * 1e6) if seconds > 0 else 0
 
 
 def _keep_looking(cache_of: Callable[[], Optional[TxCache]], ended: threading.Event, refresh: float) -> None:
     """The thread of a cache, which ends with it."""
+    last = ""
     while not ended.wait(refresh):
         cache = cache_of()
         if cache is None:
             return
+        said = ""
         try:
             cache._rest_or_look()
         except SnapshotLost:
             pass  # the follower has logged it
+        except NotInstalled as error:
+            said = str(error)
+            if said != last:
+                LOG.error("no page begins until the triggers stand: %s", error)
         except Exception:
             LOG.exception("the database was not looked at")
+        last = said
         del cache
 
 
 def _after_fork_in_child() -> None:
+    global _process
+    _process = os.getpid()
     for it in list(_CACHES):
         it._leave_to_the_parent()
 

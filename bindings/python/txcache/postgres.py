@@ -443,6 +443,8 @@ class Readers:
         is_kept = False
         try:
             yield reader
+            if reader.link.is_idle:
+                raise ValueError("the query ended the transaction in which it ran: what it read is of no snapshot")
             is_kept = True
             if not snapshot.is_open:
                 raise SnapshotLost("the snapshot was let go")
