@@ -52,7 +52,7 @@ unchanged_site s site place o there = subst IsSite (sym (unchanged s place o the
 
 module _ (stay : OpenStays) (s : SiteValue) (site : IsSite s) (n place : ℕ) (place_is : place ≡ n % MAX_OPEN) (o : Opened) (there : get s.opened place ≡ Some o) (same : o.number ≡ n)
     (c' : CallerValue) (keeps : KeepsCaller s.caller c') (grown : HasGrownDatabase s.caller.ports.database c'.ports.database) (x' : Open) (is_of : IsOpenOf c' x') where
-  o' : Opened
+  abbrev o' : Opened
   o' = record { number = o.number; txn = x' }
 
   abbrev pub after_act : SiteValue

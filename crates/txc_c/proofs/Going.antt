@@ -38,7 +38,7 @@ may_add s0 s room =
 module _ (stay : OpenStays) (s0 s : SiteValue) (room : HasMadeRoom s0 s) (site : IsSite s) (c' : CallerValue) (keeps : KeepsCaller s.caller c')
     (grown : HasGrownDatabase s.caller.ports.database c'.ports.database) (x : Open) (is_of : IsOpenOf c' x) (opened' : Slab Opened) (begun' n : ℕ)
     (added : HasPutAtPlace x s.opened s.begun opened' begun' n) where
-  o' : Opened
+  abbrev o' : Opened
   o' = record { number = n; txn = x }
 
   abbrev pub after_begin : SiteValue
