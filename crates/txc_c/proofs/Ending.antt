@@ -33,6 +33,16 @@ module _ (s : SiteValue) (n : ℕ) where
 
 -- ---- it was taken out
 
+-- what was taken out is what was open
+pub same_reading : (s0 s : SiteValue) (n : ℕ) (o : Opened) → HasTakenOut n o s0 s → (t t' : TxnValue) → open_at s0 n ≡ Some (Reading t) → o.txn ≡ Reading t' → t' ≡ t
+same_reading s0 s n o taken t t' there is = let was = taken_open s0 s n o taken in cc
+
+pub never_writing : (s0 s : SiteValue) (n : ℕ) (o : Opened) → HasTakenOut n o s0 s → (t : TxnValue) (w : CallerWriting) → open_at s0 n ≡ Some (Reading t) → o.txn ≡ Writing w → ⊥
+never_writing s0 s n o taken t w there is = let was = taken_open s0 s n o taken in cc
+
+pub never_reading : (s0 s : SiteValue) (n : ℕ) (o : Opened) → HasTakenOut n o s0 s → (t : TxnValue) (w : CallerWriting) → open_at s0 n ≡ Some (Writing w) → o.txn ≡ Reading t → ⊥
+never_reading s0 s n o taken t w there is = let was = taken_open s0 s n o taken in cc
+
 module _ (stay : OpenStays) (s0 s : SiteValue) (n : ℕ) (o : Opened) (taken : HasTakenOut n o s0 s) (site : IsSite s) (c' : CallerValue) (keeps : KeepsCaller s.caller c')
     (grown : HasGrownDatabase s.caller.ports.database c'.ports.database) where
   same_caller : s.caller ≡ s0.caller

@@ -5,7 +5,7 @@ ghost use Rattle.txc_c.specs.Opened.{IsOpenOf};
 ghost use Rattle.txc_c.specs.Asking.{change_number, ChangeComesTo, OpenChanges, PutComesTo, RemoveComesTo};
 
 use crate::asking::txn_number;
-use crate::opened::{Open, place_of};
+use crate::opened::{Open, acts_leave_others, place_of};
 use crate::site::Site;
 use std::alloc::Global;
 use txc_crossing::{BAD_ARGUMENT, DONE, NO_MEMORY, NOT_OPEN};
@@ -44,6 +44,7 @@ impl Site {
     fn change(&mut self, txn: u64, change: Change) -> u32
         ensures { ChangeComesTo change txn self.old result self.new }
     {
+        acts_leave_others();
         let Some(it) = self.opened.get_mut(place_of(txn)) else {
             return NOT_OPEN;
         };
