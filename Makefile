@@ -9,7 +9,7 @@
 # make edits [CRATE=NAME]: all wrong bodies, also those that `make prove` leaves out for its time.
 # make refusals [TEST=NAME]: every allocation of the tests and of the program, refused in its turn.
 # make soak: 3,000,000 lookups through one node that stores no records, and 3,000,000 commits from C through one site that stores no
-#   events, on 512 items and on 100,000, each in a process of a fixed size.
+#   events, on 512 items and on 100,000, each in a process of a fixed size; and ten minutes of values of up to 256 KiB in a budget of 64 MiB.
 # make docs: the parts of the documents and of the tests that are made by script, and the pages of crates, in docs/out/.
 SCRIPT ?= examples/1_page.txc
 MODE ?=
@@ -54,6 +54,7 @@ soak:
 	@scripts/soak.py
 	@scripts/soak_library.py
 	@scripts/soak_library.py 3,000,000 100,000
+	@scripts/soak_values.py
 
 docs:
 	scripts/docs.py

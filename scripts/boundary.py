@@ -3,7 +3,7 @@
 
 usage: scripts/boundary.py [--all] [--proved | --library FOLDER] [--rows FOLDER] [COUNT]
   --all      by each compiler of C that the machine has, and not by the first one alone; and once more under the sanitizers of addresses,
-             leaks and undefined behaviour, where the library is not given
+             leaks and undefined behaviour, and under that of threads, where the library is not given
   --proved   of the proved library, by `make library`; else of one that is compiled for it with no proof
   --library  of the one that scripts/library.py has made in this folder
   --rows     plays also NAME.in of this folder for each NAME.mode that is node or report, whose replies are NAME.out
@@ -13,8 +13,9 @@ usage: scripts/boundary.py [--all] [--proved | --library FOLDER] [--rows FOLDER]
              compiled for it with no proof
 
 The header's sizes, places and numbers are those of the sources; the examples, and the random scripts, are answered byte for byte as
-`txcache` does; the same with every allocation refused in its turn; odd uses; work done again and again, in memory that does not grow. Then
-the tests of the bindings for Rust and Python. The last line is `N passed, M failed`; what the machine lacks is skipped by its name.
+`txcache` does; the same with every allocation refused in its turn; odd uses; values of up to 1 MiB, many asks and trims; threads that share a site, beside a plain model; work done again and
+again, in memory that does not grow. Then the tests of the bindings for Rust and Python. The last line is `N passed, M failed`; what the machine
+lacks is skipped by its name, and with CI=true in the environment it has failed.
 """
 
 import argparse
@@ -36,12 +37,24 @@ import worlds
 ROOT = os.path.dirname(os.path.dirname(os.path.abspath(__file__)))
 C = f"{ROOT}/bindings/c"
 SANITIZERS = ["-fsanitize=address,undefined", "-fno-sanitize-recover=all", "-g", "-O1"]
+OF_THREADS = ["-fsanitize=thread", "-g", "-O1"]
 WARNINGS = ["-std=c11", "-Wall", "-Wextra", "-Werror"]
 COMPILERS = ("gcc", "clang")
 # The functions of the allocator in whose place a program has its own.
-WRAPPED = {"tests/play.c": ("malloc", "realloc"), "tests/odd_site.c": ("malloc", "realloc"), "tests/flat.c": ("malloc", "realloc", "free")}
+WRAPPED = {
+    "tests/play.c": ("malloc", "realloc"),
+    "tests/odd_site.c": ("malloc", "realloc"),
+    "tests/odd_many.c": ("malloc", "realloc"),
+    "tests/long.c": ("malloc", "realloc"),
+    "tests/flat.c": ("malloc", "realloc", "free"),
+}
 # How many random scripts of each kind are played, by default and with --all.
 SCRIPTS, ALL_SCRIPTS = 200, 2000
+# The programs in C.
+PROGRAMS = ("tests/play.c", "tests/play_site.c", "tests/odd.c", "tests/odd_site.c", "tests/odd_many.c", "tests/long.c", "tests/threads_site.c",
+            "tests/flat.c", "example.c", "page.c", "threads.c")
+# The least share of a site's acts that are between another's call and its end.
+BETWEEN = 1 / 3
 
 
 def seed():
@@ -61,6 +74,13 @@ class Trial:
         self.failed += not is_right
         print(f"{'passed' if is_right else 'FAILED'}: {what}" + ("" if is_right else f"\n{said[-2000:]}"), flush=True)
         return is_right
+
+    def skip(self, what):
+        """Says what the machine lacks. With CI=true nothing may be skipped."""
+        if os.environ.get("CI") == "true":
+            self.note(what, False, "nothing is skipped where CI=true")
+        else:
+            print(f"skipped: {what}", flush=True)
 
     def ran(self, what, words, **how):
         """Runs a command, which is to end well."""
@@ -175,17 +195,22 @@ def replies(program, capacity, recent, mode, file):
 
 
 def libraries(given, room):
-    """The library's archive; and with --all, where it is compiled here, one for the sanitizers, which is under that of addresses too."""
+    """The library's archives, by the names of what watches them: "" of nothing; and with --all, where it is compiled here, those for the sanitizers."""
     if given.library:
-        return [f"{given.library}/lib{library.CRATE}.a"]
+        return {"": f"{given.library}/lib{library.CRATE}.a"}
     if given.proved:
-        return [library.library(False, f"{room}/library")[0]]
+        return {"": library.library(False, f"{room}/library")[0]}
     os.makedirs(f"{room}/compiled")
     text = library.exported(f"{room}/compiled")
-    archives = [library.make([library.object_of(text, f"{room}/plain.o")], f"{room}/library")[0]]
+    archives = {"": library.make([library.object_of(text, f"{room}/plain.o")], f"{room}/library")[0]}
     if given.all:
-        watched = library.object_of(text, f"{room}/watched.o", ["-O1", "-fsanitize=address"])
-        archives.append(library.make([watched], f"{room}/watched", is_shared=False)[0])
+        # what the toolchain compiles for the sanitizer of addresses is compiled for that of threads
+        with open(text, encoding="utf-8") as it, open(f"{text}.threads.ll", "w", encoding="utf-8") as to:
+            to.write(it.read().replace("sanitize_address", "sanitize_thread"))
+        for name, of, flags in (("addresses", text, "-fsanitize=address"), ("threads", f"{text}.threads.ll", "-fsanitize=thread")):
+            watched = library.object_of(of, f"{room}/{name}.o", ["-O1", flags])
+            # a folder of its own: programs are built in the room by the names of their sources
+            archives[name] = library.make([watched], f"{room}/watched/{name}", is_shared=False)[0]
     return archives
 
 
@@ -193,6 +218,8 @@ def try_worlds(trial, what, room, said_before, program, played):
     """Plays a site's scripts, and compares what it says with what `txcache` replies. Where a site said the same before, it is not asked again."""
     ran = subprocess.run([f"{room}/play_site", f"{room}/worlds"], stdout=subprocess.PIPE, stderr=subprocess.PIPE, text=True)
     got = dict(re.findall(r"^== (\S+)\n(.*?)(?=^== |\Z)", ran.stdout, re.M | re.S))
+    acts, between = map(int, re.findall(r"\d+", got.pop("acts", "acts 0 between 0")))
+    trial.note(f"{what}: {between} of {acts} acts between another's call and its end", between >= BETWEEN * acts > 0)
     for it in played:
         if said_before.get(it[-1], ("",))[0] != got.get(it[-1], ""):
             said_before[it[-1]] = got.get(it[-1], ""), worlds.unlike(program, it, got.get(it[-1], ""))
@@ -204,12 +231,24 @@ def try_worlds(trial, what, room, said_before, program, played):
 
 def build_c(trial, room, compiler, name, flags, archive):
     """Builds each program in C over the archive, and returns whether all were built."""
-    for file in ("tests/play.c", "tests/play_site.c", "tests/odd.c", "tests/odd_site.c", "tests/flat.c", "example.c", "page.c"):
+    for file in PROGRAMS:
         wrap = [f"-Wl,--wrap={it}" for it in WRAPPED.get(file, ())]
-        words = [compiler, *WARNINGS, *flags, "-I", C, f"{C}/{file}", archive, *wrap, "-o", f"{room}/{os.path.basename(file)[:-2]}"]
+        words = [compiler, *WARNINGS, *flags, "-pthread", "-I", C, f"{C}/{file}", archive, *wrap, "-o", f"{room}/{os.path.basename(file)[:-2]}"]
         if trial.ran(f"{compiler}: {file}{name}", words).returncode:
             return False
     return True
+
+
+def try_threads(trial, room, compiler, archive):
+    """Has eight threads share a site under the sanitizer of threads: nothing is to be found; and without their lock, something."""
+    program = f"{room}/threads_watched"
+    words = [compiler, *WARNINGS, *OF_THREADS, "-pthread", "-I", C, f"{C}/tests/threads_site.c", f"{C}/tests/watched.c", archive, "-o", program]
+    if not trial.ran(f"{compiler}: tests/threads_site.c under the sanitizer of threads", words).returncode:
+        trial.ran(f"{compiler} under the sanitizer of threads", [program])
+        # without the lock it may never end: the first report is enough
+        once = {**os.environ, "TSAN_OPTIONS": "halt_on_error=1"}
+        ran = subprocess.run([program, "--no-lock"], stdout=subprocess.PIPE, stderr=subprocess.STDOUT, text=True, errors="replace", timeout=600, env=once)
+        trial.note(f"{compiler} under the sanitizer of threads: without the lock it is reported", "WARNING: ThreadSanitizer: data race" in ran.stdout, ran.stdout)
 
 
 def try_refusals(trial, room, name, played):
@@ -230,14 +269,13 @@ def try_c(trial, room, compiler, archives, played, wanted, of_sites):
     trial.ran(f"{compiler}: {count} sizes, places and numbers of the header", [compiler, *WARNINGS, "-I", C, "-fsyntax-only", f"{room}/asserts.c"])
     with open(f"{room}/list", "w", encoding="utf-8") as it:
         it.writelines(f"{capacity} {recent} {mode} {file}\n" for capacity, recent, mode, file, _ in played)
-    for (name, flags), archive in zip((("", ["-O2"]), (" under sanitizers", SANITIZERS)), archives):
-        if not build_c(trial, room, compiler, name, flags, archive):
+    for name, flags, archive in (("", ["-O2"], archives[""]), (" under sanitizers", SANITIZERS, archives.get("addresses"))):
+        if not archive or not build_c(trial, room, compiler, name, flags, archive):
             continue
-        trial.ran(f"{compiler}{name}", [f"{room}/odd"])
-        trial.ran(f"{compiler}{name}", [f"{room}/odd_site"])
-        trial.ran(f"{compiler}{name}", [f"{room}/flat"])
-        trial.ran(f"{compiler}: the example{name}", [f"{room}/example"])
-        trial.ran(f"{compiler}: the page{name}", [f"{room}/page"])
+        for program in ("odd", "odd_site", "odd_many", "long", "threads_site", "flat"):
+            trial.ran(f"{compiler}{name}", [f"{room}/{program}"])
+        for program in ("example", "page", "threads"):
+            trial.ran(f"{compiler}: the example {program}{name}", [f"{room}/{program}"])
         ran = subprocess.run([f"{room}/play", f"{room}/list"], stdout=subprocess.PIPE, stderr=subprocess.PIPE, text=True, errors="replace")
         got = dict(re.findall(r"^== (\w+ \S+)\n(.*?)(?=^== |\Z)", ran.stdout, re.M | re.S))
         other = [it for *_, mode, file, _ in played if got.get(it := f"{mode} {file}") != wanted[it]]
@@ -246,6 +284,8 @@ def try_c(trial, room, compiler, archives, played, wanted, of_sites):
         try_worlds(trial, f"{compiler}{name}", room, *of_sites)
         # under the sanitizers a tenth of them
         try_refusals(trial, room, f"{compiler}{name}", played[::10 if name else 1])
+    if "threads" in archives:
+        try_threads(trial, room, compiler, archives["threads"])
 
 
 def python_of_tests():
@@ -255,34 +295,35 @@ def python_of_tests():
     return (found or [sys.executable])[0]
 
 
-def try_bindings(trial, folder):
-    """The tests and examples of the bindings, over the library of a folder."""
-    where = {**os.environ, "TXC_LIBRARY": folder}
+def try_bindings(trial, folder, is_all):
+    """The tests and examples of the bindings, over the library of a folder. With --all Python's random ones go on for longer."""
+    longer = {"TXC_HISTORIES": "500", "TXC_SECONDS": "60"} if is_all else {}
+    where = {**longer, **os.environ, "TXC_LIBRARY": folder}
     if shutil.which("cargo"):
         with tempfile.TemporaryDirectory(prefix="cargo-") as target:
             words = ["cargo", "--quiet", "test", "--offline", "--target-dir", target]
             trial.ran("Rust: tests", words, cwd=f"{ROOT}/bindings/rust", env=where)
-            for example in ("page", "transaction"):
+            for example in ("page", "transaction", "threads"):
                 words = ["cargo", "--quiet", "run", "--offline", "--example", example, "--target-dir", target]
                 trial.ran(f"Rust: the example {example}", words, cwd=f"{ROOT}/bindings/rust", env=where)
     else:
-        print("skipped: Rust, since there is no cargo")
+        trial.skip("Rust, since there is no cargo")
     if os.path.exists(f"{folder}/libtxc_c.so"):
         python = python_of_tests()
         ran = trial.ran("Python: tests", [python, "-m", "unittest", "-q"], cwd=f"{ROOT}/bindings/python", env=where)
         print("".join(f"{it}\n" for it in sorted(set(re.findall(r"^skipped: .*$", ran.stdout, re.M)))), end="")
-        for example in ("example.py", "page.py"):
+        for example in ("example.py", "page.py", "threads.py"):
             trial.ran(f"Python: {example}", [python, example], cwd=f"{ROOT}/bindings/python", env=where)
     else:
-        print("skipped: Python, since there is no libtxc_c.so")
+        trial.skip("Python, since there is no libtxc_c.so")
 
 
-def compilers(is_all):
+def compilers(trial, is_all):
     """The compilers of C that the library is tried by; says which are not there."""
     there = [it for it in COMPILERS if shutil.which(it)]
     for it in COMPILERS:
         if it not in there and (is_all or not there):
-            print(f"skipped: {it}, which is not there")
+            trial.skip(f"{it}, which is not there")
     return there if is_all else there[:1]
 
 
@@ -300,9 +341,9 @@ def try_all(trial, given, room):
     with open(f"{room}/worlds", "w", encoding="utf-8") as it:
         it.writelines(f"{events} {capacity} {recent} {renew} {file}\n" for events, capacity, recent, renew, file in sites)
     of_sites = {}, program, sites
-    for compiler in compilers(given.all):
+    for compiler in compilers(trial, given.all):
         try_c(trial, room, compiler, archives, played, wanted, of_sites)
-    try_bindings(trial, given.library or f"{room}/library")
+    try_bindings(trial, given.library or f"{room}/library", given.all)
 
 
 def main():

@@ -24,7 +24,7 @@ MOST_WORDS_OF_A_COMMENT = 40
 # What has a plainer word. What is made by script, or a name, may have it.
 NOT_PLAIN = re.compile(r"\b(?:told|purse|foreign record|by a name|comes? to|came to)\b", re.I)
 # How many lines of code the service may have with which EMBEDDING begins, without blank ones and comments.
-MOST_LINES_OF_FIRST = 125
+MOST_LINES_OF_FIRST = 120
 # Where a crate uses one of a layer above its own, until that is mended. The second does so only because the first does.
 WAYS_UP = {("txc_txn", "txc_functions"), ("txc_external_receipts", "txc_functions")}
 # A word in capitals stands for any name, in a path that a document names.
@@ -326,8 +326,9 @@ def words_of_types():
 
 @lru_cache(None)
 def words_of_sources():
-    """Each word of the sources and of the scripts, and each part of the path of one."""
-    found = [*files(), *ROOT.glob("scripts/*"), *ROOT.glob("bench/**/*.*"), *ROOT.glob("crates/*/wrong-bodies/**/*.edits")]
+    """Each word of the sources, of the wrappers and of the scripts, and each part of the path of one."""
+    wrappers = [*ROOT.glob("bindings/rust/src/*.rs"), *ROOT.glob("bindings/python/txcache/*.py")]
+    found = [*files(), *wrappers, *ROOT.glob("scripts/*"), *ROOT.glob("bench/**/*.*"), *ROOT.glob("crates/*/wrong-bodies/**/*.edits")]
     return {word for it in found for text in (it.read_text(errors="replace"), it.as_posix()) for word in re.findall(r"\w+", text)}
 
 

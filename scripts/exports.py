@@ -17,10 +17,10 @@ CONST = re.compile(r"^pub const (\w+): \w+ = ([\d_]+);$", re.M)
 
 # The size of a number, and how C calls it.
 NUMBERS = {"u8": (1, "uint8_t"), "bool": (1, "bool"), "u32": (4, "uint32_t"), "u64": (8, "uint64_t"), "usize": (8, "size_t"), "*mut u8": (8, "void *")}
-# The limits that the header repeats, with the crates of the constants that they are, and the one of another name.
+# The limits that the header repeats, with the crates of the constants that they are, and those of another name.
 LIMITS = {"LAST_FUNCTION": "txc_tags", "MAX_ARGS": "txc_tags", "LAST_TABLE": "txc_tags", "LAST_STAMP": "txc_stamp", "LAST_SITE_STAMP": "txc_stamp",
-          "MAX_VALUE_LEN": "txc_node", "MAX_CAPACITY": "txc_node", "MAX_RECENT": "txc_node"}
-OTHER_NAMES = {"LAST_SITE_STAMP": "MOST_STAMP"}
+          "MAX_VALUE_LEN": "txc_node", "MAX_ASKS": "txc_app", "MAX_CAPACITY": "txc_node", "MAX_RECENT": "txc_node", "MAX_OPEN": "txc_c", "ABI": "txc_c"}
+OTHER_NAMES = {"LAST_SITE_STAMP": "MOST_STAMP", "MAX_VALUE_LEN": "MOST_VALUE_LEN", "MAX_ASKS": "MOST_ASKS"}
 
 
 def texts(crate):
@@ -98,10 +98,14 @@ def c_parameters(words):
 
 def header_functions():
     """Each function of the header, with the types of its parameters and of its result."""
+    with open(HEADER, encoding="utf-8") as it:
+        text = it.read()
+    # The numbers that have a name of their own.
+    others = {name: number for number, name in re.findall(r"^typedef (\w+) (\w+);", text, re.M)}
     found = {}
-    for result, name, words in re.findall(r"^(\w+) (txc_\w+)\(([^)]*)\);", open(HEADER, encoding="utf-8").read(), re.M):
-        kinds = [re.sub(r"\w+$", "", it.strip()).strip() for it in words.split(",")]
-        found[name] = (kinds, result)
+    for result, name, words in re.findall(r"^(\w+) (txc_\w+)\(([^)]*)\);", text, re.M):
+        kinds = [re.sub(r"\w+$", "", it.strip()).strip() for it in words.split(",") if it.strip() != "void"]
+        found[name] = ([re.sub(r"\w+", lambda word: others.get(word[0], word[0]), kind) for kind in kinds], result)
     return found
 
 

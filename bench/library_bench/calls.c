@@ -4,6 +4,8 @@
 #include <stdlib.h>
 #include <string.h>
 
+enum { ROOM = 1024 };
+
 static txc_node node = TXC_NODE_CLOSED;
 
 static void insert(const txc_key *key, uint32_t id) {
@@ -19,7 +21,7 @@ static void insert(const txc_key *key, uint32_t id) {
 static uint32_t look(const txc_key *key, uint8_t *value) {
     txc_reach reach;
     size_t len;
-    uint32_t number = txc_node_lookup(&node, key, 0, 0, &reach, value, TXC_MAX_VALUE_LEN, &len);
+    uint32_t number = txc_node_lookup(&node, key, 0, 0, &reach, value, ROOM, &len);
     return number == TXC_DONE ? reach.known + 1 : 0;
 }
 
@@ -27,7 +29,7 @@ int main(int words, char **word) {
     if (words != 4)
         return 2;
     uint32_t capacity = (uint32_t)strtoul(word[2], NULL, 10), count = (uint32_t)strtoul(word[3], NULL, 10), found = 0;
-    uint8_t value[TXC_MAX_VALUE_LEN] = {0};
+    uint8_t value[ROOM] = {0};
     if (txc_node_open(&node, capacity, 64) != TXC_DONE)
         return 1;
     for (uint32_t number = 0; number < capacity; number++)

@@ -14,6 +14,7 @@
 enum { SHOWN = 4, OFTEN = 64, AT_ONCE = 128, CAPACITY = 768, RECENT = 64, STALE = 40, RENEW = 10, KEEP_EVERY = 300, LONGEST = 16 };
 
 static txc_site site = TXC_SITE_CLOSED;
+static txc_txn txn;
 static uint32_t items;
 static unsigned long commits, pages, torn, calls, hits, conflicts;
 
@@ -29,9 +30,9 @@ static size_t computed(uint8_t function, uint32_t item, uint8_t *bytes) {
     const txc_query query = {function, TXC_ID, item, 0};
     txc_row row;
     size_t count, len = 0;
-    must(txc_query_rows(&site, &query, &count), TXC_ANSWERED);
+    must(txc_query_rows(&site, txn, &query, &count), TXC_ANSWERED);
     if (count)
-        must(txc_row_at(&site, 0, &row, bytes, LONGEST, &len), TXC_DONE);
+        must(txc_row_at(&site, txn, 0, &row, bytes, LONGEST, &len), TXC_DONE);
     return len;
 }
 
@@ -40,11 +41,11 @@ static unsigned long called(uint8_t function, uint32_t item) {
     const txc_key key = {function, 1, {item}};
     uint8_t value[LONGEST + 1], bytes[LONGEST];
     size_t len;
-    uint32_t number = txc_call(&site, &key, value, LONGEST, &len);
+    uint32_t number = txc_call(&site, txn, &key, value, LONGEST, &len);
     calls++;
     hits += number == TXC_DONE;
     if (number == TXC_COMPUTE)
-        number = txc_finish(&site, bytes, computed(function, item, bytes), value, LONGEST, &len);
+        number = txc_finish(&site, txn, bytes, computed(function, item, bytes), value, LONGEST, &len);
     must(number, TXC_DONE);
     value[len] = 0;
     return strtoul((char *)value, NULL, 10);
@@ -59,12 +60,12 @@ static uint32_t shown(unsigned long round, uint32_t place) {
 static uint32_t page(unsigned long round) {
     txc_receipt receipt;
     bool is_torn = false;
-    must(txc_begin(&site, commits, STALE, 0), TXC_DONE);
+    must(txc_begin(&site, commits, STALE, 0, &txn), TXC_DONE);
     for (uint32_t place = 0; place < SHOWN; place++) {
         uint32_t item = shown(round, place);
         is_torn |= called(1, item) != called(2, item);
     }
-    must(txc_commit(&site, &receipt), TXC_DONE);
+    must(txc_commit(&site, txn, &receipt), TXC_DONE);
     torn += is_torn || receipt.answers != 2 * SHOWN || !receipt.has_pin;
     pages++;
     return receipt.stamp;
@@ -74,7 +75,7 @@ static uint32_t page(unsigned long round) {
 static void put(uint8_t table, uint32_t item, unsigned long count) {
     char body[LONGEST];
     int len = snprintf(body, sizeof body, "%lu", count);
-    must(txc_put(&site, table, item, 0, (uint8_t *)body, (size_t)len), TXC_DONE);
+    must(txc_put(&site, txn, table, item, 0, (uint8_t *)body, (size_t)len), TXC_DONE);
 }
 
 /* Puts all rows of a table, each with the count 0, in the order in which the store has them: another order takes time by the square of
@@ -82,10 +83,10 @@ static void put(uint8_t table, uint32_t item, unsigned long count) {
 static void put_all(uint8_t table) {
     uint32_t stamp;
     for (uint32_t first = 0; first < items; first += AT_ONCE) {
-        must(txc_begin_write(&site), TXC_DONE);
+        must(txc_begin_write(&site, &txn), TXC_DONE);
         for (uint32_t item = first; item < items && item < first + AT_ONCE; item++)
             put(table, item, 0);
-        must(txc_commit_write(&site, &stamp), TXC_DONE);
+        must(txc_commit_write(&site, txn, &stamp), TXC_DONE);
     }
 }
 
@@ -95,13 +96,13 @@ static uint32_t add(uint32_t item) {
     unsigned long count = called(1, item) + 1;
     put(1, item, count);
     put(2, item, count);
-    uint32_t number = txc_commit_write(&site, &stamp);
+    uint32_t number = txc_commit_write(&site, txn, &stamp);
     commits += number == TXC_DONE;
     return number;
 }
 
 static void add_to_newest(uint32_t item) {
-    must(txc_begin_write(&site), TXC_DONE);
+    must(txc_begin_write(&site, &txn), TXC_DONE);
     must(add(item), TXC_DONE);
 }
 
@@ -109,12 +110,12 @@ static void play_round(unsigned long round) {
     uint32_t item = shown(round, 0), stamp = page(round);
     if (round % 4 == 0)
         add_to_newest(item);
-    must(txc_begin_write_at(&site, stamp), TXC_DONE);
+    must(txc_begin_write_at(&site, stamp, &txn), TXC_DONE);
     uint32_t number = add(item);
     if (number == TXC_DONE)
         return;
     must(number, TXC_CONFLICT);
-    must(txc_abort(&site), TXC_DONE);
+    must(txc_abort(&site, txn), TXC_DONE);
     conflicts++;
     add_to_newest(item);
 }
@@ -124,10 +125,10 @@ static unsigned long sum_of_all(uint32_t *stamp) {
     unsigned long sum = 0;
     txc_receipt receipt = {0};
     for (uint32_t first = 0; first < items; first += AT_ONCE) {
-        must(txc_begin(&site, commits + STALE, 0, 0), TXC_DONE);
+        must(txc_begin(&site, commits + STALE, 0, 0, &txn), TXC_DONE);
         for (uint32_t item = first; item < items && item < first + AT_ONCE; item++)
             sum += called(2, item);
-        must(txc_commit(&site, &receipt), TXC_DONE);
+        must(txc_commit(&site, txn, &receipt), TXC_DONE);
     }
     *stamp = receipt.stamp;
     return sum;
@@ -149,7 +150,8 @@ int main(int count, char **words) {
         return 2;
     items = (uint32_t)strtoul(words[3], NULL, 10);
     unsigned long wanted = strtoul(words[1], NULL, 10), every = strtoul(words[2], NULL, 10), kept = 0, said = 0;
-    must(txc_site_open(&site, 0, CAPACITY, RECENT, RENEW), TXC_DONE);
+    txc_site_settings settings = {sizeof settings, 0, CAPACITY, RECENT, RENEW};
+    must(txc_site_open(&site, &settings), TXC_DONE);
     put_all(1);
     put_all(2);
     for (unsigned long round = 0; commits < wanted; round++) {

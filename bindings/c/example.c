@@ -3,7 +3,7 @@
 #include <stdio.h>
 #include <string.h>
 
-enum { ITEM = 7, HIGHEST = 1, BIDS = 2, MOST = 16 };
+enum { ITEM = 7, HIGHEST = 1, BIDS = 2, MOST = 16, LONGEST = 256 };
 
 /* A database of one's own: how many bids there were after each event, and the bids, the newest last. */
 static unsigned bids[MOST], bid_count[MOST];
@@ -33,7 +33,7 @@ static void compute(uint8_t function, uint32_t stamp, char *text, size_t room) {
 /* The value of a call at a stamp of the range, from the node or computed at its last stamp; and where it holds. */
 static uint32_t cached(txc_node *node, uint8_t function, txc_reach *range, char *text) {
     const txc_key key = {function, 1, {ITEM}};
-    uint8_t value[TXC_MAX_VALUE_LEN];
+    uint8_t value[LONGEST];
     txc_reach reach;
     txc_stored stored;
     size_t len;
@@ -43,7 +43,7 @@ static uint32_t cached(txc_node *node, uint8_t function, txc_reach *range, char 
         text[len] = 0;
     } else if (number == TXC_MISS) {
         reach = (txc_reach){range->known, range->known, true};
-        compute(function, range->known, text, TXC_MAX_VALUE_LEN);
+        compute(function, range->known, text, LONGEST);
         number = txc_node_insert(node, &key, &reach, &BIDS_OF_ITEM, 1, (const uint8_t *)text, strlen(text), &stored);
     }
     if (number != TXC_DONE)
@@ -57,7 +57,7 @@ static uint32_t cached(txc_node *node, uint8_t function, txc_reach *range, char 
 
 /* Both results at one stamp: the second is asked for where the first holds. */
 static uint32_t page(txc_node *node, uint32_t oldest) {
-    char highest[TXC_MAX_VALUE_LEN + 1], all[TXC_MAX_VALUE_LEN + 1];
+    char highest[LONGEST + 1], all[LONGEST + 1];
     txc_reach range = {oldest, newest, true};
     uint32_t number = cached(node, HIGHEST, &range, highest);
     if (number == TXC_DONE)

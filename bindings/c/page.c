@@ -7,6 +7,7 @@
 #include "txc.h"
 
 static txc_site site = TXC_SITE_CLOSED;
+static txc_txn txn;
 
 static void must(uint32_t got, uint32_t wanted) {
     if (got != wanted) {
@@ -24,7 +25,7 @@ static size_t computed(uint8_t function, size_t count, char *to) {
         txc_row row;
         char body[16] = {0};
         size_t got;
-        must(txc_row_at(&site, at, &row, (uint8_t *)body, sizeof body - 1, &got), TXC_DONE);
+        must(txc_row_at(&site, txn, at, &row, (uint8_t *)body, sizeof body - 1, &got), TXC_DONE);
         if ((unsigned)atoi(body) > most) {
             most = (unsigned)atoi(body);
         }
@@ -37,13 +38,13 @@ static size_t computed(uint8_t function, size_t count, char *to) {
 static const char *call(uint8_t function, uint32_t item, char *value) {
     txc_key key = {function, 1, {item}};
     size_t len, count;
-    uint32_t number = txc_call(&site, &key, (uint8_t *)value, 255, &len);
+    uint32_t number = txc_call(&site, txn, &key, (uint8_t *)value, 255, &len);
     if (number == TXC_COMPUTE) {
         txc_query query = {1, TXC_GROUP, item, 0};
         char bytes[256];
-        must(txc_query_rows(&site, &query, &count), TXC_ANSWERED);
+        must(txc_query_rows(&site, txn, &query, &count), TXC_ANSWERED);
         size_t given = computed(function, count, bytes);
-        number = txc_finish(&site, (uint8_t *)bytes, given, (uint8_t *)value, 255, &len);
+        number = txc_finish(&site, txn, (uint8_t *)bytes, given, (uint8_t *)value, 255, &len);
     }
     must(number, TXC_DONE);
     value[len] = 0;
@@ -52,25 +53,28 @@ static const char *call(uint8_t function, uint32_t item, char *value) {
 
 static void bid(uint32_t id, const char *amount) {
     uint32_t stamp;
-    must(txc_begin_write(&site), TXC_DONE);
-    must(txc_put(&site, 1, id, 7, (const uint8_t *)amount, strlen(amount)), TXC_DONE);
-    must(txc_commit_write(&site, &stamp), TXC_DONE);
+    must(txc_begin_write(&site, &txn), TXC_DONE);
+    must(txc_put(&site, txn, 1, id, 7, (const uint8_t *)amount, strlen(amount)), TXC_DONE);
+    must(txc_commit_write(&site, txn, &stamp), TXC_DONE);
 }
 
 static void page(uint64_t now, int both) {
     char one[256], other[256] = "-";
     txc_receipt receipt;
-    must(txc_begin(&site, now, 30000, 0), TXC_DONE);
+    must(txc_begin(&site, now, 30000, 0, &txn), TXC_DONE);
     call(0, 7, one);
     if (both) {
         call(1, 7, other);
     }
-    must(txc_commit(&site, &receipt), TXC_DONE);
+    must(txc_commit(&site, txn, &receipt), TXC_DONE);
     printf("highest %s, bids %s, at stamp %u\n", one, other, receipt.stamp);
 }
 
 int main(void) {
-    must(txc_site_open(&site, 0, 100, 64, 20000), TXC_DONE); /* with no bound on its events */
+    txc_site_settings settings = TXC_SITE_SETTINGS; /* with no bound on its events */
+    settings.capacity = 100;
+    settings.renew_after = 20000;
+    must(txc_site_open(&site, &settings), TXC_DONE);
     bid(1, "110");
     page(1000, 0); /* the node keeps the highest bid alone */
     bid(2, "130");

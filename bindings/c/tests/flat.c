@@ -45,6 +45,7 @@ void __wrap_free(void *at) {
 
 static txc_node node = TXC_NODE_CLOSED;
 static txc_site site = TXC_SITE_CLOSED;
+static txc_txn txn;
 static unsigned kinds, wrong;
 
 static void must(uint32_t got, uint32_t wanted, const char *what) {
@@ -77,7 +78,8 @@ static void play_at_node(const char *kind, void (*round)(uint32_t)) {
 }
 
 static void play_at_site(const char *kind, void (*prepare)(void), void (*round)(uint32_t)) {
-    MUST(txc_site_open(&site, 0, ENTRIES, RECENT, RENEW), TXC_DONE);
+    txc_site_settings settings = {sizeof settings, 0, ENTRIES, RECENT, RENEW};
+    MUST(txc_site_open(&site, &settings), TXC_DONE);
     if (prepare)
         prepare();
     play(kind, round);
@@ -104,13 +106,13 @@ static void replace(uint32_t number) { insert(7, number, number); }
 static void put(uint32_t id, uint32_t number) {
     char body[16];
     int len = snprintf(body, sizeof body, "%u", number);
-    MUST(txc_put(&site, 1, id, 7, (const uint8_t *)body, (size_t)len), TXC_DONE);
+    MUST(txc_put(&site, txn, 1, id, 7, (const uint8_t *)body, (size_t)len), TXC_DONE);
 }
 
 /* Commits, and returns the newest stamp. */
 static uint32_t commit(void) {
     uint32_t stamp;
-    MUST(txc_commit_write(&site, &stamp), TXC_DONE);
+    MUST(txc_commit_write(&site, txn, &stamp), TXC_DONE);
     return stamp;
 }
 
@@ -122,7 +124,7 @@ static void keep_now_and_then(uint32_t number) {
 
 /* One row is written again and again. */
 static void rewrite(uint32_t number) {
-    MUST(txc_begin_write(&site), TXC_DONE);
+    MUST(txc_begin_write(&site, &txn), TXC_DONE);
     put(7, number);
     commit();
     keep_now_and_then(number);
@@ -130,11 +132,11 @@ static void rewrite(uint32_t number) {
 
 /* A row comes and goes, each time with another id. */
 static void put_and_remove(uint32_t number) {
-    MUST(txc_begin_write(&site), TXC_DONE);
+    MUST(txc_begin_write(&site, &txn), TXC_DONE);
     put(number, 0);
     commit();
-    MUST(txc_begin_write(&site), TXC_DONE);
-    MUST(txc_remove(&site, 1, number), TXC_DONE);
+    MUST(txc_begin_write(&site, &txn), TXC_DONE);
+    MUST(txc_remove(&site, txn, 1, number), TXC_DONE);
     commit();
     keep_now_and_then(number);
 }
@@ -143,7 +145,7 @@ static void put_and_remove(uint32_t number) {
 static void put_all(void) {
     for (uint32_t id = 0; id < MANY; id++) {
         if (id % MOST_CHANGES == 0)
-            MUST(txc_begin_write(&site), TXC_DONE);
+            MUST(txc_begin_write(&site, &txn), TXC_DONE);
         put(id, 0);
         if (id % MOST_CHANGES == MOST_CHANGES - 1 || id == MANY - 1)
             commit();
@@ -153,7 +155,7 @@ static void put_all(void) {
 /* A commit changes nothing, since each time another row is put as it is. The site is never kept. */
 static void put_as_it_is(uint32_t number) {
     static uint32_t newest;
-    MUST(txc_begin_write(&site), TXC_DONE);
+    MUST(txc_begin_write(&site, &txn), TXC_DONE);
     put(number, 0);
     uint32_t stamp = commit();
     if (number > 0)

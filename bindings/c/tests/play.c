@@ -12,6 +12,9 @@
 #include <stdlib.h>
 #include <string.h>
 
+/* The most bytes of a value of a script: those with more this player refuses itself, and so does `txcache`, whose limit it is. */
+enum { LONGEST_VALUE = 1024 };
+
 /* ---- allocations that are refused */
 
 static long until_refusal = -1;      /* how many allocations are granted first; -1: all are */
@@ -238,7 +241,7 @@ static void name(play *it, uint8_t function) {
 static void lookup(play *it, const txc_key *key, uint32_t lo, uint32_t hi) {
     /* in turns a buffer of just the room that is told, and one of all the room that a value may need */
     static bool is_short;
-    static uint8_t value[TXC_MAX_VALUE_LEN];
+    static uint8_t value[LONGEST_VALUE];
     txc_reach reach = {0, 0, false};
     size_t len = 0;
     uint32_t number;
@@ -272,7 +275,10 @@ static void lookup(play *it, const txc_key *key, uint32_t lo, uint32_t hi) {
 static void insert(play *it, const txc_key *key, txc_reach reach, const tag_list *tags, const uint8_t *value, size_t len) {
     txc_stored stored;
     uint32_t number;
-    CALL(number, txc_node_insert(&it->node, key, &reach, tags->tags, tags->count, value, len, &stored));
+    if (len > LONGEST_VALUE)
+        number = reach.known < reach.lo ? TXC_BAD_REACH : TXC_VALUE_TOO_LONG;
+    else
+        CALL(number, txc_node_insert(&it->node, key, &reach, tags->tags, tags->count, value, len, &stored));
     if (put_refusal(it, number, 0))
         return;
     name(it, key->function);

@@ -58,9 +58,9 @@ class Looks(unittest.TestCase):
         self.addCleanup(logging.getLogger("txcache").setLevel, logging.NOTSET)
         self.now = 0.0
 
-    def follower(self, *looks, hold=10.0):
+    def follower(self, *looks, hold=10.0, every=0.0):
         self.store = Told(*looks)
-        return Follower(self.store, hold, lambda: self.now)
+        return Follower(self.store, hold, lambda: self.now, every)
 
     def open(self):
         return [it.is_open for it in self.store.snapshots]
@@ -97,6 +97,29 @@ class Looks(unittest.TestCase):
         self.assertRaisesRegex(SnapshotLost, "the snapshot 1 is open no more, but 2, 3", it.snapshot, 1)
         it.let_go()
         self.assertEqual(it.numbers, [])
+
+    def test_none_becomes_too_old_before_the_next_look(self):
+        it = self.follower("the first snapshot", {"a"}, {"b"}, every=1.5)
+        for self.now, held in ((0.0, [1]), (8.5, [1, 2]), (8.6, [2, 3])):
+            it.look()
+            self.assertEqual(it.numbers, held)
+
+    def test_what_is_used_stays(self):
+        it = self.follower("the first snapshot", *({"a"} for _ in range(9)))
+        for number in range(1, 11):
+            self.assertEqual(it.look().number, number)
+            it.trim(3, 5)
+            if number in (1, 3, 6):
+                it.use(number)
+            if number == 5:
+                self.assertEqual((it.numbers, it.oldest), ([1, 3, 5], 5))
+        self.assertEqual((it.numbers, it.oldest), ([1, 3, 6, 10], 10))
+        it.leave(3)
+        it.trim(3, 5)
+        self.assertEqual(it.numbers, [1, 6, 10])
+        self.assertRaises(SnapshotLost, it.use, 3)
+        it.trim(0, 2)
+        self.assertEqual((it.numbers, it.oldest), ([6, 10], 10))
 
     def test_what_is_forgotten_begins_cold(self):
         it = self.follower("the first snapshot", "the first snapshot")
@@ -138,11 +161,14 @@ class Looks(unittest.TestCase):
         self.assertEqual((it.numbers, it.look().number, self.store.marks[-1][0]), ([], 2, None))
 
     def test_air(self):
-        it = self.follower("the first snapshot", set())
+        it = self.follower("the first snapshot", set(), set())
         it.look()
-        self.store.needs_air = True
+        self.store.needs_air, self.now = True, 0.05
         it.look()
-        self.assertEqual((self.store.aired, it.numbers, self.open()), (1, [1], [False, True]))
+        self.assertEqual(self.store.aired, 0)  # it was asked a moment ago
+        self.now = 0.2
+        it.look()
+        self.assertEqual((self.store.aired, it.numbers, self.open()), (1, [1], [False, False, True]))
 
     def test_what_is_logged(self):
         it = self.follower("the first snapshot", SnapshotRefused("a lock"), SnapshotLost("away"), "another file")

@@ -75,6 +75,8 @@ class Calls(unittest.TestCase):
         it = arguments(lambda db, n: None)
         self.assertEqual(len({it.encoded((n,), {}) for n in (1, True, 1.0, "1", b"1", decimal.Decimal(1))}), 6)
         self.assertEqual(len({it.encoded((n,), {}) for n in ((1,), (True,), (1.0,))}), 3)
+        self.assertEqual(len({it.mark((n,), {}) for n in (1, True, "1", b"1", None)}), 5)
+        self.assertEqual([it.mark(args, named) for args, named in (((1.0,), {}), (((1,),), {}), ((), {"n": 1}), ((1, 2), {}), (([1],), {}))], [None] * 5)
 
     def test_many_arguments(self):
         it = arguments(lambda db, *items, **more: None)
@@ -97,8 +99,9 @@ class Calls(unittest.TestCase):
         self.assertRaisesRegex(TypeError, "the argument key has", arguments(lambda db, n: None, key=lambda n: [n]).encoded, (1,), {})
 
     def test_digests(self):
-        self.assertEqual(len(_keys.digest(b"a", b"b")), 16)
-        self.assertNotEqual(_keys.digest(b"a", b"b"), _keys.digest(b"ab", b""))
+        self.assertEqual(len(_keys.digest(b"a")), 16)
+        self.assertNotEqual(_keys.digest(b"a"), _keys.digest(b"b"))
+        self.assertNotEqual(_keys.prefix(b"a", b"b"), _keys.prefix(b"ab", b""))
 
 
 class Values(unittest.TestCase):

@@ -70,7 +70,7 @@ class Values(unittest.TestCase):
         self.assertRaisesRegex(ValueError, "and not by key and name", layout().lookup, "items", {"name": "a", "key": UUID})
 
     def test_queries(self):
-        self.assertEqual(layout().lookup("items", {}), Read('SELECT * FROM "public"."items" ORDER BY "id"', (), ("public.items:",)))
+        self.assertEqual(layout().lookup("items", {}), Read('SELECT * FROM "public"."items" ORDER BY "id"', (), ("public.items:",), ("public.items:",)))
         self.assertEqual(layout("?").lookup("items", {"id": 7, "name": None}, 2).query,
                          'SELECT * FROM "public"."items" WHERE "id" = ? AND "name" IS NULL ORDER BY "id" LIMIT 2')
         self.assertIn('"100%%" = %s', layout().lookup("items", {"100%": 1}).query)
@@ -99,7 +99,7 @@ class Reads(unittest.TestCase):
         db.sql("SELECT 1", [2], tags=["items"])
         db.sql("SELECT 1", tags=[])
         db.sql("SELECT 1")
-        self.assertEqual(seen, [Read("SELECT 1", (2,), ("public.items:",)), Read("SELECT 1", (), ()), Read("SELECT 1", (), None)])
+        self.assertEqual(seen, [Read("SELECT 1", (2,), ("public.items:",), ("public.items:",)), Read("SELECT 1", (), ()), Read("SELECT 1", (), None)])
         self.assertRaises(TypeError, db.sql, "SELECT 1", (), "items")
 
     def test_two_columns_of_one_name(self):

@@ -3,7 +3,7 @@
 import threading
 import unittest
 
-from txcache.node import LAST_STAMP, MAX_VALUE_LEN, Counts, Hit, Key, Node, OutOfOrder, Reach, Refused, Stored, Tag
+from txcache.node import LAST_STAMP, MAX_VALUE_LEN, Counts, Hit, Key, Node, OutOfOrder, Reach, Refused, Stored, Tag, Totals
 
 
 class NodeTests(unittest.TestCase):
@@ -21,7 +21,11 @@ class NodeTests(unittest.TestCase):
             self.assertEqual(node.lookup(Key(1, 4), 0, 0).value, bytes(MAX_VALUE_LEN))
             self.assertEqual(node.event(3, [Tag.group(1, 9)]), 1)
             self.assertEqual(node.sweep(3), 1)
-            self.assertEqual(node.counts(1), Counts(3, 2, 3, 1, 1))
+            self.assertEqual(node.counts(1), Counts(4, 3, 3, 1, 1))
+            self.assertEqual(node.totals(), Totals(1, MAX_VALUE_LEN, 0))
+            self.assertEqual(node.trim(MAX_VALUE_LEN), 0)
+            self.assertEqual(node.trim(MAX_VALUE_LEN - 1), 1)
+            self.assertEqual(node.totals(), Totals(0, 0, 1))
 
     def test_refusals(self):
         with Node(2, 4) as node:
@@ -30,6 +34,7 @@ class NodeTests(unittest.TestCase):
                 lambda: node.lookup(Key(1), 5, 4), lambda: node.lookup(Key(1), 0, LAST_STAMP + 1), lambda: node.lookup(Key(1), -1, 0),
                 lambda: node.insert(Key(1), Reach(3, 2), [], b""), lambda: node.insert(Key(1), Reach(0, 0), [], bytes(MAX_VALUE_LEN + 1)),
                 lambda: node.insert(Key(1), Reach(0, 0), [Tag(1, 3, 0)], b""), lambda: node.sweep(LAST_STAMP + 1), lambda: node.counts(64),
+                lambda: node.trim(-1),
             ]
             for call in wrong:
                 self.assertRaises(Refused, call)
@@ -41,7 +46,8 @@ class NodeTests(unittest.TestCase):
         node = Node(2, 4)
         node.close()
         node.close()
-        self.assertRaises(Refused, lambda: node.lookup(Key(1), 0, 0))
+        for call in (lambda: node.lookup(Key(1), 0, 0), lambda: node.trim(0), node.totals):
+            self.assertRaises(Refused, call)
 
     def test_threads_share_one_by_a_lock(self):
         hits, lock = [0] * 4, threading.Lock()

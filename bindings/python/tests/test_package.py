@@ -1,8 +1,10 @@
 """The wheel, and the package as `pip` installs it with no network."""
 
+import ast
 import glob
 import importlib.util
 import os
+import re
 import shutil
 import subprocess
 import sys
@@ -41,6 +43,30 @@ class Package(unittest.TestCase):
             shutil.copy(f"{PYTHON}/{example}", self.room)
             ran = run([f"{self.room}/venv/bin/python", f"{self.room}/{example}"], env=self.env, cwd=self.room)
             self.assertEqual(ran.returncode, 0, ran.stdout)
+
+        with open(f"{self.room}/shop.py", "w", encoding="utf-8") as file:
+            file.write(self.readmes_example())
+        ran = run([f"{self.room}/venv/bin/python", f"{self.room}/shop.py"], env=self.env, cwd=self.room)
+        self.assertEqual((ran.returncode, ran.stdout), (0, "110 [110, 90] (1, 2)\n"), ran.stdout)
+
+    @staticmethod
+    def readmes_example():
+        """The example of a service's own database as it stands in the README, over a file."""
+        with open(f"{PYTHON}/README.md", encoding="utf-8") as file:
+            text = re.search(r"```python\n(.*?)```", file.read(), re.S)[1]
+        first, second = text.index("from txcache.postgres"), text.index("\ncache =")
+        text = f"{text[:first]}from txcache.sqlite import SqliteStore{text[second:]}".replace('PostgresStore("dbname=shop"', 'SqliteStore("shop.db"')
+        return ("import sqlite3\nfrom txcache.sqlite import SqliteStore\ncursor = sqlite3.connect('shop.db', isolation_level=None).cursor()\n"
+                "cursor.execute('CREATE TABLE items (id INTEGER PRIMARY KEY, seller INTEGER)')\n"
+                "cursor.execute('CREATE TABLE bids (id INTEGER PRIMARY KEY, item INTEGER, price INTEGER)')\n"
+                "cursor.execute('INSERT INTO bids VALUES (1, 7, 110), (2, 7, 90)')\n"
+                "SqliteStore('shop.db', {'items': ['id', 'seller'], 'bids': ['id', 'item']}).install()\n"
+                f"{text}\nprint(*shown, (page.receipt.hits, page.receipt.computed))\n")
+
+    def test_it_is_of_python_3_9(self):
+        for path in glob.glob(f"{PYTHON}/txcache/*.py"):
+            with open(path, encoding="utf-8") as file:
+                ast.parse(file.read(), path, feature_version=(3, 9))
 
     def test_the_wheel_is_for_this_machine_and_has_the_library(self):
         made = [run([sys.executable, f"{PYTHON}/build_wheel.py", f"{self.room}/{it}"], env=self.env, cwd=self.room) for it in "ab"]

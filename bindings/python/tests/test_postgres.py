@@ -14,6 +14,7 @@ from txcache import _driver
 from txcache._store import db_of
 from txcache.errors import NotInstalled, SnapshotLost, SnapshotRefused
 
+from . import skipped, until
 from .server import server
 
 UUID = uuid.UUID("a0eebc99-9c0b-4ef8-bb6d-6bb9bd380a11")
@@ -236,12 +237,12 @@ class Shape(Case):
         self.assertEqual(len(self.db().rows("items")), 1)
         done = threading.Thread(target=self.link().ask, args=("TRUNCATE items",))
         done.start()
-        time.sleep(0.3)
+        self.assertTrue(until(lambda: self.ask("SELECT 1 FROM pg_locks WHERE NOT granted")))
         self.assertEqual(len(self.db().rows("items")), 1)
         self.assertRaises(SnapshotRefused, self.s.look, self.mark)
         self.assertTrue(done.is_alive())
         self.held.close()
-        done.join(5)
+        done.join(60)
         self.assertFalse(done.is_alive())
         self.assertIn("were changed", self.look())
 
@@ -253,14 +254,14 @@ class Shape(Case):
 
     def test_the_lock_comes_before_the_snapshot(self):
         """A TRUNCATE is of no moment: had the snapshot been taken while its lock was waited for, the table would be empty in it."""
-        self.follow(lock_timeout=5.0)
+        self.follow(lock_timeout=60.0)
         self.ask("INSERT INTO items (id) VALUES (1)")
         self.held.close()
         other, found = self.link(), []
         other.ask("BEGIN; TRUNCATE items; INSERT INTO items (id) VALUES (2)")
         look = threading.Thread(target=lambda: found.append(self.s.look(self.mark)))
         look.start()
-        time.sleep(0.5)
+        self.assertTrue(until(lambda: self.ask("SELECT 1 FROM pg_locks WHERE NOT granted")))
         other.ask("COMMIT")
         look.join()
         self.addCleanup(found[0].snapshot.close)
@@ -300,6 +301,25 @@ class Install(Case):
             self.assertRaisesRegex(NotInstalled, why, self.store(told, None).install)
             self.assertRaises(NotInstalled, self.store(told, None).look)
         self.assertEqual(self.store({"odd": []}, None).install(), ["odd: installed"])
+
+    def test_a_foreign_table(self):
+        """Its rows change with no trigger: it is refused as a table, as a partition, and where a query with no tags reads it."""
+        if not self.ask("SELECT 1 FROM pg_available_extensions WHERE name = 'file_fdw'"):
+            self.skipTest(skipped("foreign tables", "the server has no file_fdw, which is in postgresql-contrib"))
+        with open(f"{self.server.folder}/{self.base}.csv", "w", encoding="utf-8") as file:
+            file.write("1\n")
+        os.chmod(file.name, 0o644)
+        of_file = f"SERVER files OPTIONS (filename '{file.name}', format 'csv')"
+        self.ask(f"CREATE EXTENSION file_fdw; CREATE SERVER files FOREIGN DATA WRAPPER file_fdw; CREATE FOREIGN TABLE far (id int) {of_file};"
+                 f"CREATE TABLE parts (id int) PARTITION BY RANGE (id); CREATE FOREIGN TABLE p1 PARTITION OF parts FOR VALUES FROM (0) TO (9) {of_file}")
+        for told, why in (({"far": ["id"]}, "far: it is a foreign table"), ({"parts": ["id"]}, "parts: its partition p1 is a foreign table")):
+            self.assertRaisesRegex(NotInstalled, why, self.store(told, None).install)
+            self.assertIn(why, "; ".join(self.store(told, None).check()))
+            self.assertRaises(NotInstalled, self.store(told, None).look)
+        self.follow()
+        for query in ("SELECT * FROM far", "SELECT count(*) FROM items JOIN far USING (id)"):
+            self.assertRaisesRegex(ValueError, "the query reads the foreign table public.far, on which no triggers stand", self.db().sql, query)
+        self.assertEqual(self.db().sql("SELECT * FROM far", tags=[]), [{"id": 1}])
 
     def test_an_owner_who_is_no_superuser_and_a_reader(self):
         base = self.base
@@ -571,9 +591,18 @@ class Faults(Case):
         self.follow()
         self.assertEqual(self.held.rows_and_tables("SELECT count(*) AS it FROM items", ())[1], {"public.items:"})
         (pid,), = self.held._link.ask("SELECT pg_backend_pid()")
-        ending = threading.Timer(0.2, self.ask, ("SELECT pg_terminate_backend(%s)", pid))
+        other = self.link()
+        other.ask("BEGIN; SELECT pg_advisory_xact_lock(7)")
+
+        def end():
+            until(lambda: self.ask("SELECT 1 FROM pg_locks WHERE NOT granted"))
+            self.ask("SELECT pg_terminate_backend(%s)", pid)
+            until(lambda: not self.ask("SELECT 1 FROM pg_stat_activity WHERE pid = %s", pid))
+            other.ask("COMMIT")
+
+        ending = threading.Thread(target=end)
         ending.start()
-        self.assertRaises(SnapshotLost, self.held.rows_and_tables, "SELECT count(*) AS it, pg_sleep(0.6) FROM items", ())
+        self.assertRaises(SnapshotLost, self.held.rows_and_tables, "SELECT count(*) AS it, pg_advisory_xact_lock(7) FROM items", ())
         ending.join()
 
     def test_a_reader_that_joined_keeps_truncate_away_by_its_own_locks(self):
@@ -590,7 +619,7 @@ class Faults(Case):
 
     def test_an_idle_snapshot_is_ended_by_the_server(self):
         self.follow(idle_timeout=0.3)
-        time.sleep(0.8)
+        self.assertTrue(until(lambda: not self.ask("SELECT 1 FROM pg_stat_activity WHERE datname = current_database() AND state = 'idle in transaction'")))
         self.assertRaises(SnapshotLost, self.db().rows, "items")
 
     def test_no_server(self):
@@ -616,7 +645,7 @@ class Faults(Case):
         started = self.ask("SELECT pg_postmaster_start_time()")
         self.ask("CHECKPOINT")  # so that it recovers soon
         os.kill(pid, 9)
-        ended, found = time.monotonic() + 60, None
+        ended, found = time.monotonic() + 300, None
         while found is None and time.monotonic() < ended:
             try:
                 found = self.look()
@@ -639,7 +668,7 @@ class Faults(Case):
         self.assertIn("Index", plan)
         begun = time.monotonic()
         self.assertEqual(self.look(), [])
-        self.assertLess(time.monotonic() - begun, 2.0)
+        self.assertLess(time.monotonic() - begun, 30.0)
 
 
 class History(Case):

@@ -2,7 +2,7 @@
 
 import unittest
 
-from txcache.node import LAST_STAMP, MAX_VALUE_LEN, Refused
+from txcache.node import LAST_STAMP, MAX_ASKS, MAX_VALUE_LEN, Refused, Totals
 from txcache.site import LAST_SITE_STAMP, Conflict, Kept, Query, Site, cacheable
 
 
@@ -68,8 +68,6 @@ class Transactions(unittest.TestCase):
 
     def test_what_is_refused(self):
         with self.site.read(now=0, staleness=0) as page:
-            self.assertRaises(Refused, self.site.write)
-            self.assertRaises(Refused, lambda: self.site.keep(0, 0))
             self.assertRaises(Refused, lambda: page.rows(Query.all(1)))
         with self.site.write() as write:
             self.assertRaises(Refused, lambda: write.put(1, 1, 7, bytes(65_537)))
@@ -81,6 +79,41 @@ class Transactions(unittest.TestCase):
                 write.put(2, number, 9, body)
         with self.site.write() as write:
             self.assertEqual([row.body for row in write.rows(Query.group(2, 9))], bodies)
+
+    def test_values_are_long(self):
+        for count in (1024, 1025, 200_000, MAX_VALUE_LEN):
+            long = cacheable(2)(lambda call, it: bytes(it))
+            around = cacheable(3)(lambda call, it: call(long, it)[:9])
+            with self.site.write() as write:
+                self.assertEqual(write(long, count), bytes(count))
+            for _ in range(2):  # computed, and from the node
+                with self.site.read(now=1000, staleness=30_000) as page:
+                    self.assertEqual(page(long, count), bytes(count))
+            with self.site.read(now=1000, staleness=30_000) as page:
+                self.assertEqual(page(around, count), bytes(9))
+
+    def test_a_function_asks_often(self):
+        def reads(count):
+            return cacheable(2)(lambda call, it: bytes(len([call.rows(Query.id(1, it)) for _ in range(count)]) % 7))
+        with self.site.read(now=1000, staleness=30_000) as page:
+            self.assertEqual(page(reads(300), 1), bytes(300 % 7))
+            self.assertEqual(page(reads(MAX_ASKS - 1), 2), bytes((MAX_ASKS - 1) % 7))  # what it gives is an ask too
+            self.assertRaises(Refused, lambda: page(reads(MAX_ASKS), 3))
+
+    def test_a_trim_leaves_a_budget(self):
+        long = cacheable(2)(lambda call, it: bytes(1000 * len(call.rows(Query.id(1, 1)))))
+        self.assertEqual(self.site.totals(), Totals(0, 0, 0))
+        with self.site.read(now=1000, staleness=30_000) as page:
+            for it in range(5):
+                page(long, it)
+            self.assertEqual(self.site.totals(), Totals(5, 5000, 0))
+            self.assertEqual(self.site.trim(5000), 0)
+            self.assertEqual(self.site.trim(2999), 3)
+            self.assertEqual(self.site.totals(), Totals(2, 2000, 3))
+            self.assertEqual(page(long, 0), bytes(1000))
+        self.assertEqual(self.site.trim(0), 3)
+        self.assertEqual(self.site.totals(), Totals(0, 0, 6))
+        self.assertRaises(Refused, lambda: self.site.trim(-1))
 
     def test_an_update_is_not_lost(self):
         stamp = self.seen()

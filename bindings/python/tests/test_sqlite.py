@@ -10,6 +10,7 @@ import tempfile
 import threading
 import unittest
 
+from txcache._layout import Read
 from txcache._store import db_of
 from txcache.errors import NotInstalled, SnapshotLost
 from txcache.sqlite import SqliteStore
@@ -94,6 +95,17 @@ class Notes(Case):
         self.assertLessEqual({"log:id=2", "log:grp=20"}, set(self.changed("INSERT OR REPLACE INTO log VALUES (9, 90, 'b', 5, 5)")))
         self.assertLessEqual({"log:id=9", "log:grp=90"}, set(self.changed("UPDATE OR REPLACE log SET name = 'b' WHERE id = 1")))
         self.assertLessEqual({"log:id=3", "log:grp=30"}, set(self.changed("REPLACE INTO log VALUES (50, 5, 'z', 1, 3)")))
+
+    def test_an_update_of_no_key_writes_one_note(self):
+        """The row itself is in nobody's way."""
+        self.follow({"log": ["id"], "flat": ["a"]}, "CREATE TABLE log (id INTEGER PRIMARY KEY, name TEXT UNIQUE, v INTEGER);"
+                    "CREATE TABLE flat (a TEXT, b INTEGER, v INTEGER, PRIMARY KEY (a, b)) WITHOUT ROWID")
+        self.changed("INSERT INTO log VALUES (1, 'a', 0); INSERT INTO flat VALUES ('x', 1, 0), ('x', 2, 0)")
+        for text, keys in (("UPDATE log SET v = 1", [("log", '["id=1"]')]), ("UPDATE flat SET v = 1 WHERE b = 2", [("flat", '["a=x"]')]),
+                           ("UPDATE OR REPLACE flat SET b = 1 WHERE b = 2", [("flat", '["a=x"]')] * 2)):
+            (last,), = self.ask("SELECT max(number) FROM txcache_notes")
+            self.ask(text)
+            self.assertEqual(self.ask("SELECT relation, keys FROM txcache_notes WHERE number > ?", last), keys, text)
 
     def test_replace_by_the_rows_number(self):
         self.follow({"log": ["grp"]}, "CREATE TABLE log (grp INTEGER, rowid TEXT)")
@@ -243,12 +255,20 @@ class Reading(Case):
         self.addCleanup(found.snapshot.close)
         self.assertIn("items:id=7", found.tags)
 
+    def test_the_number_of_a_files_changes_is_a_connections_own(self):
+        """A new connection counts anew."""
+        self.s.close()
+        self.ask("UPDATE items SET v = 0 WHERE id = 7")  # nobody counts it
+        found = self.s.look(self.mark, is_wanted=False)
+        self.assertIsNotNone(found.snapshot)
+        self.addCleanup(found.snapshot.close)
+
     def test_a_query_that_fails_spoils_nothing(self):
         for query in ("SELECT nothing FROM items", "UPDATE items SET v = 1", "SEL", "SELECT abs(-9223372036854775808) FROM items"):
             for given in (None, ["items"]):
                 self.assertRaises(sqlite3.Error, self.db().sql, query, (), given)
                 self.assertEqual(len(self.db().rows("items")), 3)
-        self.assertRaises(SnapshotLost, self.db().sql, "COMMIT", tags=[])
+        self.assertRaises(SnapshotLost, self.held.rows, Read("COMMIT", (), ()))
         self.assertRaises(SnapshotLost, self.db().rows, "items")
 
     def test_the_tables_of_a_query_are_those_that_the_compiler_names(self):

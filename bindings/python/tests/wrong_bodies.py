@@ -10,7 +10,7 @@ import shutil
 import subprocess
 import sys
 import tempfile
-from typing import NamedTuple
+from typing import NamedTuple, Tuple
 
 PYTHON = os.path.dirname(os.path.dirname(os.path.abspath(__file__)))
 
@@ -23,9 +23,31 @@ class Wrong(NamedTuple):
     text: str
     put: str
     test: str
+    more: Tuple[Tuple[str, str], ...] = ()  # other texts, and what is put in their places
+
+
+def of_each_store(test: str) -> str:
+    return f"tests.test_cache -k {test}"
+
+
+def of_many(name: str, text: str, put: str, test: str, file: str = "site.py") -> Wrong:
+    return Wrong(name, file, text, put, f"tests.test_many -k {test}")
 
 
 WRONG = [
+    of_many("a finaliser that waits", "self._site._forgotten.append(self._number)", "self._abort()", "test_a_finaliser"),
+    of_many("what is collected stays open", "self._site._forgotten.append(self._number)", "pass", "test_what_is_collected"),
+    of_many("a child that uses its parent's site", "return self._born == _forks", "return True", "test_a_forked_child"),
+    of_many("another thread asks in mid-call", "if self._thread != threading.get_ident():", "if False:", "test_another_thread"),
+    of_many("a function asks on that was given up", "            if self._is_given_up:\n", "            if False:\n", "test_no_function_asks"),
+    of_many("a refused call gives nothing up", "if self._depth and number != BAD_ARGUMENT:", "if False:", "test_no_function_asks"),
+    of_many("a bad argument gives all up", "if self._depth and number != BAD_ARGUMENT:", "if self._depth:", "test_a_bad_argument"),
+    of_many("a function asks on that has ended", "            asking._transaction = None\n", "", "test_a_function_that_has_ended"),
+    of_many("a block that fails stays open", "            self._abort()\n            return\n        stamp =", "            return\n        stamp =", "test_what_ends_by_an_exception"),
+    of_many("a commit that fails stays open", "            self._abort()\n            raise\n", "            raise\n", "test_writers_within_writers"),
+    of_many("a lock that is held beside a function", "            given = bytes(function(asking, *args))\n", "            with self._site._lock:\n                given = bytes(function(asking, *args))\n",
+            "test_nobody_waits"),
+    of_many("a library of another header", "if number != ABI:", "if False:", "Abi", "_library.py"),
     Wrong("followed from xmax alone", "postgres.py", "running=\",\".join(map(str, last.running))", "running=\"\"",
           "tests.test_postgres -k test_a_transaction_that_was_open_at_the_last_look_follows_once"),
     Wrong("a snapshot before its lock", "postgres.py", "READ ONLY; {self.settings}{lock}", "READ ONLY; SELECT 1; {self.settings}{lock}",
@@ -57,18 +79,78 @@ WRONG = [
           "tests.test_layout -k test_another_type"),
     Wrong("a uuid by its own text", "_layout.py", "text = str(value if isinstance(value, uuid.UUID) else uuid.UUID(value))", "text = str(value)", "tests.test_layout -k test_one_text"),
     Wrong("replaced rows of SQLite are not noted", "sqlite.py", "    if in_the_way:\n", "    if False:\n", "tests.test_sqlite -k test_replace -k test_random_histories"),
+    Wrong("an update of SQLite that replaces a row does not note it", "sqlite.py", "{it}{is_other};", "{it} AND 0;", "tests.test_sqlite -k test_replace -k test_an_update"),
     Wrong("a collation of SQLite is not looked at", "sqlite.py", "return count == 3", "return True", "tests.test_sqlite -k test_what_is_refused"),
     Wrong("a file of SQLite that was changed for another", "sqlite.py", "if self._probe is None or self._file != self._identity():", "if self._probe is None:",
           "tests.test_sqlite -k test_another_file"),
+    Wrong("the number of a file's changes by another connection", "sqlite.py", "            self._probes += 1\n", "",
+          "tests.test_sqlite -k test_the_number_of_a_files_changes"),
+    Wrong("a connection of the former file", "sqlite.py", "len(self._spare) < 2 and file == self._file:", "len(self._spare) < 2:", "tests.test_cache -k test_another_file_at"),
     Wrong("the schema of SQLite is not looked at", "sqlite.py", "if mark.shape != last.shape:", "if False:", "tests.test_sqlite -k test_what_changes_the_schema"),
-    Wrong("a key without types", "_keys.py", "kinds = tuple(map(type, args))", "kinds = ()", "tests.test_keys -k test_exact_types"),
+    Wrong("a key without types", "_keys.py", "return (kinds, args) if", "return ((), args) if", "tests.test_keys -k test_exact_types"),
     Wrong("a key without types, whole", "_keys.py", "    bool: lambda it: b\"T\" if it else b\"F\",", "    bool: lambda it: b\"i%x;\" % it,", "tests.test_keys -k test_each_value"),
     Wrong("the look that fails forgets where it stood", "_follower.py", "            except SnapshotRefused as error:\n                self.let_go()\n", "            except SnapshotRefused as error:\n                self.forget()\n",
           "tests.test_follower -k test_a_lock_that_is_waited_for"),
     Wrong("a moment after its snapshot", "_follower.py", "return Step(number, moment,", "return Step(number, self._clock(),", "tests.test_follower -k test_the_moment"),
     Wrong("a snapshot that is held for ever", "_follower.py", "            self._let_old_go()\n", "", "tests.test_follower -k test_none_is_held"),
-    Wrong("a shared value", "_values.py", "return pickle.loads(data[1:])", "return globals().setdefault('_known', {}).setdefault(data, pickle.loads(data[1:]))",
+    Wrong("a shared value", "_values.py", "return pickle.loads(data)", "return globals().setdefault('_known', {}).setdefault(data, pickle.loads(data))",
           "tests.test_keys -k test_no_two_get_one_object"),
+    Wrong("a snapshot closed that a page may read", "cache.py", "self._least = state, oldest, max(state.first, found)", "self._least = state, oldest, state.first",
+          of_each_store("test_a_page_begins_where")),
+    Wrong("a pin within a step", "cache.py",
+          "        self._versions.touch(self._places.all_of(step.tags), step.number)\n        stamp = self._versions.pin(_us(step.moment))\n",
+          "        stamp = self._versions.pin(_us(step.moment))\n        self._versions.touch(self._places.all_of(step.tags), step.number)\n", of_each_store("test_hits_and_changes")),
+    Wrong("a tag of a step is forgotten", "cache.py", "self._places.all_of(step.tags)", "self._places.all_of(sorted(step.tags)[:-1])", of_each_store("test_hits_and_changes")),
+    Wrong("what asks nothing is computed on each page", "cache.py", "        if not frame.asks:\n", "        if False:\n", of_each_store("test_functions_and_their_levels")),
+    Wrong("a query in the newest snapshot", "cache.py", "        number = self._numbers.get(stamp) if stamp is not None else None\n",
+          "        number = max(self._follower.numbers, default=None)\n", of_each_store("test_a_page_is_of_one_moment")),
+    Wrong("after= by the newest held", "cache.py", "found = next((it.stamp for it in self._state.pins if self.store.sees(it.mark, token)), None)",
+          "found = self._state.pins[-1].stamp",
+          of_each_store("test_tokens")),
+    Wrong("a wait for a snapshot that one may not read", "cache.py", "and may_read(it.stamp)), None)", "), None)", of_each_store("test_nobody_waits")),
+    Wrong("nobody waits", "cache.py", "            with found.turn:\n                pass", "            pass", of_each_store("test_who_asks")),
+    Wrong("an audit in another snapshot", "cache.py", "self.cache._follower.snapshot(self.receipt.snapshot)", "self.cache._follower.snapshot(self.cache._follower.numbers[-1])",
+          of_each_store("test_an_audit_is_of_the_receipts_snapshot")),
+    Wrong("a place of the version table forgotten", "_versions.py", "found = self._numbers.get(slot)", "found = self._numbers.pop(slot, None)",
+          "tests.test_cache -k test_places"),
+    Wrong("a page at the present", "_versions.py", "            if number == DONE:\n                return txn\n", "            return txn\n",
+          of_each_store("test_no_page_is_at_the_present")),
+    Wrong("a site that renews pins by itself", "_versions.py", "_EVER = 2**64 - 1", "_EVER = 1", of_each_store("test_a_miss_is_read_at")),
+    Wrong("a query after its transaction has ended", "postgres.py", "            if reader.link.is_idle:\n", "            if False:\n", of_each_store("test_a_query_that_ends")),
+    Wrong("a query after its transaction has ended, of SQLite", "sqlite.py", "if self.is_open and not self._link.in_transaction:", "if False:", of_each_store("test_a_query_that_ends")),
+    Wrong("a query that begins anew", "_layout.py", "        refuse_all_but_one_query(query)\n", "", of_each_store("test_a_query_that_ends")),
+    Wrong("a snapshot that was let go is read", "postgres.py", "            if not snapshot.is_open:\n                raise SnapshotLost(\"the snapshot was let go\")\n        except",
+          "        except", of_each_store("test_a_snapshot_that_was_let_go"), (("        if not self.is_open:\n            raise SnapshotLost(\"the snapshot was let go\")\n        try:", "        try:"),)),
+    Wrong("a snapshot that becomes too old before the next look", "_follower.py", "limit = self._clock() - self.hold + self._every", "limit = self._clock() - self.hold", "tests.test_follower -k test_none_becomes"),
+    Wrong("a page that goes on in a snapshot it had before a hit", "cache.py", "self._stamp = self._snapshot = None  # it may hold in fewer of them", "pass",
+          of_each_store("test_a_page_is_of_one_moment")),
+    Wrong("a foreign partition is installed", "postgres.py", "                refused[table] += catalog.faults_of_partitions(table, standing[table])\n", "",
+          "tests.test_postgres -k test_a_foreign_table"),
+    Wrong("a snapshot closed in which a page computes", "_follower.py", "if not self._uses.get(it)]", "if True]", of_each_store("test_a_snapshot_in_which")),
+    Wrong("a page that begins where a snapshot between is closed", "_follower.py", "            if number != after - 1:\n", "            if False:\n", "tests.test_follower -k test_what_is_used"),
+    Wrong("a page of a parent's", "cache.py", "around is not None and around._process == _process", "around is not None", of_each_store("test_a_child_of_a_page")),
+    Wrong("nothing is ever purged", "cache.py", "if now - self._last_purge > PURGE_EVERY:", "if False:", of_each_store("test_notes_are_purged")),
+    Wrong("an audit that leaves the cache warm", "cache.py", "        self.cache.clear()\n", "", of_each_store("test_audit")),
+    Wrong("a page that is older than it may be", "cache.py", "_us(begun - max_age)", "_us(begun - max_age - 60.0)", of_each_store("test_hits_and_changes")),
+    Wrong("a failed step goes on", "cache.py", "            self._is_to_be_cold = True  # until", "            self._is_to_be_cold = False  # until", of_each_store("test_a_step_that_fails_midway")),
+    Wrong("an error that was shown is forgotten", "cache.py", "self._has_shown |= not isinstance(found, SnapshotLost)", "pass", of_each_store("test_an_error_shown")),
+    Wrong("a caught failure goes on", "cache.py", "        if self._failed is not None:\n", "        if False:\n", of_each_store("test_errors")),
+    Wrong("keys of callers stay", "_forms.py", "                left += self._callers.get(it, ())\n", "", of_each_store("test_what_a_key_asks -k test_clearing")),
+    Wrong("the tables of a query stay", "cache.py", "        if touched - tables:\n", "        if False:\n", of_each_store("test_tables_of_a_query")),
+    Wrong("a cold begin under the same number", "cache.py", "_State((), self._state.era + 1)", "_State((), self._state.era)", of_each_store("test_cold_leaves_nothing_behind")),
+    Wrong("a cold step's pin before its number", "cache.py", "            self._state = _State((), self._state.era + 1)\n        self._versions.touch(self._places.all_of(step.tags), step.number)\n"
+          "        stamp = self._versions.pin(_us(step.moment))\n", "            pass\n        self._versions.touch(self._places.all_of(step.tags), step.number)\n"
+          "        stamp = self._versions.pin(_us(step.moment))\n        self._state = _State((), self._state.era + 1) if step.cold else self._state\n",
+          of_each_store("test_a_page_that_begins_within_a_cold_step")),
+    Wrong("a page of a number that is no more", "cache.py", "if txn is not None and self._state.era == state.era:", "if txn is not None:", of_each_store("test_a_page_is_not_begun_under")),
+    Wrong("a mark in the place of a value is shown", "cache.py", "        if data == _values.TOO_LONG:\n", "        if False:\n", of_each_store("test_values_that_are_too_long")),
+    Wrong("a value that is too long is of the newest snapshot", "cache.py", "self._direct = db_of(self._snapshot_now())",
+          "self._direct = db_of(self.cache._follower.snapshot(self.cache._follower.numbers[-1]))", of_each_store("test_values_that_are_too_long")),
+    Wrong("a long value is cut", "_versions.py", "number = self._told_once_more(txn)", "number = DONE", of_each_store("test_long_values")),
+    Wrong("a call that runs out of asks is not made again", "cache.py", "if self._tries < MAX_TRIES and (", "if False and (", of_each_store("test_as_many_calls")),
+    Wrong("the call that ran out of asks is not made by itself", "cache.py", "            if self._ahead is not None:\n", "            if False:\n", of_each_store("test_as_many_calls")),
+    Wrong("a budget of bytes that nobody keeps", "cache.py", "self._versions.trim(self._max_bytes)", "pass", of_each_store("test_a_budget")),
+    Wrong("a child that goes on with its parent's", "cache.py", "os.register_at_fork(after_in_child=_after_fork_in_child)", "", of_each_store("test_after_a_fork")),
 ]
 
 
@@ -77,15 +159,19 @@ def fails(wrong: Wrong, room: str) -> str:
     path = f"{room}/txcache/{wrong.file}"
     with open(path, encoding="utf-8") as file:
         right = file.read()
-    if right.count(wrong.text) != 1:
-        return f"its text stands {right.count(wrong.text)} times in {wrong.file}"
+    body = right
+    for text, put in ((wrong.text, wrong.put), *wrong.more):
+        if right.count(text) != 1:
+            return f"its text stands {right.count(text)} times in {wrong.file}: {text!r}"
+        body = body.replace(text, put)
     try:
         with open(path, "w", encoding="utf-8") as file:
-            file.write(right.replace(wrong.text, wrong.put))
+            file.write(body)
         try:
             ran = subprocess.run([sys.executable, "-m", "unittest", "-q", *wrong.test.split()], cwd=room, stdout=subprocess.PIPE, stderr=subprocess.STDOUT, text=True, timeout=180)
         except subprocess.TimeoutExpired:
-            return ""  # it hangs: that is seen
+            print(f"{wrong.name}: its test did not end", flush=True)
+            return ""  # that is seen too
         return "" if "\nFAILED (" in ran.stdout else f"its test passes: {ran.stdout[-300:]}"
     finally:
         with open(path, "w", encoding="utf-8") as file:

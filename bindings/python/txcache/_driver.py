@@ -7,6 +7,7 @@ from typing import Any, List, Optional, Sequence, Tuple
 
 DRIVERS = "psycopg", "psycopg2"
 _BYTEA = 17
+_IDLE = 0  # of libpq's statuses of a transaction
 
 
 def drivers() -> List[str]:
@@ -43,6 +44,11 @@ class Link:
             if cursor.description is None:
                 return [], []
             return [it[0] for it in cursor.description], cursor.fetchall()
+
+    @property
+    def is_idle(self) -> bool:
+        """True if no transaction is open."""
+        return int(self._connection.info.transaction_status) == _IDLE
 
     def is_broken(self, error: BaseException) -> bool:
         """Returns True if the connection is gone, after an error of a statement."""

@@ -4,16 +4,16 @@ import logging
 import threading
 import time
 from dataclasses import dataclass
-from typing import Any, Callable, FrozenSet, List, Optional
+from typing import Any, Callable, Dict, FrozenSet, List, NamedTuple, Optional
 
 from ._store import Snapshot, Store
 from .errors import SnapshotLost, SnapshotRefused
 
 LOG = logging.getLogger("txcache")
+AIR_EVERY = 0.1  # seconds: more often the store is not asked whether it wants all snapshots to be let go
 
 
-@dataclass(frozen=True)
-class Step:
+class Step(NamedTuple):
     """What a look found: the snapshot's number, when it was not yet taken, and the tags that it is the first to see changed. Where `cold` says
     why, nothing is known of what changed, and all that is cached must go."""
 
@@ -32,26 +32,31 @@ class _Held:
 
 class Follower:
     """Looks at a store. A snapshot has the number of its step. One in which nothing has changed has the number of the one before, and takes its place once
-    that is half as old as it may be. None stays open for longer than `hold` seconds."""
+    that is half as old as it may be. None stays open for longer than `hold` seconds, if somebody looks every `every` seconds."""
 
-    def __init__(self, store: Store, hold: float, clock: Callable[[], float] = time.monotonic):
+    def __init__(self, store: Store, hold: float, clock: Callable[[], float] = time.monotonic, every: float = 0.0):
         if hold <= 0:
             raise ValueError(f"hold is {hold} seconds, and is more than 0")
-        self.store, self.hold, self._clock = store, hold, clock
+        self.store, self.hold, self._clock, self._every = store, hold, clock, min(every, hold / 4)
         self._held: List[_Held] = []
         self._lock, self._looks = threading.Lock(), threading.Lock()
         self._mark: Any = None
-        self._number = 0
+        self._number, self._aired = 0, float("-inf")
+        self._uses: Dict[int, int] = {}
+        self.oldest: Optional[int] = None  # the number from which on all snapshots are open
 
     def look(self) -> Step:
         """Takes a new snapshot. Fails with SnapshotRefused, and lets all go so that whoever changes a table goes on; with SnapshotLost if the
         server is away; with NotInstalled. After each the next look follows on from the last snapshot that was taken."""
         with self._looks:
             self._let_old_go()
-            if self.store.wants_air():
-                self.let_go()
-                self.store.air()
             moment = self._clock()
+            if moment - self._aired > AIR_EVERY:
+                self._aired = moment
+                if self.store.wants_air():
+                    self.let_go()
+                    self.store.air()
+                    moment = self._clock()
             try:
                 found = self.store.look(self._mark, is_wanted=not self._held or self._is_half_old())
             except SnapshotRefused as error:
@@ -82,6 +87,7 @@ class Follower:
                 over = snapshot  # the one before is young, and connections have joined it
             elif snapshot:
                 self._held = [it for it in self._held if it is not before] + [_Held(number, snapshot, moment)]
+                self.oldest = self._first_of_all_open()
             else:
                 over = None
         if over:
@@ -93,28 +99,68 @@ class Follower:
         with self._lock:
             return self._clock() - self._held[-1].taken > self.hold / 2 if self._held else True
 
+    def _first_of_all_open(self) -> Optional[int]:
+        numbers = [it.number for it in self._held]
+        for number, after in zip(numbers[-2::-1], numbers[:0:-1]):
+            if number != after - 1:
+                return after
+        return numbers[0] if numbers else None
+
     def _let_old_go(self) -> None:
-        self._close_if(lambda it: self._clock() - it.taken > self.hold)
+        """Closes the snapshots that would be too old before the next look."""
+        limit = self._clock() - self.hold + self._every
+        if self._held and self._held[0].taken < limit:
+            self._close_if(lambda it: it.taken < limit)
+
+    def trim(self, most: int, most_used: int) -> None:
+        """Closes the oldest snapshots that nobody uses, so that at most `most` are open, and then the oldest, so that at most `most_used` are."""
+        count = len(self._held) - most
+        if count == 1 and not self._uses:
+            over = {self._held[0].number}
+        elif count > 0:
+            numbers = self.numbers
+            spare = [it for it in numbers[:-1] if not self._uses.get(it)][:count]
+            left = [it for it in numbers if it not in spare]
+            over = {*spare, *left[:-most_used]}
+        else:
+            return
+        self._close_if(lambda it: it.number in over)
+
+    def use(self, number: int) -> Snapshot:
+        """Returns the snapshot of a number, and has it stay open beyond those that are, until it is left. Fails with SnapshotLost if it is open no more."""
+        with self._lock:
+            found = self._found(number)
+            self._uses[number] = self._uses.get(number, 0) + 1
+            return found
+
+    def leave(self, number: int) -> None:
+        with self._lock:
+            self._uses[number] = self._uses.get(number, 1) - 1
+            if not self._uses[number]:
+                del self._uses[number]
 
     def let_go(self, below: Optional[int] = None) -> None:
-        """Closes the snapshots below a number, or all. What is cached stays, and the next look follows on."""
+        """Closes the snapshots below a number, or all, whoever uses them. What is cached stays, and the next look follows on."""
         self._close_if(lambda it: below is None or it.number < below)
 
     def _close_if(self, is_over: Callable[[_Held], bool]) -> None:
         with self._lock:
             over = [it for it in self._held if is_over(it)]
             self._held = [it for it in self._held if not is_over(it)]
+            self.oldest = self._first_of_all_open()
         for it in over:
             it.snapshot.close()
 
     def snapshot(self, number: int) -> Snapshot:
         """Returns the snapshot of a number. Fails with SnapshotLost if it is open no more."""
         with self._lock:
-            for it in self._held:
-                if it.number == number:
-                    return it.snapshot
-            held = ", ".join(str(it.number) for it in self._held) or "none"
-        raise SnapshotLost(f"the snapshot {number} is open no more, but {held}")
+            return self._found(number)
+
+    def _found(self, number: int) -> Snapshot:
+        for it in self._held:
+            if it.number == number:
+                return it.snapshot
+        raise SnapshotLost(f"the snapshot {number} is open no more, but {', '.join(str(it.number) for it in self._held) or 'none'}")
 
     @property
     def mark(self) -> Any:

@@ -10,7 +10,6 @@ import uuid
 from typing import Any, Callable, Dict, List, Mapping, Optional, Sequence, Tuple
 
 DIGEST_SIZE = 16
-MAX_KNOWN = 100_000  # texts of arguments that a function remembers, so that a call that was made before is not encoded again
 _AS_THEY_ARE = frozenset((int, str, bytes, bool, type(None)))  # equal values of one of these types are one argument
 
 
@@ -68,7 +67,7 @@ class Arguments:
     """The arguments of a function after its first, `db`. By position, by name and by default they are one."""
 
     def __init__(self, name: str, body: Callable[..., Any], key: Optional[Callable[..., Any]] = None):
-        self._name, self._key, self._known = name, key, {}
+        self._name, self._key = name, key
         parameters = list(inspect.signature(body).parameters.values())
         if not parameters or parameters[0].kind not in (inspect.Parameter.POSITIONAL_ONLY, inspect.Parameter.POSITIONAL_OR_KEYWORD):
             raise TypeError(f"{name} takes no db: it is the first parameter of a cacheable function")
@@ -76,19 +75,26 @@ class Arguments:
         self._names = [it.name for it in parameters[1:]]
         self._is_simple = all(it.kind in (inspect.Parameter.POSITIONAL_ONLY, inspect.Parameter.POSITIONAL_OR_KEYWORD) for it in parameters[1:])
 
+    def mark(self, args: Sequence[Any], named: Mapping[str, Any]) -> Optional[Tuple[Any, ...]]:
+        """Returns what tells a call from all others of its function, for a dictionary: its arguments with their types. None where equal arguments of
+        one type need not be one, or something else is to be done with them first."""
+        if not self._is_plain(args, named):
+            return None
+        kinds = tuple(map(type, args))
+        return (kinds, args) if _AS_THEY_ARE.issuperset(kinds) else None
+
+    def _is_plain(self, args: Sequence[Any], named: Mapping[str, Any]) -> bool:
+        """Returns True if each argument is given by its position, and stands for itself."""
+        return not named and self._key is None and len(args) == len(self._names) and self._is_simple
+
     def encoded(self, args: Sequence[Any], named: Mapping[str, Any]) -> bytes:
         """Returns the text of a call's arguments. Fails with TypeError, which names the function and the argument, if one is not plain data."""
-        if named or self._key or len(args) != len(self._names) or not self._is_simple:
+        if not self._is_plain(args, named):
             return self._encoded_whole(args, named)
-        kinds = tuple(map(type, args))
-        if not _AS_THEY_ARE.issuperset(kinds):
+        try:
+            return b"".join(map(encode, args))
+        except NotPlain:
             return self._encoded_each(zip(self._names, args))
-        known = self._known.get((kinds, *args))
-        if known is None:
-            if len(self._known) >= MAX_KNOWN:
-                self._known.clear()
-            known = self._known[(kinds, *args)] = self._encoded_each(zip(self._names, args))
-        return known
 
     def _encoded_whole(self, args: Sequence[Any], named: Mapping[str, Any]) -> bytes:
         try:
@@ -115,6 +121,11 @@ class Arguments:
         return b"".join(texts)
 
 
-def digest(*texts: bytes) -> bytes:
-    """Returns 128 bits of texts, each taken by itself."""
-    return hashlib.blake2b(b"".join(map(_sized, texts)), digest_size=DIGEST_SIZE).digest()
+def prefix(*texts: bytes) -> bytes:
+    """Returns texts as one, which is no beginning of another one."""
+    return b"".join(map(_sized, texts))
+
+
+def digest(text: bytes) -> bytes:
+    """Returns 128 bits of a text."""
+    return hashlib.blake2b(text, digest_size=DIGEST_SIZE).digest()

@@ -8,8 +8,8 @@ again for a change of the other; what matters is that triggers and readers write
 import enum
 import re
 import uuid
-from dataclasses import dataclass, field
-from typing import Any, Callable, Dict, FrozenSet, Iterable, List, Mapping, Optional, Sequence, Tuple, Union
+from dataclasses import dataclass
+from typing import Any, Callable, Dict, FrozenSet, Iterable, List, Mapping, NamedTuple, Optional, Sequence, Tuple, Union
 
 Columns = Tuple[str, ...]
 Row = Dict[str, Any]
@@ -82,15 +82,14 @@ def prefix_of(lookup: Columns) -> str:
     return ",".join(lookup) + "="
 
 
-@dataclass(frozen=True)
-class Read:
+class Read(NamedTuple):
     """A query, its arguments, and the tags of what it reads; None where they are the tables that it is found to read. `wholes` are the tags of
     their tables, which may stand in their place."""
 
     query: str
     args: Tuple[Any, ...]
     tags: Optional[Tuple[str, ...]]
-    wholes: Tuple[str, ...] = field(default=(), compare=False)
+    wholes: Tuple[str, ...] = ()
 
 
 @dataclass(frozen=True)
@@ -109,12 +108,26 @@ class Relation:
         return f"{self.name.tag}:"
 
 
+class _Way:
+    """How rows of a table are looked up by some of its columns: what is the same each time. Fails with ValueError if the store was not told of them."""
+
+    def __init__(self, relation: Relation, columns: Iterable[str]):
+        lookup = tuple(sorted(columns))
+        if lookup and lookup not in relation.lookups:
+            told = ", ".join(" and ".join(it) for it in sorted(relation.lookups)) or "no column"
+            raise ValueError(f"the table {relation.given!r} is looked up by {told}, and not by {' and '.join(lookup)}")
+        self.relation, self.wholes, self.queries = relation, (relation.tag,), {}
+        self.prefix = relation.tag + (prefix_of(lookup) if lookup else "")
+        self.columns = [(it, f"{relation.given}.{it}", relation.kinds[it]) for it in lookup]
+
+
 class Layout:
     """The tables of a store as one snapshot has them. `mark` stands for an argument in SQL, and `booleans` are the texts of False and True."""
 
     def __init__(self, relations: Iterable[Relation], mark: str, booleans: Tuple[str, str]):
         self.relations = {it.given: it for it in relations}
         self._mark, self._booleans = mark, booleans
+        self._ways: Dict[Any, _Way] = {}
 
     def relation(self, table: str) -> Relation:
         found = self.relations.get(table)
@@ -124,13 +137,28 @@ class Layout:
 
     def lookup(self, table: str, columns: Mapping[str, Any], limit: Optional[int] = None) -> Read:
         """Returns the query for the rows of a table whose columns have these values."""
-        relation = self.relation(table)
-        values = self._values(relation, columns)
-        args = tuple(value for value, _ in values.values() if value is not None)
-        where = [f"{self._escaped(quote(it), args)} " + ("IS NULL" if value is None else f"= {self._mark}") for it, (value, _) in values.items()]
-        query = "SELECT * FROM " + self._escaped(relation.name.quoted, args) + (f" WHERE {' AND '.join(where)}" if where else "")
-        query += " ORDER BY " + self._escaped(relation.order, args) + (f" LIMIT {limit}" if limit else "")
-        return Read(query, args, (self._tag(relation, values),), (relation.tag,))
+        way = self._way(table, columns)
+        values = self._values(way, columns)
+        shape = limit, *[value is None for value, _ in values]
+        query = way.queries.get(shape)
+        if query is None:
+            query = way.queries[shape] = self._query(way, [value is None for value, _ in values], limit)
+        return Read(query, tuple([value for value, _ in values if value is not None]), (self._tag(way, values),), way.wholes)
+
+    def _way(self, table: str, columns: Iterable[str]) -> _Way:
+        key = table, *columns
+        way = self._ways.get(key)
+        if way is None:
+            way = self._ways[key] = _Way(self.relation(table), columns)
+        return way
+
+    def _query(self, way: _Way, nulls: Sequence[bool], limit: Optional[int]) -> str:
+        """Returns the text of a query by columns, of which each has a value, or is NULL."""
+        where = [f"{quote(it)} " + ("IS NULL" if is_null else "= \0") for (it, _, _), is_null in zip(way.columns, nulls)]
+        query = f"SELECT * FROM {way.relation.name.quoted}" + (f" WHERE {' AND '.join(where)}" if where else "")
+        query += f" ORDER BY {way.relation.order}" + (f" LIMIT {limit}" if limit else "")
+        has_args = not all(nulls)
+        return (query.replace("%", "%%") if has_args and self._mark == "%s" else query).replace("\0", self._mark)
 
     def tags(self, given: Iterable[Union[str, Sequence[Any]]]) -> Dict[str, str]:
         """Returns the tags of tables, each its name, and of rows, each a table, its columns and their values by turns; each with its table's."""
@@ -139,17 +167,14 @@ class Layout:
             table, *words = (it,) if isinstance(it, str) else it
             if len(words) % 2:
                 raise ValueError(f"{it!r} is no tag: it is a table, or (table, column, value)")
-            relation = self.relation(table)
-            found[self._tag(relation, self._values(relation, dict(zip(words[::2], words[1::2]))))] = relation.tag
+            columns = dict(zip(words[::2], words[1::2]))
+            way = self._way(table, columns)
+            found[self._tag(way, self._values(way, columns))] = way.relation.tag
         return found
 
-    def _values(self, relation: Relation, columns: Mapping[str, Any]) -> Dict[str, Tuple[Any, str]]:
+    def _values(self, way: _Way, columns: Mapping[str, Any]) -> List[Tuple[Any, str]]:
         """Returns the value of each column, as the database takes it, and its text."""
-        lookup = tuple(sorted(columns))
-        if lookup and lookup not in relation.lookups:
-            told = ", ".join(" and ".join(it) for it in sorted(relation.lookups)) or "no column"
-            raise ValueError(f"the table {relation.given!r} is looked up by {told}, and not by {' and '.join(lookup)}")
-        return {it: self._value(f"{relation.given}.{it}", relation.kinds[it], columns[it]) for it in lookup}
+        return [self._value(label, kind, columns[name]) for name, label, kind in way.columns]
 
     def _value(self, column: str, kind: Kind, value: Any) -> Tuple[Any, str]:
         if value is None:
@@ -166,11 +191,8 @@ class Layout:
         raise TypeError(f"the column {column} takes {kind.value}, and not {value!r} of type {type(value).__name__}")
 
     @staticmethod
-    def _tag(relation: Relation, values: Mapping[str, Tuple[Any, str]]) -> str:
-        return relation.tag + (prefix_of(tuple(values)) + ",".join(text for _, text in values.values()) if values else "")
-
-    def _escaped(self, text: str, args: Tuple[Any, ...]) -> str:
-        return text.replace("%", "%%") if args and self._mark == "%s" else text
+    def _tag(way: _Way, values: Sequence[Tuple[Any, str]]) -> str:
+        return way.prefix + ",".join([text for _, text in values])
 
 
 class Db:
@@ -197,6 +219,7 @@ class Db:
         Without them they are the tables that the database says it read."""
         if isinstance(tags, str):
             raise TypeError(f"tags is a list, as [{tags!r}]")
+        refuse_all_but_one_query(query)
         found = None if tags is None else self._layout.tags(tags)
         return self._run(Read(query, tuple(args), None) if found is None else Read(query, tuple(args), tuple(found), tuple(found.values())))
 
@@ -209,7 +232,22 @@ def dicts(names: Sequence[str], rows: Iterable[Sequence[Any]]) -> List[Row]:
     return [dict(zip(names, row)) for row in rows]
 
 
-# What depends on the time, on chance or on the session: words, functions, functions that are given no argument, and texts of times.
+# Texts, names and comments: a semicolon in one of them ends no statement.
+_QUOTED = re.compile(r"""\be'(?:[^'\\]|''|\\.)*'|'(?:[^']|'')*'|"(?:[^"]|"")*"|\$(\w*)\$.*?\$\1\$|--[^\n]*|/\*.*?\*/""", re.I | re.S)
+_ENDS = re.compile(r"\s*(begin|start|commit|end|rollback|abort|savepoint|release|prepare|discard)\b", re.I)
+
+
+def refuse_all_but_one_query(query: str) -> None:
+    """Fails with ValueError if a text is several statements, or one that begins or ends a transaction: what it then read would be of no snapshot."""
+    plain = _QUOTED.sub(" ", query)
+    if re.search(r";\s*\S", plain):
+        raise ValueError(f"{query[:64]!r} is more than one statement")
+    found = _ENDS.match(plain)
+    if found:
+        raise ValueError(f"the query is {found[1]!r}, which begins or ends a transaction")
+
+
+# Words, functions, functions without an argument and texts of times that depend on the time, on chance or on the session.
 _WORDS = "current_date|current_time|current_timestamp|localtime|localtimestamp"
 _CALLS = (r"now|clock_timestamp|statement_timestamp|transaction_timestamp|timeofday|age|random|random_normal|randomblob|setseed|gen_random_uuid"
           r"|gen_random_bytes|uuid_generate_v\w+|uuidv4|uuidv7|nextval|currval|lastval|setval|last_insert_rowid|changes|total_changes|pg_sleep\w*"

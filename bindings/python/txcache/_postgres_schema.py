@@ -225,7 +225,7 @@ class Catalog:
 
     @staticmethod
     def _faults(found: Found, lookups: FrozenSet[Columns]) -> Iterable[str]:
-        if found.kind not in ("r", "p"):
+        if found.kind not in _WITH_TRIGGERS:
             yield f"it is {_KIND_NAMES.get(found.kind, 'no table')}, and not an ordinary or partitioned table"
         if found.persistence == "t":
             yield "it is a temporary table"
@@ -256,15 +256,20 @@ class Catalog:
         for given, standing in self.triggers().items():
             name, wanted = self.found[given].name, self.lookups[given]
             mine = {it.place: it for it in standing if it.trigger == label(name)}
-            for place, kind in {it.place: it.kind for it in standing}.items():
-                fault = self._fault(mine.get(place), kind, name, wanted)
+            lines += self.faults_of_partitions(given, standing)
+            for place in {it.place: None for it in standing if it.kind in _WITH_TRIGGERS}:
+                fault = self._fault(mine.get(place), name, wanted)
                 lines += [f"{given}: {fault.format(place)}"] if fault else []
         return lines
 
     @staticmethod
-    def _fault(standing: Optional[Standing], kind: str, name: Name, wanted: FrozenSet[Columns]) -> str:
-        if kind not in ("r", "p"):
-            return f"its partition {{}} is {_KIND_NAMES.get(kind, 'no table')}"
+    def faults_of_partitions(given: str, standing: Iterable[Standing]) -> List[str]:
+        """Returns which partitions of a table are no tables, such as foreign ones, whose rows change with no trigger."""
+        others = {it.place: it.kind for it in standing if it.kind not in _WITH_TRIGGERS and not it.is_root}
+        return [f"{given}: its partition {place} is {_KIND_NAMES.get(kind, 'no table')}" for place, kind in others.items()]
+
+    @staticmethod
+    def _fault(standing: Optional[Standing], name: Name, wanted: FrozenSet[Columns]) -> str:
         if standing is None:
             return "no trigger stands on {}"
         notes = noted(standing.text, name)
@@ -286,6 +291,7 @@ class Catalog:
         return Layout(relations, "%s", BOOLEANS)
 
 
+_WITH_TRIGGERS = "r", "p"  # kinds of relations: ordinary and partitioned tables
 _KIND_NAMES = {"v": "a view", "m": "a materialized view", "f": "a foreign table", "S": "a sequence", "c": "a composite type", "i": "an index"}
 
 

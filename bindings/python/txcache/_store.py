@@ -1,7 +1,6 @@
 """What a cache follows: the snapshots of a database, and what changed between one and the next."""
 
-from dataclasses import dataclass
-from typing import Any, FrozenSet, List, Optional, Protocol, Sequence, Tuple
+from typing import Any, FrozenSet, List, NamedTuple, Optional, Protocol, Sequence, Tuple
 
 from ._layout import Db, Layout, Read, Row, refuse_time_and_chance
 
@@ -24,8 +23,7 @@ class Snapshot(Protocol):
         """Lets it go."""
 
 
-@dataclass(frozen=True)
-class Look:
+class Look(NamedTuple):
     """A new snapshot, where it stands among the database's commits, and the tags of what changed since the last; None and why where that
     is not known, and all that is cached must go. No snapshot where nothing has changed since, and none was wanted."""
 

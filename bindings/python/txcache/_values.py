@@ -4,7 +4,8 @@ import pickle
 from typing import Any, Callable, Optional, Tuple
 
 Codec = Tuple[Callable[[Any], bytes], Callable[[bytes], Any]]
-_BYTES, _STR, _PICKLED, _CODED = b"b", b"s", b"p", b"c"
+_BYTES, _STR, _PICKLED, _CODED = b"bspc"  # the last byte says what those before it are; pickle reads no further than its own end
+TOO_LONG = b"l"  # of no value: in the place of one that is not cached
 
 
 def encode(value: Any, codec: Optional[Codec] = None) -> bytes:
@@ -14,26 +15,26 @@ def encode(value: Any, codec: Optional[Codec] = None) -> bytes:
         data = codec[0](value)
         if not isinstance(data, bytes):
             raise TypeError(f"the codec gave a {type(data).__name__}, and not bytes")
-        return _CODED + data
+        return data + b"c"
     if type(value) is bytes:
-        return _BYTES + value
+        return value + b"b"
     if type(value) is str:
-        return _STR + value.encode("utf-8", "surrogatepass")
+        return value.encode("utf-8", "surrogatepass") + b"s"
     try:
-        return _PICKLED + pickle.dumps(value, pickle.HIGHEST_PROTOCOL)
+        return pickle.dumps(value, pickle.HIGHEST_PROTOCOL) + b"p"
     except Exception as error:
         raise TypeError(f"pickle does not take a value of type {type(value).__name__}, and there is no codec: {error}") from error
 
 
 def decode(data: bytes, codec: Optional[Codec] = None) -> Any:
     """Returns the value of bytes, which `encode` gave with the same codec."""
-    kind = data[:1]
-    if kind == _CODED and codec:
-        return codec[1](data[1:])
-    if kind == _BYTES:
-        return data[1:]
-    if kind == _STR:
-        return data[1:].decode("utf-8", "surrogatepass")
+    kind = data[-1] if data else 0
     if kind == _PICKLED:
-        return pickle.loads(data[1:])
-    raise ValueError(f"no value begins with {kind!r}")
+        return pickle.loads(data)
+    if kind == _BYTES:
+        return data[:-1]
+    if kind == _STR:
+        return data[:-1].decode("utf-8", "surrogatepass")
+    if kind == _CODED and codec:
+        return codec[1](data[:-1])
+    raise ValueError(f"no value ends with {bytes((kind,))!r}")

@@ -21,7 +21,9 @@ LAST_FUNCTION = 63
 MAX_ARGS = 4
 LAST_TABLE = 15
 LAST_STAMP = 1_048_576
-MAX_VALUE_LEN = 1024
+MAX_VALUE_LEN = 1_048_576
+MAX_ASKS = 4096  # of the functions of an outermost call, all together
+FIRST_ROOM = 1024  # a longer value is asked for twice
 
 _DONE, _MISS, _KEPT, _NO_ROOM, _CLOSED, _ALREADY_OPEN, _BAD_ARGUMENT, _EMPTY_RANGE, _BAD_REACH, _OUT_OF_ORDER, _VALUE_TOO_LONG, _NO_MEMORY = range(12)
 
@@ -79,6 +81,10 @@ class _Counts(c.Structure):
     _fields_ = [(name, c.c_uint64) for name in ("lookups", "hits", "stored", "kept", "evicted")]
 
 
+class _Totals(c.Structure):
+    _fields_ = [("entries", c.c_size_t), ("bytes", c.c_size_t), ("trimmed", c.c_uint64)]
+
+
 def _declared(found):
     """The library, with the types of its functions of a node."""
     node, size = c.POINTER(_Handle), c.c_size_t
@@ -89,6 +95,8 @@ def _declared(found):
         "insert": [node, c.POINTER(_Key), c.POINTER(_Reach), c.POINTER(_Tag), size, c.c_char_p, size, c.POINTER(_Stored)],
         "event": [node, c.c_uint32, c.POINTER(_Tag), size, c.POINTER(size), c.POINTER(c.c_uint32)],
         "sweep": [node, c.c_uint32, c.POINTER(size)],
+        "trim": [node, size, c.POINTER(size)],
+        "totals": [node, c.POINTER(_Totals)],
         "count": [node, c.c_uint8, c.POINTER(_Counts)],
     }
     for name, kinds in parameters.items():
@@ -113,8 +121,10 @@ class Key:
     def __init__(self, function, *args):
         if len(args) > MAX_ARGS:
             raise Refused(_REFUSALS[_BAD_ARGUMENT])
-        self.function, self.args = _number(function, LAST_FUNCTION), tuple(_number(it, 2**32 - 1) for it in args)
-        self._key = _Key(self.function, len(args), (c.c_uint32 * MAX_ARGS)(*args))
+        for it in args:
+            _number(it, 2**32 - 1)
+        self.function, self.args = _number(function, LAST_FUNCTION), args
+        self._key = _Key(function, len(args), args)
 
     def __eq__(self, other):
         return isinstance(other, Key) and (self.function, self.args) == (other.function, other.args)
@@ -180,6 +190,14 @@ class Counts(NamedTuple):
     evicted: int
 
 
+class Totals(NamedTuple):
+    """How many entries a node holds, how many bytes their values have in all, and how many entries trims have dropped."""
+
+    entries: int
+    bytes: int
+    trimmed: int
+
+
 def _tags(tags):
     return (_Tag * len(tags))(*tags), len(tags)
 
@@ -193,7 +211,7 @@ class Node:
         number = _TXC.txc_node_open(self._handle, _number(capacity, 2**64 - 1), _number(recent, 2**64 - 1))
         if number != _DONE:
             _refuse(number)
-        self._buffer = c.create_string_buffer(MAX_VALUE_LEN)
+        self._buffer = c.create_string_buffer(FIRST_ROOM)
 
     def close(self):
         """Frees the node. A node that is closed stays so."""
@@ -210,15 +228,19 @@ class Node:
             self.close()
 
     def lookup(self, key, lo, hi):
-        """A result of the key that holds at some stamp from lo to hi, both included; or None."""
-        reach, length = _Reach(), c.c_size_t()
-        number = _TXC.txc_node_lookup(self._handle, key._key, _number(lo, 2**32 - 1), _number(hi, 2**32 - 1), reach, self._buffer, MAX_VALUE_LEN,
-                                      length)
+        """A result of the key that holds at some stamp from lo to hi, both included; or None. A value of more than 1,024 bytes is looked up
+        twice, and counts so."""
+        reach, length, buffer = _Reach(), c.c_size_t(), self._buffer
+        words = self._handle, key._key, _number(lo, 2**32 - 1), _number(hi, 2**32 - 1), reach
+        number = _TXC.txc_node_lookup(*words, buffer, len(buffer), length)
+        if number == _NO_ROOM:
+            buffer = c.create_string_buffer(length.value)
+            number = _TXC.txc_node_lookup(*words, buffer, len(buffer), length)
         if number == _MISS:
             return None
         if number != _DONE:
             _refuse(number)
-        return Hit(Reach(reach.lo, reach.known, reach.is_still), self._buffer.raw[:length.value])
+        return Hit(Reach(reach.lo, reach.known, reach.is_still), buffer[:length.value])
 
     def insert(self, key, reach, tags, value):
         """Inserts a result that was computed from the states of its reach, and depends on the tags. None where a result of the key
@@ -248,6 +270,23 @@ class Node:
         if number != _DONE:
             _refuse(number)
         return swept.value
+
+    def trim(self, most):
+        """Keeps the longest prefix of the results, the most recently used first, whose values have at most `most` bytes in all. Returns how many it
+        dropped. Call it after insertions, and the node stays within a budget of bytes."""
+        dropped = c.c_size_t()
+        number = _TXC.txc_node_trim(self._handle, _number(most, 2**64 - 1), dropped)
+        if number != _DONE:
+            _refuse(number)
+        return dropped.value
+
+    def totals(self):
+        """Returns what the node holds in all."""
+        totals = _Totals()
+        number = _TXC.txc_node_totals(self._handle, totals)
+        if number != _DONE:
+            _refuse(number)
+        return Totals(totals.entries, totals.bytes, totals.trimmed)
 
     def counts(self, function):
         """The counts of a function."""

@@ -23,7 +23,7 @@ INSTALL_TIMEOUT = 5.0  # seconds for which `install` waits for the lock of a tab
 IDLE_TIMEOUT = 30.0  # seconds after which the server ends a snapshot of which nothing was asked
 _TOKEN = re.compile(r"([0-9a-f]{16})-([0-9a-f]{1,16})")
 
-# What a snapshot is: its numbers, the server's, what was purged, the shape of the tables; and the tags of what it sees and the last did not.
+# A snapshot: its numbers, the server's, the number that was purged last, the shape of the tables; and the tags of rows that it sees and the last did not.
 # The server's own processes have other numbers once it has begun anew after one of its processes died; its start time is then as it was.
 _LOOK = """
 SELECT pg_current_snapshot()::text, concat(s.system, ' ', (SELECT oid FROM pg_database WHERE datname = current_database()), ' ',
@@ -119,6 +119,7 @@ class PostgresStore:
             catalog = self._catalog_of(link)
             standing, lines, refused = catalog.triggers(), [], catalog.faults_of_tables()
             for table, found in catalog.found.items():
+                refused[table] += catalog.faults_of_partitions(table, standing[table])
                 if not refused[table]:
                     try:
                         lines.append(f"{table}: {'installed' if installer.table(found, self._lookups[table], standing[table]) else 'stands'}")
@@ -443,6 +444,8 @@ class Readers:
         is_kept = False
         try:
             yield reader
+            if reader.link.is_idle:
+                raise ValueError("the query ended the transaction in which it ran: what it read is of no snapshot")
             is_kept = True
             if not snapshot.is_open:
                 raise SnapshotLost("the snapshot was let go")

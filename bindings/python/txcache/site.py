@@ -16,83 +16,59 @@ its arguments and what it was answered so far.
         with site.write(at=page.receipt.stamp) as write:
             write(highest, 7)       # what the page showed is to be so still, else the block ends with Conflict
             write.put(1, 2, 7, b"130")
+
+Threads share a site, each with blocks of its own, and blocks stand within blocks. A site has one lock, held for single calls of the library, and never
+while a function is computed.
 """
 
+import collections
 import ctypes as c
+import os
+import threading
 from typing import NamedTuple, Optional
 
-from .node import MAX_VALUE_LEN, Key, Refused, _Handle, _Key, _number, _TXC
+from . import _calls
+from ._calls import ALREADY_OPEN, ANSWERED, BAD_ARGUMENT, CLOSED, COMPUTE, CONFLICT, DONE, MID_CALL, MISS, NO_MEMORY, NO_ROOM, NOT_OPEN, REFUSED
+from .node import FIRST_ROOM, Key, Refused, Totals, _Handle, _number, _Totals
 
 LAST_SITE_STAMP = 4_294_967_294
+MAX_BODY_LEN = 65_536
+MAX_OPEN = 65_536
 
-_DONE, _MISS, _NO_ROOM, _BAD_ARGUMENT, _NO_MEMORY = 0, 1, 3, 6, 11
-_COMPUTE, _ANSWERED, _NOT_OPEN, _MID_CALL, _REFUSED, _OTHER_ASK, _CONFLICT = range(12, 19)
+_U32, _U64 = 2**32 - 1, 2**64 - 1
 _SAID = {
-    4: "the site is closed",
-    _BAD_ARGUMENT: "a number is above its limit, or a size is 0",
-    5: "a transaction is open already",
-    _NOT_OPEN: "no transaction is open of which this can be asked, or no function is computed",
-    _MID_CALL: "a call is open",
-    _REFUSED: "the call, or what was asked, was refused; or there is no such state",
-    _OTHER_ASK: "another ask was supplied for the same answers",
-    _CONFLICT: "what was read has changed",
+    CLOSED: "the site is closed",
+    BAD_ARGUMENT: "a number is above its limit, a size is wrong, or a body is too long",
+    ALREADY_OPEN: "the site is open already",
+    NOT_OPEN: "the transaction is not open, or no function is computed",
+    MID_CALL: "a call is open",
+    REFUSED: "the call, or what was asked, was refused; or none can begin now, or there is no such state",
+    CONFLICT: "what was read has changed",
 }
+_TXC = _calls.declared()
+_forks = 0  # how many times this process has come out of a fork
 
 
-class _Row(c.Structure):
-    _fields_ = [("table", c.c_uint8), ("id", c.c_uint32), ("group", c.c_uint32)]
+def _count_fork():
+    global _forks
+    _forks += 1
 
 
-class _Query(c.Structure):
-    _fields_ = [("table", c.c_uint8), ("kind", c.c_uint8), ("first", c.c_uint32), ("last", c.c_uint32)]
-
-
-class _Receipt(c.Structure):
-    _fields_ = [("answers", c.c_size_t), ("has_pin", c.c_bool), ("stamp", c.c_uint32), ("moment", c.c_uint64)]
-
-
-class _Kept(c.Structure):
-    _fields_ = [("retired", c.c_size_t), ("horizon", c.c_uint32), ("swept", c.c_size_t)]
-
-
-def _declare():
-    site, size, u32, u64 = c.POINTER(_Handle), c.c_size_t, c.c_uint32, c.c_uint64
-    out, text = [c.c_char_p, size, c.POINTER(size)], [c.c_char_p, size]
-    parameters = {
-        "site_open": [size, size, size, u64],
-        "site_close": [],
-        "begin": [u64, u64, u32],
-        "call": [c.POINTER(_Key), *out],
-        "query_rows": [c.POINTER(_Query), c.POINTER(size)],
-        "row_at": [size, c.POINTER(_Row), *out],
-        "answer": out,
-        "finish": [*text, *out],
-        "give_up": [],
-        "commit": [c.POINTER(_Receipt)],
-        "abort": [],
-        "begin_write": [],
-        "begin_write_at": [u32],
-        "put": [c.c_uint8, u32, u32, *text],
-        "remove": [c.c_uint8, u32],
-        "commit_write": [c.POINTER(u32)],
-        "keep": [u64, u64, c.POINTER(_Kept)],
-    }
-    for name, kinds in parameters.items():
-        function = getattr(_TXC, f"txc_{name}")
-        function.argtypes, function.restype = [site, *kinds], u32
-
-
-_declare()
+os.register_at_fork(after_in_child=_count_fork)
 
 
 class Conflict(Refused):
     """What was read has changed: nothing is committed."""
 
 
+class GivenUp(Refused):
+    """A function asks, or gives a value, whose call was given up since something in it failed; or one that has ended asks."""
+
+
 def _refuse(number):
-    if number == _NO_MEMORY:
+    if number == NO_MEMORY:
         raise MemoryError
-    if number == _CONFLICT:
+    if number == CONFLICT:
         raise Conflict(_SAID[number])
     raise Refused(_SAID.get(number, f"refused: {number}"))
 
@@ -143,6 +119,13 @@ class Receipt(NamedTuple):
     moment: Optional[int]
 
 
+class Member(NamedTuple):
+    """A pin at which all that a transaction was answered is right."""
+
+    stamp: int
+    moment: int
+
+
 def cacheable(number):
     """Gives a function its number. It is called with a `call`, of which it asks, and its arguments, and gives bytes."""
 
@@ -153,160 +136,337 @@ def cacheable(number):
     return named
 
 
-class _Asking:
-    """Who asks: a transaction outside its functions, or a function."""
+class _Function:
+    """What a function asks: its transaction, until it ends."""
 
-    def __init__(self, site):
-        self._site = site
+    def __init__(self, transaction):
+        self._transaction = transaction
 
     def rows(self, query):
-        """The rows of a query."""
-        count = c.c_size_t()
-        words = map(_number, query, (255, 255, 2**32 - 1, 2**32 - 1))
-        number = self._site._ask("query_rows", c.byref(_Query(*words)), c.byref(count))
-        if number != _ANSWERED:
-            _refuse(number)
-        return [self._site._row(at) for at in range(count.value)]
+        """Returns the rows of a query."""
+        return self._asked().rows(query)
 
     def __call__(self, function, *args):
-        """The value of a call."""
-        site = self._site
-        number, value = site._told("call", c.byref(Key(function.cacheable, *args)._key))
-        if number == _COMPUTE:
-            try:
-                given = bytes(function(_Asking(site), *args))
-            except BaseException:
-                site._ask("give_up")
-                raise
-            number, value = site._told("finish", given, len(given))
-            if number not in (_DONE, _ANSWERED):
-                site._ask("give_up")
-        if number not in (_DONE, _ANSWERED):
-            _refuse(number)
-        return value
+        """Returns the value of a call."""
+        return self._asked()(function, *args)
+
+    def _asked(self):
+        if self._transaction is None:
+            raise GivenUp("the function has ended")
+        return self._transaction
 
 
-class _Page(_Asking):
-    """A transaction that only reads. Its receipt is there once the block has ended."""
+class _Transaction:
+    """An open transaction, by its number; 0 once it has ended. In mid-call it is asked by the thread that computes its functions, alone."""
 
-    receipt = None
+    _number = 0
+
+    def __init__(self, site, number):
+        self._site, self._number = site, number
+        self._depth, self._thread, self._is_given_up = 0, None, False
 
     def __enter__(self):
         return self
 
+    def __del__(self):
+        # in any thread, maybe one that holds a lock: so this waits for none
+        if self._number:
+            self._site._forgotten.append(self._number)
+
+    @property
+    def number(self):
+        """The number by which `Site.abort` aborts it; 0 once it has ended. A later transaction has a greater one."""
+        return self._number
+
+    def rows(self, query):
+        """Returns the rows of a query."""
+        words = map(_number, query, (255, 255, _U32, _U32))
+        site, count = self._site, c.c_size_t()
+        with site._turn():
+            self._check()
+            number = _TXC.query_rows(site._handle, self._number, _calls.Query(*words), count)
+            rows = self._rows(count.value) if number == ANSWERED else []
+        if number != ANSWERED:
+            self._refuse(number)
+        return rows
+
+    def _rows(self, count):
+        row, site, rows = _calls.Row(), self._site, []
+        buffer, size = pair = site._buffer()
+        for at in range(count):
+            body = buffer
+            number = _TXC.row_at(site._handle, self._number, at, row, body, FIRST_ROOM, size)
+            if number == NO_ROOM:
+                body = c.create_string_buffer(size.value)
+                number = _TXC.row_at(site._handle, self._number, at, row, body, len(body), size)
+            if number != DONE:
+                self._refuse(number)
+            rows.append(Row(row.table, row.id, row.group, body[: size.value]))
+        site._buffers.append(pair)
+        return rows
+
+    def __call__(self, function, *args):
+        """Returns the value of a call."""
+        number, value = self._told(_TXC.call, Key(function.cacheable, *args)._key)
+        if number == COMPUTE:
+            return self._computed(function, args)
+        if number not in (DONE, ANSWERED):
+            self._refuse(number)
+        return value
+
+    def _computed(self, function, args):
+        """Returns the value of the function that is computed, with no lock held. If that fails, the whole call is given up."""
+        asking = _Function(self)
+        try:
+            given = bytes(function(asking, *args))
+            number, value = self._told(_TXC.finish, given, len(given))
+            if number not in (DONE, ANSWERED):
+                _refuse(number)
+            return value
+        except BaseException:
+            self._give_up()
+            raise
+        finally:
+            asking._transaction = None
+            self._is_given_up &= self._depth > 1
+            self._depth -= 1
+
+    def _told(self, ask, *words):
+        """Makes a call of the library that may write a value. Returns its number, and the value: one that is longer than the buffer is asked for
+        again."""
+        site = self._site
+        with site._turn():
+            self._check()
+            buffer, size = pair = site._buffer()
+            number = ask(site._handle, self._number, *words, buffer, FIRST_ROOM, size)
+            if number == COMPUTE:
+                self._thread, self._depth = threading.get_ident(), self._depth + 1
+            if number == NO_ROOM:
+                buffer = c.create_string_buffer(size.value)
+                number = _TXC.answer(site._handle, self._number, buffer, len(buffer), size)
+            value = buffer[: size.value] if number in (DONE, ANSWERED) else b""
+            site._buffers.append(pair)
+            return number, value
+
+    def _ask(self, ask, *words):
+        with self._site._turn():
+            self._check()
+            return ask(self._site._handle, self._number, *words)
+
+    def _check(self):
+        if self._depth:
+            if self._thread != threading.get_ident():
+                raise Refused("another thread computes a function of this transaction")
+            if self._is_given_up:
+                raise GivenUp("the function's call was given up")
+
+    def _refuse(self, number):
+        """Refuses what was asked. Within a function, that has ended the open call, unless an argument was bad."""
+        if self._depth and number != BAD_ARGUMENT:
+            self._give_up()
+        _refuse(number)
+
+    def _give_up(self):
+        """Gives the open call up, with the calls around it: none of their functions asks any more."""
+        if not self._is_given_up:
+            self._is_given_up = True
+            if self._site._is_ours():
+                with self._site._lock:
+                    _TXC.give_up(self._site._handle, self._number)
+
+    def _abort(self):
+        number, self._number = self._number, 0
+        if number and self._site._is_ours():
+            with self._site._lock:
+                _TXC.abort(self._site._handle, number)
+
+    def _end(self, ask, out):
+        """Commits. If that fails, aborts."""
+        try:
+            number = self._ask(ask, out)
+            if number != DONE:
+                _refuse(number)
+            self._number = 0
+        except BaseException:
+            self._abort()
+            raise
+
+    def read_stamp(self):
+        """Returns the stamp of the state that the next query reads; None if that pins the present first."""
+        stamp = c.c_uint32()
+        number = self._ask(_TXC.read_stamp, stamp)
+        if number not in (DONE, MISS):
+            _refuse(number)
+        return stamp.value if number == DONE else None
+
+
+class _Page(_Transaction):
+    """A transaction that only reads. Its receipt is there once the block has ended."""
+
+    receipt = None
+
     def __exit__(self, kind, error, trace):
         if kind:
-            self._site._ask("abort")
+            self._abort()
             return
-        receipt = _Receipt()
-        number = self._site._ask("commit", c.byref(receipt))
-        if number != _DONE:
-            self._site._ask("abort")
-            _refuse(number)
+        receipt = _calls.Receipt()
+        self._end(_TXC.commit, receipt)
         pin = (receipt.stamp, receipt.moment) if receipt.has_pin else (None, None)
         self.receipt = Receipt(receipt.answers, *pin)
 
+    def members(self):
+        """Returns the pins at which all that was answered is right, the newest first."""
+        stamp, moment, members = c.c_uint32(), c.c_uint64(), []
+        with self._site._turn():
+            self._check()
+            number = DONE
+            while number == DONE:
+                number = _TXC.member_at(self._site._handle, self._number, len(members), stamp, moment)
+                members += [Member(stamp.value, moment.value)] * (number == DONE)
+        if number != MISS:
+            _refuse(number)
+        return members
 
-class _Write(_Asking):
+
+class _Write(_Transaction):
     """A transaction that writes; it is committed where the block ends well, and given up where that is refused. It does not see
     its own changes, and uses no cache: each function is computed."""
 
     stamp = None
 
-    def __enter__(self):
-        return self
-
     def put(self, table, number, group, body):
-        self._do("put", table, number, group, body, len(body))
+        self._do(_TXC.put, _number(table, 255), _number(number, _U32), _number(group, _U32), body, len(body))
 
     def remove(self, table, number):
-        self._do("remove", table, number)
+        self._do(_TXC.remove, _number(table, 255), _number(number, _U32))
 
-    def _do(self, name, *words):
-        number = self._site._ask(name, *words)
-        if number != _DONE:
+    def _do(self, ask, *words):
+        number = self._ask(ask, *words)
+        if number != DONE:
             _refuse(number)
 
     def __exit__(self, kind, error, trace):
         if kind:
-            self._site._ask("abort")
+            self._abort()
             return
         stamp = c.c_uint32()
-        number = self._site._ask("commit_write", c.byref(stamp))
-        if number != _DONE:
-            self._site._ask("abort")
-            _refuse(number)
+        self._end(_TXC.commit_write, stamp)
         self.stamp = stamp.value
 
 
 class Site:
-    """A database, its pins, and a node of so many entries. It has room for `events` commits and pins, which it stores; or, where that is
-    None, no bound on them, and none is stored: `keep` lets go what no transaction can read any more."""
+    """A database, its pins, and a node of so many entries, which keeps the tags of the last `recent` events; 0 is the most that there may be. It has
+    room for `events` commits and pins, which it stores; or, where that is None, no bound on them, and none is stored: `keep` lets go what no transaction
+    can read any more. A forked child can use no site of its parent."""
 
-    def __init__(self, events, capacity, recent, renew_after=20_000):
-        self._handle = _Handle(None, False)
+    def __init__(self, events=None, capacity=0, recent=0, renew_after=20_000):
+        self._handle, self._lock, self._born = _Handle(None, False), threading.RLock(), _forks
+        self._forgotten, self._buffers = collections.deque(), []
         if events == 0:
-            _refuse(_BAD_ARGUMENT)
-        number = self._ask("site_open", events or 0, capacity, recent, renew_after)
-        if number != _DONE:
-            _refuse(number)
+            _refuse(BAD_ARGUMENT)
+        words = (_number(it, _U64) for it in (events or 0, capacity, recent, renew_after))
+        self._do(_TXC.site_open, _calls.Settings(c.sizeof(_calls.Settings), *words))
 
     def __enter__(self):
         return self
 
     def __exit__(self, *_):
-        self.close()
-
-    def __del__(self):
-        if hasattr(self, "_handle"):
+        if self._is_ours():
             self.close()
 
+    def __del__(self):
+        # nobody else has it, so that the lock is free
+        if hasattr(self, "_buffers") and self._is_ours():
+            _TXC.site_close(self._handle)
+
     def close(self):
-        """Frees all of it. A site that is closed stays so."""
-        self._ask("site_close")
+        """Frees all of it, and aborts what is open. A site that is closed stays so."""
+        with self._turn():
+            _TXC.site_close(self._handle)
 
     def read(self, now, staleness, at_least=0):
         """Begins a transaction that only reads, at `now` in milliseconds."""
-        number = self._ask("begin", now, staleness, at_least)
-        if number != _DONE:
-            _refuse(number)
-        return _Page(self)
+        return _Page(self, self._begun(_TXC.begin, _number(now, _U64), _number(staleness, _U64), _number(at_least, _U32)))
 
     def write(self, at=None):
-        """Begins a transaction that writes, over the newest state; or over that of the stamp `at`, such as a receipt's, and then it is
-        committed only if no later event changed what it has read."""
-        number = self._ask("begin_write") if at is None else self._ask("begin_write_at", at)
-        if number != _DONE:
-            _refuse(number)
-        return _Write(self)
+        """Begins a transaction that writes, over the newest state, which stays until it ends; or over that of the stamp `at`, such as a receipt's,
+        which does not stay. It is committed only if no later event changed what it has read."""
+        if at is None:
+            return _Write(self, self._begun(_TXC.begin_write))
+        return _Write(self, self._begun(_TXC.begin_write_at, _number(at, _U32)))
+
+    def _begun(self, begin, *words):
+        txn = c.c_uint64()
+        self._do(begin, *words, txn)
+        return txn.value
+
+    def pin(self, moment):
+        """Pins the newest state, with this moment in milliseconds, for transactions that begin later. Returns its stamp."""
+        stamp = c.c_uint32()
+        self._do(_TXC.pin, _number(moment, _U64), stamp)
+        return stamp.value
 
     def keep(self, now, age):
-        """Tidies, while no transaction is open: retires the pins that are more than `age` before `now`, both in milliseconds, and
+        """Tidies, whatever is open: retires the pins that no transaction uses and that are more than `age` before `now`, both in milliseconds, and
         drops what no transaction can read any more. Call it now and then."""
-        kept = _Kept()
-        number = self._ask("keep", now, age, c.byref(kept))
-        if number != _DONE:
-            _refuse(number)
+        kept = _calls.Kept()
+        self._do(_TXC.keep, _number(now, _U64), _number(age, _U64), kept)
         return Kept(kept.retired, kept.horizon, kept.swept)
 
-    def _ask(self, name, *words):
-        function = getattr(_TXC, f"txc_{name}")
-        for word, kind in zip(words, function.argtypes[1:]):
-            if isinstance(word, int):
-                _number(word, 256 ** c.sizeof(kind) - 1)
-        return function(c.byref(self._handle), *words)
+    def trim(self, most):
+        """Keeps the longest prefix of the node's results, the most recently used first, whose values have at most `most` bytes in all, whatever is open.
+        Returns how many it dropped. Call it after each `keep`, and the results take no more than a budget of bytes and what was inserted since."""
+        dropped = c.c_size_t()
+        self._do(_TXC.site_trim, _number(most, _U64), dropped)
+        return dropped.value
 
-    def _told(self, name, *words):
-        buffer, size = c.create_string_buffer(MAX_VALUE_LEN), c.c_size_t()
-        number = self._ask(name, *words, buffer, MAX_VALUE_LEN, c.byref(size))
-        return number, buffer.raw[: size.value]
+    def totals(self):
+        """Returns what the node holds in all."""
+        totals = _Totals()
+        self._do(_TXC.site_totals, totals)
+        return Totals(totals.entries, totals.bytes, totals.trimmed)
 
-    def _row(self, at):
-        row, size, buffer = _Row(), c.c_size_t(), c.create_string_buffer(4096)
-        number = self._ask("row_at", at, c.byref(row), buffer, len(buffer), c.byref(size))
-        if number == _NO_ROOM:
-            buffer = c.create_string_buffer(size.value)
-            number = self._ask("row_at", at, c.byref(row), buffer, len(buffer), c.byref(size))
-        if number != _DONE:
+    def open_transactions(self):
+        """Returns how many transactions are open."""
+        count = c.c_size_t()
+        self._do(_TXC.open_transactions, count)
+        return count.value
+
+    def oldest_open(self):
+        """Returns the number of the open transaction that began first; None if none is open."""
+        txn = c.c_uint64()
+        with self._turn():
+            number = _TXC.oldest_open(self._handle, txn)
+        if number not in (DONE, MISS):
             _refuse(number)
-        return Row(row.table, row.id, row.group, buffer.raw[: size.value])
+        return txn.value if number == DONE else None
+
+    def abort(self, number):
+        """Aborts an open transaction, as one that was forgotten: whoever has it is refused from then on."""
+        self._do(_TXC.abort, _number(number, _U64))
+
+    def _do(self, ask, *words):
+        with self._turn():
+            number = ask(self._handle, *words)
+        if number != DONE:
+            _refuse(number)
+
+    def _is_ours(self):
+        return self._born == _forks
+
+    def _turn(self):
+        """Returns the lock, for a `with` around single calls of the library. First aborts what was collected."""
+        if not self._is_ours():
+            raise Refused("the site is one of the parent of this process")
+        if self._forgotten:
+            self._abort_forgotten()
+        return self._lock
+
+    def _abort_forgotten(self):
+        with self._lock:
+            while self._forgotten:
+                _TXC.abort(self._handle, self._forgotten.popleft())
+
+    def _buffer(self):
+        """Returns a buffer with room for a short value or body, and one for a length. Under the lock; then it goes back."""
+        return self._buffers.pop() if self._buffers else (c.create_string_buffer(FIRST_ROOM), c.c_size_t())

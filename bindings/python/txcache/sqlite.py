@@ -13,8 +13,7 @@ import sqlite3
 import sys
 import threading
 import time
-from dataclasses import dataclass
-from typing import Any, Dict, FrozenSet, Iterable, Iterator, List, Mapping, Optional, Sequence, Set, Tuple, Union
+from typing import Any, Dict, FrozenSet, Iterable, Iterator, List, Mapping, NamedTuple, Optional, Sequence, Set, Tuple, Union
 
 from ._layout import NULL, Columns, Kind, Layout, Name, Read, Relation, Row, dicts, literal, lookups_of, prefix_of, quote
 from ._store import MAX_TAGS, PURGE_AGE, Look
@@ -22,6 +21,7 @@ from .errors import NotInstalled, SnapshotLost
 
 VERSION = 1
 MAX_LOG = 8 << 20  # bytes of the write-ahead log, from which on no snapshot stays open: while one is, the log can't begin anew
+_NOTES = 1000  # that are read at once
 BUSY_TIMEOUT = 5.0  # seconds for which `install` and `purge` wait for a writer
 BOOLEANS = "0", "1"
 _TOKEN = re.compile(r"([0-9a-f]{16})-s([0-9a-f]{1,16})")
@@ -37,16 +37,16 @@ CREATE TABLE IF NOT EXISTS txcache_purges (below INTEGER NOT NULL, made REAL NOT
 _NEWEST = "SELECT coalesce(max(seq), 0) FROM sqlite_sequence WHERE name = 'txcache_notes'"
 
 
-@dataclass(frozen=True)
-class Mark:
-    """Where a snapshot stands: the file, its last note, its shape; and `version`, by which the file says that it has changed."""
+class Mark(NamedTuple):
+    """Where a snapshot stands: the file, its last note, its shape; and `version`, by which the file says that it has changed: a number that means
+    something to one connection alone, after the number of that."""
 
     file: Tuple[int, int]
     name: str
     newest: int
     shape: int
     upto: int
-    version: int
+    version: Tuple[int, int]
 
 
 class SqliteStore:
@@ -55,10 +55,12 @@ class SqliteStore:
 
     def __init__(self, path: Union[str, "os.PathLike[str]"], tables: Mapping[str, Sequence[Union[str, Tuple[str, ...]]]], *, max_log: int = MAX_LOG):
         self.path, self.max_log = os.fspath(path), max_log
+        self._log = self.path + "-wal"
         self._names = {it: Name.parse(it) for it in tables}
         if any(it.schema for it in self._names.values()):
             raise ValueError("a table of a SQLite file has no schema before its name")
         self._lookups = {it: lookups_of(columns) for it, columns in tables.items()}
+        self._noted = {it.table for it in self._names.values()}
         self.forget()
 
     def prepare(self, connections: int, hold: float) -> None:
@@ -69,6 +71,7 @@ class SqliteStore:
         inherited = vars(self).get("_probe"), vars(self).get("_spare")
         self._lock = threading.RLock()
         self._probe: Optional[sqlite3.Connection] = None
+        self._probes = 0
         self._spare: List[sqlite3.Connection] = []
         self._file: Optional[Tuple[int, int]] = None
         self._layout: Optional[Layout] = None
@@ -194,10 +197,11 @@ class SqliteStore:
             self.close()
             self._file = self._identity()
             self._probe = self._connect()
+            self._probes += 1
             if self._file != self._identity():
                 raise SnapshotLost("the file was changed for another while it was opened")
         # read before the snapshot is taken: a commit between the two is found by the next look
-        (version,), = self._probe.execute("PRAGMA data_version")
+        version = self._probes, self._probe.execute("PRAGMA data_version").fetchone()[0]
         if last is not None and not is_wanted and version == last.version and last.file == self._file:
             return Look(None, last, frozenset())
         link = self._spare.pop() if self._spare else self._connect()
@@ -207,7 +211,7 @@ class SqliteStore:
             link.close()
             raise
 
-    def _taken(self, link: sqlite3.Connection, last: Optional[Mark], version: int) -> Look:
+    def _taken(self, link: sqlite3.Connection, last: Optional[Mark], version: Tuple[int, int]) -> Look:
         link.execute("BEGIN")
         (shape,), = link.execute("PRAGMA schema_version")
         # the first that reads, so it takes the snapshot
@@ -218,43 +222,44 @@ class SqliteStore:
             self._read_by = {}
             self._layout = Layout([_relation(link, it, name, self._lookups[it]) for it, name in self._names.items()], "?", BOOLEANS)
             (shape,), = link.execute("PRAGMA schema_version")
-        (newest,), = link.execute(_NEWEST)
-        (name, upto), = link.execute("SELECT name, upto FROM txcache_state")
+        (newest, name, upto), = link.execute(f"SELECT ({_NEWEST}), name, upto FROM txcache_state")
         mark = Mark(self._file, name, newest, shape, upto, version)
         tags, reason = None, _why_cold(last, mark)
         if not reason:
-            tags = self._tags_since(link, last.newest)
+            tags = self._tags_since(link, last.newest) if newest > last.newest else frozenset()
             reason = f"more than {MAX_TAGS} tags changed" if len(tags) > MAX_TAGS else ""
-        return Look(SqliteSnapshot(self, link, self._layout, self._read_by), mark, None if reason else frozenset(tags), reason)
+        return Look(SqliteSnapshot(self, link, self._file, self._layout, self._read_by), mark, None if reason else tags, reason)
 
     def _tags_since(self, link: sqlite3.Connection, last: int) -> FrozenSet[str]:
-        tables = {it.table for it in self._names.values()}
-        found = set()
-        for relation, keys in link.execute("SELECT relation, CAST(keys AS BLOB) FROM txcache_notes WHERE number > ?", (last,)):
-            if relation in tables:
-                found.add(f"{relation}:")
-                found.update(f"{relation}:{it}" for it in json.loads(keys.decode("utf-8", "replace")))
-            if len(found) > MAX_TAGS:
+        cursor, found = link.execute("SELECT relation, CAST(keys AS BLOB) FROM txcache_notes WHERE number > ?", (last,)), set()
+        while len(found) <= MAX_TAGS:
+            rows = cursor.fetchmany(_NOTES)
+            keys = json.loads("[" + b",".join([it for _, it in rows]).decode("utf-8", "replace") + "]")
+            for (relation, _), them in zip(rows, keys):
+                if relation in self._noted:
+                    found.add(f"{relation}:")
+                    found.update([f"{relation}:{it}" for it in them])
+            if len(rows) < _NOTES:
                 break
         return frozenset(found)
 
-    def put_back(self, link: sqlite3.Connection) -> None:
-        """Ends the transaction of a connection, and keeps the connection for the next snapshot."""
+    def put_back(self, link: sqlite3.Connection, file: Tuple[int, int]) -> None:
+        """Ends the transaction of a connection, and keeps the connection for the next snapshot if its file is still the one that is followed."""
         with self._lock:
             try:
                 if link.in_transaction:
                     link.execute("ROLLBACK")
-                if self._probe is not None and len(self._spare) < 2 and self._file == self._identity():
+                if self._probe is not None and len(self._spare) < 2 and file == self._file:
                     self._spare.append(link)
                     return
-            except (sqlite3.Error, OSError):
+            except sqlite3.Error:
                 pass
             link.close()
 
     def wants_air(self) -> bool:
         """Returns True if the log has grown over `max_log` bytes."""
         try:
-            return os.path.getsize(self.path + "-wal") > self.max_log
+            return os.stat(self._log).st_size > self.max_log
         except OSError:
             return False
 
@@ -300,9 +305,9 @@ def _why_cold(last: Optional[Mark], mark: Mark) -> str:
 class SqliteSnapshot:
     """A connection with a read transaction open. Threads take turns. `read_by` has the tables of queries that were compiled before."""
 
-    def __init__(self, store: SqliteStore, link: sqlite3.Connection, layout: Layout, read_by: Dict[str, FrozenSet[str]]):
+    def __init__(self, store: SqliteStore, link: sqlite3.Connection, file: Tuple[int, int], layout: Layout, read_by: Dict[str, FrozenSet[str]]):
         self.layout, self.is_open, self._read_by = layout, True, read_by
-        self._store, self._link, self._lock = store, link, threading.RLock()
+        self._store, self._link, self._file, self._lock = store, link, file, threading.RLock()
 
     def rows(self, read: Read) -> List[Row]:
         return self._rows(read.query, read.args)
@@ -362,7 +367,7 @@ class SqliteSnapshot:
             if not self.is_open:
                 return
             self.is_open = False
-        self._store.put_back(self._link)
+        self._store.put_back(self._link, self._file)
 
 
 @contextlib.contextmanager
@@ -487,12 +492,14 @@ def _trigger_texts(link: sqlite3.Connection, table: str, lookups: FrozenSet[Colu
     keys = [[name for name, _ in columns] for _, columns in _unique_indexes(link, table)]
     rowid = _rowid(link, table)
     keys += [[rowid]] if rowid else []
-    in_the_way = " ".join(f"{note} SELECT {other} FROM {quote(table)} AS it WHERE {' AND '.join(f'it.{_quoted(name)} = NEW.{_quoted(name)}' for name in key)};"
-                          for key in keys)
+    in_the_way = [f"{note} SELECT {other} FROM {quote(table)} AS it WHERE {' AND '.join(f'it.{_quoted(name)} = NEW.{_quoted(name)}' for name in key)}" for key in keys]
+    own = [rowid] if rowid else [it for it, (_, place) in _columns(link, table).items() if place]
+    is_other = f" AND NOT ({' AND '.join(f'it.{_quoted(name)} IS OLD.{_quoted(name)}' for name in own)})" if own else ""
     bodies = {"insert": ("AFTER INSERT", f"{note} SELECT {new};"), "delete": ("AFTER DELETE", f"{note} SELECT {old};"),
               "update": ("AFTER UPDATE", f"{note} SELECT {old} UNION SELECT {new};")}
     if in_the_way:
-        bodies.update(before_insert=("BEFORE INSERT", in_the_way), before_update=("BEFORE UPDATE", in_the_way))
+        bodies.update(before_insert=("BEFORE INSERT", " ".join(f"{it};" for it in in_the_way)),
+                      before_update=("BEFORE UPDATE", " ".join(f"{it}{is_other};" for it in in_the_way)))
     return {f"txcache_{table}_{name}": f"CREATE TRIGGER {quote(f'txcache_{table}_{name}')} {when} ON {quote(table)} FOR EACH ROW BEGIN {head}\n{body} END"
             for name, (when, body) in bodies.items()}
 

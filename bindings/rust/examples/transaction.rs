@@ -20,19 +20,19 @@ fn summary(asking: &mut dyn Asking, item: u32) -> Result<Vec<u8>, Error> {
     Ok([b"highest ", &highest[..], b", bids ", &bids[..]].concat())
 }
 
-fn bid(site: &mut Site, id: u32, amount: &[u8]) -> Result<u32, Error> {
+fn bid(site: &Site, id: u32, amount: &[u8]) -> Result<u32, Error> {
     let mut write = site.write()?;
     write.put(1, id, 7, amount)?;
     write.commit()
 }
 
 fn main() -> Result<(), Error> {
-    let mut site = Site::new(None, 100, 64, 20_000)?;
-    bid(&mut site, 1, b"110")?;
+    let site = Site::new(None, 100, 64, 20_000)?;
+    bid(&site, 1, b"110")?;
     let mut page = site.read(1000, 30_000)?;
     page.cached(Key::new(0, &[7])?, |asking| highest(asking, 7))?;
     page.commit()?;
-    bid(&mut site, 2, b"130")?;
+    bid(&site, 2, b"130")?;
     let mut shown = Vec::new();
     for now in [2000, 40_000] {
         let mut page = site.read(now, 30_000)?;

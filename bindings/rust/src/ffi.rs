@@ -52,6 +52,14 @@ pub struct Counts {
 
 #[repr(C)]
 #[derive(Clone, Copy)]
+pub struct Totals {
+    pub entries: usize,
+    pub bytes: usize,
+    pub trimmed: u64,
+}
+
+#[repr(C)]
+#[derive(Clone, Copy)]
 pub struct Row {
     pub table: u8,
     pub id: u32,
@@ -78,11 +86,23 @@ pub struct Receipt {
 
 #[repr(C)]
 #[derive(Clone, Copy)]
+pub struct SiteSettings {
+    pub size: usize,
+    pub events: usize,
+    pub capacity: usize,
+    pub recent: usize,
+    pub renew_after: u64,
+}
+
+#[repr(C)]
+#[derive(Clone, Copy)]
 pub struct Kept {
     pub retired: usize,
     pub horizon: u32,
     pub swept: usize,
 }
+
+pub const ABI: u32 = 2;
 
 pub const DONE: u32 = 0;
 pub const MISS: u32 = 1;
@@ -96,8 +116,8 @@ pub const VALUE_TOO_LONG: u32 = 10;
 pub const NO_MEMORY: u32 = 11;
 pub const COMPUTE: u32 = 12;
 pub const ANSWERED: u32 = 13;
+pub const NOT_OPEN: u32 = 14;
 pub const MID_CALL: u32 = 15;
-pub const OTHER_ASK: u32 = 17;
 pub const CONFLICT: u32 = 18;
 
 extern "C" {
@@ -132,35 +152,48 @@ extern "C" {
         processed: *mut u32,
     ) -> u32;
     pub fn txc_node_sweep(node: *mut Handle, horizon: u32, swept: *mut usize) -> u32;
+    pub fn txc_node_trim(node: *mut Handle, most: usize, dropped: *mut usize) -> u32;
+    pub fn txc_node_totals(node: *mut Handle, totals: *mut Totals) -> u32;
     pub fn txc_node_count(node: *mut Handle, function: u8, counts: *mut Counts) -> u32;
-    pub fn txc_site_open(site: *mut Handle, events: usize, capacity: usize, recent: usize, renew_after: u64) -> u32;
+    pub fn txc_abi() -> u32;
+    pub fn txc_site_open(site: *mut Handle, settings: *const SiteSettings) -> u32;
     pub fn txc_site_close(site: *mut Handle) -> u32;
-    pub fn txc_begin(site: *mut Handle, now: u64, staleness: u64, at_least: u32) -> u32;
-    pub fn txc_call(site: *mut Handle, key: *const Key, value: *mut u8, room: usize, len: *mut usize) -> u32;
-    pub fn txc_query_rows(site: *mut Handle, query: *const Query, count: *mut usize) -> u32;
+    pub fn txc_begin(site: *mut Handle, now: u64, staleness: u64, at_least: u32, txn: *mut u64) -> u32;
+    pub fn txc_call(site: *mut Handle, txn: u64, key: *const Key, value: *mut u8, room: usize, len: *mut usize) -> u32;
+    pub fn txc_query_rows(site: *mut Handle, txn: u64, query: *const Query, count: *mut usize) -> u32;
     pub fn txc_row_at(
         site: *mut Handle,
+        txn: u64,
         at: usize,
         row: *mut Row,
         body: *mut u8,
         room: usize,
         len: *mut usize,
     ) -> u32;
+    pub fn txc_answer(site: *mut Handle, txn: u64, value: *mut u8, room: usize, len: *mut usize) -> u32;
     pub fn txc_finish(
         site: *mut Handle,
+        txn: u64,
         bytes: *const u8,
         count: usize,
         value: *mut u8,
         room: usize,
         len: *mut usize,
     ) -> u32;
-    pub fn txc_give_up(site: *mut Handle) -> u32;
-    pub fn txc_commit(site: *mut Handle, receipt: *mut Receipt) -> u32;
-    pub fn txc_abort(site: *mut Handle) -> u32;
-    pub fn txc_begin_write(site: *mut Handle) -> u32;
-    pub fn txc_begin_write_at(site: *mut Handle, stamp: u32) -> u32;
-    pub fn txc_put(site: *mut Handle, table: u8, id: u32, group: u32, body: *const u8, len: usize) -> u32;
-    pub fn txc_remove(site: *mut Handle, table: u8, id: u32) -> u32;
-    pub fn txc_commit_write(site: *mut Handle, stamp: *mut u32) -> u32;
+    pub fn txc_give_up(site: *mut Handle, txn: u64) -> u32;
+    pub fn txc_read_stamp(site: *mut Handle, txn: u64, stamp: *mut u32) -> u32;
+    pub fn txc_member_at(site: *mut Handle, txn: u64, at: usize, stamp: *mut u32, moment: *mut u64) -> u32;
+    pub fn txc_commit(site: *mut Handle, txn: u64, receipt: *mut Receipt) -> u32;
+    pub fn txc_abort(site: *mut Handle, txn: u64) -> u32;
+    pub fn txc_begin_write(site: *mut Handle, txn: *mut u64) -> u32;
+    pub fn txc_begin_write_at(site: *mut Handle, stamp: u32, txn: *mut u64) -> u32;
+    pub fn txc_put(site: *mut Handle, txn: u64, table: u8, id: u32, group: u32, body: *const u8, len: usize) -> u32;
+    pub fn txc_remove(site: *mut Handle, txn: u64, table: u8, id: u32) -> u32;
+    pub fn txc_commit_write(site: *mut Handle, txn: u64, stamp: *mut u32) -> u32;
+    pub fn txc_pin(site: *mut Handle, moment: u64, stamp: *mut u32) -> u32;
     pub fn txc_keep(site: *mut Handle, now: u64, age: u64, kept: *mut Kept) -> u32;
+    pub fn txc_site_trim(site: *mut Handle, most: usize, dropped: *mut usize) -> u32;
+    pub fn txc_site_totals(site: *mut Handle, totals: *mut Totals) -> u32;
+    pub fn txc_open_transactions(site: *mut Handle, count: *mut usize) -> u32;
+    pub fn txc_oldest_open(site: *mut Handle, txn: *mut u64) -> u32;
 }

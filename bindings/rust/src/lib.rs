@@ -31,7 +31,12 @@ pub const LAST_STAMP: u32 = 1_048_576;
 /// The greatest stamp of a site.
 pub const LAST_SITE_STAMP: u32 = 4_294_967_294;
 /// The most bytes of a value.
-pub const MAX_VALUE_LEN: usize = 1024;
+pub const MAX_VALUE_LEN: usize = 1_048_576;
+/// The most asks of the functions of an outermost call, all together.
+pub const MAX_ASKS: usize = 4096;
+
+// A longer value is asked for twice.
+pub(crate) const FIRST_ROOM: usize = 1024;
 
 /// Why a call was refused. The node is as it was.
 #[derive(Clone, Copy, Debug, PartialEq, Eq)]
@@ -73,7 +78,7 @@ fn error(number: u32, processed: u32) -> Error {
         ffi::OUT_OF_ORDER => Error::OutOfOrder(processed),
         ffi::VALUE_TOO_LONG => Error::ValueTooLong,
         ffi::NO_MEMORY => Error::NoMemory,
-        _ => unreachable!("a node is open, and its buffer has room for every value"),
+        _ => unreachable!("a node is open, and a value that has no room is no error"),
     }
 }
 
@@ -222,6 +227,30 @@ pub struct Counts {
     pub evicted: u64,
 }
 
+/// How many entries a node holds, how many bytes their values have in all, and how many entries trims have dropped.
+#[derive(Clone, Copy, Debug, PartialEq, Eq)]
+pub struct Totals {
+    pub entries: usize,
+    pub bytes: usize,
+    pub trimmed: u64,
+}
+
+impl Totals {
+    pub(crate) const NONE: ffi::Totals = ffi::Totals {
+        entries: 0,
+        bytes: 0,
+        trimmed: 0,
+    };
+
+    pub(crate) fn of(totals: ffi::Totals) -> Totals {
+        Totals {
+            entries: totals.entries,
+            bytes: totals.bytes,
+            trimmed: totals.trimmed,
+        }
+    }
+}
+
 /// A node. Threads share one by a lock of yours.
 pub struct Node(ffi::Handle);
 
@@ -241,23 +270,30 @@ impl Node {
         }
     }
 
-    /// A result of the key that holds at some stamp from `lo` to `hi`, both included.
+    /// A result of the key that holds at some stamp from `lo` to `hi`, both included. A value of more than 1,024 bytes is looked
+    /// up twice, and counts so.
     pub fn lookup(&mut self, key: &Key, lo: u32, hi: u32) -> Result<Option<Hit>, Error> {
-        let mut buffer = [0; MAX_VALUE_LEN];
-        let found = self.lookup_into(key, lo, hi, &mut buffer)?;
-        Ok(found.map(|(reach, len)| Hit {
-            reach,
-            value: buffer[..len].to_vec(),
-        }))
+        let mut buffer = [0; FIRST_ROOM];
+        let Some((reach, len)) = self.lookup_into(key, lo, hi, &mut buffer)? else {
+            return Ok(None);
+        };
+        if len <= buffer.len() {
+            let value = buffer[..len].to_vec();
+            return Ok(Some(Hit { reach, value }));
+        }
+        let mut value = vec![0; len];
+        let found = self.lookup_into(key, lo, hi, &mut value)?;
+        Ok(found.map(|(reach, _)| Hit { reach, value }))
     }
 
-    /// The same, with the value written to the front of a buffer. It takes no memory.
+    /// The same, with the value written to the front of a buffer, and its length returned. A value that is longer than the
+    /// buffer writes no byte. It takes no memory.
     pub fn lookup_into(
         &mut self,
         key: &Key,
         lo: u32,
         hi: u32,
-        buffer: &mut [u8; MAX_VALUE_LEN],
+        buffer: &mut [u8],
     ) -> Result<Option<(Reach, usize)>, Error> {
         let mut reach = ffi::Reach {
             lo: 0,
@@ -278,7 +314,7 @@ impl Node {
             )
         };
         match number {
-            ffi::DONE => Ok(Some((Reach::of(reach), len))),
+            ffi::DONE | ffi::NO_ROOM => Ok(Some((Reach::of(reach), len))),
             ffi::MISS => Ok(None),
             number => Err(error(number, 0)),
         }
@@ -346,6 +382,21 @@ impl Node {
             ffi::DONE => Ok(swept),
             number => Err(error(number, 0)),
         }
+    }
+
+    /// Keeps the longest prefix of the results, the most recently used first, whose values have at most `most` bytes in all. Returns
+    /// how many it dropped. Call it after insertions, and the node stays within a budget of bytes.
+    pub fn trim(&mut self, most: usize) -> usize {
+        let mut dropped = 0;
+        unsafe { ffi::txc_node_trim(&mut self.0, most, &mut dropped) };
+        dropped
+    }
+
+    /// Returns what the node holds in all.
+    pub fn totals(&mut self) -> Totals {
+        let mut totals = Totals::NONE;
+        unsafe { ffi::txc_node_totals(&mut self.0, &mut totals) };
+        Totals::of(totals)
     }
 
     /// The counts of a function.

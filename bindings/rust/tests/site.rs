@@ -1,6 +1,6 @@
 //! Transactions of a site, and what they refuse; with events that are stored, and with none.
 use txcache_node::site::{Asking, Error, Kept, MAX_BODY_LEN, Query, Site};
-use txcache_node::{Key, LAST_SITE_STAMP, LAST_STAMP};
+use txcache_node::{Key, LAST_SITE_STAMP, LAST_STAMP, MAX_VALUE_LEN};
 
 fn highest(asking: &mut dyn Asking) -> Result<Vec<u8>, Error> {
     let rows = asking.rows(Query::group(1, 7))?;
@@ -16,7 +16,7 @@ fn key(function: u8) -> Key {
     Key::new(function, &[7]).unwrap()
 }
 
-fn bid(site: &mut Site, id: u32, amount: &[u8]) -> u32 {
+fn bid(site: &Site, id: u32, amount: &[u8]) -> u32 {
     let mut write = site.write().unwrap();
     write.put(1, id, 7, amount).unwrap();
     write.commit().unwrap()
@@ -24,14 +24,14 @@ fn bid(site: &mut Site, id: u32, amount: &[u8]) -> u32 {
 
 fn sites() -> [Site; 2] {
     [None, Some(1000)].map(|events| {
-        let mut site = Site::new(events, 100, 64, 20_000).unwrap();
-        bid(&mut site, 1, b"110");
+        let site = Site::new(events, 100, 64, 20_000).unwrap();
+        bid(&site, 1, b"110");
         site
     })
 }
 
 /// The highest bid, and the stamp at which it was read.
-fn seen(site: &mut Site, now: u64) -> (Vec<u8>, u32) {
+fn seen(site: &Site, now: u64) -> (Vec<u8>, u32) {
     let mut page = site.read(now, 30_000).unwrap();
     let amount = page.cached(key(0), highest).unwrap();
     (amount, page.commit().unwrap().pin.unwrap().0)
@@ -39,14 +39,14 @@ fn seen(site: &mut Site, now: u64) -> (Vec<u8>, u32) {
 
 #[test]
 fn a_receipt_explains_each_answer() {
-    for mut site in sites() {
-        let first = seen(&mut site, 1000);
+    for site in sites() {
+        let first = seen(&site, 1000);
         assert_eq!(first.0, b"110");
-        bid(&mut site, 2, b"130");
+        bid(&site, 2, b"130");
         let mut page = site.read(2000, 30_000).unwrap();
         assert_eq!(page.cached(key(1), twice).unwrap(), b"110 110");
         assert_eq!(page.commit().unwrap().pin, Some((first.1, 1000)));
-        let last = seen(&mut site, 40_000);
+        let last = seen(&site, 40_000);
         assert_eq!(last.0, b"130");
         assert!(last.1 > first.1);
     }
@@ -54,7 +54,7 @@ fn a_receipt_explains_each_answer() {
 
 #[test]
 fn what_is_given_up_leaves_nothing() {
-    for mut site in sites() {
+    for site in sites() {
         let mut write = site.write().unwrap();
         write.remove(1, 1).unwrap();
         drop(write);
@@ -73,7 +73,7 @@ fn what_is_given_up_leaves_nothing() {
 
 #[test]
 fn bodies_are_any_bytes() {
-    for mut site in sites() {
+    for site in sites() {
         let bodies = [vec![], (0..=255).collect(), vec![b'x'; 20_000], vec![0; MAX_BODY_LEN]];
         let mut write = site.write().unwrap();
         for (id, body) in (0..).zip(&bodies) {
@@ -87,9 +87,9 @@ fn bodies_are_any_bytes() {
 
 #[test]
 fn pins_stay_for_their_age() {
-    for mut site in sites() {
-        seen(&mut site, 1000);
-        let horizon = bid(&mut site, 2, b"130");
+    for site in sites() {
+        seen(&site, 1000);
+        let horizon = bid(&site, 2, b"130");
         assert_eq!(site.keep(2000, 30_000).unwrap().retired, 0);
         let kept = site.keep(40_000, 30_000).unwrap();
         assert_eq!(kept, Kept { retired: 1, horizon, swept: 1 });
@@ -98,9 +98,9 @@ fn pins_stay_for_their_age() {
 
 #[test]
 fn an_update_is_not_lost() {
-    for mut site in sites() {
-        let (amount, stamp) = seen(&mut site, 1000);
-        assert_eq!(seen(&mut site, 1000), (amount, stamp));
+    for site in sites() {
+        let (amount, stamp) = seen(&site, 1000);
+        assert_eq!(seen(&site, 1000), (amount, stamp));
         let mut first = site.write_at(stamp).unwrap();
         assert_eq!(first.rows(Query::id(1, 1)).unwrap()[0].body, b"110");
         first.put(1, 1, 7, b"120").unwrap();
@@ -118,15 +118,15 @@ fn an_update_is_not_lost() {
 
 #[test]
 fn what_a_function_reads_is_read() {
-    for mut site in sites() {
-        let (_, stamp) = seen(&mut site, 1000);
+    for site in sites() {
+        let (_, stamp) = seen(&site, 1000);
         let mut write = site.write_at(stamp).unwrap();
         assert_eq!(write.cached(key(1), twice).unwrap(), b"110 110");
         assert_eq!(write.cached(key(0), |_| Err(Error::Refused)), Err(Error::Refused));
-        assert_eq!(write.cached(key(0), |_| Ok(vec![0; 1025])), Err(Error::Refused));
+        assert_eq!(write.cached(key(0), |_| Ok(vec![0; MAX_VALUE_LEN + 1])), Err(Error::Refused));
         write.put(2, 1, 0, b"seen").unwrap();
         write.commit().unwrap();
-        bid(&mut site, 2, b"130");
+        bid(&site, 2, b"130");
         let mut late = site.write_at(stamp).unwrap();
         assert_eq!(late.cached(key(1), twice).unwrap(), b"110 110");
         late.put(2, 1, 0, b"late").unwrap();
@@ -143,12 +143,12 @@ fn what_cannot_begin() {
     for events in [Some(0), Some(LAST_STAMP as usize + 1)] {
         assert!(matches!(Site::new(events, 100, 64, 0), Err(Error::BadArgument)));
     }
-    for mut site in sites() {
+    for site in sites() {
         assert_eq!(site.write_at(u32::MAX).err(), Some(Error::BadArgument));
         assert_eq!(site.read_since(0, 0, u32::MAX).err(), Some(Error::BadArgument));
         assert_eq!(site.write_at(LAST_SITE_STAMP).err(), Some(Error::Refused));
         drop(site.read_since(0, 0, LAST_SITE_STAMP).unwrap());
-        bid(&mut site, 1, b"120");
+        bid(&site, 1, b"120");
         assert_eq!(site.keep(0, 0).unwrap().horizon, 2);
         let below = site.write_at(1).and_then(|mut write| write.rows(Query::all(1)));
         assert_eq!(below.err(), Some(Error::Refused));
@@ -158,11 +158,11 @@ fn what_cannot_begin() {
 
 #[test]
 fn a_site_goes_to_another_thread() {
-    for mut site in sites() {
+    for site in sites() {
         let moved = std::thread::spawn(move || {
-            bid(&mut site, 2, b"130");
+            bid(&site, 2, b"130");
             site
         });
-        assert_eq!(seen(&mut moved.join().unwrap(), 1000).0, b"130");
+        assert_eq!(seen(&moved.join().unwrap(), 1000).0, b"130");
     }
 }

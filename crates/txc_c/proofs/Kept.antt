@@ -3,9 +3,13 @@ use Rattle.std.proofs.Common.{◌≡◌, ◌∙◌, ℕ, inl, length, subst}
 use Rattle.txc_cushion.specs.Cushion.{retired}
 use Rattle.txc_db.specs.DatabaseValue.{next_horizon}
 use Rattle.txc_caller.specs.Ports.{HasRetired, HasVacuumedPorts}
-use Rattle.txc_caller.specs.Reading.{CallerValue}
+use Rattle.txc_caller.specs.Reading.{CallerValue, KeepsCaller}
 use Rattle.txc_c.specs.Keeping.{HasKept, HasSweptNode, HasVacuumed}
 use Rattle.txc_c.specs.declared.keeping.TxcKept.{TxcKept}
+
+-- what two acts keep of the caller
+pub keeps_then : (a b c : CallerValue) → KeepsCaller a b → KeepsCaller b c → KeepsCaller a c
+keeps_then a b c one two = record { row = two.row ∙ one.row; renew_after = two.renew_after ∙ one.renew_after }
 
 -- pins were retired, with so many told, and then the rest was done
 pub kept_on : (now age : ℕ) (old mid new : CallerValue) (count number : ℕ) (was is : TxcKept) → HasRetired now age old.ports mid.ports → mid ≡ record old { ports = mid.ports }

@@ -2,6 +2,12 @@ pub mod AsBox
 pub mod SiteAsBox
 pub mod Made
 pub mod Asked
-pub mod LastAnswers
 pub mod Kept
-pub mod Functions
+pub mod Staying
+pub mod Places
+pub mod Acting
+pub mod Going
+pub mod Beginning
+pub mod Ending
+pub mod Oldest
+pub mod Sized

@@ -6,8 +6,8 @@ use Rattle.std_alloc.proofs.BoxSteps.Form.{Bx}
 use Rattle.std.specs.contracts.alloc.Global as Heap
 use Rattle.std.specs.contracts.impls.GlobalAllocator.TheImpl.{ghosts, dict}
 use Rattle.std.proofs.alloc.Global.TheLaws as heap
-use Rattle.txc_c.specs.contracts.site_room.SiteRoom as Core
-use Rattle.txc_c.proofs.site_room.SiteRoom.TheLaws as core
+use Rattle.txc_c.specs.contracts.site.Site as Core
+use Rattle.txc_c.proofs.site.Site.TheLaws as core
 use Rattle.txc_parts.specs.contracts.parts.Parts as Parts
 use Rattle.txc_c.specs.contracts.site_handle.SiteSlot as SlotType
 

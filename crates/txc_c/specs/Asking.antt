@@ -1,5 +1,5 @@
--- What comes of what is asked in a transaction.
-use Rattle.std.specs.Prelude.{◌≡◌, ◌⊎◌, ℕ, [], nat_le, List, length, slice_get, Option, Some, None, Result, Ok, Err}
+-- What comes of what is asked in a transaction, changed in it, and written of it once more.
+use Rattle.std.specs.Prelude.{◌≡◌, ◌⊎◌, ◌++◌, ◌∷◌, ℕ, [], nat_le, List, length, slice_get, Option, Some, None, Result, Ok, Err}
 use Rattle.std.specs.Bool.{MatchBool}
 use Rattle.txc_tags.specs.Keys.{Call}
 use Rattle.txc_tags.specs.declared.tag.TheConstants.{LAST_TABLE}
@@ -8,217 +8,191 @@ use Rattle.txc_rows.specs.declared.query.Change.{Change}
 use Rattle.txc_rows.specs.declared.query.Change.TheVariants.{Put, Remove}
 use Rattle.txc_rows.specs.States.{answer}
 use Rattle.txc_rows.specs.Values.{RowValue, AreBytes}
-use Rattle.txc_db.specs.Calls.{IsQueryRefused}
 use Rattle.txc_db.specs.History.{state_at}
-use Rattle.txc_db.specs.declared.error.DbError.{DbError}
 use Rattle.txc_app.specs.declared.ask.Ask.{Ask}
-use Rattle.txc_app.specs.declared.ask.Answer.{Answer}
-use Rattle.txc_app.specs.declared.ask.Answer.TheVariants.{Rows}
+use Rattle.txc_app.specs.declared.ask.Ask.TheVariants as asks
+use Rattle.txc_registry.specs.Objects.{numbers_of, AllIdle}
+use Rattle.txc_cushion.specs.declared.pin.Pin.{Pin}
 use Rattle.txc_ports.specs.declared.error.TxnError.{TxnError}
 use Rattle.txc_ports.specs.declared.error.TxnError.TheVariants.{Memory}
-use Rattle.txc_txn.specs.Kept.{IsTxn}
-use Rattle.txc_caller.specs.Acting.{IsComputedOnMiss, IsStepOf}
-use Rattle.txc_caller.specs.Reading.{top_or, AsksNext, CallerReading, KeepsReading}
-use Rattle.txc_caller.specs.Writing.{after_call_of, after_query, without_calls, CallerWriting, HasGivenValue, IsWriteCallRefused, ChangeLeaves, IsWriteFinishRefused, MayCall}
-use Rattle.txc_caller.specs.declared.frames.OpenCall.{OpenCall}
+use Rattle.txc_txn.specs.Core.{IsIdle}
+use Rattle.txc_txn.specs.Kept.{IsTxn, TxnValue}
+use Rattle.txc_rw.specs.Core.{IsRwIdle}
+use Rattle.txc_rw.specs.Transitions.{IsQueryLeft}
+use Rattle.txc_rw.specs.declared.given.Given.TheVariants as given
+use Rattle.txc_caller.specs.Reading.{read_stamp, CallerValue, KeepsTxn}
+use Rattle.txc_caller.specs.Telling.{told_answer, top_call}
+use Rattle.txc_caller.specs.Writing.{CallerWriting, ChangeLeaves, IsOwnReadRefused}
 use Rattle.txc_caller.specs.declared.step.CallerError.{CallerError}
 use Rattle.txc_caller.specs.declared.step.Step.{Step}
-use Rattle.txc_crossing.specs.Crossing.{is_call, named_call}
-use Rattle.txc_c.specs.Opaque.{opaque_next}
-use Rattle.txc_c.specs.Receipts.{crossing_row, is_query, query_of}
-use Rattle.txc_c.specs.Sites.{Stays}
-use Rattle.txc_c.specs.Telling.{error_number, given_bytes, given_len, last_given, last_bytes, last_len, last_number, step_bytes, step_len, step_number, written_number}
+use Rattle.txc_crossing.specs.Crossing.{is_call, named_call, written_in}
 use Rattle.txc_crossing.specs.Numbers.{bytes_number}
-use Rattle.txc_crossing.specs.Crossing.{written_in}
-use Rattle.txc_c.specs.Turning.{database_number}
 use Rattle.txc_crossing.specs.declared.crossing.TxcKey.{TxcKey}
+use Rattle.txc_crossing.specs.declared.numbers.TheConstants.{ANSWERED, BAD_ARGUMENT, DONE, MISS, NO_MEMORY, NOT_OPEN, REFUSED}
+use Rattle.txc_c.specs.Opaque.{opaque_next}
+use Rattle.txc_c.specs.Opened.{calling_of, IsAskStep}
+use Rattle.txc_c.specs.Receipts.{crossing_row, is_query, query_of}
+use Rattle.txc_c.specs.Sites.{OneHasActed, OfNumber, SiteValue, Stays}
+use Rattle.txc_c.specs.Telling.{buffer, last_answer_of, rows_found, step_bytes, step_len, step_number, Buffer, LastTold}
+use Rattle.txc_c.specs.declared.opened.Open.{Open}
+use Rattle.txc_c.specs.declared.opened.Open.TheVariants.{Reading, Writing}
 use Rattle.txc_c.specs.declared.receipts.TxcQuery.{TxcQuery}
 use Rattle.txc_c.specs.declared.receipts.TxcRow.{TxcRow}
-use Rattle.txc_crossing.specs.declared.numbers.TheConstants.{DONE, MISS, BAD_ARGUMENT, NO_MEMORY, NOT_OPEN, COMPUTE, ANSWERED, REFUSED}
-use Rattle.txc_c.specs.declared.site.Site.{Site}
-use Rattle.txc_c.specs.declared.site.Site.TheVariants.{Resting, Reading, Writing}
 
--- ---- what the caller owes
-
--- the function that is computed asks this next, if one is
-abbrev pub SiteAsksNext : Ask → Site → Type 0
-SiteAsksNext ask (Reading r) = AsksNext opaque_next r ask
-SiteAsksNext ask site = Unit {0}
+-- the transaction of that number made this act, and every other is as it was; or none of that number is open, and nothing is written
+abbrev pub ActsAs : (CallerValue → Open → ℕ → CallerValue → Open → Type 0) → Type 0 → ℕ → SiteValue → ℕ → SiteValue → Type 0
+ActsAs act unwritten n old number new = OfNumber (OneHasActed act n) unwritten n old number new
 
 -- ---- steps
 
--- a buffer of the caller, and the length that is written beside it
-pub record Buffer : Type 0 where
-  pub bytes : List ℕ
-  pub len : ℕ
-
-abbrev pub buffer : List ℕ → ℕ → Buffer
-buffer bytes len = record { bytes = bytes; len = len }
-
--- such a step of that call, by this number and in the buffer; what is to be computed the node has not
-pub record HasCallStepped (k : Call) (old new : CallerReading) (number : ℕ) (was is : Buffer) : Type 0 where
+-- what comes of an ask, by this number and in the buffer
+pub record StepAct (ask : Ask) (was is : Buffer) (c : CallerValue) (x : Open) (number : ℕ) (c' : CallerValue) (x' : Open) : Type 0 where
   pub step : Result Step CallerError
-  pub is_step : IsStepOf old.txn.core.recorded k new.txn.core.recorded new.doing step
-  pub on_miss : IsComputedOnMiss new.txn.core old.ports.node new.ports.node step
-  pub keeps : KeepsReading old new
-  pub meant : IsTxn opaque_next new.txn
-  pub number_is : number ≡ step_number (length was.bytes) (last_given new) step
-  pub len_is : is.len ≡ step_len (last_given new) step was.len
-  pub bytes_are : is.bytes ≡ step_bytes (last_given new) step was.bytes
+  pub is_step : IsAskStep ask c x step c' x'
+  pub number_is : number ≡ step_number (length was.bytes) (told_answer (calling_of x')) step
+  pub len_is : is.len ≡ step_len (told_answer (calling_of x')) step was.len
+  pub bytes_are : is.bytes ≡ step_bytes (told_answer (calling_of x')) step was.bytes
 
--- the step of the open call; without one it is refused, and all is as it was
-abbrev pub HasOpenCallStepped : Option OpenCall → CallerReading → CallerReading → ℕ → Buffer → Buffer → Type 0
-HasOpenCallStepped (Some o) old new number was is = HasCallStepped o.frames.top old new number was is
-HasOpenCallStepped None old new number was is = (number ≡ NOT_OPEN) × (new ≡ old) × (is ≡ was)
+-- an ask in the transaction of that number
+abbrev pub StepComesTo : Ask → Buffer → Buffer → ℕ → SiteValue → ℕ → SiteValue → Type 0
+StepComesTo ask was is n old number new = ActsAs (StepAct ask was is) (is ≡ was) n old number new
 
--- ---- a call
-
--- in a transaction that writes its function is to be computed; or the call is refused
-abbrev pub HasCalledToWrite : ℕ → CallerWriting → ℕ → CallerWriting → Type 0
-HasCalledToWrite function old number new = ((number ≡ COMPUTE) × MayCall old.inner function × (new ≡ after_call_of function old))
-    ⊎ ((error : CallerError) × (number ≡ error_number error) × IsWriteCallRefused function old new error)
-
-abbrev pub CallSiteComesTo : Call → Buffer → Buffer → Site → ℕ → Site → Type 0
-CallSiteComesTo k was is (Reading old) number (Reading new) = HasCallStepped (top_or old.doing k) old new number was is
-CallSiteComesTo k was is (Reading old) number new = ⊥
-CallSiteComesTo k was is (Writing old) number (Writing new) = HasCalledToWrite k.function old number new × (is ≡ was)
-CallSiteComesTo k was is (Writing old) number new = ⊥
-CallSiteComesTo k was is old number new = Stays NOT_OPEN old number new × (is ≡ was)
-
-abbrev pub CallComesTo : TxcKey → Buffer → Buffer → Site → ℕ → Site → Type 0
-CallComesTo key was is old number new =
-    MatchBool (is_call key) (CallSiteComesTo (named_call key) was is old number new)
+-- a call, if there can be such a call
+abbrev pub CallComesTo : TxcKey → Buffer → Buffer → ℕ → SiteValue → ℕ → SiteValue → Type 0
+CallComesTo key was is n old number new = MatchBool (is_call key) (StepComesTo (asks.Call (named_call key)) was is n old number new)
     (Stays BAD_ARGUMENT old number new × (is ≡ was))
 
--- ---- the value of a function
-
--- such a step; or there was no memory for the bytes, and all is as it was
-abbrev pub HasFinished : CallerReading → CallerReading → ℕ → Buffer → Buffer → Type 0
-HasFinished old new number was is =
-    HasOpenCallStepped old.doing old new number was is ⊎ ((number ≡ NO_MEMORY) × (new ≡ old) × (is ≡ was))
-
--- in a transaction that writes it is told and written; or it is refused
-pub record HasToldWritten (bytes : List ℕ) (old : CallerWriting) (number : ℕ) (was is : Buffer) (new : CallerWriting) : Type 0 where
-  pub given : HasGivenValue bytes old new
-  pub number_is : number ≡ written_number (length was.bytes) new.inner new.given
-  pub len_is : is.len ≡ given_len new.given was.len
-  pub bytes_are : is.bytes ≡ given_bytes new.given was.bytes
-
-abbrev pub HasFinishedToWrite : List ℕ → CallerWriting → ℕ → Buffer → Buffer → CallerWriting → Type 0
-HasFinishedToWrite bytes old number was is new = HasToldWritten bytes old number was is new
-    ⊎ ((error : CallerError) × (number ≡ error_number error) × IsWriteFinishRefused opaque_next.limits.value bytes old new error × (is ≡ was))
-
-abbrev pub HasFinishedWrite : List ℕ → CallerWriting → ℕ → Buffer → Buffer → CallerWriting → Type 0
-HasFinishedWrite bytes old number was is new =
-    HasFinishedToWrite bytes old number was is new ⊎ ((number ≡ NO_MEMORY) × (new ≡ old) × (is ≡ was))
-
-abbrev pub FinishComesTo : List ℕ → Buffer → Buffer → Site → ℕ → Site → Type 0
-FinishComesTo bytes was is (Reading old) number (Reading new) = HasFinished old new number was is
-FinishComesTo bytes was is (Reading old) number new = ⊥
-FinishComesTo bytes was is (Writing old) number (Writing new) = HasFinishedWrite bytes old number was is new
-FinishComesTo bytes was is (Writing old) number new = ⊥
-FinishComesTo bytes was is (Resting c) number new = Stays NOT_OPEN (Resting c) number new × (is ≡ was)
+-- the value of a function; or there was no memory for the bytes, and all is as it was
+abbrev pub FinishComesTo : List ℕ → Buffer → Buffer → ℕ → SiteValue → ℕ → SiteValue → Type 0
+FinishComesTo bytes was is n old number new =
+    StepComesTo (asks.Done bytes) was is n old number new ⊎ (Stays NO_MEMORY old number new × (is ≡ was))
 
 -- ---- a query
 
--- the transaction that writes finds the rows in the state that it reads
-pub record HasFoundRows (query : Query) (old : CallerWriting) (number count' : ℕ) (new : CallerWriting) : Type 0 where
-  pub number_is : number ≡ ANSWERED
-  pub after : new ≡ after_query query old
-  pub count_is : count' ≡ length (answer query (state_at old.caller.ports.database.history old.base))
+-- the number of what keeps a transaction from being answered, or from keeping a change
+abbrev pub txn_number : TxnError → ℕ
+txn_number Memory = NO_MEMORY
+txn_number error = REFUSED
 
--- or the database refuses, and what was answered last stays
-pub record HasRefusedRows (query : Query) (old : CallerWriting) (number count count' : ℕ) (new : CallerWriting) : Type 0 where
-  pub error : DbError
-  pub number_is : number ≡ database_number error
-  pub refused : IsQueryRefused old.caller.ports.database query old.base error
-  pub same : new ≡ old
+-- A transaction that writes finds the rows in the state that it reads, and the query counts as read.
+pub record HasFoundRows (query : Query) (c : CallerValue) (w : CallerWriting) (number count' : ℕ) (w' : CallerWriting) : Type 0 where
+  pub rows : List RowValue
+  pub rows_are : rows ≡ answer query (state_at c.ports.database.history w.core.base)
+  pub number_is : number ≡ ANSWERED
+  pub count_is : count' ≡ length rows
+  pub after : w' ≡ record w {
+    core = record w.core { queried = w.core.queried ++ query ∷ []; answers = w.core.answers ++ given.Rows query rows ∷ [] };
+  }
+
+-- or it is refused, and was answered nothing more
+pub record HasRefusedRows (query : Query) (c : CallerValue) (w : CallerWriting) (number count count' : ℕ) (w' : CallerWriting) : Type 0 where
+  pub error : TxnError
+  pub number_is : number ≡ txn_number error
+  pub refused : IsOwnReadRefused c.ports.database w.core.base query error
+  pub left : IsQueryLeft w.core query w'.core error
+  pub same : w' ≡ record w { core = w'.core }
   pub count_is : count' ≡ count
 
-abbrev pub HasAskedRows : Query → CallerWriting → ℕ → ℕ → ℕ → CallerWriting → Type 0
-HasAskedRows query old number count count' new =
-    HasFoundRows query old number count' new ⊎ HasRefusedRows query old number count count' new
+abbrev pub HasReadRowsItself : Query → ℕ → ℕ → CallerValue → CallerWriting → ℕ → CallerWriting → Type 0
+HasReadRowsItself query count count' c w number w' =
+    HasFoundRows query c w number count' w' ⊎ HasRefusedRows query c w number count count' w'
 
-abbrev pub QuerySiteComesTo : Query → ℕ → ℕ → Site → ℕ → Site → Type 0
-QuerySiteComesTo query count count' (Reading old) number (Reading new) =
-    HasOpenCallStepped old.doing old new number (buffer [] count) (buffer [] count')
-QuerySiteComesTo query count count' (Reading old) number new = ⊥
-QuerySiteComesTo query count count' (Writing old) number (Writing new) = HasAskedRows query old number count count' new
-QuerySiteComesTo query count count' (Writing old) number new = ⊥
-QuerySiteComesTo query count count' (Resting c) number new = Stays NOT_OPEN (Resting c) number new × (count' ≡ count)
+abbrev pub HasReadRows : Query → ℕ → ℕ → CallerValue → CallerWriting → ℕ → CallerValue → Open → Type 0
+HasReadRows query count count' c w number c' (Writing w') = (c' ≡ c) × HasReadRowsItself query count count' c w number w'
+HasReadRows query count count' c w number c' (Reading t) = ⊥
 
-abbrev pub QueryComesTo : TxcQuery → ℕ → ℕ → Site → ℕ → Site → Type 0
-QueryComesTo query count count' old number new =
-    MatchBool (is_query query) (QuerySiteComesTo (query_of query) count count' old number new)
+-- of a transaction that writes, if its call stands so
+abbrev pub WriteQueryAct : Option Call → Query → ℕ → ℕ → CallerValue → CallerWriting → ℕ → CallerValue → Open → Type 0
+WriteQueryAct (Some top) query count count' c w number c' x' =
+    StepAct (asks.Query query) (buffer [] count) (buffer [] count') c (Writing w) number c' x'
+WriteQueryAct None query count count' c w number c' x' = HasReadRows query count count' c w number c' x'
+
+-- the function that is computed asks; or, if none is, a transaction that writes reads the rows itself
+abbrev pub QueryAct : Query → ℕ → ℕ → CallerValue → Open → ℕ → CallerValue → Open → Type 0
+QueryAct query count count' c (Reading t) number c' x' =
+    StepAct (asks.Query query) (buffer [] count) (buffer [] count') c (Reading t) number c' x'
+QueryAct query count count' c (Writing w) number c' x' = WriteQueryAct (top_call w.core.call) query count count' c w number c' x'
+
+abbrev pub QueryComesTo : TxcQuery → ℕ → ℕ → ℕ → SiteValue → ℕ → SiteValue → Type 0
+QueryComesTo query count count' n old number new =
+    MatchBool (is_query query) (ActsAs (QueryAct (query_of query) count count') (count' ≡ count) n old number new)
     (Stays BAD_ARGUMENT old number new × (count' ≡ count))
-
--- what was answered last, and the rows that were found
-abbrev pub given_rows : Option Answer → List RowValue
-given_rows (Some (Rows rows)) = rows
-given_rows given = []
-
-abbrev pub last_answer : Site → Option Answer
-last_answer (Reading r) = last_given r
-last_answer (Writing w) = w.given
-last_answer (Resting c) = None
-
-abbrev pub rows_found : Site → List RowValue
-rows_found site = given_rows (last_answer site)
 
 -- ---- giving up
 
-abbrev pub given_up_number : {A : Type 0} → Option A → ℕ
-given_up_number (Some o) = DONE
+abbrev pub given_up_number : Option Call → ℕ
+given_up_number (Some top) = DONE
 given_up_number None = MISS
 
--- no call is open, and the answers are as before
-pub record HasGivenCallUp (old : CallerReading) (number : ℕ) (new : CallerReading) : Type 0 where
-  pub number_is : number ≡ given_up_number old.doing
-  pub none : new.doing ≡ None
-  pub recorded : new.txn.core.recorded ≡ old.txn.core.recorded
-  pub keeps : KeepsReading old new
-  pub meant : IsTxn opaque_next new.txn
+-- no call is open, no function runs, and the answers are as before
+pub record HasGivenReadingUp (t t' : TxnValue) : Type 0 where
+  pub idle : IsIdle t'.core
+  pub same : t'.core ≡ record t.core { call = t'.core.call }
+  pub objects : AllIdle t'.objects
+  pub keeps : KeepsTxn t t'
+  pub meant : IsTxn opaque_next t'
 
-abbrev pub GiveUpComesTo : Site → ℕ → Site → Type 0
-GiveUpComesTo (Reading old) number (Reading new) = HasGivenCallUp old number new
-GiveUpComesTo (Reading old) number new = ⊥
-GiveUpComesTo (Writing old) number (Writing new) = (number ≡ given_up_number old.inner) × (new ≡ without_calls old)
-GiveUpComesTo (Writing old) number new = ⊥
-GiveUpComesTo (Resting c) number new = Stays NOT_OPEN (Resting c) number new
+pub record HasGivenWritingUp (w w' : CallerWriting) : Type 0 where
+  pub idle : IsRwIdle w'.core
+  pub same : w' ≡ record w { core = record w.core { call = w'.core.call }; objects = w'.objects }
+  pub objects : AllIdle w'.objects
+  pub functions : numbers_of w'.objects ≡ numbers_of w.objects
+
+abbrev pub HasGivenCallUp : Open → Open → Type 0
+HasGivenCallUp (Reading t) (Reading t') = HasGivenReadingUp t t'
+HasGivenCallUp (Reading t) (Writing w') = ⊥
+HasGivenCallUp (Writing w) (Writing w') = HasGivenWritingUp w w'
+HasGivenCallUp (Writing w) (Reading t') = ⊥
+
+-- the whole open call is given up, if one is open
+pub record GiveUpAct (c : CallerValue) (x : Open) (number : ℕ) (c' : CallerValue) (x' : Open) : Type 0 where
+  pub number_is : number ≡ given_up_number (top_call (calling_of x))
+  pub given_up : HasGivenCallUp x x'
+  pub caller : c' ≡ c
+
+abbrev pub GiveUpComesTo : ℕ → SiteValue → ℕ → SiteValue → Type 0
+GiveUpComesTo n old number new = ActsAs GiveUpAct (Unit {0}) n old number new
 
 -- ---- changes
 
 -- the number of a change that is kept, or why it is not
-abbrev pub change_number : {A : Type 0} → Result A TxnError → ℕ
+abbrev pub change_number : Result (Unit {0}) TxnError → ℕ
 change_number (Ok kept) = DONE
-change_number (Err Memory) = NO_MEMORY
-change_number (Err error) = REFUSED
+change_number (Err error) = txn_number error
 
--- the number says what came of the change
-abbrev pub ChangeKept : Change → CallerWriting → ℕ → CallerWriting → Type 0
-ChangeKept change old number new = (kept : Result (Unit {0}) TxnError) × (number ≡ change_number kept)
-    × ChangeLeaves change old new kept
+-- of a transaction that writes: the number says what came of the change. One that only reads takes none
+abbrev pub OpenChanges : Change → Open → ℕ → Open → Type 0
+OpenChanges change (Writing w) number (Writing w') = (kept : Result (Unit {0}) TxnError) × (number ≡ change_number kept)
+    × ChangeLeaves change w w' kept
+OpenChanges change (Writing w) number (Reading t') = ⊥
+OpenChanges change (Reading t) number x' = (number ≡ NOT_OPEN) × (x' ≡ Reading t)
 
-abbrev pub ChangeComesTo : Change → Site → ℕ → Site → Type 0
-ChangeComesTo change (Writing old) number (Writing new) = ChangeKept change old number new
-ChangeComesTo change (Writing old) number new = ⊥
-ChangeComesTo change old number new = Stays NOT_OPEN old number new
+abbrev pub ChangeAct : Change → CallerValue → Open → ℕ → CallerValue → Open → Type 0
+ChangeAct change c x number c' x' = OpenChanges change x number x' × (c' ≡ c)
+
+abbrev pub ChangeComesTo : Change → ℕ → SiteValue → ℕ → SiteValue → Type 0
+ChangeComesTo change n old number new = ActsAs (ChangeAct change) (Unit {0}) n old number new
 
 -- a put of that row, if it can be one
-abbrev pub PutRowComesTo : RowValue → Site → ℕ → Site → Type 0
-PutRowComesTo row old number new = (Stays BAD_ARGUMENT old number new × ¬ AreBytes row.body)
-    ⊎ (Stays NO_MEMORY old number new ⊎ (AreBytes row.body × ChangeComesTo (Put row) old number new))
+abbrev pub PutRowComesTo : RowValue → ℕ → SiteValue → ℕ → SiteValue → Type 0
+PutRowComesTo row n old number new = (Stays BAD_ARGUMENT old number new × ¬ AreBytes row.body)
+    ⊎ (Stays NO_MEMORY old number new ⊎ (AreBytes row.body × ChangeComesTo (Put row) n old number new))
 
-abbrev pub PutComesTo : RowValue → Site → ℕ → Site → Type 0
-PutComesTo row old number new =
-    MatchBool (nat_le row.table LAST_TABLE) (PutRowComesTo row old number new) (Stays BAD_ARGUMENT old number new)
+abbrev pub PutComesTo : RowValue → ℕ → SiteValue → ℕ → SiteValue → Type 0
+PutComesTo row n old number new =
+    MatchBool (nat_le row.table LAST_TABLE) (PutRowComesTo row n old number new) (Stays BAD_ARGUMENT old number new)
 
 -- a removal
-abbrev pub RemoveComesTo : ℕ → ℕ → Site → ℕ → Site → Type 0
-RemoveComesTo table id old number new =
-    MatchBool (nat_le table LAST_TABLE) (ChangeComesTo (Remove table id) old number new) (Stays BAD_ARGUMENT old number new)
+abbrev pub RemoveComesTo : ℕ → ℕ → ℕ → SiteValue → ℕ → SiteValue → Type 0
+RemoveComesTo table id n old number new =
+    MatchBool (nat_le table LAST_TABLE) (ChangeComesTo (Remove table id) n old number new) (Stays BAD_ARGUMENT old number new)
 
--- ---- what is written once more
+-- ---- what is written, and changes nothing
+
+-- of the transaction of that number, if it is open
+abbrev pub TellsOf : (Open → ℕ → Type 0) → Type 0 → Option Open → ℕ → Type 0
+TellsOf tells unwritten (Some x) number = tells x number
+TellsOf tells unwritten None number = (number ≡ NOT_OPEN) × unwritten
 
 -- a row, but for its body, and its body, if there is such a row
 abbrev pub RowTold : Option RowValue → ℕ → TxcRow → TxcRow → Buffer → Buffer → Type 0
@@ -226,17 +200,35 @@ RowTold None number row row' was is = (number ≡ MISS) × (row' ≡ row) × (is
 RowTold (Some r) number row row' was is = (number ≡ bytes_number DONE (length was.bytes) r.body)
     × (row' ≡ crossing_row r) × (is.len ≡ length r.body) × (is.bytes ≡ written_in r.body was.bytes)
 
-abbrev pub RowComesTo : ℕ → TxcRow → TxcRow → Buffer → Buffer → Site → ℕ → Site → Type 0
-RowComesTo at row row' was is old number new =
-    (new ≡ old) × RowTold (slice_get (rows_found old) at) number row row' was is
+abbrev pub RowOf : ℕ → TxcRow → TxcRow → Buffer → Buffer → Option Open → ℕ → Type 0
+RowOf at row row' was is x number =
+    TellsOf (λ o n. RowTold (slice_get (rows_found o) at) n row row' was is) ((row' ≡ row) × (is ≡ was)) x number
 
 -- what was answered last
-abbrev pub LastTold : Buffer → Buffer → Site → ℕ → Type 0
-LastTold was is (Reading r) number = (number ≡ last_number (length was.bytes) r)
-    × (is.len ≡ last_len r was.len) × (is.bytes ≡ last_bytes r was.bytes)
-LastTold was is (Writing w) number = (number ≡ written_number (length was.bytes) w.inner w.given)
-    × (is.len ≡ given_len w.given was.len) × (is.bytes ≡ given_bytes w.given was.bytes)
-LastTold was is (Resting c) number = (number ≡ NOT_OPEN) × (is ≡ was)
+abbrev pub LastOf : Buffer → Buffer → Option Open → ℕ → Type 0
+LastOf was is x number = TellsOf (λ o n. LastTold (last_answer_of o) n was is) (is ≡ was) x number
 
-abbrev pub LastComesTo : Buffer → Buffer → Site → ℕ → Site → Type 0
-LastComesTo was is old number new = (new ≡ old) × LastTold was is old number
+-- the stamp at which a transaction reads next; none if it pins the present first
+abbrev pub stamp_read_next : Open → Option ℕ
+stamp_read_next (Reading t) = read_stamp t.core
+stamp_read_next (Writing w) = Some w.core.base
+
+abbrev pub StampTold : Option ℕ → ℕ → ℕ → ℕ → Type 0
+StampTold (Some stamp) number was is = (number ≡ DONE) × (is ≡ stamp)
+StampTold None number was is = (number ≡ MISS) × (is ≡ was)
+
+abbrev pub ReadStampOf : ℕ → ℕ → Option Open → ℕ → Type 0
+ReadStampOf was is x number = TellsOf (λ o n. StampTold (stamp_read_next o) n was is) (is ≡ was) x number
+
+-- one of the pins at which all is right that a transaction was answered, the newest first
+abbrev pub PinTold : Option Pin → ℕ → ℕ × ℕ → ℕ × ℕ → Type 0
+PinTold (Some pin) number was is = (number ≡ DONE) × (is ≡ (pin.stamp, pin.moment))
+PinTold None number was is = (number ≡ MISS) × (is ≡ was)
+
+-- of one that only reads
+abbrev pub MemberTold : ℕ → ℕ × ℕ → ℕ × ℕ → Open → ℕ → Type 0
+MemberTold at was is (Reading t) number = PinTold (slice_get t.core.pins.members at) number was is
+MemberTold at was is (Writing w) number = (number ≡ NOT_OPEN) × (is ≡ was)
+
+abbrev pub MemberOf : ℕ → ℕ × ℕ → ℕ × ℕ → Option Open → ℕ → Type 0
+MemberOf at was is x number = TellsOf (MemberTold at was is) (is ≡ was) x number

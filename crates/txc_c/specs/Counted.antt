@@ -1,17 +1,23 @@
 -- A node whose replies are counted, and what a call leaves of it.
-use Rattle.std.specs.Prelude.{◌≡◌, ℕ, ◌+◌, ◌^◌, ◌<◌, ◌≤◌, true, false, List, [], Option, Some, None}
-use Rattle.txc_node.specs.declared.value.TheConstants.{MAX_VALUE_LEN}
+use Rattle.std.specs.Prelude.{◌≡◌, ℕ, ◌+◌, ◌^◌, ◌<◌, ◌≤◌, true, false, List, [], length, Option, Some, None}
+use Rattle.txc_node.specs.declared.value.TheConstants.{MOST_VALUE_LEN}
 use Rattle.txc_node.specs.declared.hit.Shown.{Shown}
 use Rattle.txc_node.specs.declared.op.Op.{Op}
 use Rattle.txc_node.specs.declared.reply.Reply.{Reply}
-use Rattle.txc_node.specs.Cache.{Cache, empty_cache}
+use Rattle.txc_node.specs.Cache.{bytes_of, Cache, empty_cache}
 use Rattle.txc_node.specs.Counts.{Totals, counts_of, sum_of, counts_for, events_by, closed_by, swept_by, trimmed_by, AreCountsOf}
 use Rattle.txc_node.specs.Steps.{function_of, is_refusal, reply_to, after_op}
+use Rattle.txc_c.specs.Totals.{crossing_totals}
+use Rattle.txc_c.specs.declared.totals.TxcTotals.{TxcTotals}
 
 -- the cache of the node, and the counts of its replies
 pub record Counted : Type 0 where
   pub cache : Cache
   pub totals : Totals
+
+-- its entries, the bytes of their values in all, and the entries that trims have dropped
+abbrev pub totals_of_node : Counted → TxcTotals
+totals_of_node n = crossing_totals (length n.cache.entries) (bytes_of n.cache.entries) n.totals.trimmed
 
 -- an empty cache, no reply of which was counted
 pub record IsOpened (capacity recent : ℕ) (n : Counted) : Type 0 where
@@ -41,8 +47,8 @@ pub record TotalsAfter (function : Option ℕ) (reply : Reply Shown) (old new : 
 
 -- what a step leaves: the cache after it, and its reply counted
 pub record LeavesCounted (old : Counted) (op : Op) (new : Counted) : Type 0 where
-  pub cache : new.cache ≡ after_op MAX_VALUE_LEN old.cache op
-  pub totals : TotalsAfter (function_of op) (reply_to MAX_VALUE_LEN old.cache op) old.totals new.totals
+  pub cache : new.cache ≡ after_op MOST_VALUE_LEN old.cache op
+  pub totals : TotalsAfter (function_of op) (reply_to MOST_VALUE_LEN old.cache op) old.totals new.totals
 
 -- the handle has a node, which is left so by the one that it had
 abbrev pub HasLeft : Counted → Op → Option Counted → Type 0

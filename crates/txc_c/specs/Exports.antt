@@ -1,31 +1,38 @@
 -- What comes of the calls of a handle that may have a site.
-use Rattle.std.specs.Prelude.{◌≡◌, ℕ, ◌&&◌, if◌then◌else◌, Option, Some, None}
+use Rattle.std.specs.Prelude.{◌≡◌, ℕ, if◌then◌else◌, Option, Some, None}
+use Rattle.std.specs.Option.{ForSome}
 use Rattle.txc_app.specs.declared.ask.Ask.{Ask}
-use Rattle.txc_shared.specs.declared.settings.NodeSettings.{NodeSettings}
-use Rattle.txc_crossing.specs.Crossing.{are_sizes}
 use Rattle.txc_crossing.specs.declared.numbers.TheConstants.{ALREADY_OPEN, BAD_ARGUMENT, CLOSED, DONE}
-use Rattle.txc_c.specs.Asking.{SiteAsksNext}
-use Rattle.txc_c.specs.Sites.{is_room, IsNewSite}
-use Rattle.txc_c.specs.declared.site.Site.{Site}
+use Rattle.txc_c.specs.Opened.{OpenAsksNext}
+use Rattle.txc_c.specs.Settings.{are_settings}
+use Rattle.txc_c.specs.Sites.{open_at, IsNewSite, SiteValue}
+use Rattle.txc_c.specs.declared.site_settings.TxcSiteSettings.{TxcSiteSettings}
 
--- the number of an opening, where memory is at hand
-abbrev pub open_site_number : Option Site → ℕ → ℕ → ℕ → ℕ
-open_site_number (Some site) events capacity recent = ALREADY_OPEN
-open_site_number None events capacity recent =
-    if is_room events && are_sizes capacity recent then DONE else BAD_ARGUMENT
+-- the number of an opening, if memory is at hand
+abbrev pub open_site_number : Option SiteValue → TxcSiteSettings → ℕ
+open_site_number (Some s) settings = ALREADY_OPEN
+open_site_number None settings = if are_settings settings then DONE else BAD_ARGUMENT
 
 -- the handle has such a site
-abbrev pub HasNewSite : ℕ → NodeSettings → ℕ → Option Site → Type 0
-HasNewSite events settings renew_after (Some site) = IsNewSite events settings renew_after site
-HasNewSite events settings renew_after None = ⊥
+abbrev pub HasNewSite : TxcSiteSettings → Option SiteValue → Type 0
+HasNewSite settings (Some s) = IsNewSite settings s
+HasNewSite settings None = ⊥
+
+-- what the caller owes: the function that is computed in the transaction of that number, if one is, asks this next
+abbrev pub SiteAsksNext : Ask → ℕ → SiteValue → Type 0
+SiteAsksNext ask n s = ForSome (open_at s n) (OpenAsksNext ask)
 
 -- the same of the site of a handle, if it has one
-abbrev pub HeldAsksNext : Ask → Option Site → Type 0
-HeldAsksNext ask None = Unit {0}
-HeldAsksNext ask (Some site) = SiteAsksNext ask site
+abbrev pub HeldAsksNext : Ask → ℕ → Option SiteValue → Type 0
+HeldAsksNext ask n held = ForSome held (SiteAsksNext ask n)
 
--- What comes of a call of a handle: it has no site; or its site was led so.
-abbrev pub ComesTo : (Site → ℕ → Site → Type 0) → Option Site → ℕ → Option Site → Type 0
-ComesTo act None number new = (number ≡ CLOSED) × (new ≡ None)
-ComesTo act (Some old) number (Some new) = act old number new
-ComesTo act (Some old) number None = ⊥
+-- What comes of a call of a handle: it has no site, and nothing is written; or this comes of it.
+abbrev pub ComesTo : (SiteValue → ℕ → SiteValue → Type 0) → Type 0 → Option SiteValue → ℕ → Option SiteValue → Type 0
+ComesTo does unwritten None number new = (number ≡ CLOSED) × (new ≡ None) × unwritten
+ComesTo does unwritten (Some old) number (Some new) = does old number new
+ComesTo does unwritten (Some old) number None = ⊥
+
+-- the same of one that changes nothing
+abbrev pub Shows : (SiteValue → ℕ → Type 0) → Type 0 → Option SiteValue → ℕ → Option SiteValue → Type 0
+Shows shows unwritten None number new = (number ≡ CLOSED) × (new ≡ None) × unwritten
+Shows shows unwritten (Some s) number new = shows s number × (new ≡ Some s)

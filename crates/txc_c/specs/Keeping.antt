@@ -1,18 +1,21 @@
--- What a keep comes to.
+-- What a keep comes to, and a pin.
 use Rattle.std.specs.Prelude.{◌≡◌, ◌⊎◌, ℕ, length, Result, Ok, Err}
 use Rattle.txc_cushion.specs.Cushion.{retired}
+use Rattle.txc_cushion.specs.declared.error.AddError.{AddError}
+use Rattle.txc_cushion.specs.declared.error.AddError.TheVariants as adds
+use Rattle.txc_caller.specs.Pinning.{HasNotPinned, HasPinnedNewest}
+use Rattle.txc_caller.specs.declared.pinning.PinError.{PinError}
+use Rattle.txc_caller.specs.declared.pinning.PinError.TheVariants as pins
 use Rattle.txc_db.specs.DatabaseValue.{next_horizon}
 use Rattle.txc_db.specs.declared.error.DbError.{DbError}
 use Rattle.txc_shared.specs.declared.error.NodeError.{NodeError}
 use Rattle.txc_shared.specs.declared.error.NodeError.TheVariants.{Memory}
 use Rattle.txc_caller.specs.Ports.{CallerSweepTransition, GoesOnByEvents, HasRetired, HasVacuumedPorts, IsKeepRefused}
 use Rattle.txc_caller.specs.Reading.{CallerValue}
-use Rattle.txc_c.specs.Sites.{Stays}
+use Rattle.txc_c.specs.Sites.{SiteValue}
 use Rattle.txc_c.specs.Turning.{database_number}
 use Rattle.txc_c.specs.declared.keeping.TxcKept.{TxcKept}
-use Rattle.txc_crossing.specs.declared.numbers.TheConstants.{ALREADY_OPEN, DONE, NO_MEMORY, REFUSED}
-use Rattle.txc_c.specs.declared.site.Site.{Site}
-use Rattle.txc_c.specs.declared.site.Site.TheVariants.{Resting}
+use Rattle.txc_crossing.specs.declared.numbers.TheConstants.{DONE, NO_MEMORY, REFUSED}
 
 -- the number of a refusal of the node
 abbrev pub node_number : NodeError → ℕ
@@ -43,7 +46,7 @@ pub record HasSweptNode (horizon : ℕ) (old : CallerValue) (number : ℕ) (was 
 pub record HasRefusedVacuum (old : CallerValue) (number : ℕ) (was is : TxcKept) (new : CallerValue) : Type 0 where
   pub error : DbError
   pub number_is : number ≡ database_number error
-  pub refused : IsKeepRefused old.ports.database old.ports.node error
+  pub refused : IsKeepRefused old.ports.database old.ports.node new.ports.node error
   pub node : GoesOnByEvents old.ports.node new.ports.node
   pub same : new ≡ record old { ports = record old.ports { node = new.ports.node } }
   pub told : is ≡ was
@@ -73,7 +76,35 @@ abbrev pub HasKept : ℕ → ℕ → CallerValue → ℕ → TxcKept → TxcKept
 HasKept now age old number was is new =
     HasKeptOn now age old number was is new ⊎ ((number ≡ NO_MEMORY) × (new ≡ old) × (is ≡ was))
 
-abbrev pub KeepComesTo : ℕ → ℕ → TxcKept → TxcKept → Site → ℕ → Site → Type 0
-KeepComesTo now age was is (Resting old) number (Resting new) = HasKept now age old number was is new
-KeepComesTo now age was is (Resting old) number new = ⊥
-KeepComesTo now age was is old number new = Stays ALREADY_OPEN old number new × (is ≡ was)
+-- whatever is open stays so
+abbrev pub KeepComesTo : ℕ → ℕ → TxcKept → TxcKept → SiteValue → ℕ → SiteValue → Type 0
+KeepComesTo now age was is old number new =
+    HasKept now age old.caller number was is new.caller × (new ≡ record old { caller = new.caller })
+
+-- ---- a pin
+
+-- the number of a refusal of the pincushion
+abbrev pub add_number : AddError → ℕ
+add_number adds.Memory = NO_MEMORY
+add_number error = REFUSED
+
+-- the number of a pin that was not made
+abbrev pub pin_number : PinError → ℕ
+pin_number (pins.Database error) = database_number error
+pin_number (pins.Pincushion error) = add_number error
+
+-- it was not made
+pub record IsNotPinned (moment : ℕ) (old : CallerValue) (number : ℕ) (new : CallerValue) : Type 0 where
+  pub error : PinError
+  pub number_is : number ≡ pin_number error
+  pub refused : HasNotPinned moment old.ports error new.ports
+
+-- the newest state has a pin of that moment, which no transaction uses, and its stamp is written
+abbrev pub HasPinnedOrNot : ℕ → ℕ → ℕ → CallerValue → ℕ → CallerValue → Type 0
+HasPinnedOrNot moment was is old number new = ((number ≡ DONE) × HasPinnedNewest moment old.ports is new.ports)
+    ⊎ (IsNotPinned moment old number new × (is ≡ was))
+
+-- whatever is open stays so
+abbrev pub PinComesTo : ℕ → ℕ → ℕ → SiteValue → ℕ → SiteValue → Type 0
+PinComesTo moment was is old number new = HasPinnedOrNot moment was is old.caller number new.caller
+    × (new.caller ≡ record old.caller { ports = new.caller.ports }) × (new ≡ record old { caller = new.caller })

@@ -1,3 +1,4 @@
+pub mod Totals
 pub mod Counted
 pub mod Numbers
 pub mod Told
@@ -6,9 +7,13 @@ pub mod Life
 pub mod SiteHeld
 pub mod Exports
 pub mod Opaque
+pub mod Opened
+pub mod Settings
 pub mod Sites
 pub mod Receipts
 pub mod Turning
 pub mod Telling
 pub mod Asking
+pub mod Listing
 pub mod Keeping
+pub mod Trimming

@@ -2,7 +2,8 @@
 use Rattle.std.specs.Prelude.{◌≡◌, ℕ, nat_le, if◌then◌else◌, Option, Some, None}
 use Rattle.txc_node.specs.Counts.{counts_of}
 use Rattle.txc_tags.specs.declared.key.TheConstants.{LAST_FUNCTION}
-use Rattle.txc_c.specs.Counted.{Counted}
+use Rattle.txc_c.specs.Counted.{totals_of_node, Counted}
+use Rattle.txc_c.specs.declared.totals.TxcTotals.{TxcTotals}
 use Rattle.txc_crossing.specs.Crossing.{are_sizes, crossing_counts}
 use Rattle.txc_crossing.specs.declared.crossing.TxcCounts.{TxcCounts}
 use Rattle.txc_crossing.specs.declared.numbers.TheConstants.{DONE, CLOSED, ALREADY_OPEN, BAD_ARGUMENT}
@@ -21,6 +22,16 @@ close_number (Some n) = DONE
 abbrev pub count_number : Option Counted → ℕ → ℕ
 count_number None function = CLOSED
 count_number (Some n) function = if nat_le function LAST_FUNCTION then DONE else BAD_ARGUMENT
+
+-- the number of a call for the totals of a node
+abbrev pub totals_number : Option Counted → ℕ
+totals_number None = CLOSED
+totals_number (Some n) = DONE
+
+-- the totals of the node; of no node nothing is written
+abbrev pub totals_told : Option Counted → TxcTotals → TxcTotals
+totals_told None old = old
+totals_told (Some n) old = totals_of_node n
 
 -- the counts of that function; of no node, and of no function, nothing is written
 abbrev pub counts_told : Option Counted → ℕ → TxcCounts → TxcCounts

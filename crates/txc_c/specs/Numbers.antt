@@ -1,6 +1,6 @@
 -- The numbers that calls return.
 use Rattle.std.specs.Prelude.{ℕ, Option, Some, None}
-use Rattle.txc_node.specs.declared.value.TheConstants.{MAX_VALUE_LEN}
+use Rattle.txc_node.specs.declared.value.TheConstants.{MOST_VALUE_LEN}
 use Rattle.txc_node.specs.declared.hit.Shown.{Shown}
 use Rattle.txc_node.specs.declared.node.Inserted.{Inserted}
 use Rattle.txc_node.specs.declared.node.Inserted.TheVariants.{Stored, Kept}
@@ -35,4 +35,4 @@ reply_number room (replies.Refused refusal) = refusal_number refusal
 abbrev pub call_number : ℕ → Option Counted → Option Op → ℕ
 call_number room None asked = CLOSED
 call_number room (Some n) None = BAD_ARGUMENT
-call_number room (Some n) (Some op) = reply_number room (reply_to MAX_VALUE_LEN n.cache op)
+call_number room (Some n) (Some op) = reply_number room (reply_to MOST_VALUE_LEN n.cache op)

@@ -1,26 +1,22 @@
 -- The functions of a caller in C.
-use Rattle.std.specs.Prelude.{◌≢◌, ℕ, List, [], Option, Some, None}
-use mathlib.Core.Path.{subst}
+use Rattle.std.specs.Prelude.{ℕ, List, [], Option, Some}
+use Rattle.txc_node.specs.declared.value.TheConstants.{MOST_VALUE_LEN}
+use Rattle.txc_app.specs.declared.app.Limits.{Limits}
+use Rattle.txc_app.specs.declared.app.TheConstants.{MOST_ASKS}
 use Rattle.txc_app.specs.declared.ask.Ask.{Ask}
 use Rattle.txc_app.specs.declared.ask.Ask.TheVariants.{Done}
 use Rattle.txc_app.specs.declared.ask.Answer.{Answer}
-use Rattle.txc_app.specs.Eval.{Next, small_limits}
+use Rattle.txc_app.specs.Eval.{Next}
 
 -- What they ask and give. Its body is none of a proof's business, and no proof can use it: what is proved holds of
 -- whatever stands here.
 pub opaque_asks : ℕ → List ℕ → List Answer → Option Ask
 opaque_asks function args answers = Some (Done [])
 
--- what they mean, within small limits
+-- their limits: the most bytes of a value and the most asks of an activation that any application may state
+abbrev pub caller_limits : Limits
+caller_limits = record { value = MOST_VALUE_LEN; asks = MOST_ASKS }
+
+-- what they mean, within these limits
 abbrev pub opaque_next : Next
-opaque_next = record { says = opaque_asks; limits = small_limits }
-
--- something is asked
-abbrev AsksSome : Option Ask → Type 0
-AsksSome None = ⊥
-AsksSome (Some ask) = Unit {0}
-
--- but that a function refuses no arguments
-pub takes_all : (function : ℕ) (args : List ℕ) → opaque_next.says function args [] ≢ None
-unfolding opaque_asks
-takes_all function args is = subst AsksSome is tt
+opaque_next = record { says = opaque_asks; limits = caller_limits }

@@ -1,19 +1,33 @@
--- What is told of a step, and written for the caller.
-use Rattle.std.specs.Prelude.{ℕ, ◌-◌, length, slice_get, List, Option, Some, None, Result, Ok, Err}
+-- What is told of a step and of what was answered last, and written for the caller.
+use Rattle.std.specs.Prelude.{◌≡◌, ℕ, ◌-◌, length, slice_get, List, [], Option, Some, None, Result, Ok, Err}
+use Rattle.txc_tags.specs.Keys.{Call}
+use Rattle.txc_rows.specs.Values.{RowValue}
 use Rattle.txc_app.specs.declared.ask.Answer.{Answer}
 use Rattle.txc_app.specs.declared.ask.Answer.TheVariants as answers
 use Rattle.txc_ports.specs.declared.recorded.Recorded.{Recorded}
-use Rattle.txc_caller.specs.Reading.{CallerReading}
-use Rattle.txc_caller.specs.declared.frames.OpenCall.{OpenCall}
+use Rattle.txc_rw.specs.declared.given.Given.{Given}
+use Rattle.txc_rw.specs.declared.given.Given.TheVariants as given
+use Rattle.txc_caller.specs.Telling.{told_answer, top_call}
 use Rattle.txc_caller.specs.declared.step.CallerError.{CallerError}
 use Rattle.txc_caller.specs.declared.step.CallerError.TheVariants as errors
 use Rattle.txc_caller.specs.declared.step.Step.{Step}
 use Rattle.txc_caller.specs.declared.step.Step.TheVariants as steps
 use Rattle.txc_crossing.specs.Crossing.{written_in}
 use Rattle.txc_crossing.specs.Numbers.{bytes_number}
-use Rattle.txc_crossing.specs.declared.numbers.TheConstants.{DONE, MISS, NO_MEMORY, COMPUTE, ANSWERED, NOT_OPEN, REFUSED, OTHER_ASK}
+use Rattle.txc_crossing.specs.declared.numbers.TheConstants.{DONE, MISS, COMPUTE, ANSWERED, NOT_OPEN, REFUSED}
+use Rattle.txc_c.specs.Opened.{calling_of}
+use Rattle.txc_c.specs.declared.opened.Open.{Open}
+use Rattle.txc_c.specs.declared.opened.Open.TheVariants.{Reading, Writing}
 
--- ---- an answer: the value of a call, by this number where there is room for it, or of rows how many they are
+-- a buffer of the caller, and the length that is written beside it
+pub record Buffer : Type 0 where
+  pub bytes : List ℕ
+  pub len : ℕ
+
+abbrev pub buffer : List ℕ → ℕ → Buffer
+buffer bytes len = record { bytes = bytes; len = len }
+
+-- ---- an answer: the value of a call, by this number if there is room for it; or of rows how many they are
 
 abbrev pub answer_number : ℕ → ℕ → Answer → ℕ
 answer_number number room (answers.Value value) = bytes_number number room value
@@ -27,98 +41,96 @@ abbrev pub answer_bytes : Answer → List ℕ → List ℕ
 answer_bytes (answers.Value value) old = written_in value old
 answer_bytes (answers.Rows rows) old = old
 
--- what the function that is computed was answered last
-abbrev pub given_in : Option OpenCall → Option Answer
-given_in None = None
-given_in (Some o) = o.given
-
-abbrev pub last_given : CallerReading → Option Answer
-last_given r = given_in r.doing
-
 -- ---- a step
 
 -- why it was refused
 abbrev pub error_number : CallerError → ℕ
 error_number (errors.Txn error) = REFUSED
-error_number errors.OtherAsk = OTHER_ASK
 error_number errors.NoFunction = NOT_OPEN
-error_number errors.Memory = NO_MEMORY
 
-abbrev pub given_number : ℕ → Option Answer → ℕ
-given_number room (Some answer) = answer_number ANSWERED room answer
-given_number room None = ANSWERED
+-- what the function was told that is computed next
+abbrev pub told_number : ℕ → Option Answer → ℕ
+told_number room (Some answer) = answer_number ANSWERED room answer
+told_number room None = ANSWERED
 
-abbrev pub given_len : Option Answer → ℕ → ℕ
-given_len (Some answer) old = answer_len answer
-given_len None old = old
+abbrev pub told_len : Option Answer → ℕ → ℕ
+told_len (Some answer) old = answer_len answer
+told_len None old = old
 
-abbrev pub given_bytes : Option Answer → List ℕ → List ℕ
-given_bytes (Some answer) old = answer_bytes answer old
-given_bytes None old = old
+abbrev pub told_bytes : Option Answer → List ℕ → List ℕ
+told_bytes (Some answer) old = answer_bytes answer old
+told_bytes None old = old
 
--- its number: to compute; the value of the outermost call; or what the function was given
+-- its number: to compute; the value of the outermost call; or what the function was told
 abbrev pub step_number : ℕ → Option Answer → Result Step CallerError → ℕ
-step_number room given (Ok steps.Compute) = COMPUTE
-step_number room given (Ok (steps.Value value)) = bytes_number DONE room value
-step_number room given (Ok steps.Answered) = given_number room given
-step_number room given (Err error) = error_number error
+step_number room told (Ok steps.Compute) = COMPUTE
+step_number room told (Ok (steps.Value value)) = bytes_number DONE room value
+step_number room told (Ok steps.Answered) = told_number room told
+step_number room told (Err error) = error_number error
 
 abbrev pub step_len : Option Answer → Result Step CallerError → ℕ → ℕ
-step_len given (Ok (steps.Value value)) old = length value
-step_len given (Ok steps.Answered) old = given_len given old
-step_len given step old = old
+step_len told (Ok (steps.Value value)) old = length value
+step_len told (Ok steps.Answered) old = told_len told old
+step_len told step old = old
 
 abbrev pub step_bytes : Option Answer → Result Step CallerError → List ℕ → List ℕ
-step_bytes given (Ok (steps.Value value)) old = written_in value old
-step_bytes given (Ok steps.Answered) old = given_bytes given old
-step_bytes given step old = old
+step_bytes told (Ok (steps.Value value)) old = written_in value old
+step_bytes told (Ok steps.Answered) old = told_bytes told old
+step_bytes told step old = old
 
 -- ---- what was answered last
 
-abbrev pub last_recorded : List Recorded → Option Recorded
-last_recorded recorded = slice_get recorded (length recorded - 1)
+-- an answer, and by which number it is given
+pub record Last : Type 0 where
+  pub number : ℕ
+  pub answer : Answer
 
--- the value that the outermost call was answered last
-abbrev pub value_number : ℕ → Option Recorded → ℕ
-value_number room (Some r) = bytes_number DONE room r.value
-value_number room None = MISS
+abbrev pub last_in : {A : Type 0} → List A → Option A
+last_in items = slice_get items (length items - 1)
 
-abbrev pub value_len : Option Recorded → ℕ → ℕ
-value_len (Some r) old = length r.value
-value_len None old = old
+-- to the function that is computed
+abbrev pub last_told : Option Answer → Option Last
+last_told (Some answer) = Some (record { number = ANSWERED; answer = answer })
+last_told None = None
 
-abbrev pub value_bytes : Option Recorded → List ℕ → List ℕ
-value_bytes (Some r) old = written_in r.value old
-value_bytes None old = old
+-- to an outermost call
+abbrev pub last_recorded : Option Recorded → Option Last
+last_recorded (Some r) = Some (record { number = DONE; answer = answers.Value r.value })
+last_recorded None = None
 
-abbrev pub computed_number : ℕ → Option Answer → ℕ
-computed_number room (Some answer) = answer_number ANSWERED room answer
-computed_number room None = MISS
+-- to a transaction that writes: to an outermost call, or to a query of its own
+abbrev pub last_given : Option Given → Option Last
+last_given (Some (given.Value key value)) = Some (record { number = DONE; answer = answers.Value value })
+last_given (Some (given.Rows query rows)) = Some (record { number = ANSWERED; answer = answers.Rows rows })
+last_given None = None
 
--- in a transaction that writes, to the function that is computed, or else outside all
-abbrev pub written_number : ℕ → Option ℕ → Option Answer → ℕ
-written_number room (Some function) given = computed_number room given
-written_number room None (Some answer) = answer_number DONE room answer
-written_number room None None = MISS
+-- if no function is computed
+abbrev pub last_outside : Open → Option Last
+last_outside (Reading t) = last_recorded (last_in t.core.recorded)
+last_outside (Writing w) = last_given (last_in w.core.answers)
 
--- to the function that is computed, or else to the outermost call
-abbrev pub last_number_in : ℕ → Option OpenCall → List Recorded → ℕ
-last_number_in room (Some o) recorded = computed_number room o.given
-last_number_in room None recorded = value_number room (last_recorded recorded)
+abbrev pub last_while : Option Call → Option Answer → Option Last → Option Last
+last_while (Some top) told outside = last_told told
+last_while None told outside = outside
 
-abbrev pub last_number : ℕ → CallerReading → ℕ
-last_number room r = last_number_in room r.doing r.txn.core.recorded
+-- what was answered last: to the function that is computed, or else outside all functions
+abbrev pub last_answer_of : Open → Option Last
+last_answer_of x = last_while (top_call (calling_of x)) (told_answer (calling_of x)) (last_outside x)
 
-abbrev pub last_len_in : Option OpenCall → List Recorded → ℕ → ℕ
-last_len_in (Some o) recorded old = given_len o.given old
-last_len_in None recorded old = value_len (last_recorded recorded) old
+abbrev pub answer_rows : Answer → List RowValue
+answer_rows (answers.Rows rows) = rows
+answer_rows (answers.Value value) = []
 
-abbrev pub last_len : CallerReading → ℕ → ℕ
-last_len r old = last_len_in r.doing r.txn.core.recorded old
+abbrev pub rows_of_last : Option Last → List RowValue
+rows_of_last (Some last) = answer_rows last.answer
+rows_of_last None = []
 
-abbrev pub last_bytes_in : Option OpenCall → List Recorded → List ℕ → List ℕ
-last_bytes_in (Some o) recorded old = given_bytes o.given old
-last_bytes_in None recorded old = value_bytes (last_recorded recorded) old
+-- the rows that were found last, while nothing else was answered
+abbrev pub rows_found : Open → List RowValue
+rows_found x = rows_of_last (last_answer_of x)
 
-abbrev pub last_bytes : CallerReading → List ℕ → List ℕ
-last_bytes r old = last_bytes_in r.doing r.txn.core.recorded old
+-- it is written, if there is one
+abbrev pub LastTold : Option Last → ℕ → Buffer → Buffer → Type 0
+LastTold (Some last) number was is = (number ≡ answer_number last.number (length was.bytes) last.answer)
+    × (is.len ≡ answer_len last.answer) × (is.bytes ≡ answer_bytes last.answer was.bytes)
+LastTold None number was is = (number ≡ MISS) × (is ≡ was)

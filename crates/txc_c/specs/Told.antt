@@ -1,6 +1,6 @@
 -- What a call writes for its caller, by the reply.
 use Rattle.std.specs.Prelude.{◌≡◌, ℕ, List, length, Option, Some, None}
-use Rattle.txc_node.specs.declared.value.TheConstants.{MAX_VALUE_LEN}
+use Rattle.txc_node.specs.declared.value.TheConstants.{MOST_VALUE_LEN}
 use Rattle.txc_node.specs.declared.hit.Shown.{Shown}
 use Rattle.txc_node.specs.declared.node.Inserted.TheVariants.{Stored}
 use Rattle.txc_node.specs.declared.op.Op.{Op}
@@ -16,7 +16,7 @@ use Rattle.txc_crossing.specs.declared.crossing.TxcStored.{TxcStored}
 abbrev pub call_reply : Option Counted → Option Op → Option (Reply Shown)
 call_reply None asked = None
 call_reply (Some n) None = None
-call_reply (Some n) (Some op) = Some (reply_to MAX_VALUE_LEN n.cache op)
+call_reply (Some n) (Some op) = Some (reply_to MOST_VALUE_LEN n.cache op)
 
 -- ---- of a hit; any other reply writes nothing
 
@@ -51,6 +51,11 @@ closed_told _ old = old
 abbrev pub swept_told : Option (Reply Shown) → ℕ → ℕ
 swept_told (Some (replies.Swept count)) old = count
 swept_told _ old = old
+
+-- of a trim how many entries it dropped; any other reply writes nothing
+abbrev pub trimmed_told : Option (Reply Shown) → ℕ → ℕ
+trimmed_told (Some (replies.Trimmed count)) old = count
+trimmed_told _ old = old
 
 -- the stamp of the last event that the node took; of no node nothing is written
 abbrev pub processed_told : Option Counted → ℕ → ℕ

@@ -1,27 +1,35 @@
 -- What comes of transactions that begin and end.
-use Rattle.std.specs.Prelude.{◌≡◌, ℕ, nat_le, Bool, length, IsSome}
+use Rattle.std.specs.Prelude.{◌≡◌, ◌⊎◌, ℕ, nat_le, Bool, false, true, length, Option, Some, None}
 use Rattle.std.specs.Bool.{MatchBool}
+use Rattle.txc_tags.specs.Keys.{Call}
 use Rattle.txc_stamp.specs.declared.stamp.TheConstants.{MOST_STAMP}
-use Rattle.txc_db.specs.Calls.{IsBase}
-use Rattle.txc_db.specs.DatabaseValue.{newest}
+use Rattle.txc_db.specs.Calls.{IsBase, IsHoldable, IsHoldRefused}
+use Rattle.txc_db.specs.DatabaseValue.{after_hold, newest}
+use Rattle.txc_db.specs.History.{state_at}
+use Rattle.txc_db.specs.Shared.{IsEventIn, IsQuietIn}
 use Rattle.txc_db.specs.declared.error.DbError.{DbError}
 use Rattle.txc_db.specs.declared.error.DbError.TheVariants.{Conflict, Memory}
 use Rattle.txc_db.specs.Steps.{IsBaseRefused}
 use Rattle.txc_ports.specs.declared.bounds.Bounds.{Bounds}
 use Rattle.txc_txn.specs.Core.{receipt_pin, Explains}
+use Rattle.txc_txn.specs.Kept.{TxnValue}
 use Rattle.txc_txn.specs.Sessions.{IsAtLeast}
-use Rattle.txc_caller.specs.Ports.{AreGivenBack, MayHaveTaken}
-use Rattle.txc_caller.specs.Reading.{caller_of, CallerReading, CallerValue, HasAborted, IsBegunReading}
-use Rattle.txc_caller.specs.Writing.{CallerWriting, HasCommittedWrite, IsBegunWrite, IsWriteLeft, IsWriteCommitRefused}
+use Rattle.txc_rw.specs.Answers.{AreRightIn}
+use Rattle.txc_rw.specs.Core.{tags_read}
+use Rattle.txc_rw.specs.Outcomes.{IsCommitted}
+use Rattle.txc_caller.specs.Ports.{MayHaveTaken}
+use Rattle.txc_caller.specs.Reading.{CallerValue, HasEndedReading, IsBegunReading}
+use Rattle.txc_caller.specs.Telling.{top_call}
+use Rattle.txc_caller.specs.Writing.{CallerWriting, HasAbortedWrite, HasCommittedWrite, IsBegunWrite, IsWriteLeft, IsWriteCommitRefused}
 use Rattle.txc_caller.specs.declared.step.WriteError.{WriteError}
 use Rattle.txc_caller.specs.declared.step.WriteError.TheVariants.{Database, MidCall}
 use Rattle.txc_c.specs.Opaque.{opaque_next}
 use Rattle.txc_c.specs.Receipts.{crossing_receipt}
-use Rattle.txc_c.specs.Sites.{Stays}
+use Rattle.txc_c.specs.Sites.{may_begin, HasBegunAt, HasEndedAt, IsNoRoom, KeepsOpen, OfNumber, SiteValue, Stays}
 use Rattle.txc_c.specs.declared.receipts.TxcReceipt.{TxcReceipt}
-use Rattle.txc_crossing.specs.declared.numbers.TheConstants.{DONE, ALREADY_OPEN, BAD_ARGUMENT, NO_MEMORY, NOT_OPEN, MID_CALL, REFUSED, CONFLICT}
-use Rattle.txc_c.specs.declared.site.Site.{Site}
-use Rattle.txc_c.specs.declared.site.Site.TheVariants.{Resting, Reading, Writing}
+use Rattle.txc_c.specs.declared.opened.Open.{Open}
+use Rattle.txc_c.specs.declared.opened.Open.TheVariants.{Reading, Writing}
+use Rattle.txc_crossing.specs.declared.numbers.TheConstants.{BAD_ARGUMENT, CONFLICT, DONE, MID_CALL, NO_MEMORY, NOT_OPEN, REFUSED}
 
 -- the number of a refusal of the database
 abbrev pub database_number : DbError → ℕ
@@ -45,91 +53,139 @@ pub record MayHaveCaughtUp (old new : CallerValue) : Type 0 where
   pub taken : MayHaveTaken old.ports.database old.ports.node new.ports.node
   pub same : new ≡ record old { ports = record old.ports { node = new.ports.node } }
 
--- at rest: the node goes on, and the transaction begins; or memory is wanting
-abbrev pub BegunComesTo : Bounds → CallerValue → ℕ → Site → Type 0
-BegunComesTo bounds c number (Reading r) =
-    (number ≡ DONE) × ((first : CallerValue) × MayHaveCaughtUp c first × IsBegunReading opaque_next first bounds r)
-BegunComesTo bounds c number (Resting left) = (number ≡ NO_MEMORY)
-    × ((first : CallerValue) × MayHaveCaughtUp c first
-    × (left ≡ record first { ports = record first.ports { cushion = left.ports.cushion } }))
-BegunComesTo bounds c number (Writing w) = ⊥
+-- the node goes on, and a transaction begins within these bounds
+pub record BeginsReading (bounds : Bounds) (c c' : CallerValue) (x : Open) : Type 0 where
+  pub first : CallerValue
+  pub caught_up : MayHaveCaughtUp c first
+  pub txn : TxnValue
+  pub is : x ≡ Reading txn
+  pub begun : IsBegunReading opaque_next bounds first c' txn
 
-abbrev pub BeginAtRestComesTo : Bounds → Site → ℕ → Site → Type 0
-BeginAtRestComesTo bounds (Resting c) number new = BegunComesTo bounds c number new
-BeginAtRestComesTo bounds old number new = Stays ALREADY_OPEN old number new
+-- the node goes on, and memory is wanting for the pins
+pub record HasNotBegunReading (old : SiteValue) (number : ℕ) (new : SiteValue) : Type 0 where
+  pub number_is : number ≡ NO_MEMORY
+  pub first : CallerValue
+  pub caught_up : MayHaveCaughtUp old.caller first
+  pub caller : new.caller ≡ first
+  pub same : new ≡ record old { caller = new.caller; opened = record old.opened { capacity = new.opened.capacity } }
 
--- of a transaction that only reads
-abbrev pub BeginComesTo : ℕ → ℕ → ℕ → Site → ℕ → Site → Type 0
-BeginComesTo now staleness at_least old number new = MatchBool (is_site_stamp at_least)
-    (BeginAtRestComesTo (record { now = now; staleness = staleness; at_least = at_least }) old number new)
-    (Stays BAD_ARGUMENT old number new)
+abbrev pub BeginsOrNot : Bounds → ℕ → ℕ → SiteValue → ℕ → SiteValue → Type 0
+BeginsOrNot bounds was is old number new = ((number ≡ DONE) × HasBegunAt (BeginsReading bounds) is old new)
+    ⊎ (HasNotBegunReading old number new × (is ≡ was))
 
--- of one that writes over the newest state
-abbrev pub BegunWriteComesTo : CallerValue → ℕ → Site → Type 0
-BegunWriteComesTo c number (Writing w) = (number ≡ DONE) × IsBegunWrite c (newest c.ports.database) w
-BegunWriteComesTo c number new = ⊥
+-- if there is room for one more, this comes of it
+abbrev pub PlacedComesTo : (SiteValue → ℕ → SiteValue → Type 0) → Type 0 → SiteValue → ℕ → SiteValue → Type 0
+PlacedComesTo begins unwritten old number new =
+    ((may_begin old ≡ true) × begins old number new) ⊎ (IsNoRoom old number new × unwritten)
 
-abbrev pub BeginWriteComesTo : Site → ℕ → Site → Type 0
-BeginWriteComesTo (Resting c) number new = BegunWriteComesTo c number new
-BeginWriteComesTo old number new = Stays ALREADY_OPEN old number new
+-- of a transaction that only reads; its number is written if it has begun
+abbrev pub BeginPlaced : Bounds → ℕ → ℕ → SiteValue → ℕ → SiteValue → Type 0
+BeginPlaced bounds was is old number new = PlacedComesTo (BeginsOrNot bounds was is) (is ≡ was) old number new
 
--- of one over the state of that stamp; or it can be no base of a commit
-abbrev pub BegunWriteAtComesTo : ℕ → CallerValue → ℕ → Site → Type 0
-BegunWriteAtComesTo base c number (Writing w) = (number ≡ DONE) × IsBase c.ports.database base × IsBegunWrite c base w
-BegunWriteAtComesTo base c number (Resting left) =
-    ((error : DbError) × (number ≡ database_number error) × IsBaseRefused c.ports.database base error) × (left ≡ c)
-BegunWriteAtComesTo base c number (Reading r) = ⊥
+abbrev pub BeginComesTo : ℕ → ℕ → ℕ → ℕ → ℕ → SiteValue → ℕ → SiteValue → Type 0
+BeginComesTo now staleness at_least was is old number new = MatchBool (is_site_stamp at_least)
+    (BeginPlaced (record { now = now; staleness = staleness; at_least = at_least }) was is old number new)
+    (Stays BAD_ARGUMENT old number new × (is ≡ was))
 
-abbrev pub BeginWriteAtRestComesTo : ℕ → Site → ℕ → Site → Type 0
-BeginWriteAtRestComesTo base (Resting c) number new = BegunWriteAtComesTo base c number new
-BeginWriteAtRestComesTo base old number new = Stays ALREADY_OPEN old number new
+-- one that writes over the newest state, which the database holds for it
+pub record BeginsWriting (c c' : CallerValue) (x : Open) : Type 0 where
+  pub write : CallerWriting
+  pub is : x ≡ Writing write
+  pub begun : IsBegunWrite (newest c.ports.database) true write
+  pub could : IsHoldable c.ports.database
+  pub held : c' ≡ record c { ports = record c.ports { database = after_hold c.ports.database } }
 
-abbrev pub BeginWriteAtComesTo : ℕ → Site → ℕ → Site → Type 0
-BeginWriteAtComesTo stamp old number new =
-    MatchBool (is_site_stamp stamp) (BeginWriteAtRestComesTo stamp old number new) (Stays BAD_ARGUMENT old number new)
+-- it is refused by the database for this reason, and each is as it was
+pub record IsNotBegun (reason : DbError → Type 0) (old : SiteValue) (number : ℕ) (new : SiteValue) : Type 0 where
+  pub error : DbError
+  pub number_is : number ≡ database_number error
+  pub refused : reason error
+  pub caller : new.caller ≡ old.caller
+  pub same : new ≡ record old { caller = new.caller; opened = record old.opened { capacity = new.opened.capacity } }
+
+-- of one that writes, which begins so or is refused so
+abbrev pub WritesOrNot : (CallerValue → CallerValue → Open → Type 0) → (DbError → Type 0) → ℕ → ℕ → SiteValue → ℕ → SiteValue → Type 0
+WritesOrNot begins reason was is old number new = ((number ≡ DONE) × HasBegunAt begins is old new)
+    ⊎ (IsNotBegun reason old number new × (is ≡ was))
+
+abbrev pub BeginWritePlaced : (CallerValue → CallerValue → Open → Type 0) → (DbError → Type 0) → ℕ → ℕ → SiteValue → ℕ → SiteValue → Type 0
+BeginWritePlaced begins reason was is old number new = PlacedComesTo (WritesOrNot begins reason was is) (is ≡ was) old number new
+
+abbrev pub BeginWriteComesTo : ℕ → ℕ → SiteValue → ℕ → SiteValue → Type 0
+BeginWriteComesTo was is old number new =
+    BeginWritePlaced BeginsWriting (IsHoldRefused old.caller.ports.database) was is old number new
+
+-- one over the state of that stamp, which can be the base of a commit
+pub record BeginsWritingAt (base : ℕ) (c c' : CallerValue) (x : Open) : Type 0 where
+  pub write : CallerWriting
+  pub is : x ≡ Writing write
+  pub begun : IsBegunWrite base false write
+  pub could : IsBase c.ports.database base
+  pub same : c' ≡ c
+
+abbrev pub BeginWriteAtComesTo : ℕ → ℕ → ℕ → SiteValue → ℕ → SiteValue → Type 0
+BeginWriteAtComesTo stamp was is old number new = MatchBool (is_site_stamp stamp)
+    (BeginWritePlaced (BeginsWritingAt stamp) (IsBaseRefused old.caller.ports.database stamp) was is old number new)
+    (Stays BAD_ARGUMENT old number new × (is ≡ was))
 
 -- ---- ends
 
--- its receipt explains each answer: at its pin, which its bounds allow, each is what its call comes to without a
--- cache
-pub record HasCommitted (r : CallerReading) (receipt : TxcReceipt) (c : CallerValue) : Type 0 where
-  pub told : receipt ≡ crossing_receipt (receipt_pin r.txn.core.recorded r.txn.core.pins.members) (length r.txn.core.recorded)
-  pub explained : Explains opaque_next r.txn.core.seen.history r.txn.core.bounds
-      (receipt_pin r.txn.core.recorded r.txn.core.pins.members) r.txn.core.recorded
-  pub not_before : IsAtLeast r.txn.core.bounds.at_least (receipt_pin r.txn.core.recorded r.txn.core.pins.members)
-  pub row : r.txn.core.seen.events ≡ c.ports.database.events
-  pub given_back : AreGivenBack r.txn.core.taken r.ports.cushion c.ports.cushion
-  pub caller : c ≡ record (caller_of r) { ports = record r.ports { cushion = c.ports.cushion } }
+-- Its receipt explains each answer, whatever others did meanwhile: at its pin, which its bounds allow, each is what its call comes to
+-- without a cache. Its pins are given back.
+pub record HasCommitted (t : TxnValue) (receipt : TxcReceipt) (c c' : CallerValue) : Type 0 where
+  pub told : receipt ≡ crossing_receipt (receipt_pin t.core.recorded t.core.pins.members) (length t.core.recorded)
+  pub explained : Explains opaque_next t.core.seen.history t.core.bounds
+      (receipt_pin t.core.recorded t.core.pins.members) t.core.recorded
+  pub not_before : IsAtLeast t.core.bounds.at_least (receipt_pin t.core.recorded t.core.pins.members)
+  pub row : t.core.seen.events ≡ c'.ports.database.events
+  pub ended : HasEndedReading t c c'
 
-abbrev pub CommittedComesTo : CallerReading → TxcReceipt → TxcReceipt → ℕ → Site → Type 0
-CommittedComesTo r was is number (Resting c) = (number ≡ DONE) × HasCommitted r is c
-CommittedComesTo r was is number (Reading left) = (number ≡ MID_CALL) × (left ≡ r) × IsSome r.doing × (is ≡ was)
-CommittedComesTo r was is number (Writing w) = ⊥
+-- if its call stands so
+abbrev pub CommitsReading : Option Call → TxnValue → TxcReceipt → TxcReceipt → ℕ → SiteValue → ℕ → SiteValue → Type 0
+CommitsReading None t was is n old number new = (number ≡ DONE) × HasEndedAt (HasCommitted t is) n old new
+CommitsReading (Some top) t was is n old number new = Stays MID_CALL old number new × (is ≡ was)
 
--- of a transaction that only reads; the receipt is written where it is done
-abbrev pub CommitComesTo : TxcReceipt → TxcReceipt → Site → ℕ → Site → Type 0
-CommitComesTo was is (Reading r) number new = CommittedComesTo r was is number new
-CommitComesTo was is old number new = Stays NOT_OPEN old number new × (is ≡ was)
+abbrev pub CommitsAt : TxcReceipt → TxcReceipt → ℕ → Open → SiteValue → ℕ → SiteValue → Type 0
+CommitsAt was is n (Reading t) old number new = CommitsReading (top_call t.core.call) t was is n old number new
+CommitsAt was is n (Writing w) old number new = Stays NOT_OPEN old number new × (is ≡ was)
 
--- the transaction is open, with its changes
-pub record HasRefusedWrite (w : CallerWriting) (number : ℕ) (left : CallerWriting) : Type 0 where
+-- of a transaction that only reads; the receipt is written if it is done
+abbrev pub CommitComesTo : TxcReceipt → TxcReceipt → ℕ → SiteValue → ℕ → SiteValue → Type 0
+CommitComesTo was is n old number new = OfNumber (CommitsAt was is n) (is ≡ was) n old number new
+
+-- Its changes are committed, at this stamp. Each answer is right just before the commit's event, or, if it changes nothing, at the
+-- newest stamp; and so it is at the base.
+pub record HasCommittedWrites (w : CallerWriting) (stamp : ℕ) (c c' : CallerValue) : Type 0 where
+  pub committed : HasCommittedWrite c w stamp c'
+  pub answer : IsCommitted opaque_next c'.ports.database.history w.core stamp
+  pub at_base : AreRightIn opaque_next (state_at c'.ports.database.history w.core.base) w.core.answers
+  pub apart : IsQuietIn c'.ports.database.history w.core.base (tags_read w.core) w.core.changes stamp
+      ⊎ IsEventIn c'.ports.database.history w.core.base (tags_read w.core) w.core.changes stamp
+
+-- it is open, with its changes
+pub record HasRefusedWrite (w : CallerWriting) (old : SiteValue) (number : ℕ) (new : SiteValue) : Type 0 where
   pub error : WriteError
   pub number_is : number ≡ write_number error
-  pub refused : IsWriteCommitRefused w error
-  pub left_so : IsWriteLeft w error left
+  pub refused : IsWriteCommitRefused old.caller w error
+  pub left_so : IsWriteLeft old.caller error new.caller
+  pub keeps : KeepsOpen old new
 
-abbrev pub WrittenComesTo : CallerWriting → ℕ → ℕ → ℕ → Site → Type 0
-WrittenComesTo w was is number (Resting c) = (number ≡ DONE) × HasCommittedWrite w is c
-WrittenComesTo w was is number (Writing left) = HasRefusedWrite w number left × (is ≡ was)
-WrittenComesTo w was is number (Reading r) = ⊥
+abbrev pub CommitsWriteAt : ℕ → ℕ → ℕ → Open → SiteValue → ℕ → SiteValue → Type 0
+CommitsWriteAt was is n (Writing w) old number new = ((number ≡ DONE) × HasEndedAt (HasCommittedWrites w is) n old new)
+    ⊎ (HasRefusedWrite w old number new × (is ≡ was))
+CommitsWriteAt was is n (Reading t) old number new = Stays NOT_OPEN old number new × (is ≡ was)
 
--- of one that writes; the stamp is written where it is done
-abbrev pub CommitWriteComesTo : ℕ → ℕ → Site → ℕ → Site → Type 0
-CommitWriteComesTo was is (Writing w) number new = WrittenComesTo w was is number new
-CommitWriteComesTo was is old number new = Stays NOT_OPEN old number new × (is ≡ was)
+-- of one that writes; the stamp is written if it is done
+abbrev pub CommitWriteComesTo : ℕ → ℕ → ℕ → SiteValue → ℕ → SiteValue → Type 0
+CommitWriteComesTo was is n old number new = OfNumber (CommitsWriteAt was is n) (is ≡ was) n old number new
 
-abbrev pub AbortComesTo : Site → ℕ → Site → Type 0
-AbortComesTo (Reading r) number (Resting c) = (number ≡ DONE) × HasAborted r c
-AbortComesTo (Writing w) number (Resting c) = (number ≡ DONE) × (c ≡ w.caller)
-AbortComesTo (Resting c) number new = Stays NOT_OPEN (Resting c) number new
-AbortComesTo old number new = ⊥
+-- it is given up: its pins are given back, or the hold of its base is taken away
+abbrev pub HasAborted : Open → CallerValue → CallerValue → Type 0
+HasAborted (Reading t) c c' = HasEndedReading t c c'
+HasAborted (Writing w) c c' = HasAbortedWrite w c c'
+
+abbrev pub AbortsAt : ℕ → Open → SiteValue → ℕ → SiteValue → Type 0
+AbortsAt n x old number new = (number ≡ DONE) × HasEndedAt (HasAborted x) n old new
+
+abbrev pub AbortComesTo : ℕ → SiteValue → ℕ → SiteValue → Type 0
+AbortComesTo n old number new = OfNumber (AbortsAt n) (Unit {0}) n old number new

@@ -1,18 +1,19 @@
 //! A node whose replies are counted.
 ghost use Rattle.std.specs.Prelude.{◌≡◌, ◌≢◌, ◌≤◌, [], Some, None, length, IfOk, IfSome};
 ghost use Rattle.txc_tags.specs.declared.key.TheConstants.{LAST_FUNCTION};
-ghost use Rattle.txc_node.specs.declared.value.TheConstants.{MAX_VALUE_LEN};
+ghost use Rattle.txc_node.specs.declared.value.TheConstants.{MOST_VALUE_LEN};
 ghost use Rattle.txc_node.specs.declared.node.TheConstants.{MAX_CAPACITY, MAX_RECENT};
 ghost use Rattle.txc_node.specs.declared.op.Op.TheVariants as steps;
 ghost use Rattle.txc_node.specs.declared.reply.Reply.TheVariants as replies;
 ghost use Rattle.txc_node.specs.Counts.{counts_of, AreCountsOf};
 ghost use Rattle.txc_node.specs.Hit.{seen};
 ghost use Rattle.txc_node.specs.Steps.{entry_refusal, reply_to, seen_reply};
-ghost use Rattle.txc_c.specs.Counted.{IsOpened, LeavesCounted, TotalsAfter};
+ghost use Rattle.txc_c.specs.Counted.{totals_of_node, IsOpened, LeavesCounted, TotalsAfter};
 ghost use Rattle.txc_crossing.specs.Crossing.{crossing_reach, written_in};
 ghost use Rattle.txc_c.specs.Numbers.{hit_number, inserted_number, reply_number};
-ghost use Rattle.txc_c.specs.Told.{reach_told, len_told, bytes_told, StoredTold, closed_told, swept_told};
+ghost use Rattle.txc_c.specs.Told.{reach_told, len_told, bytes_told, StoredTold, closed_told, swept_told, trimmed_told};
 
+use crate::totals::TxcTotals;
 use std::alloc::{AllocError, Global};
 use std::marker::Model;
 use txc_crossing::{
@@ -67,6 +68,12 @@ impl Tally {
         ensures { result ≡ counts_of self.now.functions function }
     {
         self.counts.of(function)
+    }
+
+    fn trimmed(&self) -> u128
+        ensures { result ≡ self.now.trimmed }
+    {
+        self.counts.trimmed()
     }
 }
 
@@ -141,6 +148,13 @@ impl CountedNode {
         self.tally.of(function)
     }
 
+    /// Returns what it holds in all, and how many entries trims have dropped.
+    pub(crate) fn totals(&self) -> TxcTotals
+        ensures { result ≡ totals_of_node self.now }
+    {
+        TxcTotals::of(self.node.len(), self.node.bytes(), self.tally.trimmed())
+    }
+
     /// [`NodeCore::lookup`], whose hit is written.
     pub(crate) fn lookup(
         &mut self,
@@ -152,14 +166,14 @@ impl CountedNode {
         len: &mut usize,
     ) -> u32
         ensures number { result
-            ≡ reply_number (length value.old) (reply_to MAX_VALUE_LEN self.old.cache (steps.Lookup key.now lo hi)) }
+            ≡ reply_number (length value.old) (reply_to MOST_VALUE_LEN self.old.cache (steps.Lookup key.now lo hi)) }
         ensures after { LeavesCounted self.old (steps.Lookup key.now lo hi) self.new }
         ensures reach { reach.new
-            ≡ reach_told (Some (reply_to MAX_VALUE_LEN self.old.cache (steps.Lookup key.now lo hi))) reach.old }
+            ≡ reach_told (Some (reply_to MOST_VALUE_LEN self.old.cache (steps.Lookup key.now lo hi))) reach.old }
         ensures len { len.new
-            ≡ len_told (Some (reply_to MAX_VALUE_LEN self.old.cache (steps.Lookup key.now lo hi))) len.old }
+            ≡ len_told (Some (reply_to MOST_VALUE_LEN self.old.cache (steps.Lookup key.now lo hi))) len.old }
         ensures bytes { value.new
-            ≡ bytes_told (Some (reply_to MAX_VALUE_LEN self.old.cache (steps.Lookup key.now lo hi))) value.old }
+            ≡ bytes_told (Some (reply_to MOST_VALUE_LEN self.old.cache (steps.Lookup key.now lo hi))) value.old }
     {
         let function = Some(key.function());
         match self.node.lookup(key, lo, hi) {
@@ -178,12 +192,12 @@ impl CountedNode {
 
     /// [`NodeCore::insert`], of which it is written what was stored. Only memory may refuse it.
     pub(crate) fn insert(&mut self, entry: Entry, stored: &mut TxcStored) -> u32
-        requires { entry_refusal MAX_VALUE_LEN entry ≡ None }
+        requires { entry_refusal MOST_VALUE_LEN entry ≡ None }
         ensures number { result ≢ NO_MEMORY
-            → result ≡ reply_number 0 (reply_to MAX_VALUE_LEN self.old.cache (steps.Insert entry)) }
+            → result ≡ reply_number 0 (reply_to MOST_VALUE_LEN self.old.cache (steps.Insert entry)) }
         ensures after { result ≢ NO_MEMORY → LeavesCounted self.old (steps.Insert entry) self.new }
         ensures told { result ≢ NO_MEMORY
-            → StoredTold (Some (reply_to MAX_VALUE_LEN self.old.cache (steps.Insert entry))) stored.old stored.new }
+            → StoredTold (Some (reply_to MOST_VALUE_LEN self.old.cache (steps.Insert entry))) stored.old stored.new }
         ensures refused { result ≡ NO_MEMORY → (self.new ≡ self.old) × (stored.new ≡ stored.old) }
     {
         let function = Some(entry.key.function());
@@ -197,10 +211,10 @@ impl CountedNode {
 
     /// [`NodeCore::event`], of which it is written how many entries it closed.
     pub(crate) fn event(&mut self, stamp: Stamp, tags: TagSet, closed: &mut usize) -> u32
-        ensures number { result ≡ reply_number 0 (reply_to MAX_VALUE_LEN self.old.cache (steps.Event stamp tags)) }
+        ensures number { result ≡ reply_number 0 (reply_to MOST_VALUE_LEN self.old.cache (steps.Event stamp tags)) }
         ensures after { LeavesCounted self.old (steps.Event stamp tags) self.new }
         ensures told { closed.new
-            ≡ closed_told (Some (reply_to MAX_VALUE_LEN self.old.cache (steps.Event stamp tags))) closed.old }
+            ≡ closed_told (Some (reply_to MOST_VALUE_LEN self.old.cache (steps.Event stamp tags))) closed.old }
     {
         let Ok(count) = self.node.event(stamp, tags) else {
             return OUT_OF_ORDER;
@@ -212,14 +226,27 @@ impl CountedNode {
 
     /// [`NodeCore::sweep`], of which it is written how many entries it dropped.
     pub(crate) fn sweep(&mut self, horizon: Stamp, swept: &mut usize) -> u32
-        ensures number { result ≡ reply_number 0 (reply_to MAX_VALUE_LEN self.old.cache (steps.Sweep horizon)) }
+        ensures number { result ≡ reply_number 0 (reply_to MOST_VALUE_LEN self.old.cache (steps.Sweep horizon)) }
         ensures after { LeavesCounted self.old (steps.Sweep horizon) self.new }
         ensures told { swept.new
-            ≡ swept_told (Some (reply_to MAX_VALUE_LEN self.old.cache (steps.Sweep horizon))) swept.old }
+            ≡ swept_told (Some (reply_to MOST_VALUE_LEN self.old.cache (steps.Sweep horizon))) swept.old }
     {
         let count = self.node.sweep(horizon);
         *swept = count;
         self.tally.note(None, &Reply::Swept(count));
+        DONE
+    }
+
+    /// [`NodeCore::trim`], of which it is written how many entries it dropped.
+    pub(crate) fn trim(&mut self, most: usize, dropped: &mut usize) -> u32
+        ensures number { result ≡ reply_number 0 (reply_to MOST_VALUE_LEN self.old.cache (steps.Trim most)) }
+        ensures after { LeavesCounted self.old (steps.Trim most) self.new }
+        ensures told { dropped.new
+            ≡ trimmed_told (Some (reply_to MOST_VALUE_LEN self.old.cache (steps.Trim most))) dropped.old }
+    {
+        let count = self.node.trim(most);
+        *dropped = count;
+        self.tally.note(None, &Reply::Trimmed(count));
         DONE
     }
 }

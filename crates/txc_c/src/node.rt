@@ -1,23 +1,24 @@
 //! The exports.
 ghost use Rattle.std.specs.Prelude.{◌≡◌, ◌≢◌, Some, None, length, if◌then◌else◌, IfOk};
-ghost use Rattle.txc_node.specs.declared.value.TheConstants.{MAX_VALUE_LEN};
+ghost use Rattle.txc_node.specs.declared.value.TheConstants.{MOST_VALUE_LEN};
 ghost use Rattle.txc_node.specs.declared.op.Op.TheVariants as steps;
 ghost use Rattle.txc_node.specs.Steps.{entry_refusal};
 ghost use Rattle.txc_c.specs.Counted.{CallLeaves, HasOpened};
 ghost use Rattle.txc_crossing.specs.Crossing.{asked_entry, event_asked, insert_asked, lookup_asked, sweep_asked};
 ghost use Rattle.txc_c.specs.Held.{held};
-ghost use Rattle.txc_c.specs.Life.{close_number, count_number, counts_told, open_number};
+ghost use Rattle.txc_c.specs.Life.{close_number, count_number, counts_told, open_number, totals_number, totals_told};
 ghost use Rattle.txc_c.specs.Numbers.{call_number};
-ghost use Rattle.txc_c.specs.Told.{call_reply, reach_told, len_told, bytes_told, StoredTold, closed_told, swept_told, processed_told};
+ghost use Rattle.txc_c.specs.Told.{call_reply, reach_told, len_told, bytes_told, StoredTold, closed_told, swept_told, trimmed_told, processed_told};
 
 use crate::counted::CountedNode;
 use crate::handle::TxcNode;
+use crate::totals::TxcTotals;
 use std::alloc::{AllocError, Global};
 use txc_crossing::{
     ALREADY_OPEN, BAD_ARGUMENT, BAD_REACH, CLOSED, DONE, NO_MEMORY, TxcCounts, TxcKey, TxcReach,
     TxcStored, TxcTag, VALUE_TOO_LONG, are_sizes, are_tags, is_insertion, tags_of,
 };
-use txc_node::{Entry, MAX_VALUE_LEN};
+use txc_node::{Entry, MOST_VALUE_LEN};
 use txc_stamp::Stamp;
 use txc_tags::LAST_FUNCTION;
 
@@ -124,7 +125,7 @@ fn entry_of(
     value: &[u8],
 ) -> Result<Entry, AllocError>
     ensures asked { IfOk result (λ e. insert_asked key.now reach.now tags.now value.now ≡ Some (steps.Insert e)) }
-    ensures can_be { IfOk result (λ e. entry_refusal MAX_VALUE_LEN e ≡ None) }
+    ensures can_be { IfOk result (λ e. entry_refusal MOST_VALUE_LEN e ≡ None) }
 {
     let Some(key) = key.key() else {
         return Err(AllocError);
@@ -137,7 +138,7 @@ fn entry_of(
     }
     let tags = tags_of(alloc, tags)?;
     let value = value.to_vec(alloc)?;
-    match Entry::new(key, value, lo, known, reach.is_still, tags) {
+    match Entry::up_to(MOST_VALUE_LEN, key, value, lo, known, reach.is_still, tags) {
         Ok(entry) => Ok(entry),
         Err(_) => Err(AllocError),
     }
@@ -161,7 +162,7 @@ fn insert(
         stored.old stored.new }
     ensures no_memory { result ≡ NO_MEMORY
         → (insert_asked key.now reach.now tags.now value.now ≢ None)
-        × (entry_refusal MAX_VALUE_LEN (asked_entry key.now reach.now tags.now value.now) ≡ None) }
+        × (entry_refusal MOST_VALUE_LEN (asked_entry key.now reach.now tags.now value.now) ≡ None) }
     ensures refused { result ≡ NO_MEMORY → (node.new ≡ node.old) × (stored.new ≡ stored.old) }
 {
     if !is_insertion(key, reach, tags) {
@@ -170,7 +171,7 @@ fn insert(
     if reach.known < reach.lo {
         return BAD_REACH;
     }
-    if value.len() > MAX_VALUE_LEN {
+    if value.len() > MOST_VALUE_LEN {
         return VALUE_TOO_LONG;
     }
     let Ok(entry) = entry_of(alloc, key, reach, tags, value) else {
@@ -199,7 +200,7 @@ pub extern "C" fn txc_node_insert(
         stored.old stored.new }
     ensures no_memory { result ≡ NO_MEMORY
         → (call_reply (held handle.old) (insert_asked key.now reach.now tags.now value.now) ≢ None)
-        × (entry_refusal MAX_VALUE_LEN (asked_entry key.now reach.now tags.now value.now) ≡ None) }
+        × (entry_refusal MOST_VALUE_LEN (asked_entry key.now reach.now tags.now value.now) ≡ None) }
     ensures refused { result ≡ NO_MEMORY → (held handle.new ≡ held handle.old) × (stored.new ≡ stored.old) }
 {
     let Some(mut node) = handle.take(alloc) else {
@@ -288,6 +289,46 @@ pub extern "C" fn txc_node_sweep(
     };
     handle.put(node);
     number
+}
+
+/// Keeps the longest prefix of the entries, the most recently used first, whose values have at most `most` bytes in
+/// all. Writes how many entries it dropped.
+#[unsafe(no_mangle)]
+pub extern "C" fn txc_node_trim(
+    alloc: Global,
+    handle: &mut TxcNode,
+    most: usize,
+    dropped: &mut usize,
+) -> u32
+    ensures number { result ≡ call_number 0 (held handle.old) (Some (steps.Trim most)) }
+    ensures after { CallLeaves (held handle.old) (Some (steps.Trim most)) (held handle.new) }
+    ensures told { dropped.new ≡ trimmed_told (call_reply (held handle.old) (Some (steps.Trim most))) dropped.old }
+{
+    let Some(mut node) = handle.take(alloc) else {
+        return CLOSED;
+    };
+    let number = node.trim(most, dropped);
+    handle.put(node);
+    number
+}
+
+/// Writes how many entries there are, how many bytes their values have in all, and how many entries trims have dropped.
+#[unsafe(no_mangle)]
+pub extern "C" fn txc_node_totals(
+    alloc: Global,
+    handle: &mut TxcNode,
+    totals: &mut TxcTotals,
+) -> u32
+    ensures number { result ≡ totals_number (held handle.old) }
+    ensures unchanged { held handle.new ≡ held handle.old }
+    ensures told { totals.new ≡ totals_told (held handle.old) totals.old }
+{
+    let Some(node) = handle.take(alloc) else {
+        return CLOSED;
+    };
+    *totals = node.totals();
+    handle.put(node);
+    DONE
 }
 
 /// Writes how often something was replied about the calls of a function.

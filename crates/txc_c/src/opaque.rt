@@ -1,4 +1,5 @@
-use txc_app::{App, Limits};
+use txc_app::{App, Limits, MOST_ASKS};
+use txc_node::MOST_VALUE_LEN;
 
 /// The application of a caller in C. No proof looks at what its functions ask and give: that is his.
 pub(crate) struct Opaque;
@@ -9,6 +10,9 @@ impl App for Opaque {
     ghost next = { opaque_next };
 
     fn limits() -> Limits {
-        Limits::SMALL
+        Limits {
+            value: MOST_VALUE_LEN,
+            asks: MOST_ASKS,
+        }
     }
 }

@@ -1,9 +1,9 @@
 //! The handle of a site: a pointer to one that stands on the heap.
 ghost use Rattle.std.specs.Prelude.{◌≡◌, Bool, true, false};
-ghost use Rattle.txc_c.specs.declared.site_room.SiteRoom.{SiteRoom as RoomValue};
+ghost use Rattle.txc_c.specs.Sites.{SiteValue};
 
 use crate::handle::crosses;
-use crate::site_room::SiteRoom;
+use crate::site::Site;
 use std::alloc::Global;
 use std::marker::Model;
 use std::ptr;
@@ -15,7 +15,7 @@ pub struct SiteSlot {
     ptr: *mut u8,
     alloc: Global,
     ghost is_full: { Bool },
-    ghost value: { RoomValue },
+    ghost value: { SiteValue },
 }
 
 impl Drop for SiteSlot {
@@ -30,7 +30,7 @@ impl Drop for SiteSlot {
 impl Model for SiteSlot {
     ghost use Rattle.std.specs.Box.Ownership.{box_owns};
     ghost use Rattle.txc_rows.specs.Owned.{when};
-    ghost use Rattle.txc_c.specs.contracts.site_room.SiteRoom.{the_row};
+    ghost use Rattle.txc_c.specs.contracts.site.Site.{the_row};
     ghost use Rattle.std.specs.contracts.impls.GlobalAllocator.TheImpl.{ghosts};
 
     ghost also_owns = { λ n. when n.is_full (box_owns (ghosts.dealloc_token n.alloc) the_row n.ptr n.value) };
@@ -46,7 +46,7 @@ impl SiteSlot {
         }
     }
 
-    pub(crate) fn of_parts(parts: Parts<SiteRoom, Global>) -> SiteSlot
+    pub(crate) fn of_parts(parts: Parts<Site, Global>) -> SiteSlot
         ensures { (result.is_full ≡ true) × (result.value ≡ parts.value) }
     {
         let Parts { ptr, alloc } = parts;
@@ -56,13 +56,13 @@ impl SiteSlot {
         }
     }
 
-    pub(crate) fn into_parts(self) -> Parts<SiteRoom, Global>
+    pub(crate) fn into_parts(self) -> Parts<Site, Global>
         requires { self.is_full ≡ true }
         ensures { result.value ≡ self.value }
     {
         let SiteSlot { ptr, alloc } = self;
         Parts {
-            ptr: ptr as *mut SiteRoom,
+            ptr: ptr as *mut Site,
             alloc,
         }
     }
@@ -89,7 +89,7 @@ impl Drop for TxcSite {
 }
 
 impl TxcSite {
-    /// Its slot, and whether that has a room.
+    /// Its slot, and whether that has a site.
     pub(crate) fn into_slot(self) -> (SiteSlot, bool)
         ensures slot { result.0 ≡ self.slot }
         ensures open { result.1 ≡ self.is_open }

@@ -1,14 +1,17 @@
-//! What is told of a step, and written for the caller.
-ghost use Rattle.std.specs.Prelude.{◌≡◌, MatchOption, None, Some, length};
-ghost use Rattle.txc_c.specs.Telling.{answer_bytes, answer_len, answer_number, error_number, given_bytes, given_len, last_bytes, last_given, last_len, last_number, step_bytes, step_len, step_number, written_number};
+//! What is told of a step and of what was answered last, and written for the caller.
+ghost use Rattle.std.specs.Prelude.{◌≡◌, length};
+ghost use Rattle.txc_caller.specs.Telling.{told_answer};
+ghost use Rattle.txc_c.specs.Opened.{calling_of};
+ghost use Rattle.txc_c.specs.Telling.{answer_bytes, answer_len, answer_number, buffer, error_number, last_answer_of, last_outside, rows_found, rows_of_last, step_bytes, step_len, step_number, LastTold};
 
-use crate::opaque::Opaque;
-use crate::site::Object;
+use crate::opened::Open;
 use txc_app::Answer;
-use txc_caller::{CallerError, CallerTxn, CallerWrite, Step};
-use txc_crossing::{ANSWERED, COMPUTE, DONE, MISS, NO_MEMORY, NOT_OPEN, OTHER_ASK, REFUSED, tell};
+use txc_caller::{CallerError, Step};
+use txc_crossing::{ANSWERED, COMPUTE, DONE, MISS, NOT_OPEN, REFUSED, tell};
+use txc_rows::Row;
+use txc_rw::Given;
 
-// Writes the value of a call, by this number where there is room for it, or of rows how many they are.
+// Writes the value of a call, by this number if there is room for it, or of rows how many they are.
 fn tell_answer(number: u32, answer: &Answer, value: &mut [u8], len: &mut usize) -> u32
     ensures number { result ≡ answer_number number (length value.old) answer.now }
     ensures len { len.new ≡ answer_len answer.now }
@@ -23,83 +26,93 @@ fn tell_answer(number: u32, answer: &Answer, value: &mut [u8], len: &mut usize) 
     }
 }
 
-/// The number of a refusal.
-pub(crate) fn error_number(error: CallerError) -> u32
+// The number of a refusal.
+fn error_number(error: CallerError) -> u32
     ensures { result ≡ error_number error }
 {
     match error {
         CallerError::Txn(_) => REFUSED,
-        CallerError::OtherAsk => OTHER_ASK,
         CallerError::NoFunction => NOT_OPEN,
-        CallerError::Memory => NO_MEMORY,
     }
 }
 
-/// What the function that is computed was answered last.
-pub(crate) fn given(txn: &CallerTxn<Opaque, Object>) -> Option<&Answer>
-    ensures { MatchOption result (last_given txn.now ≡ None) (λ answer. last_given txn.now ≡ Some answer.now) }
-{
-    match txn.answer() {
-        Some(answer) => Some(answer),
-        None => None,
-    }
-}
-
-/// Writes what was answered last: to the function that is computed, or else to the outermost call.
-pub(crate) fn tell_last(txn: &CallerTxn<Opaque, Object>, value: &mut [u8], len: &mut usize) -> u32
-    ensures number { result ≡ last_number (length value.old) txn.now }
-    ensures len { len.new ≡ last_len txn.now len.old }
-    ensures bytes { value.new ≡ last_bytes txn.now value.old }
-{
-    if txn.is_computing() {
-        return match given(txn) {
-            Some(answer) => tell_answer(ANSWERED, answer, value, len),
-            None => MISS,
-        };
-    }
-    match txn.answers().last() {
-        Some(recorded) => tell(DONE, recorded.value.bytes(), value, len),
-        None => MISS,
-    }
-}
-
-/// Writes what a transaction that writes was answered last.
-pub(crate) fn tell_written(
-    write: &CallerWrite<Opaque, Object>,
-    value: &mut [u8],
-    len: &mut usize,
-) -> u32
-    ensures number { result ≡ written_number (length value.old) write.now.inner write.now.given }
-    ensures len { len.new ≡ given_len write.now.given len.old }
-    ensures bytes { value.new ≡ given_bytes write.now.given value.old }
-{
-    let Some(answer) = write.answer() else {
-        return MISS;
-    };
-    if write.is_computing() {
-        return tell_answer(ANSWERED, answer, value, len);
-    }
-    tell_answer(DONE, answer, value, len)
-}
-
-/// Writes what the step of a call has come to.
+/// Writes what a step has come to in the transaction.
 pub(crate) fn tell_step(
-    txn: &CallerTxn<Opaque, Object>,
+    txn: &Open,
     step: Result<Step, CallerError>,
     value: &mut [u8],
     len: &mut usize,
 ) -> u32
-    ensures number { result ≡ step_number (length value.old) (last_given txn.now) step }
-    ensures len { len.new ≡ step_len (last_given txn.now) step len.old }
-    ensures bytes { value.new ≡ step_bytes (last_given txn.now) step value.old }
+    ensures number { result ≡ step_number (length value.old) (told_answer (calling_of txn.now)) step }
+    ensures len { len.new ≡ step_len (told_answer (calling_of txn.now)) step len.old }
+    ensures bytes { value.new ≡ step_bytes (told_answer (calling_of txn.now)) step value.old }
 {
     match step {
         Ok(Step::Compute) => COMPUTE,
         Ok(Step::Value(got)) => tell(DONE, got.bytes(), value, len),
-        Ok(Step::Answered) => match given(txn) {
+        Ok(Step::Answered) => match txn.told() {
             Some(answer) => tell_answer(ANSWERED, answer, value, len),
             None => ANSWERED,
         },
         Err(error) => error_number(error),
+    }
+}
+
+// Writes what was answered last outside all functions.
+fn tell_outside(txn: &Open, value: &mut [u8], len: &mut usize) -> u32
+    ensures { LastTold (last_outside txn.now) result (buffer value.old len.old) (buffer value.new len.new) }
+{
+    match txn {
+        Open::Reading(reading) => match reading.answers().last() {
+            Some(recorded) => tell(DONE, recorded.value.bytes(), value, len),
+            None => MISS,
+        },
+        Open::Writing(write) => match write.answers().last() {
+            Some(Given::Value(_, given)) => tell(DONE, given.bytes(), value, len),
+            Some(Given::Rows(_, rows)) => {
+                *len = rows.as_slice().len();
+                ANSWERED
+            }
+            None => MISS,
+        },
+    }
+}
+
+/// Writes what was answered last: to the function that is computed, or else outside all functions.
+pub(crate) fn tell_last(txn: &Open, value: &mut [u8], len: &mut usize) -> u32
+    ensures { LastTold (last_answer_of txn.now) result (buffer value.old len.old) (buffer value.new len.new) }
+{
+    if !txn.is_computing() {
+        return tell_outside(txn, value, len);
+    }
+    match txn.told() {
+        Some(answer) => tell_answer(ANSWERED, answer, value, len),
+        None => MISS,
+    }
+}
+
+// The rows that a transaction found itself, if that is what it was answered last outside all functions.
+fn rows_outside(txn: &Open) -> &[Row]
+    ensures { result.now ≡ rows_of_last (last_outside txn.now) }
+{
+    match txn {
+        Open::Reading(_) => &[],
+        Open::Writing(write) => match write.answers().last() {
+            Some(Given::Rows(_, rows)) => rows.as_slice(),
+            _ => &[],
+        },
+    }
+}
+
+/// Returns the rows that were found last, while nothing else was answered since.
+pub(crate) fn rows_found(txn: &Open) -> &[Row]
+    ensures { result.now ≡ rows_found txn.now }
+{
+    if !txn.is_computing() {
+        return rows_outside(txn);
+    }
+    match txn.told() {
+        Some(Answer::Rows(rows)) => rows.as_slice(),
+        _ => &[],
     }
 }

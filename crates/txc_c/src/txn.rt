@@ -1,106 +1,65 @@
 //! The exports of a site and its transactions.
-ghost use Rattle.std.specs.Prelude.{◌≡◌, ◌≢◌, ◌≤◌, ◌&&◌, IfSome, None, false};
+ghost use Rattle.std.specs.Prelude.{◌≡◌, ◌≢◌, None};
 ghost use Rattle.txc_app.specs.declared.ask.Ask.TheVariants as asks;
-ghost use Rattle.txc_crossing.specs.Crossing.{are_sizes, named_call};
-ghost use Rattle.txc_c.specs.Keeping.{KeepComesTo};
-ghost use Rattle.txc_c.specs.Receipts.{query_of};
-ghost use Rattle.txc_c.specs.Sites.{is_room, IsNewSite};
-ghost use Rattle.txc_node.specs.declared.node.TheConstants.{MAX_CAPACITY, MAX_RECENT};
-ghost use Rattle.txc_stream.specs.declared.row.TheConstants.{MAX_CAPACITY as MAX_EVENTS};
-ghost use Rattle.txc_c.specs.Exports.{open_site_number, ComesTo, HasNewSite, HeldAsksNext};
-ghost use Rattle.txc_c.specs.SiteHeld.{site_held};
+ghost use Rattle.txc_crossing.specs.Crossing.{named_call};
+ghost use Rattle.txc_c.specs.Asking.{CallComesTo, FinishComesTo, GiveUpComesTo, LastOf, MemberOf, PutComesTo, QueryComesTo, ReadStampOf, RemoveComesTo, RowOf};
+ghost use Rattle.txc_c.specs.Exports.{open_site_number, ComesTo, HasNewSite, HeldAsksNext, Shows};
+ghost use Rattle.txc_c.specs.Keeping.{KeepComesTo, PinComesTo};
 ghost use Rattle.txc_c.specs.Life.{close_number};
+ghost use Rattle.txc_c.specs.Listing.{CountTold, OldestTold};
+ghost use Rattle.txc_c.specs.Receipts.{query_of};
+ghost use Rattle.txc_c.specs.SiteHeld.{site_held};
+ghost use Rattle.txc_c.specs.Sites.{open_at};
+ghost use Rattle.txc_c.specs.Telling.{buffer};
+ghost use Rattle.txc_c.specs.Trimming.{TotalsTold, TrimComesTo};
 ghost use Rattle.txc_c.specs.Turning.{AbortComesTo, BeginComesTo, BeginWriteAtComesTo, BeginWriteComesTo, CommitComesTo, CommitWriteComesTo};
-ghost use Rattle.txc_c.specs.Asking.{buffer, CallComesTo, FinishComesTo, GiveUpComesTo, LastComesTo, PutComesTo, QueryComesTo, RemoveComesTo, RowComesTo};
 
-use crate::keeping::{TxcKept, keep};
-use crate::reading::{open_number, row_in};
+use crate::keeping::TxcKept;
 use crate::receipts::{TxcQuery, TxcReceipt, TxcRow};
-use crate::site::{Site, is_room};
+use crate::site::Site;
 use crate::site_handle::TxcSite;
-use crate::site_room::SiteRoom;
-use crate::telling::{tell_last, tell_written};
+use crate::site_settings::TxcSiteSettings;
+use crate::totals::TxcTotals;
 use std::alloc::Global;
-use txc_crossing::{
-    ALREADY_OPEN, BAD_ARGUMENT, CLOSED, DONE, MID_CALL, MISS, NO_MEMORY, NOT_OPEN, TxcKey,
-    are_sizes, tell,
-};
-use txc_shared::NodeSettings;
+use txc_crossing::{ALREADY_OPEN, BAD_ARGUMENT, CLOSED, DONE, NO_MEMORY, TxcKey};
 
-// Whether a site may be opened so.
-fn may_open(events: usize, capacity: usize, recent: usize) -> bool
-    ensures { result ≡ (is_room events && are_sizes capacity recent) }
+/// The number of the header that this library has: it rises with each change of an export or a struct.
+pub const ABI: u32 = 2;
+
+/// Returns the number of the header that this library has.
+#[unsafe(no_mangle)]
+pub extern "C" fn txc_abi() -> u32
+    ensures { result ≡ ABI }
 {
-    is_room(events) && are_sizes(capacity, recent)
+    ABI
 }
 
-// A new site; None if memory is wanting.
-fn new_site(alloc: Global, events: usize, settings: NodeSettings, renew_after: u64) -> Option<Site>
-    requires events { events ≤ MAX_EVENTS }
-    requires node { (1 ≤ settings.capacity) × (settings.capacity ≤ MAX_CAPACITY) }
-    requires recent { (1 ≤ settings.recent) × (settings.recent ≤ MAX_RECENT) }
-    ensures { IfSome result (IsNewSite events settings renew_after) }
-{
-    Site::new(alloc, events, settings, renew_after).ok()
-}
-
-// Puts a new site into a handle that has none.
-fn open(
-    alloc: Global,
-    handle: &mut TxcSite,
-    events: usize,
-    settings: NodeSettings,
-    renew_after: u64,
-) -> u32
-    requires closed { handle.old.is_open ≡ false }
-    ensures number { result ≢ NO_MEMORY
-        → result ≡ open_site_number None events settings.capacity settings.recent }
-    ensures no_memory { result ≡ NO_MEMORY
-        → open_site_number None events settings.capacity settings.recent ≡ DONE }
-    ensures opened { result ≡ DONE → HasNewSite events settings renew_after (site_held handle.new) }
-    ensures unchanged { result ≢ DONE → site_held handle.new ≡ None }
-{
-    if !may_open(events, settings.capacity, settings.recent) {
-        return BAD_ARGUMENT;
-    }
-    let Some(room) = Box::new(alloc, SiteRoom { site: None }).ok() else {
-        return NO_MEMORY;
-    };
-    let Some(site) = new_site(alloc, events, settings, renew_after) else {
-        return NO_MEMORY;
-    };
-    handle.put(site, room);
-    DONE
-}
-
-/// Makes a site. For 0 its events are not stored, and its newest pin is renewed after so many milliseconds.
+/// Makes a site.
 #[unsafe(no_mangle)]
 pub extern "C" fn txc_site_open(
     alloc: Global,
     handle: &mut TxcSite,
-    events: usize,
-    capacity: usize,
-    recent: usize,
-    renew_after: u64,
+    settings: &TxcSiteSettings,
 ) -> u32
-    ensures number { result ≢ NO_MEMORY
-        → result ≡ open_site_number (site_held handle.old) events capacity recent }
-    ensures no_memory { result ≡ NO_MEMORY
-        → open_site_number (site_held handle.old) events capacity recent ≡ DONE }
-    ensures opened { result ≡ DONE
-        → HasNewSite events (record { number = 0; capacity = capacity; recent = recent }) renew_after (site_held handle.new) }
+    ensures number { result ≢ NO_MEMORY → result ≡ open_site_number (site_held handle.old) settings.now }
+    ensures no_memory { result ≡ NO_MEMORY → open_site_number (site_held handle.old) settings.now ≡ DONE }
+    ensures opened { result ≡ DONE → HasNewSite settings.now (site_held handle.new) }
     ensures unchanged { result ≢ DONE → site_held handle.new ≡ site_held handle.old }
 {
-    let Some((site, room)) = handle.take(alloc) else {
-        let settings = NodeSettings {
-            number: 0,
-            capacity,
-            recent,
-        };
-        return open(alloc, handle, events, settings, renew_after);
+    if handle.is_open() {
+        return ALREADY_OPEN;
+    }
+    if !settings.are_settings() {
+        return BAD_ARGUMENT;
+    }
+    let Ok(site) = Site::new(alloc, settings) else {
+        return NO_MEMORY;
     };
-    handle.put(site, room);
-    ALREADY_OPEN
+    let Ok(site) = Box::new(alloc, site) else {
+        return NO_MEMORY;
+    };
+    handle.put(site);
+    DONE
 }
 
 /// Gives all of it up.
@@ -111,15 +70,11 @@ pub extern "C" fn txc_site_close(alloc: Global, handle: &mut TxcSite) -> u32
 {
     match handle.take(alloc) {
         None => CLOSED,
-        Some((site, room)) => {
-            drop(site);
-            drop(room);
-            DONE
-        }
+        Some(_site) => DONE,
     }
 }
 
-/// Begins a transaction that only reads.
+/// Begins a transaction that only reads, and writes its number.
 #[unsafe(no_mangle)]
 pub extern "C" fn txc_begin(
     alloc: Global,
@@ -127,14 +82,16 @@ pub extern "C" fn txc_begin(
     now: u64,
     staleness: u64,
     at_least: u32,
+    txn: &mut u64,
 ) -> u32
-    ensures { ComesTo (BeginComesTo now staleness at_least) (site_held handle.old) result (site_held handle.new) }
+    ensures { ComesTo (BeginComesTo now staleness at_least txn.old txn.new) (txn.new ≡ txn.old)
+        (site_held handle.old) result (site_held handle.new) }
 {
-    let Some((site, room)) = handle.take(alloc) else {
+    let Some(mut site) = handle.take(alloc) else {
         return CLOSED;
     };
-    let (number, site) = site.begin(alloc, now, staleness, at_least);
-    handle.put(site, room);
+    let number = site.begin(alloc, now, staleness, at_least, txn);
+    handle.put(site);
     number
 }
 
@@ -143,22 +100,20 @@ pub extern "C" fn txc_begin(
 pub extern "C" fn txc_call(
     alloc: Global,
     handle: &mut TxcSite,
+    txn: u64,
     key: &TxcKey,
     value: &mut [u8],
     len: &mut usize,
 ) -> u32
-    requires { HeldAsksNext (asks.Call (named_call key.now)) (site_held handle.old) }
-    ensures leads { ComesTo (CallComesTo key.now (buffer value.old len.old) (buffer value.new len.new)) (site_held handle.old) result (site_held handle.new) }
-    ensures closed { site_held handle.old ≡ None → (value.new ≡ value.old) × (len.new ≡ len.old) }
+    requires { HeldAsksNext (asks.Call (named_call key.now)) txn (site_held handle.old) }
+    ensures { ComesTo (CallComesTo key.now (buffer value.old len.old) (buffer value.new len.new) txn) ((value.new ≡ value.old) × (len.new ≡ len.old))
+        (site_held handle.old) result (site_held handle.new) }
 {
-    let Some(mut room) = handle.take_room(alloc) else {
+    let Some(mut site) = handle.take(alloc) else {
         return CLOSED;
     };
-    let Some(site) = &mut room.site else {
-        return CLOSED;
-    };
-    let number = site.call(alloc, key, value, len);
-    handle.put_room(room);
+    let number = site.call(alloc, txn, key, value, len);
+    handle.put(site);
     number
 }
 
@@ -167,21 +122,19 @@ pub extern "C" fn txc_call(
 pub extern "C" fn txc_query_rows(
     alloc: Global,
     handle: &mut TxcSite,
+    txn: u64,
     query: &TxcQuery,
     count: &mut usize,
 ) -> u32
-    requires { HeldAsksNext (asks.Query (query_of query.now)) (site_held handle.old) }
-    ensures leads { ComesTo (QueryComesTo query.now count.old count.new) (site_held handle.old) result (site_held handle.new) }
-    ensures closed { site_held handle.old ≡ None → count.new ≡ count.old }
+    requires { HeldAsksNext (asks.Query (query_of query.now)) txn (site_held handle.old) }
+    ensures { ComesTo (QueryComesTo query.now count.old count.new txn) (count.new ≡ count.old)
+        (site_held handle.old) result (site_held handle.new) }
 {
-    let Some(mut room) = handle.take_room(alloc) else {
+    let Some(mut site) = handle.take(alloc) else {
         return CLOSED;
     };
-    let Some(site) = &mut room.site else {
-        return CLOSED;
-    };
-    let number = site.query(alloc, query, count);
-    handle.put_room(room);
+    let number = site.query(alloc, txn, query, count);
+    handle.put(site);
     number
 }
 
@@ -190,32 +143,20 @@ pub extern "C" fn txc_query_rows(
 pub extern "C" fn txc_row_at(
     alloc: Global,
     handle: &mut TxcSite,
+    txn: u64,
     at: usize,
     row: &mut TxcRow,
     body: &mut [u8],
     len: &mut usize,
 ) -> u32
-    ensures leads { ComesTo (RowComesTo at row.old row.new (buffer body.old len.old) (buffer body.new len.new)) (site_held handle.old) result (site_held handle.new) }
-    ensures closed { site_held handle.old ≡ None
-        → (row.new ≡ row.old) × (body.new ≡ body.old) × (len.new ≡ len.old) }
+    ensures { Shows (λ s number. RowOf at row.old row.new (buffer body.old len.old) (buffer body.new len.new) (open_at s txn) number) ((row.new ≡ row.old) × (body.new ≡ body.old) × (len.new ≡ len.old))
+        (site_held handle.old) result (site_held handle.new) }
 {
-    let Some(room) = handle.take_room(alloc) else {
+    let Some(site) = handle.take(alloc) else {
         return CLOSED;
     };
-    let Some(site) = &room.site else {
-        return CLOSED;
-    };
-    let number = match site.answer() {
-        Some(answer) => match row_in(answer, at) {
-            Some(found) => {
-                *row = TxcRow::of(found);
-                tell(DONE, found.body(), body, len)
-            }
-            None => MISS,
-        },
-        None => MISS,
-    };
-    handle.put_room(room);
+    let number = site.row_at(txn, at, row, body, len);
+    handle.put(site);
     number
 }
 
@@ -224,22 +165,18 @@ pub extern "C" fn txc_row_at(
 pub extern "C" fn txc_answer(
     alloc: Global,
     handle: &mut TxcSite,
+    txn: u64,
     value: &mut [u8],
     len: &mut usize,
 ) -> u32
-    ensures leads { ComesTo (LastComesTo (buffer value.old len.old) (buffer value.new len.new)) (site_held handle.old) result (site_held handle.new) }
-    ensures closed { site_held handle.old ≡ None → (value.new ≡ value.old) × (len.new ≡ len.old) }
+    ensures { Shows (λ s number. LastOf (buffer value.old len.old) (buffer value.new len.new) (open_at s txn) number) ((value.new ≡ value.old) × (len.new ≡ len.old))
+        (site_held handle.old) result (site_held handle.new) }
 {
-    let Some(room) = handle.take_room(alloc) else {
+    let Some(site) = handle.take(alloc) else {
         return CLOSED;
     };
-    let number = match &room.site {
-        Some(Site::Reading(txn)) => tell_last(txn, value, len),
-        Some(Site::Writing(write)) => tell_written(write, value, len),
-        Some(Site::Resting(_)) => NOT_OPEN,
-        None => CLOSED,
-    };
-    handle.put_room(room);
+    let number = site.answer(txn, value, len);
+    handle.put(site);
     number
 }
 
@@ -248,112 +185,140 @@ pub extern "C" fn txc_answer(
 pub extern "C" fn txc_finish(
     alloc: Global,
     handle: &mut TxcSite,
+    txn: u64,
     bytes: &[u8],
     value: &mut [u8],
     len: &mut usize,
 ) -> u32
-    requires { HeldAsksNext (asks.Done bytes.now) (site_held handle.old) }
-    ensures leads { ComesTo (FinishComesTo bytes.now (buffer value.old len.old) (buffer value.new len.new)) (site_held handle.old) result (site_held handle.new) }
-    ensures closed { site_held handle.old ≡ None → (value.new ≡ value.old) × (len.new ≡ len.old) }
+    requires { HeldAsksNext (asks.Done bytes.now) txn (site_held handle.old) }
+    ensures { ComesTo (FinishComesTo bytes.now (buffer value.old len.old) (buffer value.new len.new) txn) ((value.new ≡ value.old) × (len.new ≡ len.old))
+        (site_held handle.old) result (site_held handle.new) }
 {
-    let Some(mut room) = handle.take_room(alloc) else {
+    let Some(mut site) = handle.take(alloc) else {
         return CLOSED;
     };
-    let Some(site) = &mut room.site else {
-        return CLOSED;
-    };
-    let number = site.finish(alloc, bytes, value, len);
-    handle.put_room(room);
+    let number = site.finish(alloc, txn, bytes, value, len);
+    handle.put(site);
     number
 }
 
-/// Gives the open call up.
+/// Gives the whole open call up.
 #[unsafe(no_mangle)]
-pub extern "C" fn txc_give_up(alloc: Global, handle: &mut TxcSite) -> u32
-    ensures { ComesTo GiveUpComesTo (site_held handle.old) result (site_held handle.new) }
+pub extern "C" fn txc_give_up(alloc: Global, handle: &mut TxcSite, txn: u64) -> u32
+    ensures { ComesTo (GiveUpComesTo txn) (Unit {0})
+        (site_held handle.old) result (site_held handle.new) }
 {
-    let Some(mut room) = handle.take_room(alloc) else {
+    let Some(mut site) = handle.take(alloc) else {
         return CLOSED;
     };
-    let number = match &mut room.site {
-        Some(Site::Reading(txn)) => open_number(txn.give_up()),
-        Some(Site::Writing(write)) => open_number(write.give_up()),
-        Some(Site::Resting(_)) => NOT_OPEN,
-        None => CLOSED,
+    let number = site.give_up(txn);
+    handle.put(site);
+    number
+}
+
+/// Writes the stamp of the state that the next query reads.
+#[unsafe(no_mangle)]
+pub extern "C" fn txc_read_stamp(
+    alloc: Global,
+    handle: &mut TxcSite,
+    txn: u64,
+    stamp: &mut u32,
+) -> u32
+    ensures { Shows (λ s number. ReadStampOf stamp.old stamp.new (open_at s txn) number) (stamp.new ≡ stamp.old)
+        (site_held handle.old) result (site_held handle.new) }
+{
+    let Some(site) = handle.take(alloc) else {
+        return CLOSED;
     };
-    handle.put_room(room);
+    let number = site.read_stamp(txn, stamp);
+    handle.put(site);
+    number
+}
+
+/// Writes one of the pins at which all is right that was answered.
+#[unsafe(no_mangle)]
+pub extern "C" fn txc_member_at(
+    alloc: Global,
+    handle: &mut TxcSite,
+    txn: u64,
+    at: usize,
+    stamp: &mut u32,
+    moment: &mut u64,
+) -> u32
+    ensures { Shows (λ s number. MemberOf at (stamp.old, moment.old) (stamp.new, moment.new) (open_at s txn) number) ((stamp.new ≡ stamp.old) × (moment.new ≡ moment.old))
+        (site_held handle.old) result (site_held handle.new) }
+{
+    let Some(site) = handle.take(alloc) else {
+        return CLOSED;
+    };
+    let number = site.member_at(txn, at, stamp, moment);
+    handle.put(site);
     number
 }
 
 /// Ends the transaction that only reads, and writes its receipt.
 #[unsafe(no_mangle)]
-pub extern "C" fn txc_commit(alloc: Global, handle: &mut TxcSite, receipt: &mut TxcReceipt) -> u32
-    ensures leads { ComesTo (CommitComesTo receipt.old receipt.new) (site_held handle.old) result (site_held handle.new) }
-    ensures closed { site_held handle.old ≡ None → receipt.new ≡ receipt.old }
+pub extern "C" fn txc_commit(
+    alloc: Global,
+    handle: &mut TxcSite,
+    txn: u64,
+    receipt: &mut TxcReceipt,
+) -> u32
+    ensures { ComesTo (CommitComesTo receipt.old receipt.new txn) (receipt.new ≡ receipt.old)
+        (site_held handle.old) result (site_held handle.new) }
 {
-    let Some((site, room)) = handle.take(alloc) else {
+    let Some(mut site) = handle.take(alloc) else {
         return CLOSED;
     };
-    let (number, site) = match site {
-        Site::Reading(txn) => match txn.commit() {
-            Ok(done) => {
-                let (given, caller) = done;
-                *receipt = TxcReceipt::of(given.pin, given.answers.len());
-                (DONE, Site::Resting(caller))
-            }
-            Err(txn) => (MID_CALL, Site::Reading(txn)),
-        },
-        Site::Resting(caller) => (NOT_OPEN, Site::Resting(caller)),
-        Site::Writing(write) => (NOT_OPEN, Site::Writing(write)),
-    };
-    handle.put(site, room);
+    let number = site.commit(txn, receipt);
+    handle.put(site);
     number
 }
 
-/// Gives the open transaction up.
+/// Gives the transaction up.
 #[unsafe(no_mangle)]
-pub extern "C" fn txc_abort(alloc: Global, handle: &mut TxcSite) -> u32
-    ensures { ComesTo AbortComesTo (site_held handle.old) result (site_held handle.new) }
+pub extern "C" fn txc_abort(alloc: Global, handle: &mut TxcSite, txn: u64) -> u32
+    ensures { ComesTo (AbortComesTo txn) (Unit {0})
+        (site_held handle.old) result (site_held handle.new) }
 {
-    let Some((site, room)) = handle.take(alloc) else {
+    let Some(mut site) = handle.take(alloc) else {
         return CLOSED;
     };
-    let (number, site) = match site {
-        Site::Resting(caller) => (NOT_OPEN, Site::Resting(caller)),
-        Site::Reading(txn) => (DONE, Site::Resting(txn.abort())),
-        Site::Writing(write) => (DONE, Site::Resting(write.abort())),
-    };
-    handle.put(site, room);
+    let number = site.abort(txn);
+    handle.put(site);
     number
 }
 
-/// Begins a transaction that writes over the newest state.
+/// Begins a transaction that writes over the newest state, and writes its number.
 #[unsafe(no_mangle)]
-pub extern "C" fn txc_begin_write(alloc: Global, handle: &mut TxcSite) -> u32
-    ensures { ComesTo BeginWriteComesTo (site_held handle.old) result (site_held handle.new) }
+pub extern "C" fn txc_begin_write(alloc: Global, handle: &mut TxcSite, txn: &mut u64) -> u32
+    ensures { ComesTo (BeginWriteComesTo txn.old txn.new) (txn.new ≡ txn.old)
+        (site_held handle.old) result (site_held handle.new) }
 {
-    let Some((site, room)) = handle.take(alloc) else {
+    let Some(mut site) = handle.take(alloc) else {
         return CLOSED;
     };
-    let (number, site) = match site {
-        Site::Resting(caller) => (DONE, Site::Writing(caller.begin_write(alloc))),
-        Site::Reading(txn) => (ALREADY_OPEN, Site::Reading(txn)),
-        Site::Writing(write) => (ALREADY_OPEN, Site::Writing(write)),
-    };
-    handle.put(site, room);
+    let number = site.begin_write(alloc, txn);
+    handle.put(site);
     number
 }
 
-/// Begins a transaction that writes over the state of that stamp.
+/// Begins a transaction that writes over the state of that stamp, and writes its number.
 #[unsafe(no_mangle)]
-pub extern "C" fn txc_begin_write_at(alloc: Global, handle: &mut TxcSite, stamp: u32) -> u32
-    ensures { ComesTo (BeginWriteAtComesTo stamp) (site_held handle.old) result (site_held handle.new) }
+pub extern "C" fn txc_begin_write_at(
+    alloc: Global,
+    handle: &mut TxcSite,
+    stamp: u32,
+    txn: &mut u64,
+) -> u32
+    ensures { ComesTo (BeginWriteAtComesTo stamp txn.old txn.new) (txn.new ≡ txn.old)
+        (site_held handle.old) result (site_held handle.new) }
 {
-    let Some((site, room)) = handle.take(alloc) else {
+    let Some(mut site) = handle.take(alloc) else {
         return CLOSED;
     };
-    let (number, site) = site.begin_write_at(alloc, stamp);
-    handle.put(site, room);
+    let number = site.begin_write_at(alloc, stamp, txn);
+    handle.put(site);
     number
 }
 
@@ -362,51 +327,73 @@ pub extern "C" fn txc_begin_write_at(alloc: Global, handle: &mut TxcSite, stamp:
 pub extern "C" fn txc_put(
     alloc: Global,
     handle: &mut TxcSite,
+    txn: u64,
     table: u8,
     id: u32,
     group: u32,
     body: &[u8],
 ) -> u32
-    ensures { ComesTo (PutComesTo (record { table = table; id = id; group = group; body = body.now })) (site_held handle.old) result (site_held handle.new) }
+    ensures { ComesTo (PutComesTo (record { table = table; id = id; group = group; body = body.now }) txn) (Unit {0})
+        (site_held handle.old) result (site_held handle.new) }
 {
-    let Some(mut room) = handle.take_room(alloc) else {
+    let Some(mut site) = handle.take(alloc) else {
         return CLOSED;
     };
-    let Some(site) = &mut room.site else {
-        return CLOSED;
-    };
-    let number = site.put(alloc, table, id, group, body);
-    handle.put_room(room);
+    let number = site.put(alloc, txn, table, id, group, body);
+    handle.put(site);
     number
 }
 
 /// No row is to stand there.
 #[unsafe(no_mangle)]
-pub extern "C" fn txc_remove(alloc: Global, handle: &mut TxcSite, table: u8, id: u32) -> u32
-    ensures { ComesTo (RemoveComesTo table id) (site_held handle.old) result (site_held handle.new) }
+pub extern "C" fn txc_remove(
+    alloc: Global,
+    handle: &mut TxcSite,
+    txn: u64,
+    table: u8,
+    id: u32,
+) -> u32
+    ensures { ComesTo (RemoveComesTo table id txn) (Unit {0})
+        (site_held handle.old) result (site_held handle.new) }
 {
-    let Some(mut room) = handle.take_room(alloc) else {
+    let Some(mut site) = handle.take(alloc) else {
         return CLOSED;
     };
-    let Some(site) = &mut room.site else {
-        return CLOSED;
-    };
-    let number = site.remove(table, id);
-    handle.put_room(room);
+    let number = site.remove(txn, table, id);
+    handle.put(site);
     number
 }
 
 /// Commits the changes, and writes the newest stamp.
 #[unsafe(no_mangle)]
-pub extern "C" fn txc_commit_write(alloc: Global, handle: &mut TxcSite, stamp: &mut u32) -> u32
-    ensures leads { ComesTo (CommitWriteComesTo stamp.old stamp.new) (site_held handle.old) result (site_held handle.new) }
-    ensures closed { site_held handle.old ≡ None → stamp.new ≡ stamp.old }
+pub extern "C" fn txc_commit_write(
+    alloc: Global,
+    handle: &mut TxcSite,
+    txn: u64,
+    stamp: &mut u32,
+) -> u32
+    ensures { ComesTo (CommitWriteComesTo stamp.old stamp.new txn) (stamp.new ≡ stamp.old)
+        (site_held handle.old) result (site_held handle.new) }
 {
-    let Some((site, room)) = handle.take(alloc) else {
+    let Some(mut site) = handle.take(alloc) else {
         return CLOSED;
     };
-    let (number, site) = site.commit_write(alloc, stamp);
-    handle.put(site, room);
+    let number = site.commit_write(alloc, txn, stamp);
+    handle.put(site);
+    number
+}
+
+/// Pins the newest state with that moment, and writes its stamp.
+#[unsafe(no_mangle)]
+pub extern "C" fn txc_pin(alloc: Global, handle: &mut TxcSite, moment: u64, stamp: &mut u32) -> u32
+    ensures { ComesTo (PinComesTo moment stamp.old stamp.new) (stamp.new ≡ stamp.old)
+        (site_held handle.old) result (site_held handle.new) }
+{
+    let Some(mut site) = handle.take(alloc) else {
+        return CLOSED;
+    };
+    let number = site.pin(alloc, moment, stamp);
+    handle.put(site);
     number
 }
 
@@ -419,18 +406,83 @@ pub extern "C" fn txc_keep(
     age: u64,
     kept: &mut TxcKept,
 ) -> u32
-    ensures leads { ComesTo (KeepComesTo now age kept.old kept.new) (site_held handle.old) result (site_held handle.new) }
-    ensures closed { site_held handle.old ≡ None → kept.new ≡ kept.old }
+    ensures { ComesTo (KeepComesTo now age kept.old kept.new) (kept.new ≡ kept.old)
+        (site_held handle.old) result (site_held handle.new) }
 {
-    let Some(mut room) = handle.take_room(alloc) else {
+    let Some(mut site) = handle.take(alloc) else {
         return CLOSED;
     };
-    let number = match &mut room.site {
-        Some(Site::Resting(caller)) => keep(alloc, caller, now, age, kept),
-        Some(Site::Reading(_)) => ALREADY_OPEN,
-        Some(Site::Writing(_)) => ALREADY_OPEN,
-        None => CLOSED,
+    let number = site.keep(alloc, now, age, kept);
+    handle.put(site);
+    number
+}
+
+/// Writes how many transactions are open.
+#[unsafe(no_mangle)]
+pub extern "C" fn txc_open_transactions(
+    alloc: Global,
+    handle: &mut TxcSite,
+    count: &mut usize,
+) -> u32
+    ensures { Shows (λ s number. CountTold count.new s number) (count.new ≡ count.old)
+        (site_held handle.old) result (site_held handle.new) }
+{
+    let Some(site) = handle.take(alloc) else {
+        return CLOSED;
     };
-    handle.put_room(room);
+    let number = site.open_transactions(count);
+    handle.put(site);
+    number
+}
+
+/// Writes the number of the open transaction that began first.
+#[unsafe(no_mangle)]
+pub extern "C" fn txc_oldest_open(alloc: Global, handle: &mut TxcSite, txn: &mut u64) -> u32
+    ensures { Shows (λ s number. OldestTold txn.old txn.new s number) (txn.new ≡ txn.old)
+        (site_held handle.old) result (site_held handle.new) }
+{
+    let Some(site) = handle.take(alloc) else {
+        return CLOSED;
+    };
+    let number = site.oldest_open(txn);
+    handle.put(site);
+    number
+}
+
+/// Keeps the longest prefix of the node's entries, the most recently used first, whose values have at most `most` bytes
+/// in all, whatever is open. Writes how many entries it dropped.
+#[unsafe(no_mangle)]
+pub extern "C" fn txc_site_trim(
+    alloc: Global,
+    handle: &mut TxcSite,
+    most: usize,
+    dropped: &mut usize,
+) -> u32
+    ensures { ComesTo (TrimComesTo most dropped.old dropped.new) (dropped.new ≡ dropped.old)
+        (site_held handle.old) result (site_held handle.new) }
+{
+    let Some(mut site) = handle.take(alloc) else {
+        return CLOSED;
+    };
+    let number = site.trim(alloc, most, dropped);
+    handle.put(site);
+    number
+}
+
+/// Writes how many entries the node holds, how many bytes their values have in all, and how many entries trims have dropped.
+#[unsafe(no_mangle)]
+pub extern "C" fn txc_site_totals(
+    alloc: Global,
+    handle: &mut TxcSite,
+    totals: &mut TxcTotals,
+) -> u32
+    ensures { Shows (λ s number. TotalsTold totals.new s number) (totals.new ≡ totals.old)
+        (site_held handle.old) result (site_held handle.new) }
+{
+    let Some(mut site) = handle.take(alloc) else {
+        return CLOSED;
+    };
+    let number = site.totals(totals);
+    handle.put(site);
     number
 }

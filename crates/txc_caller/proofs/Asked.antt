@@ -14,13 +14,15 @@ use Rattle.txc_db.specs.declared.error.DbError.TheVariants as dberrors
 use Rattle.txc_db.specs.declared.pinned.Pinned.{Pinned}
 use Rattle.txc_db.specs.Calls.{IsLeft, IsPinnable, IsPinRefused, IsUnpinRefused}
 use Rattle.txc_db.specs.DatabaseValue.{DatabaseValue, after_pin, after_unpin, front_of, is_held, newest}
-use Rattle.txc_db.specs.History.{pin_event}
+use mathlib.Core.List.{IsPrefix}
+use Rattle.txc_stream.proofs.Offered.{prefix_push}
+use Rattle.txc_db.specs.History.{History, pin_event}
 use Rattle.txc_db.specs.Seen.{FrontValue}
 use Rattle.txc_node.specs.declared.entry.Entry.{Entry}
 use Rattle.txc_node.specs.declared.hit.Shown.{Shown}
 use Rattle.txc_node.specs.declared.op.Op.{Op}
-use Rattle.txc_node.specs.Cache.{lookup_answer, swept_count}
-use Rattle.txc_node.specs.declared.op.Op.TheVariants.{Insert, Lookup, Sweep}
+use Rattle.txc_node.specs.Cache.{lookup_answer, swept_count, trimmed_count}
+use Rattle.txc_node.specs.declared.op.Op.TheVariants.{Insert, Lookup, Sweep, Trim}
 use Rattle.txc_cushion.specs.declared.error.AddError.{AddError}
 use Rattle.txc_cushion.specs.Cushion.{CushionValue, after_add}
 use Rattle.txc_cushion.specs.Refusals.{IsAddRefused}
@@ -35,8 +37,9 @@ use Rattle.txc_ports.specs.declared.request.PortRequest.{PortRequest}
 use Rattle.txc_ports.specs.declared.request.PortRequest.TheVariants as requests
 use Rattle.txc_ports.specs.declared.reply.PortReply.{PortReply}
 use Rattle.txc_ports.specs.declared.reply.PortReply.TheVariants as replies
-use Rattle.txc_caller.proofs.Acts.{for_none, for_this}
-use Rattle.txc_caller.specs.Ports.{CallerPorts, AreCallerPorts, CallerAddTransition, CallerFindTransition, HasAskedPorts, CallerInsertTransition, KeepsNode, CallerLookupTransition, CallerPinTransition, CallerSweepTransition, CallerUnpinTransition}
+use Rattle.txc_caller.proofs.Some.{for_none, for_this}
+use Rattle.txc_caller.proofs.Letting.{grown_by, grown_same}
+use Rattle.txc_caller.specs.Ports.{CallerPorts, AreCallerPorts, CallerAddTransition, CallerFindTransition, HasAskedPorts, HasGrownDatabase, CallerInsertTransition, KeepsNode, CallerLookupTransition, CallerPinTransition, CallerSweepTransition, CallerTrimTransition, CallerUnpinTransition}
 
 -- ---- the node
 
@@ -108,6 +111,12 @@ pub node_swept : (old new : NodeValue) (horizon : ℕ) (r : Result ℕ NodeError
 node_swept old new horizon (Ok count) leads = node_after old new (Sweep horizon) leads.0
 node_swept old new horizon (Err e) leads = node_left old new e (step_breaks old e leads.0) leads.1
 
+-- a trim, by what it returns
+pub trimmed : (old new : NodeValue) (most : ℕ) (r : Result ℕ NodeError) → OnOk r (new ≡ after_call old 0 (Trim most)) → IfOk r (λ count. count ≡ trimmed_count old.cache most)
+    → IfErr r (IsStepRefused old) → IfErr r (IsNodeLeft old new) → CallerTrimTransition most old new r
+trimmed old new most (Ok count) after answer refused left = (after, answer)
+trimmed old new most (Err e) after answer refused left = (refused, left)
+
 pub node_looked_up : (old new : NodeValue) (key : Call) (lo hi : ℕ) (hit : Option (Answered Shown)) → CallerLookupTransition key lo hi old new hit → KeepsNode old new
 node_looked_up old new key lo hi (Some hit) leads = node_after old new (Lookup key lo hi) leads.0
 node_looked_up old new key lo hi None (inl leads) = node_after old new (Lookup key lo hi) leads.0
@@ -159,6 +168,7 @@ pinned_so now at_least p d (Ok pinned) after stamp moment front only_if left ref
     let next : pinned.stamp ≡ newest p.database + 1 = stamp ∙ (ap newest after ∙ length_push p.database.history (pin_event now)) in
     record {
       after = ap (λ (v : DatabaseValue). record p { database = v }) after;
+      stamp = stamp;
       moment = moment;
       late = subst (λ (n : ℕ). at_least ≤ n) (sym next) (only_if refl).late;
       front = front;
@@ -166,14 +176,17 @@ pinned_so now at_least p d (Ok pinned) after stamp moment front only_if left ref
     }
 pinned_so now at_least p d (Err e) after stamp moment front only_if left refused = record { is = refl; left = left; refused = refused }
 
-left_events : (old new : DatabaseValue) (e : DbError) → IsLeft old new e → new.events ≡ old.events
-left_events old new dberrors.Broken (inl same) = ap (λ (d : DatabaseValue). d.events) same.0
-left_events old new dberrors.Broken (inr broke) = broke.events
-left_events old new e left = ap (λ (d : DatabaseValue). d.events) left
+pub left_grown : (old new : DatabaseValue) (e : DbError) → IsLeft old new e → HasGrownDatabase old new
+left_grown old new dberrors.Broken (inl same) = grown_same old new same.0
+left_grown old new dberrors.Broken (inr broke) = grown_by old new broke.events broke.history
+left_grown old new e left = grown_same old new left
 
-pub pinned_events : (now : ℕ) (old new : DatabaseValue) (r : Result Pinned DbError) → OnOk r (new ≡ after_pin old now) → IfErr r (IsLeft old new) → new.events ≡ old.events
-pinned_events now old new (Ok pinned) after left = ap (λ (d : DatabaseValue). d.events) after
-pinned_events now old new (Err e) after left = left_events old new e left
+pub pinned_grown : (now : ℕ) (old new : DatabaseValue) (r : Result Pinned DbError) → OnOk r (new ≡ after_pin old now) → IfErr r (IsLeft old new) → HasGrownDatabase old new
+pinned_grown now old new (Ok pinned) after left = record {
+  events = ap (λ (d : DatabaseValue). d.events) after;
+  longer = subst (λ (L : History). IsPrefix old.history L) (sym (ap (λ (d : DatabaseValue). d.history) after)) (prefix_push old.history (pin_event now));
+}
+pinned_grown now old new (Err e) after left = left_grown old new e left
 
 pub added_so : (pinned : Pinned) (p : CallerPorts) (cushion : CushionValue) (r : Result (Unit {0}) AddError) → OnOk r (cushion ≡ after_add p.cushion pinned)
     → OnErr r (cushion ≡ p.cushion) → IfErr r (IsAddRefused p.cushion pinned.stamp) → CallerAddTransition pinned p (record p { cushion = cushion }) r
@@ -194,19 +207,19 @@ asked_so next seen request asked old was new reply is same h =
     subst (λ (r : PortRequest). HasAskedPorts next seen r old new reply) (sym is) (subst (λ (p : CallerPorts). HasAskedPorts next seen asked p new reply) same h)
 
 module _ (next : Next) (seen : FrontValue) (old new : CallerPorts) where
-  pub asked_pin : (now at_least : ℕ) (pinned : Result Pinned DbError) → new.database.events ≡ old.database.events → CallerPinTransition now at_least old new pinned
+  pub asked_pin : (now at_least : ℕ) (pinned : Result Pinned DbError) → HasGrownDatabase old.database new.database → CallerPinTransition now at_least old new pinned
       → HasAskedPorts next seen (requests.Pin now at_least) old new (replies.Pin pinned)
-  asked_pin now at_least (Ok pinned) events h = record {
+  asked_pin now at_least (Ok pinned) grown h = record {
     answer = (h.moment, h.late, h.shown);
-    row = for_this (λ (f : FrontValue). f.events ≡ old.database.events) pinned.front (ap (λ (f : FrontValue). f.events) h.front ∙ events);
+    row = for_this (λ (f : FrontValue). f.events ≡ old.database.events) pinned.front (ap (λ (f : FrontValue). f.events) h.front ∙ grown.events);
     leads = h;
-    events = events;
+    grown = grown;
   }
-  asked_pin now at_least (Err e) events h = record {
+  asked_pin now at_least (Err e) grown h = record {
     answer = tt;
     row = for_none (λ (f : FrontValue). f.events ≡ old.database.events);
     leads = h;
-    events = events;
+    grown = grown;
   }
 
   pub asked_add : (pinned : Pinned) (added : Result (Unit {0}) AddError) → pinned.front.events ≡ old.database.events → new ≡ record old { cushion = new.cushion }
@@ -215,16 +228,16 @@ module _ (next : Next) (seen : FrontValue) (old new : CallerPorts) where
     answer = refl;
     row = for_this (λ (f : FrontValue). f.events ≡ old.database.events) pinned.front of;
     leads = h;
-    events = ap (λ (p : CallerPorts). p.database.events) same;
+    grown = grown_same old.database new.database (ap (λ (p : CallerPorts). p.database) same);
   }
 
-  pub asked_unpin : (stamp : ℕ) (unpinned : Result (Unit {0}) DbError) → new.database.events ≡ old.database.events → CallerUnpinTransition stamp old new unpinned
+  pub asked_unpin : (stamp : ℕ) (unpinned : Result (Unit {0}) DbError) → HasGrownDatabase old.database new.database → CallerUnpinTransition stamp old new unpinned
       → HasAskedPorts next seen (requests.Unpin stamp) old new (replies.Unpin unpinned)
-  asked_unpin stamp unpinned events h = record {
+  asked_unpin stamp unpinned grown h = record {
     answer = tt;
     row = for_none (λ (f : FrontValue). f.events ≡ old.database.events);
     leads = h;
-    events = events;
+    grown = grown;
   }
 
   pub asked_lookup : (node : ℕ) (key : Call) (lo hi : ℕ) (hit : Option (Answered Shown)) → new ≡ record old { node = new.node }
@@ -234,13 +247,13 @@ module _ (next : Next) (seen : FrontValue) (old new : CallerPorts) where
     answer = right;
     row = for_this (λ (f : FrontValue). f.events ≡ old.database.events) hit.front of;
     leads = (same, h);
-    events = ap (λ (p : CallerPorts). p.database.events) same;
+    grown = grown_same old.database new.database (ap (λ (p : CallerPorts). p.database) same);
   }
   asked_lookup node key lo hi None same h right of = record {
     answer = tt;
     row = for_none (λ (f : FrontValue). f.events ≡ old.database.events);
     leads = (same, h);
-    events = ap (λ (p : CallerPorts). p.database.events) same;
+    grown = grown_same old.database new.database (ap (λ (p : CallerPorts). p.database) same);
   }
 
   pub asked_query : (query : Query) (stamp : ℕ) (found : Result (Answered Found) DbError) → new ≡ old → CallerFindTransition query stamp old.database found
@@ -249,13 +262,13 @@ module _ (next : Next) (seen : FrontValue) (old new : CallerPorts) where
     answer = h.over;
     row = for_this (λ (f : FrontValue). f.events ≡ old.database.events) found.front (ap (λ (f : FrontValue). f.events) h.front);
     leads = (same, h);
-    events = ap (λ (p : CallerPorts). p.database.events) same;
+    grown = grown_same old.database new.database (ap (λ (p : CallerPorts). p.database) same);
   }
   asked_query query stamp (Err e) same h = record {
     answer = tt;
     row = for_none (λ (f : FrontValue). f.events ≡ old.database.events);
     leads = (same, h);
-    events = ap (λ (p : CallerPorts). p.database.events) same;
+    grown = grown_same old.database new.database (ap (λ (p : CallerPorts). p.database) same);
   }
 
   pub asked_insert : (node : ℕ) (entry : Entry) (kept : Option Kept) → new ≡ record old { node = new.node }
@@ -264,5 +277,5 @@ module _ (next : Next) (seen : FrontValue) (old new : CallerPorts) where
     answer = tt;
     row = for_none (λ (f : FrontValue). f.events ≡ old.database.events);
     leads = (same, h);
-    events = ap (λ (p : CallerPorts). p.database.events) same;
+    grown = grown_same old.database new.database (ap (λ (p : CallerPorts). p.database) same);
   }

@@ -1,5 +1,5 @@
 -- Pins that are given back, and holds that are taken away one after another.
-use Rattle.std.proofs.Common.{◌≡◌, ◌∙◌, ℕ, ◌+◌, ◌<◌, List, ◌∷◌, length, drop, get_or, Option, None, Some, inl, inr, ap, sym, subst}
+use Rattle.std.proofs.Common.{◌≡◌, ◌∙◌, ℕ, ◌+◌, ◌<◌, List, ◌∷◌, length, drop, get_or, Option, None, Some, inl, inr, refl, ap, sym, subst}
 use Rattle.std.specs.Prelude.{Result, Ok, Err, IfErr, OnErr, OnOk}
 use Rattle.std.proofs.lemmas.List.{at_drop_more}
 use Rattle.txc_db.specs.Calls.{IsUnpinRefused}
@@ -8,7 +8,10 @@ use Rattle.txc_db.specs.declared.error.DbError.{DbError}
 use Rattle.txc_cushion.specs.Cushion.{CushionValue, after_give_back}
 use Rattle.txc_cushion.specs.Refusals.{IsFirstUnused}
 use Rattle.txc_cushion.specs.declared.error.UnknownPin.{UnknownPin}
-use Rattle.txc_caller.specs.Ports.{AreGivenBack, AreLetGo, IsLetGo}
+use mathlib.Core.List.{IsPrefix}
+use Rattle.txc_db.specs.History.{History}
+use Rattle.txc_stream.proofs.Offered.{prefix_self, prefix_trans}
+use Rattle.txc_caller.specs.Ports.{AreGivenBack, AreLetGo, HasGrownDatabase, IsLetGo}
 
 -- one more
 pub unpinned_more : (stamps : List ℕ) (i d stamp : ℕ) (old mid last : DatabaseValue) → i < length stamps → stamp ≡ get_or stamps i d → IsLetGo (Some stamp) old mid
@@ -38,3 +41,20 @@ pub let_go_events : (unpin : Option ℕ) (old new : DatabaseValue) → IsLetGo u
 let_go_events None old new same = ap (λ (d : DatabaseValue). d.events) same
 let_go_events (Some stamp) old new (inl after) = ap (λ (d : DatabaseValue). d.events) after
 let_go_events (Some stamp) old new (inr left) = ap (λ (d : DatabaseValue). d.events) left.0
+
+-- ---- histories that only grow
+
+pub grown_by : (old new : DatabaseValue) → new.events ≡ old.events → new.history ≡ old.history → HasGrownDatabase old new
+grown_by old new events history = record { events = events; longer = subst (λ (L : History). IsPrefix old.history L) (sym history) (prefix_self old.history) }
+
+pub grown_same : (old new : DatabaseValue) → new ≡ old → HasGrownDatabase old new
+grown_same old new is = grown_by old new (ap (λ (d : DatabaseValue). d.events) is) (ap (λ (d : DatabaseValue). d.history) is)
+
+pub grown_self : (d : DatabaseValue) → HasGrownDatabase d d
+grown_self d = record { events = refl; longer = prefix_self d.history }
+
+pub grown_then : (a b c : DatabaseValue) → HasGrownDatabase a b → HasGrownDatabase b c → HasGrownDatabase a c
+grown_then a b c one two = record { events = two.events ∙ one.events; longer = prefix_trans a.history b.history c.history one.longer two.longer }
+
+pub let_go_grown : (unpin : Option ℕ) (old new : DatabaseValue) → IsLetGo unpin old new → HasGrownDatabase old new
+let_go_grown unpin old new is = grown_by old new (let_go_events unpin old new is) (let_go_history unpin old new is)

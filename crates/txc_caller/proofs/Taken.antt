@@ -12,7 +12,7 @@ use Rattle.txc_shared.specs.declared.advanced.Advanced.{Advanced}
 use Rattle.txc_shared.specs.declared.advanced.Advanced.TheVariants as advances
 use Rattle.txc_shared.specs.declared.error.NodeError.{NodeError}
 use Rattle.txc_shared.specs.declared.error.NodeError.TheVariants as errors
-use Rattle.txc_caller.specs.Ports.{GoesOnByEvents, HasNoEventFor, IsBehind, IsOfEvent, MayHaveTaken}
+use Rattle.txc_caller.specs.Ports.{GoesOnByEvents, HasNoEventFor, IsOfEvent, MayHaveTaken, StaysBehind}
 use Rattle.txc_caller.proofs.Asked.{changes_so, node_left, node_same, step_breaks}
 
 both : (rs ss : List Record) → AllByRecursion (λ r. IsOfEvent r.op) rs → AllByRecursion (λ r. IsOfEvent r.op) ss → AllByRecursion (λ r. IsOfEvent r.op) (rs ++ ss)
@@ -82,6 +82,6 @@ refused_so old new e refused left = record {
     records_left old new errors.Memory same = ap (λ (n : NodeValue). n.records) same
 
 -- they were taken, whichever is said
-pub said_so : (d : DatabaseValue) (old new : NodeValue) (has_all : Bool) → GoesOnByEvents old new → (has_all ≡ true → HasNoEventFor d new) → (has_all ≡ false → IsBehind d old) → MayHaveTaken d old new
+pub said_so : (d : DatabaseValue) (old new : NodeValue) (has_all : Bool) → GoesOnByEvents old new → (has_all ≡ true → HasNoEventFor d new) → (has_all ≡ false → StaysBehind d old new) → MayHaveTaken d old new
 said_so d old new true goes all left = (goes, inl (all refl))
 said_so d old new false goes all left = (goes, inr (left refl))

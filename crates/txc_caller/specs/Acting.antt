@@ -1,100 +1,144 @@
--- What comes of an act of the caller.
-use Rattle.std.specs.Prelude.{◌≡◌, ◌<◌, List, [], ◌∷◌, ◌++◌, Option, Some, None, MatchOption, Result, Ok, Err, vec_capacity, vec_len}
-use Rattle.std.specs.Option.{ForSome}
+-- What an act of a transaction that reads leaves of the ports, and why it was refused.
+use Rattle.std.specs.Prelude.{◌≡◌, ◌⊎◌, ℕ, List, [], ◌∷◌, ◌++◌, IfSome, Option, Some, None, Result, Err}
 use Rattle.txc_tags.specs.Keys.{Call}
-use Rattle.txc_app.specs.Eval.{Next}
-use Rattle.txc_app.specs.declared.ask.Answer.{Answer}
+use Rattle.txc_node.specs.declared.entry.Entry.{Entry}
+use Rattle.txc_node.specs.declared.hit.Shown.{Shown}
+use Rattle.txc_shared.specs.Nodes.{NodeValue}
+use Rattle.txc_cushion.specs.Cushion.{after_add}
+use Rattle.txc_cushion.specs.Refusals.{IsAddRefused}
+use Rattle.txc_cushion.specs.declared.error.AddError.{AddError}
+use Rattle.txc_db.specs.Seen.{FrontValue}
+use Rattle.txc_db.specs.declared.answered.Answered.{Answered}
+use Rattle.txc_db.specs.declared.error.DbError.{DbError}
+use Rattle.txc_db.specs.declared.error.DbError.TheVariants.{Full}
+use Rattle.txc_db.specs.declared.pinned.Pinned.{Pinned}
+use Rattle.txc_app.specs.declared.app.Limits.{Limits}
 use Rattle.txc_app.specs.declared.ask.Ask.{Ask}
 use Rattle.txc_app.specs.declared.ask.Ask.TheVariants as asks
-use Rattle.txc_ports.specs.declared.recorded.Recorded.{Recorded}
-use Rattle.txc_shared.specs.Nodes.{NodeValue}
-use Rattle.txc_txn.specs.Core.{open_call, CoreValue, IsIdle}
+use Rattle.txc_registry.specs.Objects.{Objects}
+use Rattle.txc_call.specs.Calling.{Calling}
+use Rattle.txc_call.specs.Running.{AfterRan}
+use Rattle.txc_call.specs.declared.error.CallError.{CallError}
+use Rattle.txc_call.specs.declared.need.Need.{Need}
+use Rattle.txc_ports.specs.declared.kept.Kept.{Kept}
+use Rattle.txc_ports.specs.Refusals.{refused_call, refused_pin, refused_request}
+use Rattle.txc_ports.specs.declared.error.TxnError.{TxnError}
+use Rattle.txc_ports.specs.declared.error.TxnError.TheVariants.{Database, Memory}
+use Rattle.txc_txn.specs.Core.{least_present, CoreValue}
 use Rattle.txc_txn.specs.Kept.{TxnValue}
-use Rattle.txc_ports.specs.declared.reply.PortReply.{PortReply}
-use Rattle.txc_caller.specs.Looking.{HasMissed}
-use Rattle.txc_caller.specs.Ports.{CallerPorts}
-use Rattle.txc_caller.specs.Reading.{CallerReading}
-use Rattle.txc_caller.specs.Standing.{IsKeptBack, KeepsOn}
-use Rattle.txc_caller.specs.declared.act.Act.{Act}
-use Rattle.txc_caller.specs.declared.act.Act.TheVariants as acts
-use Rattle.txc_caller.specs.declared.act.Awaited.{Awaited}
-use Rattle.txc_caller.specs.declared.act.Awaited.TheVariants.{Hit}
-use Rattle.txc_caller.specs.declared.act.Told.{Told}
-use Rattle.txc_caller.specs.declared.act.Told.TheVariants.{Waits, Gives}
-use Rattle.txc_caller.specs.declared.acted.Acted.{Acted}
-use Rattle.txc_caller.specs.declared.frames.Frames.{Frames}
-use Rattle.txc_caller.specs.declared.frames.OpenCall.{OpenCall}
+use Rattle.txc_txn.specs.Transitions.{IsBeyond}
+use Rattle.txc_caller.specs.Ports.{CallerPorts, CallerInsertTransition, CallerLookupTransition, HasPinnedForCaller, HasRefusedPin, IsLetGo}
+use Rattle.txc_caller.specs.Reading.{read_stamp}
+use Rattle.txc_caller.specs.Telling.{computed_calls, top_call}
+use Rattle.txc_caller.specs.Writing.{IsAskedQueryRefused}
 use Rattle.txc_caller.specs.declared.step.CallerError.{CallerError}
-use Rattle.txc_caller.specs.declared.step.CallerError.TheVariants.{NoFunction}
+use Rattle.txc_caller.specs.declared.step.CallerError.TheVariants.{Txn}
 use Rattle.txc_caller.specs.declared.step.Step.{Step}
-use Rattle.txc_caller.specs.declared.step.Step.TheVariants.{Compute, Answered, Value}
 
--- this call is open, and its innermost function was answered this last
-abbrev pub IsOpenWith : Call → Option Answer → Option OpenCall → Type 0
-IsOpenWith k given doing = (o : OpenCall) × (doing ≡ Some o) × (o.frames.top ≡ k) × (o.given ≡ given)
+-- the error of a call that was refused by an act, if it was
+abbrev pub step_error : Result Step CallerError → Option TxnError
+step_error (Err (Txn error)) = Some error
+step_error step = None
 
--- What comes of a step of this call, before which these values were recorded. Its value is recorded beside them, and no
--- call is open. Or it is open, and they are as they were: its innermost function has asked nothing yet, or has an
--- answer. They are so too where it was refused.
-abbrev pub IsStepOf : List Recorded → Call → List Recorded → Option OpenCall → Result Step CallerError → Type 0
-IsStepOf before k recorded doing (Ok (Value value)) =
-    (recorded ≡ before ++ record { key = k; value = value } ∷ []) × (doing ≡ None)
-IsStepOf before k recorded doing (Ok Compute) = (recorded ≡ before) × IsOpenWith k None doing
-IsStepOf before k recorded doing (Ok Answered) =
-    (recorded ≡ before) × ((answer : Answer) × IsOpenWith k (Some answer) doing)
-IsStepOf before k recorded doing (Err error) =
-    (recorded ≡ before) × ForSome doing (λ (o : OpenCall). o.frames.top ≡ k)
+-- The step that an ask makes at the node: a call is looked up; what the innermost function gave is to be kept, under its call. Or
+-- the node refuses the step. A query makes none.
+abbrev pub IsNodeStepFor : List Call → Ask → NodeValue → NodeValue → Type 0
+IsNodeStepFor computed (asks.Call k) old new =
+    (lo : ℕ) × (hi : ℕ) × (hit : Option (Answered Shown)) × CallerLookupTransition k lo hi old new hit
+IsNodeStepFor computed (asks.Done bytes) old new = (entry : Entry) × (around : List Call) × (computed ≡ entry.key ∷ around)
+    × (entry.value ≡ bytes) × ((seen : FrontValue) × (kept : Option Kept) × CallerInsertTransition seen entry old new kept)
+IsNodeStepFor computed (asks.Query query) old new = new ≡ old
 
--- What comes of a step in the open call. Where none is open, the caller is refused, and all is as it was.
-abbrev pub IsStepIn : Option OpenCall → CallerReading → CallerReading → Result Step CallerError → Type 0
-IsStepIn doing old new result = MatchOption doing ((result ≡ Err NoFunction) × (new ≡ old))
-    (λ o. IsStepOf old.txn.core.recorded o.frames.top new.txn.core.recorded new.doing result)
+-- the node may have made such a step, and all else of the ports is as it was
+pub record IsNodeAsked (computed : List Call) (ask : Ask) (old new : CallerPorts) : Type 0 where
+  pub same : new ≡ record old { node = new.node }
+  pub step : (new.node ≡ old.node) ⊎ IsNodeStepFor computed ask old.node new.node
 
--- The step was such; and without an open call the core is idle; else a reply is kept back for it, and the call is the
--- core's.
-pub record IsActOf (next : Next) (before : List Recorded) (k : Call) (t : TxnValue) (acted : Acted) : Type 0 where
-  pub step : IsStepOf before k t.core.recorded acted.doing acted.step
-  pub idle : acted.doing ≡ None → IsIdle t.core
-  pub kept : ForSome acted.doing (λ (o : OpenCall). IsKeptBack next t o.kept)
-  pub top : ForSome acted.doing (λ (o : OpenCall). open_call t.core ≡ Some o.frames.top)
+-- ---- the pin of the present
 
--- a reply is kept back for this call, which is open in a transaction of the ports' row
-pub record IsAwaitingCaller (next : Next) (ports : CallerPorts) (t : TxnValue) (k : Call) (reply : PortReply) : Type 0 where
-  pub kept : IsKeptBack next t reply
-  pub top : open_call t.core ≡ Some k
-  pub row : t.core.seen.events ≡ ports.database.events
-  pub nodes : t.core.nodes ≡ 1
+-- The present is to be pinned before anything else is asked: for a query if the transaction has no stamp to read at, for an
+-- outermost call if it has no pin.
+abbrev pub PinsFirst : CoreValue → Ask → Type 0
+PinsFirst c (asks.Query query) = read_stamp c ≡ None
+PinsFirst c (asks.Call k) = (top_call c.call ≡ None) × (c.pins.members ≡ [])
+PinsFirst c (asks.Done bytes) = ⊥
 
--- The act of this call gave that. The settings, the functions and the row are as before, and no less is seen of the
--- one history.
-pub record HasCallerActed (next : Next) (ports ports' : CallerPorts) (t t' : TxnValue) (k : Call) (it : Acted) : Type 0 where
-  pub acted : IsActOf next t.core.recorded k t' it
-  pub keeps : KeepsOn t t'
-  pub events : ports'.database.events ≡ ports.database.events
+-- the database gave this pin of the transaction's moment, which is one event more
+abbrev pub HasGivenPin : CoreValue → CallerPorts → CallerPorts → Pinned → Type 0
+HasGivenPin c old new pinned = HasPinnedForCaller c.bounds.now (least_present c.bounds c.pins.members) old new pinned
 
--- what a function asks that does so
-abbrev pub ask_of : Act → Ask
-ask_of (acts.Call key) = asks.Call key
-ask_of (acts.Query query) = asks.Query query
-ask_of (acts.Finish bytes) = asks.Done bytes
+-- the present was pinned, and the pincushion has the pin, with one user
+pub record HasAddedPresent (c : CoreValue) (old : CallerPorts) (pinned : Pinned) (new : CallerPorts) : Type 0 where
+  pub given : CallerPorts
+  pub gives : HasGivenPin c old given pinned
+  pub added : new ≡ record given { cushion = after_add given.cushion pinned }
 
--- where a call of the innermost function is looked up, there is room for one call more that waits
-abbrev pub HasRoomFor : Awaited → Frames → Type 0
-HasRoomFor (Hit key) frames = vec_len frames.outer < vec_capacity frames.outer
-HasRoomFor awaited frames = Unit {0}
+-- the pincushion refused a pin that the database had given: its hold is taken away
+pub record HasDroppedPin (given : CallerPorts) (pinned : Pinned) (cause : AddError) (new : CallerPorts) : Type 0 where
+  pub refused : IsAddRefused given.cushion pinned.stamp cause
+  pub unheld : IsLetGo (Some pinned.stamp) given.database new.database
+  pub same : new ≡ record given { database = new.database }
 
-abbrev pub HasRoomOnceTold : Told → Frames → Type 0
-HasRoomOnceTold (Waits awaited) frames = HasRoomFor awaited frames
-HasRoomOnceTold (Gives bytes) frames = Unit {0}
+-- The present was not pinned, for this reason: the database gave no pin; or the pincushion refused the one that it gave.
+abbrev pub HasNotPinnedPresent : CoreValue → CallerPorts → TxnError → CallerPorts → Type 0
+HasNotPinnedPresent c old error new =
+    ((cause : DbError) × HasRefusedPin (least_present c.bounds c.pins.members) old new cause × (error ≡ refused_request cause))
+    ⊎ ((given : CallerPorts) × (pinned : Pinned) × (cause : AddError) × HasGivenPin c old given pinned
+    × HasDroppedPin given pinned cause new × (error ≡ refused_pin cause))
 
--- ---- what is computed
+-- ---- refusals
 
--- the caller is to compute only what the node has not
-abbrev pub IsComputedOnMiss : CoreValue → NodeValue → NodeValue → Result Step CallerError → Type 0
-IsComputedOnMiss c old new (Ok Compute) = HasMissed c old new
-IsComputedOnMiss c old new step = Unit {0}
+-- the machine of calls refused the ask, within these limits
+pub record IsAskNotRun (limits : Limits) (call : Calling) (objects : Objects) (ask : Ask) (error : TxnError) : Type 0 where
+  pub need : Need
+  pub needed : call.need ≡ Some need
+  pub cause : CallError
+  pub after : AfterRan limits call.frames call.asked objects need ask (Err cause)
+  pub is : error ≡ refused_call cause
 
--- the caller has nothing to compute anew
-abbrev pub IsNotComputed : Result Step CallerError → Type 0
-IsNotComputed (Ok Compute) = ⊥
-IsNotComputed step = Unit {0}
+-- Why an act was refused that asked for no pin of the present: memory was wanting; or the machine of calls refused the ask; or
+-- the database refused the query, at the stamp at which the transaction reads. Or the query needs a pin of the present that would
+-- be beyond the last stamp.
+abbrev pub IsRefusedUnpinned : Limits → CallerPorts → TxnValue → Ask → TxnError → Type 0
+IsRefusedUnpinned limits p t ask error = (error ≡ Memory) ⊎ (IsAskNotRun limits t.core.call t.objects ask error
+    ⊎ (((stamp : ℕ) × (read_stamp t.core ≡ Some stamp) × IsAskedQueryRefused p.database stamp ask error)
+    ⊎ (PinsFirst t.core ask × IsBeyond t.core × (error ≡ Database Full))))
+
+-- .. and one that pinned it: memory was wanting, or the database refused the query at the pin
+abbrev pub IsRefusedPinned : CallerPorts → Pinned → Ask → TxnError → Type 0
+IsRefusedPinned p pinned ask error = (error ≡ Memory) ⊎ IsAskedQueryRefused p.database pinned.stamp ask error
+
+-- ---- what an act leaves
+
+-- No pin of the present was asked. The node alone may have been asked, and the transaction has no pin more to give back.
+pub record HasActedUnpinned (limits : Limits) (old : CallerPorts) (t : TxnValue) (ask : Ask) (new : CallerPorts) (taken : List ℕ)
+    (failed : Option TxnError) : Type 0 where
+  pub ports : IsNodeAsked (computed_calls t.core.call) ask old new
+  pub taken_is : taken ≡ t.core.taken
+  pub refused : IfSome failed (IsRefusedUnpinned limits old t ask)
+
+-- The present was pinned where that was due, once, and the transaction has the pin to give back. Then the node alone may have been
+-- asked.
+pub record HasActedPinned (old : CallerPorts) (t : TxnValue) (ask : Ask) (new : CallerPorts) (taken : List ℕ)
+    (failed : Option TxnError) : Type 0 where
+  pub due : PinsFirst t.core ask
+  pub pinned : Pinned
+  pub between : CallerPorts
+  pub pins : HasAddedPresent t.core old pinned between
+  pub ports : IsNodeAsked (computed_calls t.core.call) ask between new
+  pub taken_is : taken ≡ t.core.taken ++ pinned.stamp ∷ []
+  pub refused : IfSome failed (IsRefusedPinned between pinned ask)
+
+-- The present was to be pinned, and was not: the act was refused for that, and the transaction has no pin more to give back.
+pub record HasNotActed (old : CallerPorts) (t : TxnValue) (ask : Ask) (new : CallerPorts) (taken : List ℕ)
+    (failed : Option TxnError) : Type 0 where
+  pub due : PinsFirst t.core ask
+  pub error : TxnError
+  pub failed_so : failed ≡ Some error
+  pub ports : HasNotPinnedPresent t.core old error new
+  pub taken_is : taken ≡ t.core.taken
+
+-- What an act leaves of the ports, and of the pins that the transaction is to give back; and why its call was refused, if it was.
+abbrev pub ActLeads : Limits → CallerPorts → TxnValue → Ask → CallerPorts → List ℕ → Option TxnError → Type 0
+ActLeads limits old t ask new taken failed = HasActedUnpinned limits old t ask new taken failed
+    ⊎ (HasActedPinned old t ask new taken failed ⊎ HasNotActed old t ask new taken failed)

@@ -1,7 +1,8 @@
 pub mod Ports
-pub mod Standing
-pub mod Given
 pub mod Looking
-pub mod Acting
+pub mod Telling
 pub mod Reading
 pub mod Writing
+pub mod Acting
+pub mod Serving
+pub mod Pinning

@@ -1,17 +1,19 @@
 -- The plain ports of a caller: a database, a pincushion and one node.
-use Rattle.std.specs.Prelude.{◌≡◌, ◌⊎◌, ◌<◌, ◌≤◌, ℕ, Bool, true, false, List, Option, Some, None, Result, Ok, Err, [], ◌∷◌, ◌++◌}
-use Rattle.std.specs.List.{AllByRecursion}
+use Rattle.std.specs.Prelude.{◌≡◌, ◌⊎◌, ◌<◌, ◌≤◌, ℕ, Bool, true, false, List, length, Option, Some, None, Result, Ok, Err, [], ◌∷◌, ◌++◌}
+use Rattle.std.specs.List.{sum_by, AllByRecursion}
+use mathlib.Core.List.{IsPrefix}
 use Rattle.txc_tags.specs.Keys.{Call}
 use Rattle.txc_rows.specs.declared.query.Query.{Query as RowQuery}
 use Rattle.txc_rows.specs.declared.store_error.TheConstants.{MOST_MATCHING}
 use Rattle.txc_rows.specs.RowTags.{query_tag}
 use Rattle.txc_validity.specs.declared.answer.Found.{Found}
 use Rattle.txc_validity.specs.Answers.{IsAnswer}
-use Rattle.txc_node.specs.Cache.{lookup_answer, outcome, swept_count}
+use Rattle.txc_node.specs.Cache.{bytes_of, lookup_answer, outcome, swept_count, trimmed_count}
+use Rattle.txc_node.specs.Counts.{trimmed_by}
 use Rattle.txc_node.specs.declared.entry.Entry.{Entry}
 use Rattle.txc_node.specs.declared.hit.Shown.{Shown}
 use Rattle.txc_node.specs.declared.op.Op.{Op}
-use Rattle.txc_node.specs.declared.op.Op.TheVariants.{Event, Insert, Lookup, Sweep}
+use Rattle.txc_node.specs.declared.op.Op.TheVariants.{Event, Insert, Lookup, Sweep, Trim}
 use Rattle.txc_node.specs.declared.record.Record.{Record}
 use Rattle.txc_stream.specs.Names.{Name, HasRow}
 use Rattle.txc_db.specs.Room.{HasCapacity, AreTagsGone}
@@ -40,6 +42,12 @@ use Rattle.txc_ports.specs.declared.request.PortRequest.TheVariants as requests
 use Rattle.txc_ports.specs.declared.reply.PortReply.{PortReply}
 use Rattle.txc_ports.specs.Exchanges.{Exchange, IsExchange}
 use Rattle.txc_ports.specs.Exchanges as exchanges
+use Rattle.txc_caller.specs.declared.nodes.NodeTotals.{NodeTotals}
+
+-- it is of the same row, and its history has only grown
+pub record HasGrownDatabase (old new : DatabaseValue) : Type 0 where
+  pub events : new.events ≡ old.events
+  pub longer : IsPrefix old.history new.history
 
 -- the database, the pincushion and the node
 pub record CallerPorts : Type 0 where
@@ -71,9 +79,10 @@ pub record IsNewDatabase (d : DatabaseValue) : Type 0 where
 
 -- ---- pins
 
--- a pin of the moment is one event more, and its front shows it
+-- a pin of the moment is one event more, its stamp is the newest, and its front shows it
 pub record HasPinnedForCaller (now at_least : ℕ) (old new : CallerPorts) (pinned : Pinned) : Type 0 where
   pub after : new ≡ record old { database = after_pin old.database now }
+  pub stamp : pinned.stamp ≡ newest new.database
   pub moment : pinned.moment ≡ now
   pub late : at_least ≤ pinned.stamp
   pub front : pinned.front ≡ front_of new.database
@@ -178,6 +187,20 @@ CallerSweepTransition horizon old new (Ok count) =
     (new ≡ after_call old 0 (Sweep horizon)) × (count ≡ swept_count old.cache horizon)
 CallerSweepTransition horizon old new (Err e) = IsStepRefused old e × IsNodeLeft old new e
 
+-- the node keeps the longest prefix of its entries whose values have at most so many bytes in all; or it refuses the step
+abbrev pub CallerTrimTransition : ℕ → NodeValue → NodeValue → Result ℕ NodeError → Type 0
+CallerTrimTransition most old new (Ok count) =
+    (new ≡ after_call old 0 (Trim most)) × (count ≡ trimmed_count old.cache most)
+CallerTrimTransition most old new (Err e) = IsStepRefused old e × IsNodeLeft old new e
+
+-- how many entries the node holds, how many bytes their values have in all, and how many entries its trims have dropped
+abbrev pub totals_of : NodeValue → NodeTotals
+totals_of n = record {
+  entries = length n.cache.entries;
+  bytes = bytes_of n.cache.entries;
+  trimmed = sum_by (λ r. trimmed_by r.reply) n.records;
+}
+
 -- a step keeps the node's row, passes, name and settings; and a node that stores no records breaks by none
 pub record KeepsNode (old new : NodeValue) : Type 0 where
   pub row : new.seen.events ≡ old.seen.events
@@ -204,9 +227,13 @@ HasNoEventFor d n = (newest d ≤ n.cache.processed) ⊎ AreTagsGone d.events d.
 abbrev pub IsBehind : DatabaseValue → NodeValue → Type 0
 IsBehind d n = n.cache.processed < newest d
 
--- it has taken those that it had not taken; or memory was wanting for one
+-- it had not taken them all, and still has not
+abbrev pub StaysBehind : DatabaseValue → NodeValue → NodeValue → Type 0
+StaysBehind d old new = IsBehind d old × IsBehind d new
+
+-- it has taken those that it had not taken; or memory was wanting for one, so that it has not taken them all
 abbrev pub MayHaveTaken : DatabaseValue → NodeValue → NodeValue → Type 0
-MayHaveTaken d old new = GoesOnByEvents old new × (HasNoEventFor d new ⊎ IsBehind d old)
+MayHaveTaken d old new = GoesOnByEvents old new × (HasNoEventFor d new ⊎ StaysBehind d old new)
 
 -- the node has taken the events, and only the versions are left that a stamp from the least held one on shows
 pub record HasVacuumedPorts (old new : CallerPorts) : Type 0 where
@@ -214,10 +241,10 @@ pub record HasVacuumedPorts (old new : CallerPorts) : Type 0 where
   pub taken : HasNoEventFor old.database new.node
   pub is : new ≡ record old { database = after_vacuum old.database; node = new.node }
 
--- of a vacuum after that: as of the database's; or memory was wanting for an event
-abbrev pub IsKeepRefused : DatabaseValue → NodeValue → DbError → Type 0
-IsKeepRefused d n Memory = IsBehind d n
-IsKeepRefused d n e = IsVacuumRefused d e
+-- of a vacuum after that: as of the database's; or memory was wanting for an event, which the node has not taken
+abbrev pub IsKeepRefused : DatabaseValue → NodeValue → NodeValue → DbError → Type 0
+IsKeepRefused d old new Memory = StaysBehind d old new
+IsKeepRefused d old new e = IsVacuumRefused d e
 
 -- ---- requests
 
@@ -242,10 +269,10 @@ CallerExchangeTransition seen old new (exchanges.Insert node entry kept) =
     (new ≡ record old { node = new.node }) × CallerInsertTransition seen entry old.node new.node kept
 
 -- The reply is one to the request, and right in the history that it shows, which is of the row; and so much comes of
--- the request. The row stays.
+-- the request. The history only grows.
 pub record HasAskedPorts (next : Next) (seen : FrontValue) (request : PortRequest) (old new : CallerPorts)
     (reply : PortReply) : Type 0 where
   pub answer : IsReplyTo next request reply
   pub row : IsOfRow old.database.events reply
   pub leads : IsExchange (CallerExchangeTransition seen old new) request reply
-  pub events : new.database.events ≡ old.database.events
+  pub grown : HasGrownDatabase old.database new.database

@@ -1,79 +1,127 @@
--- What callers see of a caller's transaction that only reads.
-use Rattle.std.specs.Prelude.{◌≡◌, ℕ, [], true, Option, Some, None}
+-- A caller, and its transactions that only read.
+use Rattle.std.specs.Prelude.{◌≡◌, ◌⊎◌, ℕ, ◌≤◌, List, [], true, map, Option, Some, None, Result}
 use Rattle.std.specs.Option.{ForSome}
+use mathlib.Core.List.{IsPrefix}
 use Rattle.txc_tags.specs.Keys.{Call}
+use Rattle.txc_tags.specs.declared.key.TheConstants.{LAST_FUNCTION}
+use Rattle.txc_stream.specs.Names.{Name}
+use Rattle.txc_rows.specs.States.{State}
+use Rattle.txc_db.specs.History.{state_at}
 use Rattle.txc_app.specs.Eval.{Next}
-use Rattle.txc_app.specs.declared.ask.Ask.{Ask}
-use Rattle.txc_cushion.specs.Cushion.{after_fresh, handed_out}
+use Rattle.txc_cushion.specs.declared.pin.Pin.{Pin}
+use Rattle.txc_cushion.specs.Cushion.{after_fresh, handed_out, CushionValue}
+use Rattle.txc_pinset.specs.Members.{choice_of}
+use Rattle.txc_pinset.specs.declared.choice.Choice.{Choice}
+use Rattle.txc_pinset.specs.declared.choice.Choice.TheVariants.{At, Present}
 use Rattle.txc_ports.specs.declared.bounds.Bounds.{Bounds}
-use Rattle.txc_registry.specs.Objects.{numbers_of, Objects}
-use Rattle.txc_txn.specs.Core.{left_pin, open_call, IsIdle}
+use Rattle.txc_ports.specs.declared.recorded.Recorded.{Recorded}
+use Rattle.txc_registry.specs.Objects.{numbers_of, AllIdle, Objects}
+use Rattle.txc_call.specs.Running.{NeedsFunction}
+use Rattle.txc_txn.specs.Core.{open_call, CoreHolds, CoreValue, IsCore, IsIdle, KeepsSettings}
 use Rattle.txc_txn.specs.Kept.{IsTxn, TxnValue}
-use Rattle.txc_caller.specs.Ports.{AreGivenBack, CallerPorts, IsLetGo}
-use Rattle.txc_caller.specs.Standing.{asks_next, IsKeptBack, KeepsOn}
-use Rattle.txc_caller.specs.declared.frames.OpenCall.{OpenCall}
+use Rattle.txc_caller.specs.Ports.{AreGivenBack, CallerPorts}
+use Rattle.txc_caller.specs.Telling.{HaveAllFunctions, IsStepOf}
+use Rattle.txc_caller.specs.declared.step.CallerError.{CallerError}
+use Rattle.txc_caller.specs.declared.step.Step.{Step}
 
--- at rest: its ports, after how long the newest pin is renewed, and what the objects of the functions do
+-- its database, pincushion and node, and after how long the newest pin is renewed
 pub record CallerValue : Type 0 where
   pub ports : CallerPorts
   pub renew_after : ℕ
-  pub objects : Objects
 
--- with a transaction: its ports, the core with the objects, and the open call, if one is
-pub record CallerReading : Type 0 where
-  pub ports : CallerPorts
-  pub renew_after : ℕ
-  pub txn : TxnValue
-  pub doing : Option OpenCall
+-- ---- what is true of a transaction
 
--- the transaction is of the ports' row. Without an open call its core is idle; else a reply is kept back for it, and
--- the open call is the core's.
-pub record IsCallerReading (next : Next) (r : CallerReading) : Type 0 where
-  pub row : r.txn.core.seen.events ≡ r.ports.database.events
-  pub nodes : r.txn.core.nodes ≡ 1
-  pub renew_after : r.txn.core.renew_after ≡ r.renew_after
-  pub idle : r.doing ≡ None → IsIdle r.txn.core
-  pub kept : ForSome r.doing (λ (o : OpenCall). IsKeptBack next r.txn o.kept)
-  pub top : ForSome r.doing (λ (o : OpenCall). open_call r.txn.core ≡ Some o.frames.top)
+-- In the history that it has seen, its pin set means what it says. There is an object for each function, and one node. The open
+-- call is of a function that there is.
+pub record IsLent (next : Next) (t : TxnValue) : Type 0 where
+  pub meant : IsTxn next t
+  pub functions : HaveAllFunctions t.objects
+  pub top : ForSome (open_call t.core) (λ (k : Call). k.function ≤ LAST_FUNCTION)
+  pub nodes : t.core.nodes ≡ 1
 
--- the function that the caller computes asks this next, if he computes one
-abbrev pub AsksNext : Next → CallerReading → Ask → Type 0
-AsksNext next r ask = ForSome r.doing (λ (o : OpenCall). asks_next next r.txn.objects o.frames.inner.key o.given ≡ Some ask)
+-- no call is open; or a function of it is to begin or to continue, and no pin is under way
+abbrev pub IsRestingCore : CoreValue → Type 0
+IsRestingCore c = IsIdle c ⊎ ((c.pinning ≡ None) × NeedsFunction c.call.need)
 
--- the outermost call that is open, or else this one
-abbrev pub top_or : Option OpenCall → Call → Call
-top_or None k = k
-top_or (Some o) k = o.frames.top
+-- Between two acts it asks no port. Nothing of it is said of a caller, so that it stays true whatever others do.
+pub record IsCallerTxn (next : Next) (t : TxnValue) : Type 0 where
+  pub lent : IsLent next t
+  pub rests : IsRestingCore t.core
 
--- what each step keeps: the settings, the functions and the row; and more is seen of the one history
-pub record KeepsReading (old new : CallerReading) : Type 0 where
-  pub txn : KeepsOn old.txn new.txn
+-- the transaction is of this caller: what it has seen is of the caller's row, and it renews pins as the caller does
+pub record IsOf (c : CallerValue) (t : TxnValue) : Type 0 where
+  pub row : t.core.seen.events ≡ c.ports.database.events
+  pub renew_after : t.core.renew_after ≡ c.renew_after
+
+-- the states of the stamps at which the transaction may still be serialised
+abbrev pub open_states : CoreValue → List State
+open_states c = map (λ (m : Pin). state_at c.seen.history m.stamp) c.pins.members
+
+-- where a query runs that is asked now: at this stamp; none if it pins the present first
+abbrev pub chosen_stamp : Choice → Option ℕ
+chosen_stamp (At stamp) = Some stamp
+chosen_stamp Present = None
+
+abbrev pub read_stamp : CoreValue → Option ℕ
+read_stamp c = chosen_stamp (choice_of c.bounds.now c.renew_after c.pins)
+
+-- ---- acts
+
+-- an answer of a call, with this value
+abbrev pub recorded_as : Call → List ℕ → Recorded
+recorded_as k value = record { key = k; value = value }
+
+-- what comes of an act in this call
+abbrev pub IsReadingStep : CoreValue → CoreValue → Call → Result Step CallerError → Type 0
+IsReadingStep old new k step = IsStepOf (recorded_as k) old.recorded new.recorded new.call k step
+
+-- what each act keeps of its own transaction: the settings and the functions; and more is seen of the one history
+pub record KeepsTxn (old new : TxnValue) : Type 0 where
+  pub settings : KeepsSettings old.core new.core
+  pub functions : numbers_of new.objects ≡ numbers_of old.objects
+  pub longer : IsPrefix old.core.seen.history new.core.seen.history
+  pub events : new.core.seen.events ≡ old.core.seen.events
+
+-- what each act keeps of the caller, for every transaction that is open: the row, and the setting
+pub record KeepsCaller (old new : CallerValue) : Type 0 where
   pub row : new.ports.database.events ≡ old.ports.database.events
   pub renew_after : new.renew_after ≡ old.renew_after
 
--- the caller at rest after a transaction
-abbrev pub caller_of : CallerReading → CallerValue
-caller_of r = record { ports = r.ports; renew_after = r.renew_after; objects = r.txn.objects }
+-- the caller with another pincushion
+abbrev pub with_cushion : CushionValue → CallerValue → CallerValue
+with_cushion cushion c = record c { ports = record c.ports { cushion = cushion } }
 
 -- ---- beginnings and ends
 
--- it has the newest of the pins that its bounds allow, and the present
-pub record IsBegunReading (next : Next) (c : CallerValue) (asked : Bounds) (r : CallerReading) : Type 0 where
-  pub bounds : r.txn.core.bounds ≡ asked
-  pub recorded : r.txn.core.recorded ≡ []
-  pub meant : IsTxn next r.txn
-  pub members : r.txn.core.pins.members ≡ handed_out c.ports.cushion asked.now asked.staleness asked.at_least
-  pub present : r.txn.core.pins.has_present ≡ true
-  pub users : r.ports.cushion ≡ after_fresh c.ports.cushion asked.now asked.staleness asked.at_least
-  pub none : r.doing ≡ None
-  pub caller : caller_of r ≡ record c { ports = record c.ports { cushion = r.ports.cushion } }
+-- a core for those bounds, of the row, with the pins that the pincushion hands out
+pub record IsBegunCore (renewed : ℕ) (asked : Bounds) (row : Name) (cushion : CushionValue) (c : CoreValue) : Type 0 where
+  pub fits : (next : Next) (objects : Objects) → AllIdle objects → IsCore next objects c
+  pub holds : (next : Next) (objects : Objects) → CoreHolds next c.seen.history objects c
+  pub idle : IsIdle c
+  pub events : c.seen.events ≡ row
+  pub bounds : c.bounds ≡ asked
+  pub renew_after : c.renew_after ≡ renewed
+  pub nodes : c.nodes ≡ 1
+  pub recorded : c.recorded ≡ []
+  pub members : c.pins.members ≡ handed_out cushion asked.now asked.staleness asked.at_least
+  pub taken : c.taken ≡ map (λ p. p.stamp) (handed_out cushion asked.now asked.staleness asked.at_least)
+  pub present : c.pins.has_present ≡ true
 
--- it is given up, and its pins are given back; the node and the history stay
-pub record HasAborted (r : CallerReading) (c : CallerValue) : Type 0 where
-  pub functions : numbers_of c.objects ≡ numbers_of r.txn.objects
-  pub history : c.ports.database.history ≡ r.ports.database.history
-  pub row : c.ports.database.events ≡ r.ports.database.events
-  pub node : c.ports.node ≡ r.ports.node
-  pub given_back : AreGivenBack r.txn.core.taken r.ports.cushion c.ports.cushion
-  pub unpinned : IsLetGo (left_pin r.txn.core.pinning) r.ports.database c.ports.database
-  pub renew_after : c.renew_after ≡ r.renew_after
+-- It has the newest of the pins that its bounds allow, and the present, an object for each function, and no call is open. Each of
+-- its pins has one user more, which is to be given back at its end, and nothing else of the caller has changed.
+pub record IsBegunReading (next : Next) (asked : Bounds) (old new : CallerValue) (t : TxnValue) : Type 0 where
+  pub bounds : t.core.bounds ≡ asked
+  pub recorded : t.core.recorded ≡ []
+  pub meant : IsTxn next t
+  pub functions : HaveAllFunctions t.objects
+  pub idle : IsIdle t.core
+  pub members : t.core.pins.members ≡ handed_out old.ports.cushion asked.now asked.staleness asked.at_least
+  pub taken : t.core.taken ≡ map (λ p. p.stamp) (handed_out old.ports.cushion asked.now asked.staleness asked.at_least)
+  pub present : t.core.pins.has_present ≡ true
+  pub of_caller : IsOf new t
+  pub users : new ≡ with_cushion (after_fresh old.ports.cushion asked.now asked.staleness asked.at_least) old
+
+-- its pins are given back, and all else of the caller stays
+pub record HasEndedReading (t : TxnValue) (old new : CallerValue) : Type 0 where
+  pub given_back : AreGivenBack t.core.taken old.ports.cushion new.ports.cushion
+  pub same : new ≡ with_cushion new.ports.cushion old

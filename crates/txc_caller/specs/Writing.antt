@@ -1,135 +1,176 @@
--- A caller's transaction that writes.
-use Rattle.std.specs.Prelude.{◌≡◌, ℕ, ◌≤◌, ◌<◌, List, [], ◌∷◌, ◌++◌, length, Option, Some, None, Result, Ok, Err, IsSome}
-use Rattle.txc_tags.specs.declared.tag.Tag.{Tag}
-use Rattle.txc_tags.specs.Tags.{with_tags}
-use Rattle.txc_rows.specs.declared.query.Query.{Query}
+-- A caller's transactions that write.
+use Rattle.std.specs.Prelude.{◌≡◌, ◌⊎◌, ℕ, ◌<◌, Bool, true, false, List, [], ◌∷◌, ◌++◌, length, Option, Some, None, Result, Ok, Err}
+use Rattle.txc_tags.specs.Keys.{Call}
+use Rattle.txc_rows.specs.States.{State}
 use Rattle.txc_rows.specs.declared.query.Change.{Change}
-use Rattle.txc_rows.specs.RowTags.{query_tag}
-use Rattle.txc_rows.specs.States.{answer}
-use Rattle.txc_db.specs.History.{state_at}
-use Rattle.txc_app.specs.declared.ask.Answer.{Answer}
-use Rattle.txc_app.specs.declared.ask.Answer.TheVariants.{Rows, Value}
-use Rattle.txc_call.specs.declared.error.CallError.TheVariants.{CallOrder, ValueTooLong}
-use Rattle.txc_db.specs.Calls.{IsCommittable, IsCommitRefused, IsLeft}
-use Rattle.txc_db.specs.DatabaseValue.{after_commit, newest}
+use Rattle.txc_rows.specs.declared.query.Query.{Query}
+use Rattle.txc_db.specs.History.{History, state_at}
+use Rattle.txc_db.specs.Calls.{IsCommittable, IsCommitRefused, IsLeft, IsQueryRefused}
+use Rattle.txc_db.specs.DatabaseValue.{DatabaseValue, after_commit, newest}
+use Rattle.txc_db.specs.declared.error.DbError.{DbError}
+use Rattle.txc_app.specs.declared.app.Limits.{Limits}
+use Rattle.txc_app.specs.Eval.{Next}
+use Rattle.txc_app.specs.declared.ask.Ask.{Ask}
+use Rattle.txc_app.specs.declared.ask.Ask.TheVariants as asks
+use Rattle.txc_ports.specs.Refusals.{refused_call, refused_request}
+use Rattle.txc_ports.specs.declared.turn.Turn.TheVariants.{Ask as AskTurn, Ended}
 use Rattle.txc_ports.specs.declared.error.TxnError.{TxnError}
-use Rattle.txc_ports.specs.declared.error.TxnError.TheVariants.{BufferFull, Call, Memory}
-use Rattle.txc_caller.specs.declared.caller_write.TheConstants.{MAX_CHANGES}
+use Rattle.txc_ports.specs.declared.error.TxnError.TheVariants.{Memory}
+use Rattle.txc_registry.specs.Objects.{AllIdle, Objects}
+use Rattle.txc_call.specs.Calling.{Calling}
+use Rattle.txc_call.specs.Running.{AfterRan}
+use Rattle.txc_call.specs.declared.error.CallError.{CallError}
+use Rattle.txc_call.specs.declared.need.Need.{Need}
+use Rattle.txc_validity.specs.declared.answer.Found.{Found}
+use Rattle.txc_rw.specs.ByHand.{IsRwByHand, RwHandTurn, RwHearTransition}
+use Rattle.txc_rw.specs.Core.{IsBegun, IsFoundAt, IsRwIdle, IsWriteRefused, RwHolds, RwValue, tags_read}
+use Rattle.txc_rw.specs.declared.given.Given.TheVariants as given
+use Rattle.txc_rw.specs.declared.rw_core.TheConstants.{MAX_CHANGES}
+use Rattle.txc_caller.specs.Ports.{IsLetGo, MayHaveTaken}
+use Rattle.txc_caller.specs.Reading.{CallerValue}
+use Rattle.txc_caller.specs.Telling.{HaveAllFunctions, IsNextStep, IsStepOf, ended_step, top_call}
 use Rattle.txc_caller.specs.declared.step.CallerError.{CallerError}
-use Rattle.txc_caller.specs.declared.step.CallerError.TheVariants as errors
+use Rattle.txc_caller.specs.declared.step.CallerError.TheVariants.{NoFunction, Txn}
+use Rattle.txc_caller.specs.declared.step.Step.{Step}
 use Rattle.txc_caller.specs.declared.step.WriteError.{WriteError}
 use Rattle.txc_caller.specs.declared.step.WriteError.TheVariants as writes
-use Rattle.txc_caller.specs.Ports.{MayHaveTaken}
-use Rattle.txc_caller.specs.Reading.{CallerValue}
 
--- The caller; the stamp that it reads; the tags of what it has read; and its changes, in order. Then the function that is
--- computed, if one is, and those that wait for its value, the outermost first; and what was answered last.
+-- its core; the objects that its functions would have; and whether the database holds its base for it
 pub record CallerWriting : Type 0 where
-  pub caller : CallerValue
-  pub base : ℕ
-  pub read : List Tag
-  pub changes : List Change
-  pub inner : Option ℕ
-  pub outer : List ℕ
-  pub given : Option Answer
+  pub core : RwValue
+  pub objects : Objects
+  pub is_held : Bool
 
--- nothing is read, changed or computed yet
-pub record IsBegunWrite (c : CallerValue) (stamp : ℕ) (w : CallerWriting) : Type 0 where
-  pub caller : w.caller ≡ c
-  pub base : w.base ≡ stamp
-  pub read : w.read ≡ []
-  pub changes : w.changes ≡ []
-  pub inner : w.inner ≡ None
-  pub outer : w.outer ≡ []
-  pub given : w.given ≡ None
+-- Between two acts the database is asked nothing. There is an object for each function. Nothing of it is said of a caller.
+pub record IsCallerWrite (next : Next) (w : CallerWriting) : Type 0 where
+  pub fits : IsRwByHand next w.objects w.core
+  pub functions : HaveAllFunctions w.objects
+  pub rests : w.core.reading ≡ None
 
--- the answer of the query in the state that it reads, which counts as read
-abbrev pub after_query : Query → CallerWriting → CallerWriting
-after_query query w = record w {
-  read = with_tags (query_tag query ∷ []) w.read;
-  given = Some (Rows (answer query (state_at w.caller.ports.database.history w.base)));
-}
+-- The transaction is of this caller: what it was answered is right at its base, in the caller's history, and in each other state
+-- in which the queries that were answered give what they give there. A longer history leaves that so.
+abbrev pub IsWriteOf : Next → CallerValue → CallerWriting → Type 0
+IsWriteOf next c w = RwHolds next c.ports.database.history w.objects w.core
 
--- ---- functions that are computed
+-- the state that it reads
+abbrev pub base_states_in : History → RwValue → List State
+base_states_in L core = state_at L core.base ∷ []
 
--- a function may be called: by none any, else one below it
-abbrev pub MayCall : Option ℕ → ℕ → Type 0
-MayCall None function = Unit {0}
-MayCall (Some inner) function = function < inner
+abbrev pub base_states : CallerValue → RwValue → List State
+base_states c core = base_states_in c.ports.database.history core
 
--- the function that is computed waits, if one is
-abbrev pub waiting : Option ℕ → List ℕ → List ℕ
-waiting None outer = outer
-waiting (Some inner) outer = outer ++ inner ∷ []
+-- Nothing is read, changed or computed yet. There is an object for each function, and none runs.
+pub record IsBegunWrite (base : ℕ) (held : Bool) (w : CallerWriting) : Type 0 where
+  pub core : IsBegun base w.core
+  pub idle : AllIdle w.objects
+  pub functions : HaveAllFunctions w.objects
+  pub is_held : w.is_held ≡ held
 
--- another is computed now, which was answered nothing yet
-abbrev pub after_call_of : ℕ → CallerWriting → CallerWriting
-after_call_of function w = record w { inner = Some function; outer = waiting w.inner w.outer; given = None }
+-- ---- acts
 
--- none is computed
-abbrev pub without_calls : CallerWriting → CallerWriting
-without_calls w = record w { inner = None; outer = []; given = None }
+-- the reply to this query is that of the state of the stamp, or the database refused it
+abbrev pub IsReplyAt : DatabaseValue → ℕ → Query → Result Found DbError → Type 0
+IsReplyAt d base query (Ok found) = IsFoundAt d.history base query found
+IsReplyAt d base query (Err error) = IsQueryRefused d query base error
 
--- the one that was computed gave these bytes, and the one that waited last is computed, if one did
-pub record HasGivenValue (bytes : List ℕ) (old new : CallerWriting) : Type 0 where
-  pub some : IsSome old.inner
-  pub around : waiting new.inner new.outer ≡ old.outer
-  pub outermost : new.inner ≡ None → new.outer ≡ []
-  pub same : new ≡ record old { inner = new.inner; outer = new.outer; given = Some (Value bytes) }
+-- The query that the turn asks was asked, at the base, and the core has gone on with the reply. If it asks none, all stays.
+abbrev pub HasLed : DatabaseValue → RwValue → RwHandTurn → RwValue → RwHandTurn → Type 0
+HasLed d old None new last = (new ≡ old) × (last ≡ None)
+HasLed d old (Some (Ended outcome)) new last = (new ≡ old) × (last ≡ Some (Ended outcome))
+HasLed d old (Some (AskTurn query)) new last =
+    (reply : Result Found DbError) × IsReplyAt d old.base query reply × RwHearTransition old query reply new last
 
--- of a call: the function is not below the one that is computed, and none is computed any more; or memory is wanting, and
--- nothing has changed
-abbrev pub IsWriteCallRefused : ℕ → CallerWriting → CallerWriting → CallerError → Type 0
-IsWriteCallRefused function old new (errors.Txn (Call (CallOrder inner called))) =
-    (old.inner ≡ Some inner) × (called ≡ function) × (inner ≤ function) × (new ≡ without_calls old)
-IsWriteCallRefused function old new errors.Memory = IsSome old.inner × (new ≡ old)
-IsWriteCallRefused function old new error = ⊥
+-- the turn asks no query
+abbrev pub IsHeard : RwHandTurn → Type 0
+IsHeard None = Unit {0}
+IsHeard (Some (Ended outcome)) = Unit {0}
+IsHeard (Some (AskTurn query)) = ⊥
 
--- of a value, of which there may be so many bytes: no function is computed, and nothing has changed; or it is too long, and
--- none is computed any more
-abbrev pub IsWriteFinishRefused : ℕ → List ℕ → CallerWriting → CallerWriting → CallerError → Type 0
-IsWriteFinishRefused most bytes old new errors.NoFunction = (old.inner ≡ None) × (new ≡ old)
-IsWriteFinishRefused most bytes old new (errors.Txn (Call ValueTooLong)) = (most < length bytes) × (new ≡ without_calls old)
-IsWriteFinishRefused most bytes old new error = ⊥
+-- what the caller does next after a turn that asks no query
+abbrev pub IsStepAfter : Calling → RwHandTurn → Result Step CallerError → Type 0
+IsStepAfter call None result = (step : Step) × (result ≡ Ok step) × IsNextStep call step
+IsStepAfter call (Some (Ended outcome)) result = result ≡ ended_step outcome
+IsStepAfter call (Some (AskTurn query)) result = ⊥
 
--- ---- the end
+-- what comes of an act in this call
+abbrev pub IsWritingStep : RwValue → RwValue → Call → Result Step CallerError → Type 0
+IsWritingStep old new k step = IsStepOf (given.Value k) old.answers new.answers new.call k step
 
--- no function is computed, and nothing that it read has changed: the changes are committed, and the node may have taken the
--- events
-pub record HasCommittedWrite (w : CallerWriting) (stamp : ℕ) (c : CallerValue) : Type 0 where
-  pub none : w.inner ≡ None
-  pub could : IsCommittable w.caller.ports.database w.base w.read w.changes
-  pub after : c.ports.database ≡ after_commit w.caller.ports.database w.changes
-  pub stamp_is : stamp ≡ newest c.ports.database
-  pub taken : MayHaveTaken c.ports.database w.caller.ports.node c.ports.node
-  pub same : c ≡ record w.caller {
-    ports = record w.caller.ports { database = c.ports.database; node = c.ports.node };
-  }
+-- the machine of calls refused the ask, within these limits
+pub record IsRefusedByCall (limits : Limits) (core : RwValue) (objects : Objects) (ask : Ask) (error : TxnError)
+    : Type 0 where
+  pub need : Need
+  pub needed : core.call.need ≡ Some need
+  pub cause : CallError
+  pub after : AfterRan limits core.call.frames core.call.asked objects need ask (Err cause)
+  pub is : error ≡ refused_call cause
 
--- a function is computed; or the database refused
-abbrev pub IsWriteCommitRefused : CallerWriting → WriteError → Type 0
-IsWriteCommitRefused w writes.MidCall = IsSome w.inner
-IsWriteCommitRefused w (writes.Database error) = IsCommitRefused w.caller.ports.database w.base w.read w.changes error
+-- the database refused the query
+abbrev pub IsAskedQueryRefused : DatabaseValue → ℕ → Ask → TxnError → Type 0
+IsAskedQueryRefused d base (asks.Query query) error =
+    (cause : DbError) × IsQueryRefused d query base cause × (error ≡ refused_request cause)
+IsAskedQueryRefused d base ask error = ⊥
 
--- what a refusal leaves: all as it was, but that the database may have found itself broken
-abbrev pub IsWriteLeft : CallerWriting → WriteError → CallerWriting → Type 0
-IsWriteLeft old writes.MidCall new = new ≡ old
-IsWriteLeft old (writes.Database error) new =
-    IsLeft old.caller.ports.database new.caller.ports.database error
-    × (new ≡ record old {
-      caller = record old.caller { ports = record old.caller.ports { database = new.caller.ports.database } };
-    })
+-- Why an act was refused, within these limits: an allocation failed; or the machine of calls refused the ask; or the database
+-- refused the query. Or no function is computed.
+abbrev pub IsActRefused : Limits → DatabaseValue → RwValue → Objects → Ask → CallerError → Type 0
+IsActRefused limits d core objects ask (Txn error) =
+    (error ≡ Memory) ⊎ (IsRefusedByCall limits core objects ask error ⊎ IsAskedQueryRefused d core.base ask error)
+IsActRefused limits d core objects ask NoFunction = top_call core.call ≡ None
+
+-- the queries that count as read once this ask was answered
+abbrev pub queried_for : Ask → List Query
+queried_for (asks.Query query) = query ∷ []
+queried_for ask = []
+
+-- of a query by no function: out of memory; or the database refused it
+abbrev pub IsOwnReadRefused : DatabaseValue → ℕ → Query → TxnError → Type 0
+IsOwnReadRefused d base query error =
+    (error ≡ Memory) ⊎ ((cause : DbError) × IsQueryRefused d query base cause × (error ≡ refused_request cause))
 
 -- ---- changes
 
--- of a change: there are as many as may be; else out of memory
-abbrev pub IsChangeRefused : ℕ → TxnError → Type 0
-IsChangeRefused count BufferFull = MAX_CHANGES ≤ count
-IsChangeRefused count Memory = count < MAX_CHANGES
-IsChangeRefused count error = ⊥
-
--- the change is kept, where there are fewer; or all stays
+-- the change is the last one, if there were fewer than may be; or all stays
 abbrev pub ChangeLeaves : Change → CallerWriting → CallerWriting → Result (Unit {0}) TxnError → Type 0
-ChangeLeaves change old new (Ok kept) =
-    (length old.changes < MAX_CHANGES) × (new ≡ record old { changes = old.changes ++ change ∷ [] })
-ChangeLeaves change old new (Err error) = (new ≡ old) × IsChangeRefused (length old.changes) error
+ChangeLeaves change old new (Ok kept) = (length old.core.changes < MAX_CHANGES)
+    × (new ≡ record old { core = record old.core { changes = old.core.changes ++ change ∷ [] } })
+ChangeLeaves change old new (Err error) = (new ≡ old) × IsWriteRefused (length old.core.changes) error
+
+-- ---- the end
+
+abbrev pub hold_of : Bool → ℕ → Option ℕ
+hold_of true base = Some base
+hold_of false base = None
+
+-- the hold of its base, if it has one
+abbrev pub held_base : CallerWriting → Option ℕ
+held_base w = hold_of w.is_held w.core.base
+
+-- No call is open, and nothing that it read has changed: the changes are committed, the hold of its base is taken away, and the
+-- node may have taken the events. All else of the caller stays.
+pub record HasCommittedWrite (old : CallerValue) (w : CallerWriting) (stamp : ℕ) (new : CallerValue) : Type 0 where
+  pub idle : IsRwIdle w.core
+  pub could : IsCommittable old.ports.database w.core.base (tags_read w.core) w.core.changes
+  pub after : IsLetGo (held_base w) (after_commit old.ports.database w.core.changes) new.ports.database
+  pub stamp_is : stamp ≡ newest new.ports.database
+  pub taken : MayHaveTaken new.ports.database old.ports.node new.ports.node
+  pub same : new ≡ record old {
+    ports = record old.ports { database = new.ports.database; node = new.ports.node };
+  }
+
+-- a call is open; or the database refused
+abbrev pub IsWriteCommitRefused : CallerValue → CallerWriting → WriteError → Type 0
+IsWriteCommitRefused c w writes.MidCall = ¬ (IsRwIdle w.core)
+IsWriteCommitRefused c w (writes.Database error) =
+    IsCommitRefused c.ports.database w.core.base (tags_read w.core) w.core.changes error
+
+-- what a refusal leaves of the caller: all as it was, but that the database may have found itself broken
+abbrev pub IsWriteLeft : CallerValue → WriteError → CallerValue → Type 0
+IsWriteLeft old writes.MidCall new = new ≡ old
+IsWriteLeft old (writes.Database error) new = IsLeft old.ports.database new.ports.database error
+    × (new ≡ record old { ports = record old.ports { database = new.ports.database } })
+
+-- it is given up: the hold of its base is taken away, and all else of the caller stays
+pub record HasAbortedWrite (w : CallerWriting) (old new : CallerValue) : Type 0 where
+  pub unheld : IsLetGo (held_base w) old.ports.database new.ports.database
+  pub same : new ≡ record old { ports = record old.ports { database = new.ports.database } }

@@ -1,5 +1,5 @@
 ghost use Rattle.std.specs.Prelude.{◌≡◌};
-ghost use Rattle.txc_caller.specs.Ports.{IsLetGo};
+ghost use Rattle.txc_caller.specs.Ports.{HasGrownDatabase, IsLetGo};
 
 use std::alloc::Global;
 use txc_app::App;
@@ -25,5 +25,5 @@ pub(crate) trait CallPorts<A: App> {
     fn let_go(&mut self, unpin: Option<Stamp>)
         ensures unpinned { IsLetGo unpin (ports self.old).database (ports self.new).database }
         ensures same { ports self.new ≡ record (ports self.old) { database = (ports self.new).database } }
-        ensures events { (ports self.new).database.events ≡ (ports self.old).database.events };
+        ensures grown { HasGrownDatabase (ports self.old).database (ports self.new).database };
 }

@@ -1,232 +1,292 @@
 //! A caller's transaction that only reads.
-ghost use Rattle.std.specs.Prelude.{◌≡◌, ◌≢◌, ◌↔◌, ◌∷◌, [], IfErr, IfOk, IsNone, IsOk, IsSome, IsTrue, MatchOption, None, Ok, Some};
-ghost use Rattle.txc_txn.specs.Core.{left_pin, receipt_pin, Explains};
+ghost use Rattle.std.specs.Prelude.{◌≡◌, ◌≤◌, ◌↔◌, ◌∷◌, [], List, Err, IfErr, IfOk, IsOk, IsSome, IsTrue, MatchOption, None, OnErr, OnOk, Some};
+ghost use Rattle.txc_tags.specs.Keys.{Call};
+ghost use Rattle.txc_tags.specs.declared.key.TheConstants.{LAST_FUNCTION};
+ghost use Rattle.txc_registry.specs.Objects.{AllIdle};
+ghost use Rattle.txc_txn.specs.Core.{receipt_pin, Explains, IsIdle};
 ghost use Rattle.txc_txn.specs.Kept.{IsTxn};
 ghost use Rattle.txc_txn.specs.Sessions.{IsAtLeast};
-ghost use Rattle.txc_caller.specs.Acting.{ask_of, IsComputedOnMiss, IsStepIn, IsStepOf};
-ghost use Rattle.txc_caller.specs.Ports.{AreGivenBack, IsLetGo};
-ghost use Rattle.txc_caller.specs.Reading.{caller_of, top_or, AsksNext, HasAborted, KeepsReading};
+ghost use Rattle.txc_caller.specs.Acting.{step_error, ActLeads};
+ghost use Rattle.txc_caller.specs.Looking.{IsComputedOnMiss};
+ghost use Rattle.txc_caller.specs.Ports.{HasGrownDatabase};
+ghost use Rattle.txc_caller.specs.Reading.{open_states, read_stamp, HasEndedReading, IsOf, IsReadingStep, KeepsCaller, KeepsTxn};
+ghost use Rattle.txc_caller.specs.Telling.{computed_calls, told_answer, top_call, top_or, AsksNext, IsToldAfterAsk, ObjectsFollow};
+ghost use Rattle.txc_caller.specs.declared.step.CallerError.TheVariants.{NoFunction};
 
-use crate::act::Act;
-use crate::acting::{act_inside, call_first, end_call};
-use crate::call_ports::CallPorts;
 use crate::caller::Caller;
-use crate::frames::OpenCall;
-use crate::ports::Ports;
+use crate::lent_txn::LentTxn;
+use crate::serving::serve;
 use crate::step::{CallerError, Step};
 use std::alloc::Global;
 use std::marker::Model;
-use txc_app::{Answer, App, Bytes};
+use txc_app::{Answer, App, Ask, Bytes};
 use txc_cushion::Pin;
+use txc_pinset::Choice;
 use txc_ports::Recorded;
-use txc_registry::Suppliable;
 use txc_rows::Query;
+use txc_stamp::Stamp;
 use txc_tags::Key;
-use txc_txn::{Receipt, RunningTxn};
+use txc_txn::Receipt;
 
-/// A transaction that only reads, whose functions the caller computes. Whatever function `A.next` gives what the
-/// caller says that his functions ask and give, the receipt explains each answer by it.
+/// A transaction that only reads, whose functions its caller computes. Whatever functions `A.next` give what the caller says that
+/// its functions ask and give, the receipt explains each answer by them.
 ///
-/// [`CallerTxn::commit`] and [`CallerTxn::abort`] return the caller. Who lets it go lets the caller go too.
-pub struct CallerTxn<A: App, C: Suppliable> {
-    pub(crate) ports: Ports<A>,
-    pub(crate) renew_after: u64,
-    pub(crate) txn: RunningTxn<A, C>,
-    pub(crate) doing: Option<OpenCall>,
+/// It is a value of its own: each act is lent the caller, the same one that it began with. Whatever else that caller does between
+/// two acts, what it was answered stays. It ends by [`CallerTxn::commit`] or [`CallerTxn::abort`], which give its pins back; if it
+/// is dropped they are not.
+pub struct CallerTxn<A: App> {
+    pub(crate) txn: LentTxn<A>,
 }
 
 // Not derived: a derived one is proved again in each crate above.
-impl<A: App, C: Suppliable> Drop for CallerTxn<A, C> {
+impl<A: App> Drop for CallerTxn<A> {
     fn drop(self) {
-        let CallerTxn {
-            ports: _,
-            renew_after: _,
-            txn: _,
-            doing: _,
-        } = self;
+        let CallerTxn { txn: _ } = self;
     }
 }
 
-impl<A: App, C: Suppliable> Model for CallerTxn<A, C> {
-    ghost use Rattle.txc_caller.specs.Reading.{CallerReading, IsCallerReading};
+impl<A: App> Model for CallerTxn<A> {
+    ghost use Rattle.txc_txn.specs.Kept.{TxnValue};
+    ghost use Rattle.txc_caller.specs.Reading.{IsCallerTxn};
 
-    ghost Value = { CallerReading };
+    ghost Value = { TxnValue };
 
-    ghost view = { λ r. record { ports = r.ports; renew_after = r.renew_after; txn = r.txn; doing = r.doing } };
+    ghost view = { λ t. t.txn };
 
-    ghost invariant = { λ r. IsCallerReading A.next
-        (record { ports = r.ports; renew_after = r.renew_after; txn = r.txn; doing = r.doing }) };
+    ghost invariant = { λ t. IsCallerTxn A.next t.txn };
 }
 
-impl<A: App, C: Suppliable> CallerTxn<A, C> {
+impl<A: App> CallerTxn<A> {
     ghost use Rattle.txc_app.specs.declared.ask.Ask.TheVariants as asks;
 
-    // What the function that is computed does, if one is.
-    fn act(&mut self, alloc: Global, act: Act) -> Result<Step, CallerError>
-        requires { AsksNext A.next self.old (ask_of act) }
-        ensures step { IsStepIn self.old.doing self.old self.new result }
-        ensures on_miss { IsComputedOnMiss self.new.txn.core self.old.ports.node self.new.ports.node result }
-        ensures keeps { KeepsReading self.old self.new }
-        ensures meant { IsTxn A.next self.new.txn }
+    // Makes an act of the function that is computed.
+    fn act(&mut self, alloc: Global, caller: &mut Caller<A>, ask: Ask) -> Result<Step, CallerError>
+        requires row { IsOf caller.old self.old }
+        requires asks { AsksNext A.next self.old.objects self.old.core.call ask }
+        requires there { (k : Call) → ask ≡ asks.Call k → k.function ≤ LAST_FUNCTION }
+        ensures none { top_call self.old.core.call ≡ None
+            → (result ≡ Err NoFunction) × (self.new ≡ self.old) × (caller.new ≡ caller.old) }
+        ensures step { (k : Call) → top_call self.old.core.call ≡ Some k
+            → IsReadingStep self.old.core self.new.core k result }
+        ensures told { IsToldAfterAsk A.next (open_states self.new.core) self.old.core.call ask self.new.core.call result }
+        ensures objects { ObjectsFollow self.old.objects self.old.core.call ask self.new.objects result }
+        ensures on_miss { IsComputedOnMiss self.new.core caller.old.ports.node caller.new.ports.node result }
+        ensures leads { ActLeads A.next.limits caller.old.ports self.old ask caller.new.ports self.new.core.taken
+            (step_error result) }
+        ensures keeps { KeepsTxn self.old self.new }
+        ensures meant { IsTxn A.next self.new }
+        ensures caller { KeepsCaller caller.old caller.new }
+        ensures grown { HasGrownDatabase caller.old.ports.database caller.new.ports.database }
     {
-        let Some(call) = self.doing.take() else {
-            self.txn.is_kept();
+        if !self.is_computing() {
+            self.txn.is_lent();
             return Err(CallerError::NoFunction);
-        };
-        let acted = act_inside(alloc, &mut self.ports, &mut self.txn, call, act);
-        self.txn.is_kept();
-        acted.settle(&mut self.doing)
+        }
+        let turn = self.txn.ran(alloc, ask);
+        self.txn.is_lent();
+        let step = serve(alloc, &mut caller.ports, &mut self.txn, turn);
+        self.txn.is_lent();
+        step
     }
 
     /// Asks for the value of a call: by no function the outermost one, else by the function that is computed.
-    /// [`Step::Compute`] says that the caller is to compute its function.
-    pub fn call(&mut self, alloc: Global, key: Key) -> Result<Step, CallerError>
-        requires { AsksNext A.next self.old (asks.Call key) }
-        ensures step { IsStepOf self.old.txn.core.recorded (top_or self.old.doing key)
-            self.new.txn.core.recorded self.new.doing result }
-        ensures on_miss { IsComputedOnMiss self.new.txn.core self.old.ports.node self.new.ports.node result }
-        ensures keeps { KeepsReading self.old self.new }
-        ensures meant { IsTxn A.next self.new.txn }
+    ///
+    /// [`Step::Compute`] says that the caller is to compute the function of this call next, under this key. [`Step::Answered`]
+    /// says that the function that asked has its value, by [`CallerTxn::answer`].
+    pub fn call(
+        &mut self,
+        alloc: Global,
+        caller: &mut Caller<A>,
+        key: Key,
+    ) -> Result<Step, CallerError>
+        requires row { IsOf caller.old self.old }
+        requires asks { AsksNext A.next self.old.objects self.old.core.call (asks.Call key) }
+        ensures step { IsReadingStep self.old.core self.new.core (top_or self.old.core.call key) result }
+        ensures told { IsToldAfterAsk A.next (open_states self.new.core) self.old.core.call (asks.Call key)
+            self.new.core.call result }
+        ensures objects { ObjectsFollow self.old.objects self.old.core.call (asks.Call key) self.new.objects result }
+        ensures on_miss { IsComputedOnMiss self.new.core caller.old.ports.node caller.new.ports.node result }
+        ensures leads { ActLeads A.next.limits caller.old.ports self.old (asks.Call key) caller.new.ports self.new.core.taken
+            (step_error result) }
+        ensures keeps { KeepsTxn self.old self.new }
+        ensures meant { IsTxn A.next self.new }
+        ensures caller { KeepsCaller caller.old caller.new }
+        ensures grown { HasGrownDatabase caller.old.ports.database caller.new.ports.database }
     {
-        if self.doing.is_some() {
-            return self.act(alloc, Act::Call(key));
+        let _function = key.function();
+        if self.is_computing() {
+            return self.act(alloc, caller, Ask::Call(key));
         }
-        let acted = call_first(alloc, &mut self.ports, &mut self.txn, key);
-        self.txn.is_kept();
-        acted.settle(&mut self.doing)
+        let turn = self.txn.start(key);
+        let step = serve(alloc, &mut caller.ports, &mut self.txn, Some(turn));
+        self.txn.is_lent();
+        step
     }
 
     /// Asks for the rows of a query, by the function that is computed.
-    pub fn query(&mut self, alloc: Global, query: Query) -> Result<Step, CallerError>
-        requires { AsksNext A.next self.old (asks.Query query) }
-        ensures step { IsStepIn self.old.doing self.old self.new result }
-        ensures on_miss { IsComputedOnMiss self.new.txn.core self.old.ports.node self.new.ports.node result }
-        ensures keeps { KeepsReading self.old self.new }
-        ensures meant { IsTxn A.next self.new.txn }
+    pub fn query(
+        &mut self,
+        alloc: Global,
+        caller: &mut Caller<A>,
+        query: Query,
+    ) -> Result<Step, CallerError>
+        requires row { IsOf caller.old self.old }
+        requires asks { AsksNext A.next self.old.objects self.old.core.call (asks.Query query) }
+        ensures none { top_call self.old.core.call ≡ None
+            → (result ≡ Err NoFunction) × (self.new ≡ self.old) × (caller.new ≡ caller.old) }
+        ensures step { (k : Call) → top_call self.old.core.call ≡ Some k
+            → IsReadingStep self.old.core self.new.core k result }
+        ensures told { IsToldAfterAsk A.next (open_states self.new.core) self.old.core.call (asks.Query query)
+            self.new.core.call result }
+        ensures objects { ObjectsFollow self.old.objects self.old.core.call (asks.Query query) self.new.objects result }
+        ensures on_miss { IsComputedOnMiss self.new.core caller.old.ports.node caller.new.ports.node result }
+        ensures leads { ActLeads A.next.limits caller.old.ports self.old (asks.Query query) caller.new.ports self.new.core.taken
+            (step_error result) }
+        ensures keeps { KeepsTxn self.old self.new }
+        ensures meant { IsTxn A.next self.new }
+        ensures caller { KeepsCaller caller.old caller.new }
+        ensures grown { HasGrownDatabase caller.old.ports.database caller.new.ports.database }
     {
-        self.act(alloc, Act::Query(query))
+        self.act(alloc, caller, Ask::Query(query))
     }
 
     /// Says that the function that is computed gives these bytes. They are kept at the node, under its call, with
-    /// the reach and the tags of what it was answered, where that depends on a row.
-    pub fn finish(&mut self, alloc: Global, bytes: Vec<u8>) -> Result<Step, CallerError>
-        requires { AsksNext A.next self.old (asks.Done bytes.items) }
-        ensures step { IsStepIn self.old.doing self.old self.new result }
-        ensures on_miss { IsComputedOnMiss self.new.txn.core self.old.ports.node self.new.ports.node result }
-        ensures keeps { KeepsReading self.old self.new }
-        ensures meant { IsTxn A.next self.new.txn }
+    /// the reach and the tags of what it was answered, if that depends on a row.
+    ///
+    /// [`Step::Answered`] says that the function around it is computed next, and has this value.
+    pub fn finish(
+        &mut self,
+        alloc: Global,
+        caller: &mut Caller<A>,
+        bytes: Vec<u8>,
+    ) -> Result<Step, CallerError>
+        requires row { IsOf caller.old self.old }
+        requires asks { AsksNext A.next self.old.objects self.old.core.call (asks.Done bytes.items) }
+        ensures none { top_call self.old.core.call ≡ None
+            → (result ≡ Err NoFunction) × (self.new ≡ self.old) × (caller.new ≡ caller.old) }
+        ensures step { (k : Call) → top_call self.old.core.call ≡ Some k
+            → IsReadingStep self.old.core self.new.core k result }
+        ensures told { IsToldAfterAsk A.next (open_states self.new.core) self.old.core.call (asks.Done bytes.items)
+            self.new.core.call result }
+        ensures objects { ObjectsFollow self.old.objects self.old.core.call (asks.Done bytes.items)
+            self.new.objects result }
+        ensures on_miss { IsComputedOnMiss self.new.core caller.old.ports.node caller.new.ports.node result }
+        ensures leads { ActLeads A.next.limits caller.old.ports self.old (asks.Done bytes.items) caller.new.ports self.new.core.taken
+            (step_error result) }
+        ensures keeps { KeepsTxn self.old self.new }
+        ensures meant { IsTxn A.next self.new }
+        ensures caller { KeepsCaller caller.old caller.new }
+        ensures grown { HasGrownDatabase caller.old.ports.database caller.new.ports.database }
     {
-        self.act(alloc, Act::Finish(Bytes::new(bytes)))
+        self.act(alloc, caller, Ask::Done(Bytes::new(bytes)))
     }
 
-    /// Gives the open call up, if one is, and returns whether one was. The transaction stays open, and its answers
-    /// are as before.
+    /// Gives the whole open call up, if one is, and returns whether one was. The transaction stays open, and its answers
+    /// are as before. It asks no port, so it is lent no caller.
     pub fn give_up(&mut self) -> bool
-        ensures answer { IsTrue result ↔ IsSome self.old.doing }
-        ensures none { self.new.doing ≡ None }
-        ensures recorded { self.new.txn.core.recorded ≡ self.old.txn.core.recorded }
-        ensures unpinned { IsLetGo (left_pin self.old.txn.core.pinning) self.old.ports.database self.new.ports.database }
-        ensures ports { self.new.ports ≡ record self.old.ports { database = self.new.ports.database } }
-        ensures keeps { KeepsReading self.old self.new }
-        ensures meant { IsTxn A.next self.new.txn }
+        ensures answer { IsTrue result ↔ IsSome (top_call self.old.core.call) }
+        ensures idle { IsIdle self.new.core }
+        ensures same { self.new.core ≡ record self.old.core { call = self.new.core.call } }
+        ensures objects { AllIdle self.new.objects }
+        ensures keeps { KeepsTxn self.old self.new }
+        ensures meant { IsTxn A.next self.new }
     {
-        let was_open = self.doing.is_some();
-        drop(self.doing.take());
-        end_call(&mut self.ports, &mut self.txn);
-        self.txn.is_kept();
+        let was_open = self.is_computing();
+        self.txn.give_up();
+        self.txn.is_lent();
         was_open
     }
 
-    /// Whether a function is computed, so that a call is open.
+    /// Returns whether a function is computed, so that a call is open.
     pub fn is_computing(&self) -> bool
-        ensures { IsTrue result ↔ IsSome self.now.doing }
+        ensures { IsTrue result ↔ IsSome (top_call self.now.core.call) }
     {
-        self.doing.is_some()
+        self.txn.core().machine().need().is_some()
     }
 
-    /// What the function that is computed was answered last; none where it has asked nothing yet, or none is
-    /// computed.
+    /// Returns the call whose function is computed; none if no call is open.
+    pub fn computed(&self) -> Option<&Key>
+        ensures { MatchOption result (computed_calls self.now.core.call ≡ [])
+            (λ key. (around : List Call) × (computed_calls self.now.core.call ≡ key.now ∷ around)) }
+    {
+        self.txn.core().machine().computing()
+    }
+
+    /// Returns the answer with which the function that is computed continues; none if it is to begin, or if no call is open.
     pub fn answer(&self) -> Option<&Answer>
-        ensures { MatchOption result
-            (MatchOption self.now.doing (self.now.doing ≡ None) (λ o. o.given ≡ None))
-            (λ answer. MatchOption self.now.doing (self.now.doing ≢ None) (λ o. o.given ≡ Some answer.now)) }
+        ensures { MatchOption result (told_answer self.now.core.call ≡ None)
+            (λ answer. told_answer self.now.core.call ≡ Some answer.now) }
     {
-        match &self.doing {
-            Some(call) => call.given.as_ref(),
-            None => None,
-        }
+        self.txn.core().held_answer()
     }
 
-    /// The pins where it may still be serialised, the newest first.
+    /// Returns the pins at whose stamps every answer is right, the newest first.
     pub fn members(&self) -> &[Pin]
-        ensures { result.now ≡ self.now.txn.core.pins.members }
+        ensures { result.now ≡ self.now.core.pins.members }
     {
         self.txn.core().members()
     }
 
-    /// The calls that were answered, with their values, in order.
+    /// Returns whether the present may still be pinned for it.
+    pub fn has_present(&self) -> bool
+        ensures { result ≡ self.now.core.pins.has_present }
+    {
+        self.txn.core().has_present()
+    }
+
+    /// Returns the stamp of the state that its next query reads; none if that query pins the present first.
+    pub fn read_stamp(&self) -> Option<Stamp>
+        ensures { result ≡ read_stamp self.now.core }
+    {
+        match self.txn.core().choice() {
+            Choice::At(stamp) => Some(stamp),
+            Choice::Present => None,
+        }
+    }
+
+    /// Returns the calls that were answered, with their values, in order.
     pub fn answers(&self) -> &[Recorded]
-        ensures { result.now ≡ self.now.txn.core.recorded }
+        ensures { result.now ≡ self.now.core.recorded }
     {
         self.txn.core().answers()
     }
 
-    /// Ends the transaction, and returns what explains its answers, and the caller. Its pin, where it has one, is
-    /// not below the stamp that the bounds name. In the middle of a call it is refused, and handed back as it was.
-    pub fn commit(self) -> Result<(Receipt, Caller<A, C>), CallerTxn<A, C>>
-        ensures answers { IfOk result (λ it. it.0.answers.items ≡ self.txn.core.recorded) }
-        ensures pin { IfOk result (λ it. it.0.pin
-            ≡ receipt_pin self.txn.core.recorded self.txn.core.pins.members) }
-        ensures explained { IfOk result (λ it. Explains A.next it.0.seen.history self.txn.core.bounds it.0.pin
-            it.0.answers.items) }
-        ensures not_before { IfOk result (λ it. IsAtLeast self.txn.core.bounds.at_least it.0.pin) }
-        ensures seen { IfOk result (λ it. it.0.seen ≡ self.txn.core.seen) }
-        ensures row { IfOk result (λ it. it.0.seen.events ≡ it.1.ports.database.events) }
-        ensures caller { IfOk result (λ it. it.1
-            ≡ record (caller_of self) { ports = record self.ports { cushion = it.1.ports.cushion } }) }
-        ensures given_back { IfOk result (λ it.
-            AreGivenBack self.txn.core.taken self.ports.cushion it.1.ports.cushion) }
-        ensures only_if { IsOk result → self.doing ≡ None }
-        ensures handed_back { IfErr result (λ it. (it ≡ self) × IsSome self.doing) }
+    /// Ends the transaction, and returns what explains its answers. Its pin, if it has one, is not below the stamp that the bounds
+    /// name. In the middle of a call it is refused, and returned as it was. It does not allocate.
+    pub fn commit(self, caller: &mut Caller<A>) -> Result<Receipt, CallerTxn<A>>
+        requires row { IsOf caller.old self }
+        ensures answers { IfOk result (λ it. it.answers.items ≡ self.core.recorded) }
+        ensures pin { IfOk result (λ it. it.pin ≡ receipt_pin self.core.recorded self.core.pins.members) }
+        ensures explained { IfOk result (λ it. Explains A.next it.seen.history self.core.bounds it.pin
+            it.answers.items) }
+        ensures not_before { IfOk result (λ it. IsAtLeast self.core.bounds.at_least it.pin) }
+        ensures seen { IfOk result (λ it. it.seen ≡ self.core.seen) }
+        ensures row { IfOk result (λ it. it.seen.events ≡ caller.new.ports.database.events) }
+        ensures ended { OnOk result (HasEndedReading self caller.old caller.new) }
+        ensures only_if { IsOk result → top_call self.core.call ≡ None }
+        ensures handed_back { IfErr result (λ it. (it ≡ self) × IsSome (top_call self.core.call)) }
+        ensures unchanged { OnErr result (caller.new ≡ caller.old) }
+        ensures caller { KeepsCaller caller.old caller.new }
+        ensures grown { HasGrownDatabase caller.old.ports.database caller.new.ports.database }
     {
-        if self.doing.is_some() {
+        if self.is_computing() {
             return Err(self);
         }
-        let CallerTxn {
-            mut ports,
-            renew_after,
-            txn,
-            doing,
-        } = self;
-        drop(doing);
-        let (receipt, pins, registry) = txn.finish();
-        ports.give_back(&pins);
-        let caller = Caller {
-            ports,
-            renew_after,
-            registry,
-        };
-        Ok((receipt, caller))
+        let CallerTxn { txn } = self;
+        let (receipt, pins) = txn.finish();
+        caller.ports.give_back(&pins);
+        Ok(receipt)
     }
 
-    /// Gives the transaction up, in the middle of a call too, and returns the caller. It takes no memory.
-    pub fn abort(self) -> Caller<A, C>
-        ensures { HasAborted self result }
+    /// Gives the transaction up, in the middle of a call too. It does not allocate.
+    pub fn abort(self, caller: &mut Caller<A>)
+        requires row { IsOf caller.old self }
+        ensures ended { HasEndedReading self caller.old caller.new }
+        ensures caller { KeepsCaller caller.old caller.new }
+        ensures grown { HasGrownDatabase caller.old.ports.database caller.new.ports.database }
     {
-        let CallerTxn {
-            mut ports,
-            renew_after,
-            txn,
-            doing,
-        } = self;
-        drop(doing);
-        let (left, registry) = txn.cancel();
-        ports.give_back(&left.give_back);
-        ports.let_go(left.unpin);
-        Caller {
-            ports,
-            renew_after,
-            registry,
-        }
+        let CallerTxn { txn } = self;
+        let left = txn.cancel();
+        caller.ports.give_back(&left.give_back);
     }
 }

@@ -1,266 +1,419 @@
 //! A caller's transaction that writes.
-ghost use Rattle.std.specs.Prelude.{◌≡◌, ◌≢◌, ◌<◌, ◌≤◌, ◌++◌, ◌∷◌, ◌↔◌, [], IfErr, IfOk, IsOk, IsSome, IsTrue, MatchOption, None, OnErr, OnOk, Some, length, vec_len};
-ghost use Rattle.txc_db.specs.Calls.{IsBase, IsQueryRefused};
-ghost use Rattle.txc_db.specs.DatabaseValue.{newest};
+ghost use Rattle.std.specs.Prelude.{◌≡◌, ◌⊎◌, ◌≤◌, ◌++◌, ◌∷◌, ◌↔◌, [], true, false, List, Err, IfErr, IfOk, IsOk, IsSome, IsTrue, MatchOption, None, Ok, OnErr, OnOk, Some};
+ghost use Rattle.txc_tags.specs.Keys.{Call};
+ghost use Rattle.txc_tags.specs.declared.key.TheConstants.{LAST_FUNCTION};
+ghost use Rattle.txc_rows.specs.States.{answer};
+ghost use Rattle.txc_db.specs.Calls.{IsBase, IsHoldable, IsHoldRefused};
+ghost use Rattle.txc_db.specs.DatabaseValue.{after_hold, newest};
+ghost use Rattle.txc_db.specs.History.{state_at};
+ghost use Rattle.txc_db.specs.Shared.{IsEventIn, IsQuietIn};
 ghost use Rattle.txc_db.specs.Steps.{IsBaseRefused};
-ghost use Rattle.txc_caller.specs.Writing.{IsChangeRefused};
-ghost use Rattle.txc_caller.specs.declared.step.WriteError.TheVariants.{Database};
+ghost use Rattle.txc_registry.specs.Objects.{numbers_of, AllIdle};
+ghost use Rattle.txc_rw.specs.Answers.{AreRightIn};
+ghost use Rattle.txc_rw.specs.Core.{tags_read, IsRwIdle};
+ghost use Rattle.txc_rw.specs.Outcomes.{IsCommitted};
+ghost use Rattle.txc_rw.specs.Transitions.{IsQueryLeft};
+ghost use Rattle.txc_caller.specs.Ports.{HasGrownDatabase};
+ghost use Rattle.txc_caller.specs.Reading.{CallerValue, KeepsCaller};
+ghost use Rattle.txc_caller.specs.Telling.{computed_calls, told_answer, top_call, top_or, AsksNext, IsToldAfterAsk, ObjectsFollow};
+ghost use Rattle.txc_caller.specs.Writing.{base_states, held_base, queried_for, HasAbortedWrite, HasCommittedWrite, IsActRefused, IsOwnReadRefused, IsWriteCommitRefused, IsWriteLeft, IsWriteOf, IsWritingStep};
+ghost use Rattle.txc_caller.specs.declared.step.CallerError.TheVariants.{NoFunction};
+ghost use Rattle.txc_caller.specs.declared.step.Step.TheVariants as steps;
 
+use crate::call_ports::CallPorts;
 use crate::caller::Caller;
-use crate::step::{CallerError, WriteError};
+use crate::step::{CallerError, Step, WriteError, Written};
+use crate::writing::{act, read};
 use std::alloc::Global;
-use std::marker::Model;
-use txc_app::{Answer, App, Rows};
-use txc_call::CallError;
+use std::marker::{Model, PhantomData};
+use txc_app::{Answer, App, Ask, Bytes};
 use txc_db::DbError;
-use txc_node::Value;
 use txc_ports::TxnError;
-use txc_registry::Suppliable;
 use txc_rows::{Change, Query, Row};
+use txc_rw::{Given, RwCore};
 use txc_stamp::Stamp;
-use txc_tags::{Table, TagSet};
+use txc_tags::{Key, Table};
+use txc_told::Told;
 
-/// The most changes of a transaction.
-pub const MAX_CHANGES: usize = 256;
-
-/// A transaction that writes. It reads the state of one stamp, uses no node, and keeps its changes until it commits, which it
-/// does where nothing that it has read has changed since that stamp.
-pub struct CallerWrite<A: App, C: Suppliable> {
-    pub(crate) caller: Caller<A, C>,
-    pub(crate) base: Stamp,
-    pub(crate) read: TagSet,
-    pub(crate) changes: Vec<Change>,
-    // The number of the function that the caller computes, and those of the functions that wait for its value, the
-    // outermost first.
-    pub(crate) inner: Option<u8>,
-    pub(crate) outer: Vec<u8>,
-    pub(crate) given: Option<Answer>,
+/// A transaction that writes, whose functions its caller computes. It reads the state of one stamp, uses no node, and keeps its
+/// changes until it commits, which it does if nothing that it has read has changed since that stamp.
+///
+/// It is a value of its own: each act is lent the caller, the same one that it began with. It ends by [`CallerWrite::commit`] or
+/// [`CallerWrite::abort`], which take the hold of its base away, if it has one; if it is dropped that stays.
+pub struct CallerWrite<A: App> {
+    core: RwCore,
+    told: Told,
+    is_held: bool,
+    of: PhantomData<A>,
 }
 
 // Not derived: a derived one is proved again in each crate above.
-impl<A: App, C: Suppliable> Drop for CallerWrite<A, C> {
+impl<A: App> Drop for CallerWrite<A> {
     fn drop(self) {
         let CallerWrite {
-            caller: _,
-            base: _,
-            read: _,
-            changes: _,
-            inner: _,
-            outer: _,
-            given: _,
+            core: _,
+            told: _,
+            is_held: _,
+            of: _,
         } = self;
     }
 }
 
-impl<A: App, C: Suppliable> Model for CallerWrite<A, C> {
-    ghost use Rattle.txc_caller.specs.Writing.{CallerWriting};
+impl<A: App> Model for CallerWrite<A> {
+    ghost use Rattle.txc_caller.specs.Writing.{CallerWriting, IsCallerWrite};
 
     ghost Value = { CallerWriting };
 
-    ghost view = { λ w. record {
-      caller = w.caller;
-      base = w.base;
-      read = w.read;
-      changes = w.changes.items;
-      inner = w.inner;
-      outer = w.outer.items;
-      given = w.given;
-    } };
+    ghost view = { λ w. record { core = w.core; objects = w.told.objects; is_held = w.is_held } };
+
+    ghost invariant = { λ w. IsCallerWrite A.next
+        (record { core = w.core; objects = w.told.objects; is_held = w.is_held }) };
 }
 
-// One change more.
-fn keep(changes: &mut Vec<Change>, change: Change) -> Result<(), TxnError>
-    ensures kept { OnOk result (changes.new.items ≡ changes.old.items ++ change ∷ []) }
-    ensures only_if { IsOk result → length changes.old.items < MAX_CHANGES }
-    ensures refused { IfErr result (IsChangeRefused (length changes.old.items)) }
-    ensures unchanged { OnErr result (changes.new.items ≡ changes.old.items) }
-{
-    if changes.len() >= MAX_CHANGES {
-        return Err(TxnError::BufferFull);
-    }
-    let Ok(()) = changes.push(change) else {
-        return Err(TxnError::Memory);
-    };
-    Ok(())
-}
-
-impl<A: App, C: Suppliable> Caller<A, C> {
+impl<A: App> Caller<A> {
     ghost use Rattle.txc_caller.specs.Writing.{IsBegunWrite};
 
-    // Begins a transaction that writes over the state of that stamp.
-    fn begin_over(self, alloc: Global, base: Stamp) -> CallerWrite<A, C>
-        ensures { IsBegunWrite self base result }
+    /// Begins a transaction that writes, and reads the newest state. The database holds that stamp until the transaction ends, so
+    /// that no vacuum between two of its acts has it refused.
+    pub fn begin_write(&mut self, alloc: Global) -> Result<CallerWrite<A>, DbError>
+        ensures begun { IfOk result (IsBegunWrite (newest self.old.ports.database) true) }
+        ensures of_caller { IfOk result (IsWriteOf A.next self.new) }
+        ensures held { OnOk result (self.new ≡ record self.old {
+          ports = record self.old.ports { database = after_hold self.old.ports.database };
+        }) }
+        ensures only_if { IsOk result → IsHoldable self.old.ports.database }
+        ensures refused { IfErr result (IsHoldRefused self.old.ports.database) }
+        ensures unchanged { OnErr result (self.new ≡ self.old) }
+        ensures caller { KeepsCaller self.old self.new }
+        ensures grown { HasGrownDatabase self.old.ports.database self.new.ports.database }
     {
-        CallerWrite {
-            caller: self,
-            base,
-            read: TagSet::new(alloc),
-            changes: Vec::new(alloc),
-            inner: None,
-            outer: Vec::new(alloc),
-            given: None,
-        }
+        let base = self.ports.hold(alloc)?;
+        Ok(CallerWrite::over(alloc, base, true))
     }
 
-    /// Begins a transaction that writes, and reads the newest state. It takes no memory.
-    pub fn begin_write(self, alloc: Global) -> CallerWrite<A, C>
-        ensures { IsBegunWrite self (newest self.ports.database) result }
+    /// Begins a transaction that writes, and reads the state of that stamp, which a receipt named. The database does not hold it:
+    /// a commit is refused once a vacuum has passed it.
+    pub fn begin_write_at(&mut self, alloc: Global, base: Stamp) -> Result<CallerWrite<A>, DbError>
+        ensures begun { IfOk result (IsBegunWrite base false) }
+        ensures of_caller { IfOk result (IsWriteOf A.next self.new) }
+        ensures only_if { IsOk result ↔ IsBase self.old.ports.database base }
+        ensures refused { IfErr result (IsBaseRefused self.old.ports.database base) }
+        ensures same { self.new ≡ self.old }
     {
-        let mut caller = self;
-        let base = caller.ports.newest();
-        caller.begin_over(alloc, base)
-    }
-
-    /// Begins a transaction that writes, and reads the state of that stamp, which a transaction that only reads told by its
-    /// receipt. Where that can be no base of a commit, the caller is handed back.
-    pub fn begin_write_at(
-        self,
-        alloc: Global,
-        base: Stamp,
-    ) -> Result<CallerWrite<A, C>, (DbError, Caller<A, C>)>
-        ensures begun { IfOk result (IsBegunWrite self base) }
-        ensures only_if { IsOk result ↔ IsBase self.ports.database base }
-        ensures refused { IfErr result (λ back. IsBaseRefused self.ports.database base back.0) }
-        ensures handed_back { IfErr result (λ back. back.1 ≡ self) }
-    {
-        let mut caller = self;
-        match caller.ports.check_base(base) {
-            Ok(_) => Ok(caller.begin_over(alloc, base)),
-            Err(error) => Err((error, caller)),
-        }
+        self.ports.check_base(base)?;
+        Ok(CallerWrite::over(alloc, base, false))
     }
 }
 
-impl<A: App, C: Suppliable> CallerWrite<A, C> {
-    ghost use Rattle.txc_caller.specs.Writing.{after_call_of, after_query, without_calls, HasGivenValue, IsWriteCallRefused, ChangeLeaves, MayCall, IsWriteFinishRefused, HasCommittedWrite, IsWriteLeft, IsWriteCommitRefused};
+impl<A: App> CallerWrite<A> {
+    ghost use Rattle.txc_app.specs.declared.ask.Ask.TheVariants as asks;
+    ghost use Rattle.txc_call.specs.Running.{is_done};
+    ghost use Rattle.txc_caller.specs.Writing.{ChangeLeaves, IsBegunWrite};
 
-    /// Asks for the rows of the query, which are its [`CallerWrite::answer`] and count as read. It does not see the changes of
-    /// its own.
-    pub fn query(&mut self, alloc: Global, query: &Query) -> Result<(), DbError>
-        ensures after { OnOk result (self.new ≡ after_query query.now self.old) }
-        ensures refused { IfErr result (IsQueryRefused self.old.caller.ports.database query.now self.old.base) }
-        ensures unchanged { OnErr result (self.new ≡ self.old) }
+    // Returns a transaction over the state of that stamp.
+    fn over(alloc: Global, base: Stamp, is_held: bool) -> CallerWrite<A>
+        ensures { IsBegunWrite base is_held result }
     {
-        let found = self.caller.ports.query(alloc, query, self.base)?;
-        self.read.join(&found.tags)?;
-        self.given = Some(Answer::Rows(Rows::new(found.rows)));
-        Ok(())
-    }
-
-    /// Begins to compute a function, which the one asks for that is computed, if one is.
-    pub fn call(&mut self, function: u8) -> Result<(), CallerError>
-        ensures only_if { OnOk result (MayCall self.old.inner function) }
-        ensures after { OnOk result (self.new ≡ after_call_of function self.old) }
-        ensures refused { IfErr result (IsWriteCallRefused function self.old self.new) }
-    {
-        if let Some(inner) = self.inner {
-            if inner <= function {
-                let _given_up = self.give_up();
-                let refusal = TxnError::Call(CallError::CallOrder(inner, function));
-                return Err(CallerError::Txn(refusal));
-            }
-            let Ok(()) = self.outer.push(inner) else {
-                return Err(CallerError::Memory);
-            };
+        CallerWrite {
+            core: RwCore::begin(alloc, base),
+            told: Told::new(),
+            is_held,
+            of: PhantomData,
         }
-        self.inner = Some(function);
-        self.given = None;
-        Ok(())
     }
 
-    /// Says that the function that is computed gives these bytes, which are the [`CallerWrite::answer`] to the one that waits,
-    /// if one does.
-    pub fn finish(&mut self, bytes: Vec<u8>) -> Result<(), CallerError>
-        ensures after { OnOk result (HasGivenValue bytes.items self.old self.new) }
-        ensures refused { IfErr result (IsWriteFinishRefused A.next.limits.value bytes.items self.old self.new) }
+    // Makes an act of the function that is computed.
+    fn act(&mut self, alloc: Global, caller: &mut Caller<A>, ask: Ask) -> Result<Step, CallerError>
+        requires of_caller { IsWriteOf A.next caller.old self.old }
+        requires asks { AsksNext A.next self.old.objects self.old.core.call ask }
+        requires there { (k : Call) → ask ≡ asks.Call k → k.function ≤ LAST_FUNCTION }
+        ensures none { top_call self.old.core.call ≡ None → (result ≡ Err NoFunction) × (self.new ≡ self.old) }
+        ensures step { (k : Call) → top_call self.old.core.call ≡ Some k
+            → IsWritingStep self.old.core self.new.core k result }
+        ensures told { IsToldAfterAsk A.next (base_states caller.old self.old.core) self.old.core.call ask
+            self.new.core.call result }
+        ensures objects { ObjectsFollow self.old.objects self.old.core.call ask self.new.objects result }
+        ensures functions { numbers_of self.new.objects ≡ numbers_of self.old.objects }
+        ensures queried { OnOk result (self.new.core.queried ≡ self.old.core.queried ++ queried_for ask) }
+        ensures unqueried { OnErr result (self.new.core.queried ≡ self.old.core.queried) }
+        ensures undone { is_done ask ≡ false → self.new.core.answers ≡ self.old.core.answers }
+        ensures refused { IfErr result (IsActRefused A.next.limits caller.old.ports.database self.old.core
+            self.old.objects ask) }
+        ensures same { self.new ≡ record self.old {
+          core = record self.old.core {
+            queried = self.new.core.queried;
+            answers = self.new.core.answers;
+            call = self.new.core.call;
+          };
+          objects = self.new.objects;
+        } }
+        ensures of_caller { IsWriteOf A.next caller.new self.new }
+        ensures caller { caller.new ≡ caller.old }
     {
-        if self.inner.is_none() {
+        if !self.is_computing() {
             return Err(CallerError::NoFunction);
         }
-        let Some(value) = Value::up_to(A::limits().value, bytes) else {
-            let _given_up = self.give_up();
-            let refusal = TxnError::Call(CallError::ValueTooLong);
-            return Err(CallerError::Txn(refusal));
-        };
-        self.inner = self.outer.pop();
-        self.given = Some(Answer::Value(value));
-        Ok(())
+        act(
+            alloc,
+            &mut caller.ports,
+            &mut self.core,
+            &mut self.told,
+            ask,
+        )
     }
 
-    /// Gives the open call up, if one is, and returns whether one was.
-    pub fn give_up(&mut self) -> bool
-        ensures answer { IsTrue result ↔ IsSome self.old.inner }
-        ensures after { self.new ≡ without_calls self.old }
+    /// Asks for the value of a call: by no function the outermost one, else by the function that is computed. No node is asked, so
+    /// the caller is to compute the function of this call next, under this key. An outermost call takes no memory.
+    pub fn call(
+        &mut self,
+        alloc: Global,
+        caller: &mut Caller<A>,
+        key: Key,
+    ) -> Result<Step, CallerError>
+        requires of_caller { IsWriteOf A.next caller.old self.old }
+        requires asks { AsksNext A.next self.old.objects self.old.core.call (asks.Call key) }
+        ensures begins { top_call self.old.core.call ≡ None → result ≡ Ok steps.Compute }
+        ensures step { IsWritingStep self.old.core self.new.core (top_or self.old.core.call key) result }
+        ensures told { IsToldAfterAsk A.next (base_states caller.old self.old.core) self.old.core.call (asks.Call key)
+            self.new.core.call result }
+        ensures objects { ObjectsFollow self.old.objects self.old.core.call (asks.Call key) self.new.objects result }
+        ensures functions { numbers_of self.new.objects ≡ numbers_of self.old.objects }
+        ensures refused { IfErr result (IsActRefused A.next.limits caller.old.ports.database self.old.core
+            self.old.objects (asks.Call key)) }
+        ensures same { self.new ≡ record self.old {
+          core = record self.old.core { call = self.new.core.call };
+          objects = self.new.objects;
+        } }
+        ensures of_caller { IsWriteOf A.next caller.new self.new }
+        ensures caller { caller.new ≡ caller.old }
     {
-        let was_open = self.inner.is_some();
-        self.inner = None;
-        self.outer.clear();
-        self.given = None;
+        let _function = key.function();
+        if self.is_computing() {
+            return self.act(alloc, caller, Ask::Call(key));
+        }
+        self.core.start_by_hand(key);
+        Ok(Step::Compute)
+    }
+
+    /// Asks for the rows of a query, by the function that is computed. They are those of its base, without changes of its own, and
+    /// the query counts as read.
+    pub fn query(
+        &mut self,
+        alloc: Global,
+        caller: &mut Caller<A>,
+        query: Query,
+    ) -> Result<Step, CallerError>
+        requires of_caller { IsWriteOf A.next caller.old self.old }
+        requires asks { AsksNext A.next self.old.objects self.old.core.call (asks.Query query) }
+        ensures none { top_call self.old.core.call ≡ None → (result ≡ Err NoFunction) × (self.new ≡ self.old) }
+        ensures step { (k : Call) → top_call self.old.core.call ≡ Some k
+            → IsWritingStep self.old.core self.new.core k result }
+        ensures told { IsToldAfterAsk A.next (base_states caller.old self.old.core) self.old.core.call (asks.Query query)
+            self.new.core.call result }
+        ensures objects { ObjectsFollow self.old.objects self.old.core.call (asks.Query query) self.new.objects result }
+        ensures functions { numbers_of self.new.objects ≡ numbers_of self.old.objects }
+        ensures refused { IfErr result (IsActRefused A.next.limits caller.old.ports.database self.old.core
+            self.old.objects (asks.Query query)) }
+        ensures queried { OnOk result (self.new.core.queried ≡ self.old.core.queried ++ query ∷ []) }
+        ensures unqueried { OnErr result (self.new.core.queried ≡ self.old.core.queried) }
+        ensures same { self.new ≡ record self.old {
+          core = record self.old.core { queried = self.new.core.queried; call = self.new.core.call };
+          objects = self.new.objects;
+        } }
+        ensures of_caller { IsWriteOf A.next caller.new self.new }
+        ensures caller { caller.new ≡ caller.old }
+    {
+        self.act(alloc, caller, Ask::Query(query))
+    }
+
+    /// Says that the function that is computed gives these bytes, which the function around it is told, if there is one.
+    pub fn finish(
+        &mut self,
+        alloc: Global,
+        caller: &mut Caller<A>,
+        bytes: Vec<u8>,
+    ) -> Result<Step, CallerError>
+        requires of_caller { IsWriteOf A.next caller.old self.old }
+        requires asks { AsksNext A.next self.old.objects self.old.core.call (asks.Done bytes.items) }
+        ensures none { top_call self.old.core.call ≡ None → (result ≡ Err NoFunction) × (self.new ≡ self.old) }
+        ensures step { (k : Call) → top_call self.old.core.call ≡ Some k
+            → IsWritingStep self.old.core self.new.core k result }
+        ensures told { IsToldAfterAsk A.next (base_states caller.old self.old.core) self.old.core.call
+            (asks.Done bytes.items) self.new.core.call result }
+        ensures objects { ObjectsFollow self.old.objects self.old.core.call (asks.Done bytes.items)
+            self.new.objects result }
+        ensures functions { numbers_of self.new.objects ≡ numbers_of self.old.objects }
+        ensures refused { IfErr result (IsActRefused A.next.limits caller.old.ports.database self.old.core
+            self.old.objects (asks.Done bytes.items)) }
+        ensures same { self.new ≡ record self.old {
+          core = record self.old.core { answers = self.new.core.answers; call = self.new.core.call };
+          objects = self.new.objects;
+        } }
+        ensures of_caller { IsWriteOf A.next caller.new self.new }
+        ensures caller { caller.new ≡ caller.old }
+    {
+        self.act(alloc, caller, Ask::Done(Bytes::new(bytes)))
+    }
+
+    /// Reads the rows of a query of its own, by no function, at its base. They do not show changes of its own, and the query counts
+    /// as read.
+    pub fn read(
+        &mut self,
+        alloc: Global,
+        caller: &mut Caller<A>,
+        query: Query,
+    ) -> Result<Vec<Row>, TxnError>
+        requires of_caller { IsWriteOf A.next caller.old self.old }
+        requires closed { top_call self.old.core.call ≡ None }
+        ensures answer { IfOk result (λ rows.
+            rows.items ≡ answer query (state_at caller.old.ports.database.history self.old.core.base)) }
+        ensures after { IfOk result (λ rows. self.new.core ≡ record self.old.core {
+          queried = self.old.core.queried ++ query ∷ [];
+          answers = self.old.core.answers ++ Given.Rows query rows.items ∷ [];
+        }) }
+        ensures refused { IfErr result (IsOwnReadRefused caller.old.ports.database self.old.core.base query) }
+        ensures left { IfErr result (IsQueryLeft self.old.core query self.new.core) }
+        ensures same { self.new ≡ record self.old { core = self.new.core } }
+        ensures of_caller { IsWriteOf A.next caller.new self.new }
+        ensures caller { caller.new ≡ caller.old }
+    {
+        read(alloc, &mut caller.ports, &mut self.core, query)
+    }
+
+    /// Gives the whole open call up, if one is, and returns whether one was. It asks no port, so it is lent no caller.
+    pub fn give_up(&mut self) -> bool
+        ensures answer { IsTrue result ↔ IsSome (top_call self.old.core.call) }
+        ensures idle { IsRwIdle self.new.core }
+        ensures same { self.new ≡ record self.old {
+          core = record self.old.core { call = self.new.core.call };
+          objects = self.new.objects;
+        } }
+        ensures objects { AllIdle self.new.objects }
+        ensures functions { numbers_of self.new.objects ≡ numbers_of self.old.objects }
+        ensures of_caller { (c : CallerValue) → IsWriteOf A.next c self.old → IsWriteOf A.next c self.new }
+    {
+        let was_open = self.is_computing();
+        self.core.give_up_by_hand();
+        self.told = self.told.idled();
         was_open
     }
 
-    /// Whether a function is computed, so that a call is open.
+    /// Returns whether a function is computed, so that a call is open.
     pub fn is_computing(&self) -> bool
-        ensures { IsTrue result ↔ IsSome self.now.inner }
+        ensures { IsTrue result ↔ IsSome (top_call self.now.core.call) }
     {
-        self.inner.is_some()
+        self.core.machine().need().is_some()
     }
 
-    /// What was answered last: rows, or the value of a call; none where nothing was, or a call has begun since.
+    /// Returns the call whose function is computed; none if no call is open.
+    pub fn computed(&self) -> Option<&Key>
+        ensures { MatchOption result (computed_calls self.now.core.call ≡ [])
+            (λ key. (around : List Call) × (computed_calls self.now.core.call ≡ key.now ∷ around)) }
+    {
+        self.core.machine().computing()
+    }
+
+    /// Returns the answer with which the function that is computed continues; none if it is to begin, or if no call is open.
     pub fn answer(&self) -> Option<&Answer>
-        ensures { MatchOption result (self.now.given ≡ None) (λ answer. self.now.given ≡ Some answer.now) }
+        ensures { MatchOption result (told_answer self.now.core.call ≡ None)
+            (λ answer. told_answer self.now.core.call ≡ Some answer.now) }
     {
-        self.given.as_ref()
+        self.core.held_answer()
     }
 
-    /// The row is to stand at its table and id once the transaction is committed.
+    /// Returns the stamp that it reads.
+    pub fn base(&self) -> Stamp
+        ensures { result ≡ self.now.core.base }
+    {
+        self.core.base()
+    }
+
+    /// Returns the values of its outermost calls and the rows that it read itself, in order.
+    pub fn answers(&self) -> &[Given]
+        ensures { result.now ≡ self.now.core.answers }
+    {
+        self.core.answers()
+    }
+
+    /// The row is to stand at its table and id once the transaction is committed. It does not see it itself.
     pub fn put(&mut self, row: Row) -> Result<(), TxnError>
         ensures { ChangeLeaves (Change.Put row) self.old self.new result }
     {
-        keep(&mut self.changes, Change::Put(row))
+        self.core.write(Change::Put(row))
     }
 
     /// No row is to stand at the table and id once the transaction is committed.
     pub fn remove(&mut self, table: Table, id: u32) -> Result<(), TxnError>
         ensures { ChangeLeaves (Change.Remove table id) self.old self.new result }
     {
-        keep(&mut self.changes, Change::Remove(table, id))
+        self.core.write(Change::Remove(table, id))
     }
 
-    /// Commits the changes, where no event after its stamp matches what it has read, and answers the newest stamp that they
-    /// leave. The node then takes the events. A refusal returns the transaction, open.
+    /// Commits the changes, if no event after its base matches what it has read, and takes the hold of its base away. The node then
+    /// takes the events. Each answer is right just before the commit's event, or, if it changes nothing, at the newest stamp. A
+    /// refusal returns the transaction, open, with its hold.
     pub fn commit(
         self,
         alloc: Global,
-    ) -> Result<(Stamp, Caller<A, C>), (WriteError, CallerWrite<A, C>)>
-        ensures committed { IfOk result (λ done. HasCommittedWrite self done.0 done.1) }
-        ensures refused { IfErr result (λ back. IsWriteCommitRefused self back.0) }
-        ensures left { IfErr result (λ back. IsWriteLeft self back.0 back.1) }
+        caller: &mut Caller<A>,
+    ) -> Result<Written, (WriteError, CallerWrite<A>)>
+        requires of_caller { IsWriteOf A.next caller.old self }
+        ensures answer { IfOk result (λ done.
+            IsCommitted A.next caller.new.ports.database.history self.core done.stamp) }
+        ensures at_base { IfOk result (λ done.
+            AreRightIn A.next (state_at caller.new.ports.database.history self.core.base) self.core.answers) }
+        ensures apart { IfOk result (λ done. let c = self.core in
+            let history = caller.new.ports.database.history in
+            IsQuietIn history c.base (tags_read c) c.changes done.stamp
+            ⊎ IsEventIn history c.base (tags_read c) c.changes done.stamp) }
+        ensures answers { IfOk result (λ done. done.answers.items ≡ self.core.answers) }
+        ensures committed { IfOk result (λ done. HasCommittedWrite caller.old self done.stamp caller.new) }
+        ensures refused { IfErr result (λ back. IsWriteCommitRefused caller.old self back.0) }
+        ensures handed_back { IfErr result (λ back. back.1 ≡ self) }
+        ensures left { IfErr result (λ back. IsWriteLeft caller.old back.0 caller.new) }
+        ensures caller { KeepsCaller caller.old caller.new }
+        ensures grown { HasGrownDatabase caller.old.ports.database caller.new.ports.database }
     {
-        if self.inner.is_some() {
+        if self.is_computing() {
             return Err((WriteError::MidCall, self));
         }
-        let mut write = self;
-        let ports = &mut write.caller.ports;
-        match ports.commit(alloc, write.base, &write.read, &write.changes) {
-            Ok(stamp) => Ok((stamp, write.abort())),
-            Err(error) => Err((WriteError::Database(error), write)),
-        }
+        let base = self.core.base();
+        let tags = self.core.tags();
+        let changes = self.core.changes();
+        let stamp = match caller.ports.commit(alloc, base, tags, changes) {
+            Ok(stamp) => stamp,
+            Err(error) => return Err((WriteError::Database(error), self)),
+        };
+        caller.ports.let_go(self.held_base());
+        let CallerWrite {
+            core,
+            told: _,
+            is_held: _,
+            of: _,
+        } = self;
+        Ok(Written {
+            stamp,
+            answers: core.finish(),
+        })
     }
 
-    /// Gives the transaction up, in the middle of a call too, and returns the caller.
-    pub fn abort(self) -> Caller<A, C>
-        ensures { result ≡ self.caller }
+    /// Gives the transaction up, in the middle of a call too, and takes the hold of its base away. It does not allocate.
+    pub fn abort(self, caller: &mut Caller<A>)
+        ensures ended { HasAbortedWrite self caller.old caller.new }
+        ensures caller { KeepsCaller caller.old caller.new }
+        ensures grown { HasGrownDatabase caller.old.ports.database caller.new.ports.database }
     {
-        let CallerWrite {
-            caller,
-            base: _,
-            read: _,
-            changes: _,
-            inner: _,
-            outer: _,
-            given: _,
-        } = self;
-        caller
+        caller.ports.let_go(self.held_base());
+    }
+
+    // Returns the hold that is to be taken away once it ends.
+    fn held_base(&self) -> Option<Stamp>
+        ensures { result ≡ held_base self.now }
+    {
+        if self.is_held {
+            Some(self.core.base())
+        } else {
+            None
+        }
     }
 }

@@ -1,18 +1,19 @@
-//! What keeps a caller small, with no transaction open.
+//! What keeps a caller small, whatever is open.
 ghost use Rattle.std.specs.Prelude.{◌≡◌, IfErr, IfOk, OnErr, OnOk, length};
 ghost use Rattle.txc_cushion.specs.Cushion.{retired};
 ghost use Rattle.txc_db.specs.DatabaseValue.{next_horizon};
-ghost use Rattle.txc_caller.specs.Ports.{CallerSweepTransition, GoesOnByEvents, HasRetired, HasVacuumedPorts, IsKeepRefused};
+ghost use Rattle.txc_caller.specs.Ports.{totals_of, CallerSweepTransition, CallerTrimTransition, GoesOnByEvents, HasGrownDatabase, HasRetired, HasVacuumedPorts, IsKeepRefused};
+ghost use Rattle.txc_caller.specs.Reading.{KeepsCaller};
 
 use crate::caller::Caller;
+use crate::nodes::NodeTotals;
 use std::alloc::{AllocError, Global};
 use txc_app::App;
 use txc_db::DbError;
-use txc_registry::Suppliable;
 use txc_shared::NodeError;
 use txc_stamp::Stamp;
 
-impl<A: App, C: Suppliable> Caller<A, C> {
+impl<A: App> Caller<A> {
     /// Retires the pins that no transaction uses and that are more than `age` before `now`, both in milliseconds: takes
     /// them out, and their holds away. It answers how many they were.
     pub fn retire(&mut self, alloc: Global, now: u64, age: u64) -> Result<usize, AllocError>
@@ -20,6 +21,8 @@ impl<A: App, C: Suppliable> Caller<A, C> {
         ensures answer { IfOk result (λ count. count ≡ length (retired self.old.ports.cushion now age)) }
         ensures same { self.new ≡ record self.old { ports = self.new.ports } }
         ensures unchanged { OnErr result (self.new ≡ self.old) }
+        ensures caller { KeepsCaller self.old self.new }
+        ensures grown { HasGrownDatabase self.old.ports.database self.new.ports.database }
     {
         self.ports.retire(alloc, now, age)
     }
@@ -30,9 +33,11 @@ impl<A: App, C: Suppliable> Caller<A, C> {
         ensures after { OnOk result (HasVacuumedPorts self.old.ports self.new.ports) }
         ensures node { GoesOnByEvents self.old.ports.node self.new.ports.node }
         ensures answer { IfOk result (λ horizon. horizon ≡ next_horizon self.old.ports.database) }
-        ensures refused { IfErr result (IsKeepRefused self.old.ports.database self.old.ports.node) }
+        ensures refused { IfErr result (IsKeepRefused self.old.ports.database self.old.ports.node self.new.ports.node) }
         ensures unchanged { OnErr result (self.new.ports ≡ record self.old.ports { node = self.new.ports.node }) }
         ensures same { self.new ≡ record self.old { ports = self.new.ports } }
+        ensures caller { KeepsCaller self.old self.new }
+        ensures grown { HasGrownDatabase self.old.ports.database self.new.ports.database }
     {
         self.ports.vacuum(alloc)
     }
@@ -41,7 +46,29 @@ impl<A: App, C: Suppliable> Caller<A, C> {
     pub fn sweep(&mut self, alloc: Global, horizon: Stamp) -> Result<usize, NodeError>
         ensures leads { CallerSweepTransition horizon self.old.ports.node self.new.ports.node result }
         ensures same { self.new ≡ record self.old { ports = record self.old.ports { node = self.new.ports.node } } }
+        ensures caller { KeepsCaller self.old self.new }
+        ensures grown { HasGrownDatabase self.old.ports.database self.new.ports.database }
     {
         self.ports.sweep(alloc, horizon)
+    }
+
+    /// Has the node keep the longest prefix of its entries, the most recently used first, whose values have at most `most`
+    /// bytes in all. Returns how many entries it dropped.
+    pub fn trim(&mut self, alloc: Global, most: usize) -> Result<usize, NodeError>
+        ensures leads { CallerTrimTransition most self.old.ports.node self.new.ports.node result }
+        ensures same { self.new ≡ record self.old { ports = record self.old.ports { node = self.new.ports.node } } }
+        ensures caller { KeepsCaller self.old self.new }
+        ensures grown { HasGrownDatabase self.old.ports.database self.new.ports.database }
+    {
+        self.ports.trim(alloc, most)
+    }
+
+    /// Returns how many entries the node holds, how many bytes their values have in all, and how many of its entries trims
+    /// have dropped. It changes nothing.
+    pub fn totals(&mut self) -> NodeTotals
+        ensures answer { result ≡ totals_of self.old.ports.node }
+        ensures same { self.new ≡ self.old }
+    {
+        self.ports.totals()
     }
 }

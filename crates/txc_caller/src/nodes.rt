@@ -1,8 +1,8 @@
 //! Steps at the node, for one thread.
-ghost use Rattle.std.specs.Prelude.{◌≡◌};
+ghost use Rattle.std.specs.Prelude.{◌≡◌, false};
 ghost use Rattle.txc_app.specs.Claims.{IsTrueIn};
 ghost use Rattle.txc_shared.specs.Nodes.{next_stamp, HasTags};
-ghost use Rattle.txc_caller.specs.Ports.{kept_as, CallerInsertTransition, GoesOnByEvents};
+ghost use Rattle.txc_caller.specs.Ports.{kept_as, totals_of, CallerInsertTransition, GoesOnByEvents};
 
 use std::alloc::Global;
 use txc_app::App;
@@ -11,6 +11,32 @@ use txc_node::Entry;
 use txc_ports::Kept;
 use txc_shared::{Advanced, Insertion, StoredNode};
 use txc_tags::TagSet;
+
+/// What a node holds in all, and how many of its entries trims have dropped.
+#[derive(Clone, Copy, Debug, PartialEq, Eq)]
+pub struct NodeTotals {
+    /// How many entries it holds.
+    pub entries: usize,
+    /// How many bytes their values have in all.
+    pub bytes: usize,
+    /// How many entries its trims have dropped.
+    pub trimmed: u128,
+}
+
+/// Returns the totals of a node that is whole.
+pub(crate) fn totals<A: App>(node: &StoredNode<A>) -> NodeTotals
+    requires { node.now.broken ≡ false }
+    ensures { result ≡ totals_of node.now }
+{
+    let Some(counts) = node.counts() else {
+        unreachable!();
+    };
+    NodeTotals {
+        entries: node.len(),
+        bytes: node.bytes(),
+        trimmed: counts.trimmed(),
+    }
+}
 
 // What a node keeps that made the insertion.
 fn kept_as(insertion: Insertion) -> Kept

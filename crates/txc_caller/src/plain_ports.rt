@@ -7,7 +7,7 @@ ghost use Rattle.txc_node.specs.declared.node.TheConstants.{MAX_CAPACITY, MAX_RE
 ghost use Rattle.txc_stream.specs.Names.{HasRow};
 ghost use Rattle.txc_stream.specs.declared.row.TheConstants.{MAX_CAPACITY as MAX_ROW};
 ghost use Rattle.txc_shared.specs.Nodes.{start_of};
-ghost use Rattle.txc_caller.specs.Ports.{CallerFindTransition, AreLetGo, AreGivenBack, HasEventRoom, HasNoEventFor, GoesOnByEvents, IsBehind, IsLetGo, IsNewDatabase};
+ghost use Rattle.txc_caller.specs.Ports.{CallerFindTransition, AreLetGo, AreGivenBack, HasGrownDatabase, HasEventRoom, HasNoEventFor, GoesOnByEvents, IsLetGo, IsNewDatabase, StaysBehind};
 
 use crate::call_ports::CallPorts;
 use crate::nodes;
@@ -74,6 +74,7 @@ pub(crate) fn let_go(database: &mut DbCore, unpin: Option<Stamp>)
     ensures unpinned { IsLetGo unpin database.old database.new }
     ensures history { database.new.history ≡ database.old.history }
     ensures events { database.new.events ≡ database.old.events }
+    ensures grown { HasGrownDatabase database.old database.new }
 {
     match unpin {
         Some(stamp) => {
@@ -148,7 +149,7 @@ impl<A: App> PlainPorts<A> {
     pub(crate) fn take_events(&mut self, alloc: Global) -> bool
         ensures node { GoesOnByEvents self.old.node self.new.node }
         ensures all { result ≡ true → HasNoEventFor self.new.database self.new.node }
-        ensures left { result ≡ false → IsBehind self.old.database self.old.node }
+        ensures left { result ≡ false → StaysBehind self.old.database self.old.node self.new.node }
         ensures same { self.new ≡ record self.old { node = self.new.node } }
     {
         if self.database.tags_after(self.node.processed()).is_none() {

@@ -1,33 +1,39 @@
 //! The ports of a caller, whose types nothing above sees.
 ghost use Rattle.std.specs.Prelude.{◌≡◌, ◌≤◌, ◌∷◌, ◌↔◌, [], IfErr, IfOk, IsOk, OnErr, OnOk, length, true, false};
 ghost use Rattle.txc_cushion.specs.Cushion.{retired};
-ghost use Rattle.txc_db.specs.Calls.{matching_of, IsAnswerable, IsBase, IsCommitRefused, IsCommittable, IsLeft, IsQueryRefused};
-ghost use Rattle.txc_db.specs.DatabaseValue.{after_commit, newest, next_horizon};
+ghost use Rattle.txc_db.specs.Calls.{matching_of, IsAnswerable, IsBase, IsCommitRefused, IsCommittable, IsHoldable, IsHoldRefused, IsLeft, IsQueryRefused};
+ghost use Rattle.txc_db.specs.DatabaseValue.{after_commit, after_hold, newest, next_horizon};
 ghost use Rattle.txc_db.specs.History.{state_at};
 ghost use Rattle.txc_db.specs.Steps.{IsBaseRefused};
 ghost use Rattle.txc_rows.specs.RowTags.{query_tag};
 ghost use Rattle.txc_validity.specs.Answers.{IsAnswer};
-ghost use Rattle.txc_caller.specs.Ports.{AreGivenBack, CallerSweepTransition, GoesOnByEvents, HasNoEventFor, HasRetired, HasVacuumedPorts, IsBehind, IsKeepRefused, IsLetGo, MayHaveTaken};
+ghost use Rattle.txc_cushion.specs.Cushion.{after_fresh};
+ghost use Rattle.txc_txn.specs.Core.{value_of};
+ghost use Rattle.txc_caller.specs.Reading.{IsBegunCore};
+ghost use Rattle.txc_caller.specs.Ports.{AreGivenBack, totals_of, CallerSweepTransition, CallerTrimTransition, GoesOnByEvents, HasGrownDatabase, HasNoEventFor, HasRetired, HasVacuumedPorts, IsKeepRefused, IsLetGo, MayHaveTaken, StaysBehind};
 
 use crate::call_ports::CallPorts;
+use crate::caller::begun;
+use crate::nodes::{self, NodeTotals};
 use crate::plain_ports::{PlainPorts, give_back, let_each_go};
 use crate::ports_slot::PortsSlot;
 use std::alloc::{AllocError, Global};
 use std::marker::Model;
 use txc_app::App;
 use txc_db::{DbError, HistoryFront};
-use txc_ports::{PortReply, PortRequest};
+use txc_ports::{Bounds, PortReply, PortRequest};
 use txc_rows::{Change, Query};
 use txc_shared::NodeError;
 use txc_stamp::Stamp;
 use txc_tags::TagSet;
+use txc_txn::TxnCore;
 use txc_validity::Found;
 
 /// A database, its pincushion, and one node that takes its events, behind a pointer. A method takes them out, calls one of
 /// theirs, and puts them back.
 pub(crate) struct Ports<A: App> {
-    slot: PortsSlot<A>,
-    alloc: Global,
+    pub(crate) slot: PortsSlot<A>,
+    pub(crate) alloc: Global,
 }
 
 impl<A: App> Drop for Ports<A> {
@@ -70,7 +76,7 @@ impl<A: App> Ports<A> {
     pub(crate) fn take_events(&mut self, alloc: Global) -> bool
         ensures node { GoesOnByEvents self.old.node self.new.node }
         ensures all { result ≡ true → HasNoEventFor self.new.database self.new.node }
-        ensures left { result ≡ false → IsBehind self.old.database self.old.node }
+        ensures left { result ≡ false → StaysBehind self.old.database self.old.node self.new.node }
         ensures same { self.new ≡ record self.old { node = self.new.node } }
     {
         let mut plain = self.slot.take(self.alloc);
@@ -79,15 +85,19 @@ impl<A: App> Ports<A> {
         has_all
     }
 
-    /// The newest stamp.
-    pub(crate) fn newest(&mut self) -> Stamp
-        ensures same { self.new ≡ self.old }
-        ensures answer { result ≡ newest self.old.database }
+    /// Takes a hold of the newest stamp, and returns it.
+    pub(crate) fn hold(&mut self, alloc: Global) -> Result<Stamp, DbError>
+        ensures after { OnOk result (self.new ≡ record self.old { database = after_hold self.old.database }) }
+        ensures answer { IfOk result (λ stamp. stamp ≡ newest self.old.database) }
+        ensures only_if { IsOk result → IsHoldable self.old.database }
+        ensures refused { IfErr result (IsHoldRefused self.old.database) }
+        ensures unchanged { OnErr result (self.new ≡ self.old) }
+        ensures grown { HasGrownDatabase self.old.database self.new.database }
     {
-        let plain = self.slot.take(self.alloc);
-        let newest = plain.database.newest();
+        let mut plain = self.slot.take(self.alloc);
+        let held = plain.database.hold(alloc);
         self.slot.put(plain);
-        newest
+        held
     }
 
     /// The newest stamp, where a commit may have that base.
@@ -141,6 +151,7 @@ impl<A: App> Ports<A> {
         ensures refused { IfErr result (IsCommitRefused self.old.database base read.now changes.now) }
         ensures left { IfErr result (IsLeft self.old.database self.new.database) }
         ensures unchanged { OnErr result (self.new ≡ record self.old { database = self.new.database }) }
+        ensures grown { HasGrownDatabase self.old.database self.new.database }
     {
         let mut plain = self.slot.take(self.alloc);
         let committed = plain.database.commit(alloc, base, read, changes);
@@ -148,6 +159,26 @@ impl<A: App> Ports<A> {
         let stamp = committed?;
         let _has_all = self.take_events(alloc);
         Ok(stamp)
+    }
+
+    /// A core with the pins that the pincushion hands out for its bounds. Out of memory, they are given back.
+    pub(crate) fn begin(
+        &mut self,
+        alloc: Global,
+        renew_after: u64,
+        bounds: Bounds,
+    ) -> Result<TxnCore, AllocError>
+        ensures begun { IfOk result (λ core. IsBegunCore renew_after bounds self.new.database.events self.old.cushion
+            (value_of core)) }
+        ensures users { OnOk result (self.new.cushion
+            ≡ after_fresh self.old.cushion bounds.now bounds.staleness bounds.at_least) }
+        ensures unchanged { OnErr result (self.new ≡ self.old) }
+        ensures same { self.new ≡ record self.old { cushion = self.new.cushion } }
+    {
+        let mut plain = self.slot.take(self.alloc);
+        let core = begun(alloc, &mut plain.cushion, renew_after, bounds);
+        self.slot.put(plain);
+        core
     }
 
     /// Gives the pins back, one user of each. It takes no memory.
@@ -166,6 +197,7 @@ impl<A: App> Ports<A> {
         ensures retired { OnOk result (HasRetired now age self.old self.new) }
         ensures answer { IfOk result (λ count. count ≡ length (retired self.old.cushion now age)) }
         ensures unchanged { OnErr result (self.new ≡ self.old) }
+        ensures grown { HasGrownDatabase self.old.database self.new.database }
     {
         let mut plain = self.slot.take(self.alloc);
         match plain.cushion.retire(alloc, now, age) {
@@ -187,8 +219,9 @@ impl<A: App> Ports<A> {
         ensures after { OnOk result (HasVacuumedPorts self.old self.new) }
         ensures node { GoesOnByEvents self.old.node self.new.node }
         ensures answer { IfOk result (λ horizon. horizon ≡ next_horizon self.old.database) }
-        ensures refused { IfErr result (IsKeepRefused self.old.database self.old.node) }
+        ensures refused { IfErr result (IsKeepRefused self.old.database self.old.node self.new.node) }
         ensures unchanged { OnErr result (self.new ≡ record self.old { node = self.new.node }) }
+        ensures grown { HasGrownDatabase self.old.database self.new.database }
     {
         if !self.take_events(alloc) {
             return Err(DbError::Memory);
@@ -208,6 +241,29 @@ impl<A: App> Ports<A> {
         let swept = plain.node.sweep(alloc, 0, horizon);
         self.slot.put(plain);
         swept
+    }
+
+    /// Has the node keep the longest prefix of its entries whose values have at most `most` bytes in all. Returns how many
+    /// entries it dropped.
+    pub(crate) fn trim(&mut self, alloc: Global, most: usize) -> Result<usize, NodeError>
+        ensures leads { CallerTrimTransition most self.old.node self.new.node result }
+        ensures same { self.new ≡ record self.old { node = self.new.node } }
+    {
+        let mut plain = self.slot.take(self.alloc);
+        let trimmed = plain.node.trim(alloc, 0, most);
+        self.slot.put(plain);
+        trimmed
+    }
+
+    /// Returns what the node holds in all, and how many of its entries trims have dropped.
+    pub(crate) fn totals(&mut self) -> NodeTotals
+        ensures answer { result ≡ totals_of self.old.node }
+        ensures same { self.new ≡ self.old }
+    {
+        let plain = self.slot.take(self.alloc);
+        let totals = nodes::totals(&plain.node);
+        self.slot.put(plain);
+        totals
     }
 }
 

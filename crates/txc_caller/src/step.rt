@@ -1,14 +1,19 @@
-use std::alloc::AllocError;
+ghost use Rattle.std.specs.Prelude.{◌≡◌};
+ghost use Rattle.txc_call.specs.Running.{NeedsFunction};
+ghost use Rattle.txc_caller.specs.Telling.{ended_step, is_begin, IsNextStep};
+
 use thiserror::Error;
+use txc_call::{CallMachine, Need};
 use txc_db::DbError;
 use txc_node::Value;
 use txc_ports::TxnError;
-use txc_registry::OtherAsk;
+use txc_rw::Given;
+use txc_stamp::Stamp;
 
 /// What the caller does next.
 #[derive(Debug, Drop)]
 pub enum Step {
-    /// It computes the function of the call that it asked for, which no node has.
+    /// It computes the function of the call that it asked for.
     Compute,
     /// It goes on computing: the function has its answer.
     Answered,
@@ -19,18 +24,21 @@ pub enum Step {
 /// Why the caller was refused.
 #[derive(Clone, Copy, Debug, PartialEq, Eq, Error)]
 pub enum CallerError {
-    /// The call was refused, and is no more; the transaction is open.
+    /// The call was refused, and has ended; the transaction is open.
     #[error("{0}")]
     Txn(TxnError),
-    /// Another ask was supplied for the same answers.
-    #[error("another ask was supplied for the same answers")]
-    OtherAsk,
     /// No function is computed.
     #[error("no function is computed")]
     NoFunction,
-    /// Out of memory, before anything was asked: all is as it was.
-    #[error("out of memory")]
-    Memory,
+}
+
+/// What a transaction that wrote gave.
+#[derive(Drop)]
+pub struct Written {
+    /// The newest stamp that the commit left.
+    pub stamp: Stamp,
+    /// What the transaction was answered, in order.
+    pub answers: Vec<Given>,
 }
 
 /// Why a transaction that writes was not committed.
@@ -44,24 +52,43 @@ pub enum WriteError {
     Database(DbError),
 }
 
-impl From<AllocError> for CallerError {
-    ghost use Rattle.std.specs.Prelude.{◌≡◌};
-    ghost use Rattle.txc_caller.specs.declared.step.CallerError.TheVariants.{Memory};
-
-    ghost from_gives = { λ _ it. it ≡ Memory };
-
-    fn from(_: AllocError) -> CallerError {
-        CallerError::Memory
+// Whether a function is to begin.
+fn is_begin(need: &Need) -> bool
+    ensures { result ≡ is_begin need.now }
+{
+    match need {
+        Need::Begin(_) => true,
+        Need::Resume(_) => false,
+        Need::Lookup(_) => false,
+        Need::Query(_) => false,
+        Need::Insert(_) => false,
+        Need::Value(_) => false,
     }
 }
 
-impl From<OtherAsk> for CallerError {
-    ghost use Rattle.std.specs.Prelude.{◌≡◌};
-    ghost use Rattle.txc_caller.specs.declared.step.CallerError.TheVariants.{OtherAsk as OtherAskError};
+impl Step {
+    /// Returns what the caller does next for a call that needs a function.
+    pub(crate) fn next(machine: &CallMachine) -> Step
+        requires { NeedsFunction machine.now.need }
+        ensures { IsNextStep machine.now result }
+    {
+        let Some(need) = machine.need() else {
+            unreachable!()
+        };
+        if is_begin(need) {
+            Step::Compute
+        } else {
+            Step::Answered
+        }
+    }
+}
 
-    ghost from_gives = { λ _ it. it ≡ OtherAskError };
-
-    fn from(_: OtherAsk) -> CallerError {
-        CallerError::OtherAsk
+/// Returns what the caller does next for a call that has ended so.
+pub(crate) fn ended(outcome: Result<Value, TxnError>) -> Result<Step, CallerError>
+    ensures { result ≡ ended_step outcome }
+{
+    match outcome {
+        Ok(value) => Ok(Step::Value(value)),
+        Err(error) => Err(CallerError::Txn(error)),
     }
 }

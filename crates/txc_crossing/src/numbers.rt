@@ -14,7 +14,7 @@ pub const KEPT: u32 = 2;
 pub const NO_ROOM: u32 = 3;
 /// The handle has no node, or no site.
 pub const CLOSED: u32 = 4;
-/// The handle has a node or a site already, or the site a transaction.
+/// The handle has a node or a site already.
 pub const ALREADY_OPEN: u32 = 5;
 /// A number is none of its kind: of a function, a table, a stamp, a size.
 pub const BAD_ARGUMENT: u32 = 6;
@@ -29,18 +29,16 @@ pub const VALUE_TOO_LONG: u32 = 10;
 /// Memory was refused.
 pub const NO_MEMORY: u32 = 11;
 
-/// The caller is to compute the function of the call that he asked for.
+/// The caller is to compute the function of the call that it asked for.
 pub const COMPUTE: u32 = 12;
 /// The function that is computed has its answer, and goes on.
 pub const ANSWERED: u32 = 13;
-/// No transaction is open of which this can be asked, or no function is computed.
+/// No transaction of that number is open of which this can be asked, or no function is computed.
 pub const NOT_OPEN: u32 = 14;
 /// A call is open.
 pub const MID_CALL: u32 = 15;
-/// The call, or what was asked, was refused.
+/// The call, or what was asked, was refused; or none can begin.
 pub const REFUSED: u32 = 16;
-/// Another ask was supplied for the same answers.
-pub const OTHER_ASK: u32 = 17;
 /// What was read has changed.
 pub const CONFLICT: u32 = 18;
 

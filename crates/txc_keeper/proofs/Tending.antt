@@ -1,10 +1,10 @@
 -- What the keeper of a site that keeps itself did, one keep more.
-use Rattle.std.proofs.Common.{◌≡◌, ℕ, ◌+◌, ◌-◌, ◌^◌, ◌≤◌, min, List, [], ◌∷◌, refl, subst}
+use Rattle.std.proofs.Common.{◌≡◌, ℕ, ◌≤◌, List, [], ◌∷◌, inl, inr, refl, subst, sym}
 use Rattle.std.specs.Prelude.{Option, Result, Ok, Err, IfOk, IfErr}
 use Rattle.txc_shared.specs.declared.settings.NodeSettings.{NodeSettings}
 use Rattle.txc_stream.specs.Names.{Name}
 use Rattle.txc_keeper.specs.declared.keeping.Keeping.{Keeping}
-use Rattle.txc_keeper.specs.Tending.{OwnKeeperValue, due_at, HasTended, HasTendedSince, IsNewOwnKeeper, IsTendedBy}
+use Rattle.txc_keeper.specs.Tending.{OwnKeeperValue, due_after, due_at, HasLooked, HasTended, HasTendedSince, IsNewOwnKeeper, IsTendedBy}
 
 -- it has tended so, and the next keep is due at this moment
 abbrev pub HasTendedUntil : Name → (ℕ → Name) → List NodeSettings → Option ℕ → (ℕ → Type 0) → Keeping → OwnKeeperValue → ℕ → Type 0
@@ -15,9 +15,9 @@ module _ (row : Name) (histories : ℕ → Name) (nodes : List NodeSettings) (bu
   pub since_begun : (own : OwnKeeperValue) → IsNewOwnKeeper nodes budget own → HasTendedUntil row histories nodes budget tells keeping own 0
   since_begun own new = (record { first = own; moments = []; new = new; kept = refl }, refl)
 
-  pub once_more : (before after : OwnKeeperValue) (due now : ℕ) → HasTendedUntil row histories nodes budget tells keeping before due → tells now → due ≤ now
+  once_more : (before after : OwnKeeperValue) (due now : ℕ) → HasTendedUntil row histories nodes budget tells keeping before due → tells now → due ≤ now
       → HasTended row histories now keeping.age before after
-      → HasTendedUntil row histories nodes budget tells keeping after (min (now + keeping.every) (2 ^ 64 - 1))
+      → HasTendedUntil row histories nodes budget tells keeping after (due_after keeping.every now)
   once_more before after due now (since, at) told late kept = (
     record {
       first = since.first;
@@ -27,6 +27,16 @@ module _ (row : Name) (histories : ℕ → Name) (nodes : List NodeSettings) (bu
     },
     refl,
   )
+
+  pub looked_on : (before after : OwnKeeperValue) (due now next : ℕ) → HasTendedUntil row histories nodes budget tells keeping before due → tells now
+      → HasLooked row histories keeping due now before after next
+      → HasTendedUntil row histories nodes budget tells keeping after next
+  looked_on before after due now next until told (inl kept) =
+      subst (λ (n : ℕ). HasTendedUntil row histories nodes budget tells keeping after n) (sym kept.2)
+      (once_more before after due now until told kept.0 kept.1)
+  looked_on before after due now next until told (inr left) =
+      subst (λ (n : ℕ). HasTendedUntil row histories nodes budget tells keeping after n) (sym left.2)
+      (subst (λ (own : OwnKeeperValue). HasTendedUntil row histories nodes budget tells keeping own due) (sym left.1) until)
 
   pub told_so : (own : OwnKeeperValue) (due : ℕ) → HasTendedUntil row histories nodes budget tells keeping own due → IsTendedBy row nodes budget tells keeping own.tended
   told_so own due until = record { histories = histories; own = own; since = until.0; told = refl }

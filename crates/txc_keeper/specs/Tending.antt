@@ -1,5 +1,5 @@
 -- What the keeper of a site that keeps itself did.
-use Rattle.std.specs.Prelude.{◌≡◌, ◌⊎◌, ℕ, ◌+◌, ◌-◌, ◌^◌, ◌≤◌, min, List, [], ◌∷◌, All, IfErr, IfOk, None, Option, Result, Some, map}
+use Rattle.std.specs.Prelude.{◌≡◌, ◌⊎◌, ℕ, ◌+◌, ◌-◌, ◌^◌, ◌≤◌, ◌<◌, min, List, [], ◌∷◌, All, IfErr, IfOk, None, Option, Result, Some, map}
 use Rattle.txc_db.specs.declared.error.DbError.{DbError}
 use Rattle.txc_shared.specs.declared.settings.NodeSettings.{NodeSettings}
 use Rattle.txc_stream.specs.Names.{Name}
@@ -34,11 +34,21 @@ HasTended row histories now age old new =
     ((told : KeepTold) × IsKeep row histories now age old.stations told new.stations × (new.tended ≡ tended_after old.tended None))
     ⊎ ((error : DbError) × IsNoKeep row old.stations error new.stations × (new.tended ≡ tended_after old.tended (Some error)))
 
--- from which moment on a keep is due, after keeps at these moments, the latest first: so long after the last, as far as
--- moments go
+-- from which moment on a keep is due, after one at this moment: so long after it, as far as moments go
+abbrev pub due_after : ℕ → ℕ → ℕ
+due_after every last = min (last + every) (2 ^ 64 - 1)
+
+-- One look at the clock, which showed this moment. Where a keep was due, it kept, and the next keep is due so long after. Else
+-- nothing has changed.
+abbrev pub HasLooked : Name → (ℕ → Name) → Keeping → ℕ → ℕ → OwnKeeperValue → OwnKeeperValue → ℕ → Type 0
+HasLooked row histories keeping due now old new next =
+    ((due ≤ now) × HasTended row histories now keeping.age old new × (next ≡ due_after keeping.every now))
+    ⊎ ((now < due) × (new ≡ old) × (next ≡ due))
+
+-- from which moment on a keep is due, after keeps at these moments, the latest first; the first keep is due at once
 abbrev pub due_at : ℕ → List ℕ → ℕ
 due_at every [] = 0
-due_at every (last ∷ earlier) = min (last + every) (2 ^ 64 - 1)
+due_at every (last ∷ earlier) = due_after every last
 
 -- it kept at each of these moments, the latest first, which the clock showed, and not before it was due
 abbrev pub HaveTended : Name → (ℕ → Name) → (ℕ → Type 0) → Keeping → OwnKeeperValue → List ℕ → OwnKeeperValue → Type 0

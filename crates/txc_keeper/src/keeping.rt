@@ -1,7 +1,7 @@
 //! A site that keeps itself.
 ghost use Rattle.std.specs.Prelude.{IfErr, IfOk};
 ghost use Rattle.txc_keeper.specs.Refusals.{IsKeeperRefused};
-ghost use Rattle.txc_keeper.specs.Tending.{HasTended, IsNewOwnKeeper, IsTendedBy};
+ghost use Rattle.txc_keeper.specs.Tending.{HasLooked, HasTended, IsNewOwnKeeper, IsTendedBy};
 
 use crate::clock::{Clock, Moment, Signal};
 use crate::error::SiteError;
@@ -88,11 +88,31 @@ impl<'a, A: App, J: Naming> OwnKeeper<'a, A, J> {
             },
         }
     }
+
+    /// Looks at the clock once, which shows `now`: keeps the site if a keep is due. Returns from which moment on the next
+    /// one is.
+    fn look(
+        self,
+        rt: &impl Wait,
+        alloc: Global,
+        keeping: Keeping,
+        due: u64,
+        now: u64,
+    ) -> (Self, u64)
+        ensures { HasLooked J.database_history J.node_histories keeping due now self.entry result.0 result.1 }
+    {
+        if now < due {
+            thread::yield_now();
+            return (self, due);
+        }
+        let next = now.saturating_add(keeping.every);
+        (self.keep(rt, alloc, now, keeping.age), next)
+    }
 }
 
 /// Keeps the ledger and these nodes at this clock until the visitors have ended. With a `budget`, each keep trims the
 /// values of every node to that many bytes. The moment is what the clock showed last.
-#[tactic(auto, using(crate::proofs::Tending::since_begun, crate::proofs::Tending::once_more, crate::proofs::Tending::told_so))]
+#[tactic(auto, using(crate::proofs::Tending::since_begun, crate::proofs::Tending::looked_on, crate::proofs::Tending::told_so))]
 pub fn keep_until_ended<A: App, J: Naming, C: Clock, R: Wait>(
     rt: &R,
     alloc: Global,
@@ -109,19 +129,16 @@ pub fn keep_until_ended<A: App, J: Naming, C: Clock, R: Wait>(
     ensures refused { IfErr result IsKeeperRefused }
 {
     let mut own = OwnKeeper::new(rt, alloc, ledger, nodes, budget)?;
-    let mut next = 0;
+    let mut due = 0;
     for _ in rt.forever() {
         let now = clock.now();
         moment.set(now);
         if ended.is_given() {
             return Ok(own.tended);
         }
-        if now < next {
-            thread::yield_now();
-        } else {
-            next = now.saturating_add(keeping.every);
-            own = own.keep(rt, alloc, now, keeping.age);
-        }
+        let (looked, next) = own.look(rt, alloc, keeping, due, now);
+        own = looked;
+        due = next;
     }
     unreachable!()
 }

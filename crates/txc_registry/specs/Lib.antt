@@ -1,3 +1,2 @@
 pub mod Activity
 pub mod Objects
-pub mod Supplies

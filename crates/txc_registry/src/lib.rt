@@ -13,8 +13,6 @@
 mod boxed;
 mod cacheable;
 mod registry;
-mod suppliable;
 
 pub use cacheable::{Cacheable, CallFault};
 pub use registry::{Registry, Twice, enlist};
-pub use suppliable::{OtherAsk, Suppliable};

@@ -1,10 +1,9 @@
-ghost use Rattle.std.specs.Prelude.{◌≡◌, ◌↔◌, ◌==◌, [], ◌∷◌, ◌++◌, eqb, map, All, IfErr, IfOk, IfSome, IsNone, IsOk, IsSome, IsTrue, OnErr, OnOk, Some};
+ghost use Rattle.std.specs.Prelude.{◌≡◌, ◌↔◌, ◌==◌, [], ◌∷◌, ◌++◌, eqb, map, All, IfErr, IfOk, IfSome, IsNone, IsSome, IsTrue, OnErr, OnOk, Some};
 ghost use Rattle.std.specs.List.{IsDistinct, position};
 ghost use Rattle.txc_registry.specs.Activity.{answered, begun, idle, next_of, running};
 ghost use Rattle.txc_registry.specs.Objects.{activation_of, activity_of, numbers_of, with_activity, AllIdle, HasTwice, IsAskingAt};
 
 use crate::cacheable::{Cacheable, CallFault};
-use crate::suppliable::{OtherAsk, Suppliable};
 use std::alloc::AllocError;
 use std::marker::{Model, PhantomData};
 use thiserror::Error;
@@ -140,35 +139,5 @@ impl<A: App, C: Cacheable> Registry<A, C> {
             let object = &mut self.objects[at];
             object.release();
         }
-    }
-}
-
-impl<A: App, C: Suppliable> Registry<A, C> {
-    /// Hands the function's object what the function asks first at these arguments, as its caller says. What a
-    /// registry shows stays. It does nothing where there is no such object.
-    pub fn supply_first(&mut self, f: u8, args: Vec<u32>, ask: Ask) -> Result<(), OtherAsk>
-        requires { next_of (A.next.says f) (begun args.items) ≡ Some ask }
-        ensures taken { IsOk result }
-        ensures unchanged { self.new ≡ self.old }
-    {
-        let Some(at) = place(&self.objects, f) else {
-            return Ok(());
-        };
-        let object = &mut self.objects[at];
-        object.supply_first(args, ask)
-    }
-
-    /// Hands the function's object what the function asks after this answer, as its caller says. What a registry
-    /// shows stays. It does nothing where there is no such object.
-    pub fn supply_next(&mut self, f: u8, answer: Answer, ask: Ask) -> Result<(), OtherAsk>
-        requires { next_of (A.next.says f) (answered (activation_of self.old f) answer) ≡ Some ask }
-        ensures taken { IsOk result }
-        ensures unchanged { self.new ≡ self.old }
-    {
-        let Some(at) = place(&self.objects, f) else {
-            return Ok(());
-        };
-        let object = &mut self.objects[at];
-        object.supply_next(answer, ask)
     }
 }

@@ -1,18 +1,17 @@
 //! A core with the registry of its functions, which keeps what its pin set means.
-ghost use Rattle.std.specs.Prelude.{◌≡◌, IsOk, None, Some};
+ghost use Rattle.std.specs.Prelude.{◌≡◌, None, Some};
 ghost use Rattle.std.specs.Option.{ForSome};
-ghost use Rattle.txc_registry.specs.Activity.{answered, begun, next_of};
-ghost use Rattle.txc_registry.specs.Objects.{activation_of, numbers_of, AllIdle};
+ghost use Rattle.txc_registry.specs.Objects.{numbers_of, AllIdle};
 ghost use Rattle.txc_ports.specs.Fronts.{front_of_reply};
 
 use crate::receipt::{Left, Receipt};
 use crate::txn_core::TxnCore;
 use std::alloc::Global;
 use std::marker::Model;
-use txc_app::{Answer, App, Ask};
+use txc_app::App;
 use txc_node::Value;
 use txc_ports::{PortReply, PortRequest, Turn, TxnError};
-use txc_registry::{Cacheable, OtherAsk, Registry, Suppliable};
+use txc_registry::{Cacheable, Registry};
 use txc_stamp::Stamp;
 use txc_tags::Key;
 
@@ -133,25 +132,5 @@ impl<A: App, C: Cacheable> RunningTxn<A, C> {
         let RunningTxn { core, mut registry } = self;
         let left = core.cancel(&mut registry);
         (left, registry)
-    }
-}
-
-impl<A: App, C: Suppliable> RunningTxn<A, C> {
-    /// Hands a function's object what the function asks first at these arguments, as its caller says.
-    pub fn supply_first(&mut self, f: u8, args: Vec<u32>, ask: Ask) -> Result<(), OtherAsk>
-        requires { next_of (A.next.says f) (begun args.items) ≡ Some ask }
-        ensures taken { IsOk result }
-        ensures unchanged { self.new ≡ self.old }
-    {
-        self.registry.supply_first(f, args, ask)
-    }
-
-    /// Hands a function's object what the function asks after this answer, as its caller says.
-    pub fn supply_next(&mut self, f: u8, answer: Answer, ask: Ask) -> Result<(), OtherAsk>
-        requires { next_of (A.next.says f) (answered (activation_of self.old.objects f) answer) ≡ Some ask }
-        ensures taken { IsOk result }
-        ensures unchanged { self.new ≡ self.old }
-    {
-        self.registry.supply_next(f, answer, ask)
     }
 }

@@ -8,8 +8,8 @@ use Rattle.std.proofs.Crossing as heap
 use Rattle.std_alloc.proofs.SendSync.{quiet, lies}
 use Rattle.std_heap.proofs.Global.TheSendSync as handle
 use Rattle.txc_rows.proofs.OwnedLemmas.{when_keyless}
-use Rattle.txc_c.specs.contracts.site_room.SiteRoom as Core
-use Rattle.txc_c.proofs.site_room.SiteRoom.TheSendSync.{the_send as core}
+use Rattle.txc_c.specs.contracts.site.Site as Core
+use Rattle.txc_c.proofs.site.Site.TheSendSync.{the_send as core}
 use Rattle.txc_c.specs.contracts.site_handle.SiteSlot.{the_row, the_type}
 
 pub send : IsSend the_row

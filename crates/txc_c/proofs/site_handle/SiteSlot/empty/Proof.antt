@@ -27,8 +27,11 @@ use Rattle.std_alloc.proofs.ResultValues.{and_tt}
 use Rattle.std_alloc.proofs.BoxSteps.Form.{P}
 use Rattle.std.proofs.raw_atomic.Walks.{proved_at, leaves}
 use Rattle.std.specs.contracts.alloc.Global as Heap
-use Rattle.std.specs.Prelude.{None}
-use Rattle.txc_c.specs.declared.site_room.SiteRoom.{SiteRoom}
+use Rattle.txc_stream.specs.Names.{unstored}
+use Rattle.txc_node.specs.Cache.{empty_cache_at}
+use Rattle.txc_cushion.specs.Cushion.{empty_cushion}
+use Rattle.txc_caller.specs.Ports.{CallerPorts}
+use Rattle.txc_c.specs.Sites.{SiteValue}
 use Rattle.txc_c.proofs.SiteAsBox.{E}
 use Rattle.txc_c.specs.contracts.site_handle.SiteSlot as slot
 use Rattle.txc_c.specs.contracts.site_handle.SiteSlot.empty.{ended, clauses}
@@ -37,8 +40,28 @@ use Rattle.txc_c.proofs.site_handle.SiteSlot.empty.Statement.{statement}
 use Rattle.txc_c.proofs.site_handle.SiteSlot.empty.Code as code
 
 -- what stands there where nothing is owned
-nothing_held : SiteRoom
-nothing_held = record { site = None }
+no_ports : CallerPorts
+no_ports = record {
+  database = record { events = unstored 0; history = []; versions = []; most = 0; horizon = 0; holds = []; broken = false };
+  cushion = empty_cushion (record { events = unstored 0; history = [] });
+  node = record {
+    settings = record { number = 0; capacity = 0; recent = 0 };
+    from = 0;
+    name = unstored 0;
+    records = [];
+    passes = 0;
+    cache = empty_cache_at 0 0 0;
+    seen = record { events = unstored 0; history = [] };
+    broken = false;
+  };
+}
+
+nothing_held : SiteValue
+nothing_held = record {
+  caller = record { ports = no_ports; renew_after = 0 };
+  opened = record { slots = []; vacant_key = 0; capacity = 0 };
+  begun = 0;
+}
 
 pub empty_spec : {M : Type 1} → statement M
 empty_spec 𝓤 𝓛 𝓜 𝓡 wired =

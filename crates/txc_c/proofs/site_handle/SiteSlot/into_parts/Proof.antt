@@ -5,7 +5,7 @@ use contract.Monad.{Fun, fact}
 use Rattle.std_alloc.specs.Box.Ownership.{box_owns}
 use Rattle.txc_rows.specs.Owned.{when}
 use Rattle.std.specs.contracts.impls.GlobalAllocator.TheImpl.{ghosts}
-use Rattle.txc_c.specs.contracts.site_room.SiteRoom as Core
+use Rattle.txc_c.specs.contracts.site.Site as Core
 use Rattle.txc_c.specs.contracts.site_handle.SiteSlot as SlotType
 use mathlib.Core.List.{List, [], ◌∷◌, ◌++◌}
 use seplogic.Ra.Ura.{Ura}

@@ -1,58 +1,107 @@
-use Rattle.std.proofs.Common.{◌≡◌, ◌∙◌, true, Option, Some, None, refl, ap, subst, sym}
-use Rattle.std.specs.Prelude.{Result, is_some}
+use Rattle.std.proofs.Common.{◌≡◌, ◌∙◌, true, None, Option, Some, ap, refl, sym, subst}
+use Rattle.std.specs.Prelude.{IsSome}
 use Rattle.txc_tags.specs.Keys.{Call}
-use Rattle.txc_caller.specs.Acting.{IsComputedOnMiss, IsStepIn, IsStepOf}
-use Rattle.txc_caller.specs.Reading.{top_or, CallerReading, KeepsReading}
-use Rattle.txc_caller.specs.declared.frames.OpenCall.{OpenCall}
-use Rattle.txc_caller.specs.declared.step.CallerError.{CallerError}
-use Rattle.txc_caller.specs.declared.step.Step.{Step}
-use Rattle.txc_caller.proofs.Reading.{none_is, reading_after, settled}
+use Rattle.txc_app.specs.declared.ask.Ask.TheVariants as asks
+use Rattle.txc_txn.specs.Kept.{TxnValue}
+use Rattle.txc_caller.specs.Looking.{IsComputedOnMiss}
+use Rattle.txc_caller.specs.Ports.{HasGrownDatabase}
+use Rattle.txc_caller.specs.Reading.{open_states, CallerValue, IsReadingStep, KeepsTxn}
+use Rattle.txc_caller.specs.Telling.{call_or, top_call, IsToldAfterAsk, ObjectsFollow}
+use Rattle.txc_caller.proofs.Lent.{resting_idle}
+use Rattle.txc_caller.proofs.Requests.{going_begun, keeps_begun, keeps_then, of_call_begun}
+use Rattle.txc_caller.proofs.Some.{none_of, some_of}
+use Rattle.txc_caller.proofs.Telling.{first_follow, first_told}
+use Rattle.txc_caller.specs.Acting.{step_error, ActLeads}
+use Rattle.txc_caller.proofs.Acting.{begun_leads}
 use Rattle.txc_caller.proofs.caller_txn.CallerTxn.call.Goals as goal
 
--- without an open call the step is of this one
-top_alone : (doing : Option OpenCall) (k : Call) → doing ≡ None → top_or doing k ≡ k
-top_alone None k none = refl
-top_alone (Some o) k none = absurd (cc none)
+pub returns-then-is_computing-clause-step : goal.returns-then-is_computing-clause-step
+returns-then-is_computing-clause-step g c =
+    let top = some_of (top_call c.args.self.now.core.call) (c.is_computing.ensures.0 c.if-is_computing.true) in
+    subst (λ (o : Option Call). IsReadingStep c.args.self.now.core c.act.new.self.core (call_or o c.args.key) c.act.result) (sym top.1) (c.act.ensures.step top.0 top.1)
 
--- else of the outermost
-step_of_open : (was : Option OpenCall) (old new : CallerReading) (k : Call) (result : Result Step CallerError) → is_some was ≡ true → IsStepIn was old new result
-    → IsStepOf old.txn.core.recorded (top_or was k) new.txn.core.recorded new.doing result
-step_of_open (Some o) old new k result some h = h
-step_of_open None old new k result some h = absurd (cc some)
+pub start-turn-requires : goal.start-turn-requires
+start-turn-requires g c =
+    let old = c.self.inside.txn in
+    let closed = none_of (top_call old.core.call)
+    (λ there. let yes : c.is_computing.result ≡ true = c.is_computing.ensures.1 (subst (λ (t : TxnValue). IsSome (top_call t.core.call)) c.self.view_is there) in absurd (cc (yes, c.if-is_computing.false))) in
+    resting_idle old.core c.self.invariant.rests closed
 
-pub returns-then-is_some-clause-step : goal.returns-then-is_some-clause-step
-returns-then-is_some-clause-step g c =
-    let some : is_some c.args.self.now.doing ≡ true = sym (ap (λ (r : CallerReading). is_some r.doing) c.self.view_is) ∙ (sym c.is_some.ensures ∙ c.if-is_some.true) in
-    step_of_open c.args.self.now.doing c.args.self.now c.act.new.self c.args.key c.act.result some c.act.ensures.step
-
-pub call_first-acted-requires : goal.call_first-acted-requires
-call_first-acted-requires g c = record {
-  idle = c.self.invariant.idle (none_is c.self.inside.doing (sym c.is_some.ensures ∙ c.if-is_some.false));
-  row = c.self.invariant.row;
-  nodes = c.self.invariant.nodes;
-}
+pub serve-step-requires : goal.serve-step-requires
+serve-step-requires g c =
+    let old = c.self.inside.txn in
+    record {
+      going = going_begun old c.start-turn.new.self c.args.key c.start-turn.result c.start-turn.ensures.begun c.caller.inside.ports.database.events
+          (ap (λ (t : TxnValue). t.core.seen.events) c.self.view_is ∙ (c.requires.row.row ∙ sym (ap (λ (v : CallerValue). v.ports.database.events) c.caller.view_is))) c.self.invariant.lent.nodes;
+      looked_up = λ k none. absurd (cc none);
+    }
 
 pub invariant_of-self : goal.invariant_of-self
-invariant_of-self g c =
-    let old : CallerReading = record { ports = c.self.inside.ports; renew_after = c.self.inside.renew_after; txn = c.self.inside.txn; doing = c.self.inside.doing } in
-    let new : CallerReading = record { ports = c.call_first-acted.new.ports; renew_after = c.self.inside.renew_after; txn = c.call_first-acted.new.txn; doing = c.settle.new.doing } in
-    reading_after g.A.App.next old new c.call_first-acted.ensures.acted.keeps c.call_first-acted.ensures.acted.events refl c.self.inside.txn.core.recorded c.args.key c.call_first-acted.result c.settle.ensures.doing c.call_first-acted.ensures.acted.acted c.self.invariant
+invariant_of-self g c = record { lent = c.is_lent.ensures; rests = c.serve-step.ensures.served.rests }
 
 pub returns-clause-step : goal.returns-clause-step
 returns-clause-step g c =
-    let none = none_is c.self.inside.doing (sym c.is_some.ensures ∙ c.if-is_some.false) in
-    subst (λ (r : CallerReading). IsStepOf r.txn.core.recorded (top_or r.doing c.args.key) c.call_first-acted.new.txn.core.recorded c.settle.new.doing c.settle.result) c.self.view_is
-    (subst (λ (k : Call). IsStepOf c.self.inside.txn.core.recorded k c.call_first-acted.new.txn.core.recorded c.settle.new.doing c.settle.result)
-    (sym (top_alone c.self.inside.doing c.args.key none))
-    (settled c.self.inside.txn.core.recorded c.args.key c.call_first-acted.new.txn.core.recorded c.call_first-acted.result c.settle.new.doing c.settle.result c.settle.ensures.doing c.settle.ensures.step
-    c.call_first-acted.ensures.acted.acted.step))
+    let old = c.self.inside.txn in
+    let new = c.serve-step.new.txn in
+    let closed = none_of (top_call c.args.self.now.core.call) (λ there. let yes : c.is_computing.result ≡ true = c.is_computing.ensures.1 there in absurd (cc (yes, c.if-is_computing.false))) in
+    subst (λ (o : Option Call). IsReadingStep c.args.self.now.core new.core (call_or o c.args.key) c.serve-step.result) (sym closed)
+    (subst (λ (t : TxnValue). IsReadingStep t.core new.core c.args.key c.serve-step.result) c.self.view_is
+    (c.serve-step.ensures.served.step_is old.core.recorded c.args.key (of_call_begun old c.start-turn.new.self c.args.key c.start-turn.result c.start-turn.ensures.begun)))
 
-pub returns-clause-keeps : goal.returns-clause-keeps
-returns-clause-keeps g c =
-    let new : CallerReading = record { ports = c.call_first-acted.new.ports; renew_after = c.self.inside.renew_after; txn = c.call_first-acted.new.txn; doing = c.settle.new.doing } in
-    subst (λ (r : CallerReading). KeepsReading r new) c.self.view_is (record { txn = c.call_first-acted.ensures.acted.keeps; row = c.call_first-acted.ensures.acted.events; renew_after = refl })
+pub returns-clause-told : goal.returns-clause-told
+returns-clause-told g c =
+    let old = c.self.inside.txn in
+    let new = c.serve-step.new.txn in
+    let closed = none_of (top_call old.core.call)
+    (λ there. let yes : c.is_computing.result ≡ true = c.is_computing.ensures.1 (subst (λ (t : TxnValue). IsSome (top_call t.core.call)) c.self.view_is there) in absurd (cc (yes, c.if-is_computing.false))) in
+    subst (λ (t : TxnValue). IsToldAfterAsk g.A.App.next (open_states new.core) t.core.call (asks.Call c.args.key) new.core.call c.serve-step.result) c.self.view_is
+    (first_told g.A.App.next old c.start-turn.new.self new c.args.key c.start-turn.result c.start-turn.ensures.begun (resting_idle old.core c.self.invariant.rests closed)
+    (c.self.invariant.lent.functions c.args.key.function c.function-function.ensures.bound) c.self.invariant.lent.meant.fits c.is_lent.ensures.meant c.serve-step.result c.serve-step.ensures.served.goes_on)
+
+pub returns-clause-objects : goal.returns-clause-objects
+returns-clause-objects g c =
+    let old = c.self.inside.txn in
+    let new = c.serve-step.new.txn in
+    let closed = none_of (top_call old.core.call)
+    (λ there. let yes : c.is_computing.result ≡ true = c.is_computing.ensures.1 (subst (λ (t : TxnValue). IsSome (top_call t.core.call)) c.self.view_is there) in absurd (cc (yes, c.if-is_computing.false))) in
+    subst (λ (t : TxnValue). ObjectsFollow t.objects t.core.call (asks.Call c.args.key) new.objects c.serve-step.result) c.self.view_is
+    (first_follow g.A.App.next old c.start-turn.new.self new c.args.key c.start-turn.result c.start-turn.ensures.begun (resting_idle old.core c.self.invariant.rests closed)
+    (c.self.invariant.lent.functions c.args.key.function c.function-function.ensures.bound) c.self.invariant.lent.meant.fits c.is_lent.ensures.meant c.serve-step.result
+    (c.serve-step.ensures.served.objects old.objects c.start-turn.ensures.objects))
 
 pub returns-clause-on_miss : goal.returns-clause-on_miss
 returns-clause-on_miss g c =
-    subst (λ (r : CallerReading). IsComputedOnMiss c.call_first-acted.new.txn.core r.ports.node c.call_first-acted.new.ports.node c.settle.result) c.self.view_is
-    (subst (IsComputedOnMiss c.call_first-acted.new.txn.core c.self.inside.ports.node c.call_first-acted.new.ports.node) (sym c.settle.ensures.step) c.call_first-acted.ensures.on_miss)
+    subst (λ (v : CallerValue). IsComputedOnMiss c.serve-step.new.txn.core v.ports.node c.serve-step.new.ports.node c.serve-step.result) c.caller.view_is c.serve-step.ensures.on_miss
+
+pub returns-clause-keeps : goal.returns-clause-keeps
+returns-clause-keeps g c =
+    let old = c.self.inside.txn in
+    let mid = c.start-turn.new.self in
+    let new = c.serve-step.new.txn in
+    subst (λ (t : TxnValue). KeepsTxn t new) c.self.view_is
+    (keeps_then old mid new (keeps_begun old mid c.args.key c.start-turn.result c.start-turn.ensures.begun) c.serve-step.ensures.served.keeps)
+
+pub returns-clause-meant : goal.returns-clause-meant
+returns-clause-meant g c = c.is_lent.ensures.meant
+
+pub returns-clause-caller : goal.returns-clause-caller
+returns-clause-caller g c = record {
+  row = c.serve-step.ensures.grown.events ∙ ap (λ (v : CallerValue). v.ports.database.events) c.caller.view_is;
+  renew_after = ap (λ (v : CallerValue). v.renew_after) c.caller.view_is;
+}
+
+pub returns-clause-grown : goal.returns-clause-grown
+returns-clause-grown g c = subst (λ (v : CallerValue). HasGrownDatabase v.ports.database c.serve-step.new.ports.database) c.caller.view_is c.serve-step.ensures.grown
+
+pub returns-clause-leads : goal.returns-clause-leads
+returns-clause-leads g c =
+    let next = g.A.App.next in
+    let old = c.self.inside.txn in
+    let new = c.serve-step.new.txn in
+    let closed = none_of (top_call old.core.call)
+    (λ there. let yes : c.is_computing.result ≡ true = c.is_computing.ensures.1 (subst (λ (t : TxnValue). IsSome (top_call t.core.call)) c.self.view_is there) in absurd (cc (yes, c.if-is_computing.false))) in
+    subst (λ (v : CallerValue). ActLeads next.limits v.ports c.args.self.now (asks.Call c.args.key) c.serve-step.new.ports new.core.taken (step_error c.serve-step.result)) c.caller.view_is
+    (subst (λ (t : TxnValue). ActLeads next.limits c.caller.inside.ports t (asks.Call c.args.key) c.serve-step.new.ports new.core.taken (step_error c.serve-step.result)) c.self.view_is
+    (begun_leads next old c.start-turn.new.self c.args.key c.start-turn.result c.start-turn.ensures.begun (resting_idle old.core c.self.invariant.rests closed)
+    (c.self.invariant.lent.functions c.args.key.function c.function-function.ensures.bound) c.caller.inside.ports c.serve-step.new.ports new.core.taken
+    (step_error c.serve-step.result) c.serve-step.ensures.leads))

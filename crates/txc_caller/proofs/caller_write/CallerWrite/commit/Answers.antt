@@ -1,47 +1,83 @@
-use Rattle.std.proofs.Common.{◌≡◌, ◌∙◌, List, Option, Some, None, false, refl, sym, ap, subst}
-use Rattle.std.specs.Prelude.{is_some}
-use Rattle.txc_rows.specs.declared.query.Change.{Change}
-use Rattle.txc_db.specs.Calls.{IsCommittable}
-use Rattle.txc_db.specs.DatabaseValue.{after_commit, newest}
-use Rattle.txc_caller.specs.Ports.{CallerPorts, MayHaveTaken}
+use Rattle.std.proofs.Common.{◌≡◌, ◌∙◌, true, IsSome, refl, sym, ap, subst}
+use Rattle.txc_db.specs.DatabaseValue.{DatabaseValue}
+use Rattle.txc_rw.specs.Core.{RwHolds, tags_read}
+use Rattle.txc_rw.proofs.Holding.{right_at_base}
 use Rattle.txc_caller.specs.Reading.{CallerValue}
+use Rattle.txc_caller.specs.Telling.{top_call}
 use Rattle.txc_caller.specs.Writing.{CallerWriting}
-use Rattle.txc_caller.specs.declared.caller_write.CallerWrite.TheInside.{Inside}
+use Rattle.txc_caller.proofs.Letting.{grown_then}
+use Rattle.txc_caller.proofs.Writers.{closed_call, commit_done, commit_left, commit_refused, committed_so, grown_ports, holds_longer, is_committed, keeps_ports}
 use Rattle.txc_caller.proofs.caller_write.CallerWrite.commit.Goals as goal
 
-none_of : {A : Type 0} (o : Option A) → is_some o ≡ false → o ≡ None
-none_of None h = refl
-none_of (Some x) h = absurd (cc h)
+pub returns-clause-answer : goal.returns-clause-answer
+returns-clause-answer g c =
+    let w : CallerWriting = c.args.self in
+    let d0 : DatabaseValue = c.caller.inside.ports.database in
+    let d1 : DatabaseValue = c.commit.new.self.database in
+    let d2 : DatabaseValue = c.let_go.new.self.database in
+    let done = commit_done d0 d1 d2 c.held_base.result c.base-base.result w.core.base c.in-Ok.stamp c.tags-tags.result.now (tags_read w.core) c.changes-changes.result.now w.core.changes
+    (c.base-base.ensures ∙ ap (λ (v : CallerWriting). v.core.base) c.self.view_is) (c.tags-tags.ensures ∙ ap (λ (v : CallerWriting). tags_read v.core) c.self.view_is)
+    (c.changes-changes.ensures.answer ∙ ap (λ (v : CallerWriting). v.core.changes) c.self.view_is) c.in-Ok.ensures.after c.in-Ok.ensures.answer (c.in-Ok.ensures.only_if refl) c.let_go.ensures.unpinned in
+    let held = subst (λ (v : CallerValue). RwHolds g.A.App.next v.ports.database.history w.objects w.core) (sym c.caller.view_is) c.requires.of_caller in
+    is_committed g.A.App.next d2.history w.objects w.core c.in-Ok.stamp
+    (holds_longer g.A.App.next d0.history d2.history w.objects w.core (grown_then d0 d1 d2 c.in-Ok.ensures.grown c.let_go.ensures.grown).longer held) done
 
-pub returns-in-Ok-clause-committed : goal.returns-in-Ok-clause-committed
-returns-in-Ok-clause-committed g c =
-    let seen : Inside g.row.A.Denot g.row.C.Denot → CallerWriting = λ i. record {
-      caller = i.caller;
-      base = i.base;
-      read = i.read;
-      changes = i.changes.items;
-      inner = i.inner;
-      outer = i.outer.items;
-      given = i.given;
-    } in
-    let is = ap seen c.write-inside.view_is ∙ c.write.view_is in
-    let done = c.in-Ok.ensures in
-    let new = c.commit.new.self in
-    let inside = c.write-inside.inside.0.0 in
-    let with_ports : CallerPorts → CallerValue = λ p. record { ports = p; renew_after = inside.renew_after; objects = inside.registry } in
-    let after : CallerValue → CallerPorts → CallerValue = λ v p. record v { ports = record v.ports { database = p.database; node = p.node } } in
-    record {
-      none = none_of c.args.self.inner (ap (λ (w : CallerWriting). is_some w.inner) (sym c.self.view_is) ∙ (sym c.is_some.ensures ∙ c.if-is_some.false));
-      could = subst (λ (w : CallerWriting). IsCommittable w.caller.ports.database w.base w.read w.changes) is
-          (subst (λ (changes : List Change). IsCommittable inside.ports.database c.write-inside.inside.0.1.0 c.write-inside.inside.0.1.1.0 changes) c.deref.ensures.value (done.only_if refl));
-      after = ap (λ (v : CallerValue). v.ports.database) c.abort.ensures
-          ∙ (done.after
-          ∙ (ap (λ (changes : List Change). after_commit inside.ports.database changes) c.deref.ensures.value
-          ∙ ap (λ (w : CallerWriting). after_commit w.caller.ports.database w.changes) is));
-      stamp_is = done.answer ∙ ap (λ (v : CallerValue). newest v.ports.database) (sym c.abort.ensures);
-      taken = subst (λ (v : CallerValue). MayHaveTaken v.ports.database c.args.self.caller.ports.node v.ports.node) (sym c.abort.ensures)
-          (subst (λ (w : CallerWriting). MayHaveTaken new.database w.caller.ports.node new.node) is done.node);
-      same = c.abort.ensures
-          ∙ (ap with_ports done.same
-          ∙ (ap (λ (w : CallerWriting). after w.caller new) is ∙ ap (λ (v : CallerValue). after c.args.self.caller v.ports) (sym c.abort.ensures)));
-    }
+pub returns-clause-at_base : goal.returns-clause-at_base
+returns-clause-at_base g c =
+    let w : CallerWriting = c.args.self in
+    let d0 : DatabaseValue = c.caller.inside.ports.database in
+    let d1 : DatabaseValue = c.commit.new.self.database in
+    let d2 : DatabaseValue = c.let_go.new.self.database in
+    let held = subst (λ (v : CallerValue). RwHolds g.A.App.next v.ports.database.history w.objects w.core) (sym c.caller.view_is) c.requires.of_caller in
+    right_at_base g.A.App.next d2.history w.objects w.core
+    (holds_longer g.A.App.next d0.history d2.history w.objects w.core (grown_then d0 d1 d2 c.in-Ok.ensures.grown c.let_go.ensures.grown).longer held)
+
+pub returns-clause-apart : goal.returns-clause-apart
+returns-clause-apart g c =
+    let w : CallerWriting = c.args.self in
+    commit_done c.caller.inside.ports.database c.commit.new.self.database c.let_go.new.self.database c.held_base.result c.base-base.result w.core.base c.in-Ok.stamp c.tags-tags.result.now (tags_read w.core)
+    c.changes-changes.result.now w.core.changes (c.base-base.ensures ∙ ap (λ (v : CallerWriting). v.core.base) c.self.view_is) (c.tags-tags.ensures ∙ ap (λ (v : CallerWriting). tags_read v.core) c.self.view_is)
+    (c.changes-changes.ensures.answer ∙ ap (λ (v : CallerWriting). v.core.changes) c.self.view_is) c.in-Ok.ensures.after c.in-Ok.ensures.answer (c.in-Ok.ensures.only_if refl) c.let_go.ensures.unpinned
+
+pub returns-clause-committed : goal.returns-clause-committed
+returns-clause-committed g c =
+    let w : CallerWriting = c.args.self in
+    let closed : ¬ (IsSome (top_call w.core.call)) = λ there. let t : c.is_computing.result ≡ true = c.is_computing.ensures.1 there in absurd (cc (t, c.if-is_computing.false)) in
+    committed_so c.args.caller.now c.caller.inside.ports c.commit.new.self c.caller.inside.renew_after w c.base-base.result c.tags-tags.result.now c.changes-changes.result.now c.caller.view_is
+    (c.base-base.ensures ∙ ap (λ (v : CallerWriting). v.core.base) c.self.view_is) (c.tags-tags.ensures ∙ ap (λ (v : CallerWriting). tags_read v.core) c.self.view_is)
+    (c.changes-changes.ensures.answer ∙ ap (λ (v : CallerWriting). v.core.changes) c.self.view_is)
+    c.let_go.new.self c.held_base.result c.in-Ok.stamp
+    (closed_call w.core.call closed, sym (ap (λ (v : CallerWriting). v.core.reading) c.self.view_is) ∙ c.self.invariant.rests) c.held_base.ensures (c.in-Ok.ensures.only_if refl)
+    c.in-Ok.ensures.after c.in-Ok.ensures.answer c.in-Ok.ensures.node c.in-Ok.ensures.same c.let_go.ensures.unpinned c.let_go.ensures.same
+
+pub returns-clause-caller : goal.returns-clause-caller
+returns-clause-caller g c =
+    keeps_ports c.args.caller.now c.caller.inside.ports c.let_go.new.self c.caller.inside.renew_after c.caller.view_is
+    (grown_then c.caller.inside.ports.database c.commit.new.self.database c.let_go.new.self.database c.in-Ok.ensures.grown c.let_go.ensures.grown)
+
+pub returns-clause-grown : goal.returns-clause-grown
+returns-clause-grown g c =
+    grown_ports c.args.caller.now c.caller.inside.ports c.let_go.new.self c.caller.inside.renew_after c.caller.view_is
+    (grown_then c.caller.inside.ports.database c.commit.new.self.database c.let_go.new.self.database c.in-Ok.ensures.grown c.let_go.ensures.grown)
+
+pub returns-in-Err-clause-refused : goal.returns-in-Err-clause-refused
+returns-in-Err-clause-refused g c =
+    let w : CallerWriting = c.args.self in
+    commit_refused c.args.caller.now c.caller.inside.ports c.commit.new.self c.caller.inside.renew_after w c.base-base.result c.tags-tags.result.now c.changes-changes.result.now c.caller.view_is
+    (c.base-base.ensures ∙ ap (λ (v : CallerWriting). v.core.base) c.self.view_is) (c.tags-tags.ensures ∙ ap (λ (v : CallerWriting). tags_read v.core) c.self.view_is)
+    (c.changes-changes.ensures.answer ∙ ap (λ (v : CallerWriting). v.core.changes) c.self.view_is) c.in-Err.error c.in-Err.ensures.refused
+
+pub returns-in-Err-clause-left : goal.returns-in-Err-clause-left
+returns-in-Err-clause-left g c =
+    let w : CallerWriting = c.args.self in
+    commit_left c.args.caller.now c.caller.inside.ports c.commit.new.self c.caller.inside.renew_after w c.base-base.result c.tags-tags.result.now c.changes-changes.result.now c.caller.view_is
+    (c.base-base.ensures ∙ ap (λ (v : CallerWriting). v.core.base) c.self.view_is) (c.tags-tags.ensures ∙ ap (λ (v : CallerWriting). tags_read v.core) c.self.view_is)
+    (c.changes-changes.ensures.answer ∙ ap (λ (v : CallerWriting). v.core.changes) c.self.view_is) c.in-Err.error c.in-Err.ensures.left c.in-Err.ensures.unchanged
+
+pub returns-in-Err-clause-caller : goal.returns-in-Err-clause-caller
+returns-in-Err-clause-caller g c =
+    keeps_ports c.args.caller.now c.caller.inside.ports c.commit.new.self c.caller.inside.renew_after c.caller.view_is c.in-Err.ensures.grown
+
+pub returns-in-Err-clause-grown : goal.returns-in-Err-clause-grown
+returns-in-Err-clause-grown g c =
+    grown_ports c.args.caller.now c.caller.inside.ports c.commit.new.self c.caller.inside.renew_after c.caller.view_is c.in-Err.ensures.grown

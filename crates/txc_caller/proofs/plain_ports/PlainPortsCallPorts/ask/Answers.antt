@@ -8,8 +8,8 @@ use Rattle.txc_ports.specs.Asking.{MayAsk}
 use Rattle.txc_ports.specs.declared.request.PortRequest.TheVariants as requests
 use Rattle.txc_ports.specs.declared.reply.PortReply.TheVariants as replies
 use Rattle.txc_caller.specs.Ports.{CallerPorts, HasAskedPorts}
-use Rattle.txc_caller.proofs.Asked.{added_so, asked_add, asked_insert, asked_lookup, asked_pin, asked_query, asked_so, asked_unpin, found_so, hit_row, looked_up, pinned_events, pinned_so, unpinned_so}
-use Rattle.txc_caller.proofs.Letting.{let_go_events, let_go_so}
+use Rattle.txc_caller.proofs.Asked.{added_so, asked_add, asked_insert, asked_lookup, asked_pin, asked_query, asked_so, asked_unpin, found_so, hit_row, looked_up, pinned_grown, pinned_so, unpinned_so}
+use Rattle.txc_caller.proofs.Letting.{let_go_grown, let_go_so}
 use Rattle.txc_caller.proofs.plain_ports.PlainPortsCallPorts.ask.Goals as goal
 
 pub returns-in-Pin : goal.returns-in-Pin
@@ -20,7 +20,7 @@ returns-in-Pin g c =
     let new : CallerPorts = record old { database = c.pin.new.self } in
     let done = c.pin.ensures in
     asked_so g.A.App.next c.args.seen.now c.args.request (requests.Pin now at_least) c.args.self.now old new (replies.Pin c.pin.result) c.in-Pin.is c.self.view_is
-    (asked_pin g.A.App.next c.args.seen.now old new now at_least c.pin.result (pinned_events now old.database new.database c.pin.result done.after done.unchanged)
+    (asked_pin g.A.App.next c.args.seen.now old new now at_least c.pin.result (pinned_grown now old.database new.database c.pin.result done.after done.unchanged)
     (pinned_so now at_least old new.database c.pin.result done.after done.answer done.moment done.front done.only_if done.unchanged done.refused))
 
 pub add-added-requires : goal.add-added-requires
@@ -47,7 +47,7 @@ returns-in-Unpin g c =
     let done = c.unpin.ensures in
     asked_so g.A.App.next c.args.seen.now c.args.request (requests.Unpin stamp) c.args.self.now old new (replies.Unpin c.unpin.result) c.in-Unpin.is c.self.view_is
     (asked_unpin g.A.App.next c.args.seen.now old new stamp c.unpin.result
-    (let_go_events (Some stamp) old.database new.database (let_go_so stamp old.database new.database c.unpin.result done.after done.unchanged done.refused))
+    (let_go_grown (Some stamp) old.database new.database (let_go_so stamp old.database new.database c.unpin.result done.after done.unchanged done.refused))
     (unpinned_so stamp old new.database c.unpin.result done.after done.only_if done.unchanged done.refused))
 
 pub returns-in-Lookup : goal.returns-in-Lookup

@@ -1,0 +1,290 @@
+"""The site of a cache: its database is a table of versions, a row a place, and its transactions are the pages. All that the cache asks of the
+library is here. Threads share it: each call takes the lock for itself alone."""
+
+import ctypes as c
+import struct
+import threading
+import time
+from typing import Any, Callable, Dict, Iterable, NamedTuple, Optional, Sequence, Tuple
+
+from . import _calls
+from ._calls import ANSWERED, COMPUTE, DONE, MISS, NO_MEMORY, NO_ROOM
+from .errors import TxCacheError
+from .node import MAX_ASKS, MAX_VALUE_LEN, _Handle, _Key, _Totals
+
+MAX_CAPACITY = 65_536
+MAX_PINS = 1024
+MAX_PLACES = 65_536
+UNCHANGING_PLACE = MAX_PLACES  # of no tag
+_TABLES = 16  # the version of a place is a row of one of so many tables, since an event names at most 16 rows of each
+_MOST_ROWS, _LEAST_ROWS = 15 * _TABLES, 8  # of an event
+_NAP = 5e-5  # seconds
+_LONG, _SHORT = 0.004, 0.001  # seconds for which the lock is held: beyond, the next event is of half as many rows; below, of twice as many
+_EVER = 2**64 - 1  # a pin is never renewed: the present of the table of versions may be the middle of a step
+_TXC = _calls.declared()
+_CALL, _COMMIT, _MEMBER_AT, _READ_STAMP, _QUERY_ROWS, _PUT = map(_calls.undeclared, ("call", "commit", "member_at", "read_stamp", "query_rows", "put"))
+_AS_KEY = struct.Struct("=BB2x16s").pack  # as the library has a key of four arguments
+_FIRST, _NO_GROUP = c.c_size_t(0), c.c_uint32(0)
+_FIRST_ROOM = 4096  # bytes of the buffer for values, which becomes as long as the longest that was a hit
+_TRIMMED = 256  # entries, about, that are dropped while the lock is held once
+
+
+class Refused(TxCacheError):
+    """The library did not do what was asked, by the number that it returned."""
+
+    def __init__(self, call: str, number: int):
+        super().__init__(f"{call} returned {number}")
+        self.number = number
+
+
+class Member(NamedTuple):
+    """A pin at which a page may still be serialised."""
+
+    stamp: int
+    moment: int
+
+
+class Totals(NamedTuple):
+    """How many results there are, how many bytes their values have in all, and how many were dropped for the budget."""
+
+    entries: int
+    bytes: int
+    trimmed: int
+
+
+class CallKey:
+    """A call, as it is asked for. `at` is where the library reads it."""
+
+    __slots__ = "digest", "level", "at"
+
+    def __init__(self, level: int, digest: bytes):
+        self.digest, self.level = digest, level
+        self.at = c.byref(_Key.from_buffer_copy(_AS_KEY(level, 4, digest)))
+
+
+def _do(call: Callable[..., int], *words) -> None:
+    number = call(*words)
+    if number != DONE:
+        raise _error(call, number)
+
+
+def _error(call: Callable[..., int], number: int) -> Exception:
+    name = getattr(call, "__name__", "the library")
+    return MemoryError(name) if number == NO_MEMORY else Refused(name, number)
+
+
+class Turn:
+    """The library's lock, for single calls of it, by `with`. A thread that finds it held lets others run and looks again. If it queued, a thread that lost
+    the interpreter's lock in mid-call would hand both on at each call from then on, and eight threads would answer a fifth of what one does."""
+
+    __slots__ = "acquire", "release"
+
+    def __init__(self, lock: Any):
+        self.acquire, self.release = lock.acquire, lock.release
+
+    def __enter__(self) -> None:
+        while not self.acquire(False):
+            time.sleep(_NAP)
+
+    def __exit__(self, *words: Any) -> None:
+        self.release()
+
+
+class Versions:
+    """A site with a node of `capacity` entries. `longest` bounds the bytes of a value."""
+
+    longest = MAX_VALUE_LEN
+
+    def __init__(self, capacity: int, recent: int = 4096):
+        self._site, self._turn, self._rows = _Handle(None, False), Turn(threading.Lock()), 4 * _TABLES
+        # the library writes these, under the lock; `byref` once, since it takes as long as a short call
+        self._buffer, self._size, self._stamp, self._moment, self._receipt, self._query = (
+            c.create_string_buffer(_FIRST_ROOM), c.c_size_t(), c.c_uint32(), c.c_uint64(), _calls.Receipt(), _calls.Query(0, 1, 0, 0))
+        self._at, self._size_at, self._stamp_at, self._moment_at, self._receipt_at, self._query_at = map(
+            c.byref, (self._site, self._size, self._stamp, self._moment, self._receipt, self._query))
+        self._room = c.c_size_t(_FIRST_ROOM)
+        _do(_TXC.site_open, self._site, _calls.Settings(c.sizeof(_calls.Settings), 0, capacity, recent, _EVER))
+
+    def close(self) -> None:
+        with self._turn:
+            _TXC.site_close(self._site)
+
+    # ---- steps
+
+    def touch(self, places: Sequence[int], version: int) -> None:
+        """Gives these places a version. A long step lets go of the lock now and then; no page reads its middle, since none reads the present. How long an
+        event takes depends on how many results it closes, so that its rows become fewer or more."""
+        body, at = str(version).encode(), 0
+        while at < len(places):
+            some = places[at:at + self._rows]
+            with self._turn:
+                begun = time.perf_counter()
+                self._put(some, body)
+                took = time.perf_counter() - begun
+            at += len(some)
+            if took > _LONG:
+                self._rows = max(_LEAST_ROWS, self._rows // 2)
+            elif took < _SHORT and len(some) == self._rows:
+                self._rows = min(_MOST_ROWS, self._rows * 2)
+
+    def _put(self, places: Sequence[int], body: bytes) -> None:
+        site, txn, table, row = self._at, c.c_uint64(), c.c_uint8(), c.c_uint32()
+        words = _NO_GROUP, c.c_char_p(body), c.c_size_t(len(body))
+        _do(_TXC.begin_write, site, txn)
+        try:
+            for place in places:
+                table.value, row.value = place % _TABLES, place // _TABLES
+                number = _PUT(site, txn, table, row, *words)
+                if number:
+                    raise _error(_TXC.put, number)
+            _do(_TXC.commit_write, site, txn, self._stamp_at)
+        except BaseException:
+            _TXC.abort(site, txn)
+            raise
+
+    def pin(self, moment: int) -> int:
+        """Pins the newest state, as of this moment. Returns its stamp."""
+        stamp = c.c_uint32()
+        with self._turn:
+            _do(_TXC.pin, self._site, moment, stamp)
+        return stamp.value
+
+    def keep(self, before: int) -> int:
+        """Lets go what no page can read any more once the pins before a moment are retired. Returns the stamp below which nothing is read."""
+        kept = _calls.Kept()
+        with self._turn:
+            _do(_TXC.keep, self._site, before, 0, kept)
+        return kept.horizon
+
+    def totals(self) -> Totals:
+        """Returns what is cached in all."""
+        totals = _Totals()
+        with self._turn:
+            _do(_TXC.site_totals, self._site, totals)
+        return Totals(totals.entries, totals.bytes, totals.trimmed)
+
+    def trim(self, most: int) -> None:
+        """Drops the results that were used longest ago, until the values of the others have at most `most` bytes in all. It lets go of the lock now and
+        then."""
+        dropped, found = c.c_size_t(), self.totals()
+        step = max(1, found.bytes * _TRIMMED // max(1, found.entries))
+        for left in [*range(found.bytes - step, most, -step), most] if found.bytes > most else ():
+            with self._turn:
+                _do(_TXC.site_trim, self._site, left, dropped)
+
+    # ---- pages
+
+    def begin(self, now: int, staleness: int, at_least: int) -> Optional[c.c_uint64]:
+        """Begins a page at the pins of these bounds. Returns its number; None if there is no such pin, and then no page is begun."""
+        txn = c.c_uint64()
+        with self._turn:
+            _do(_TXC.begin, self._at, now, staleness, at_least, txn)
+            number = _MEMBER_AT(self._at, txn, _FIRST, self._stamp_at, self._moment_at)
+            if number == DONE:
+                return txn
+            _TXC.abort(self._at, txn)
+        if number != MISS:
+            raise _error(_TXC.member_at, number)
+        return None
+
+    def member(self, txn: c.c_uint64, at: int) -> Optional[Member]:
+        """Returns a member, counted from the newest; None past the last."""
+        with self._turn:
+            number = _TXC.member_at(self._at, txn, at, self._stamp_at, self._moment_at)
+            if number == DONE:
+                return Member(self._stamp.value, self._moment.value)
+        if number != MISS:
+            raise _error(_TXC.member_at, number)
+        return None
+
+    def read_stamp(self, txn: c.c_uint64) -> Optional[int]:
+        """Returns the stamp at which the page's next query runs; None where it would pin the present."""
+        with self._turn:
+            number = _READ_STAMP(self._at, txn, self._stamp_at)
+            if number == DONE:
+                return self._stamp.value
+        if number != MISS:
+            raise _error(_TXC.read_stamp, number)
+        return None
+
+    @staticmethod
+    def key(level: int, digest: bytes) -> CallKey:
+        """Returns the call of a function's level and a digest."""
+        return CallKey(level, digest)
+
+    def call(self, txn: c.c_uint64, key: CallKey) -> Optional[bytes]:
+        """Returns the value of a call; None where its function is to be computed."""
+        turn = self._turn  # by hand, since it is most of what a hit does
+        while not turn.acquire(False):
+            time.sleep(_NAP)
+        try:
+            number = _CALL(self._at, txn, key.at, self._buffer, self._room, self._size_at)
+            if number == NO_ROOM:
+                number = self._told_once_more(txn)
+            if number == DONE or number == ANSWERED:
+                return self._buffer[:self._size.value]
+        finally:
+            turn.release()
+        if number == COMPUTE:
+            return None
+        raise _error(_TXC.call, number)
+
+    def _told_once_more(self, txn: c.c_uint64) -> int:
+        """Has the value that was too long for the buffer be told again, with a longer one."""
+        self._room.value = min(MAX_VALUE_LEN, 2 * self._size.value)
+        self._buffer = c.create_string_buffer(self._room.value)
+        return _TXC.answer(self._at, txn, self._buffer, self._room, self._size)
+
+    def ask(self, txn: c.c_uint64, place: int) -> None:
+        """Asks for the version of a place: what the function that the page computes gives depends on it from then on."""
+        query = self._query
+        with self._turn:
+            query.table, query.first = place % _TABLES, place // _TABLES
+            number = _QUERY_ROWS(self._at, txn, self._query_at, self._size_at)
+        if number != ANSWERED:
+            raise _error(_TXC.query_rows, number)
+
+    def finish(self, txn: c.c_uint64, data: bytes) -> None:
+        """Says what the function that the page computes gives. It is not told once more: there is no room."""
+        with self._turn:
+            number = _TXC.finish(self._at, txn, data, len(data), None, 0, self._size_at)
+        if number not in (DONE, ANSWERED, NO_ROOM):
+            raise _error(_TXC.finish, number)
+
+    def give_up(self, txn: c.c_uint64) -> None:
+        """Gives up the open call, with the calls around it, if there is one."""
+        with self._turn:
+            _TXC.give_up(self._site, txn)
+
+    def commit(self, txn: c.c_uint64) -> Tuple[int, Optional[Member]]:
+        """Ends a page. Returns how many answers it had, and the pin at which all are right."""
+        receipt = self._receipt
+        with self._turn:
+            _do(_COMMIT, self._at, txn, self._receipt_at)
+            return receipt.answers, Member(receipt.stamp, receipt.moment) if receipt.has_pin else None
+
+    def abort(self, txn: c.c_uint64) -> None:
+        with self._turn:
+            _TXC.abort(self._site, txn)
+
+
+class Places:
+    """The places of tags, by a hash, at most `MAX_PLACES`; their numbers go in the order of first use, since a row at the end of a table is cheap."""
+
+    def __init__(self) -> None:
+        self._numbers: Dict[int, int] = {}
+        self._lock = threading.Lock()
+
+    def __len__(self) -> int:
+        return len(self._numbers)
+
+    def of(self, tag: str) -> int:
+        slot = hash(tag) % MAX_PLACES
+        found = self._numbers.get(slot)
+        if found is None:
+            with self._lock:
+                found = self._numbers.setdefault(slot, len(self._numbers))
+        return found
+
+    def all_of(self, tags: Iterable[str]) -> Sequence[int]:
+        return sorted({self.of(it) for it in tags})

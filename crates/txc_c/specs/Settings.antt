@@ -1,0 +1,43 @@
+-- How a site is made, as it crosses.
+use Rattle.std.specs.Prelude.{◌==◌, ◌&&◌, ℕ, Bool, nat_le, if◌then◌else◌, Option, Some, None}
+use Rattle.txc_node.specs.declared.node.TheConstants.{MAX_CAPACITY, MAX_RECENT}
+use Rattle.txc_stream.specs.declared.row.TheConstants.{MAX_CAPACITY as MAX_EVENTS}
+use Rattle.txc_shared.specs.declared.settings.NodeSettings.{NodeSettings}
+use Rattle.txc_c.specs.declared.site_settings.TheConstants.{EVENTS_END, CAPACITY_END, RECENT_END, RENEW_AFTER_END, SIZE_END}
+use Rattle.txc_c.specs.declared.site_settings.TxcSiteSettings.{TxcSiteSettings}
+
+-- what a field says that ends there: 0 if it does not lie whole in the size
+abbrev pub said : ℕ → ℕ → ℕ → ℕ
+said size end_at value = if nat_le end_at size then value else 0
+
+-- what a field comes to that has a default
+abbrev pub or_default : ℕ → ℕ → ℕ
+or_default default value = if value == 0 then default else value
+
+abbrev pub stored_events_of : TxcSiteSettings → ℕ
+stored_events_of s = said s.size EVENTS_END s.events
+
+abbrev pub capacity_of : TxcSiteSettings → ℕ
+capacity_of s = or_default MAX_CAPACITY (said s.size CAPACITY_END s.capacity)
+
+abbrev pub recent_of : TxcSiteSettings → ℕ
+recent_of s = or_default MAX_RECENT (said s.size RECENT_END s.recent)
+
+abbrev pub renew_after_of : TxcSiteSettings → ℕ
+renew_after_of s = said s.size RENEW_AFTER_END s.renew_after
+
+-- for how many events there is room, if they are stored
+abbrev pub room_for_events : ℕ → Option ℕ
+room_for_events events = if events == 0 then None else Some events
+
+abbrev pub room_of : TxcSiteSettings → Option ℕ
+room_of s = room_for_events (stored_events_of s)
+
+-- the node of a site
+abbrev pub site_node_of : TxcSiteSettings → NodeSettings
+site_node_of s = record { number = 0; capacity = capacity_of s; recent = recent_of s }
+
+-- the size is that of a struct that the library knows, and each field is within its limit
+abbrev pub are_settings : TxcSiteSettings → Bool
+are_settings s = (nat_le SIZE_END s.size && nat_le s.size RENEW_AFTER_END)
+    && (nat_le (stored_events_of s) MAX_EVENTS && (nat_le (capacity_of s) MAX_CAPACITY && nat_le (recent_of s) MAX_RECENT))

@@ -1,0 +1,44 @@
+-- What a trim of a site's node comes to, and what is told of the node.
+use Rattle.std.specs.Prelude.{◌≡◌, ℕ, Result, Ok, Err}
+use Rattle.txc_shared.specs.declared.error.NodeError.{NodeError}
+use Rattle.txc_caller.specs.Ports.{totals_of, CallerTrimTransition}
+use Rattle.txc_caller.specs.Reading.{CallerValue}
+use Rattle.txc_caller.specs.declared.nodes.NodeTotals.{NodeTotals}
+use Rattle.txc_crossing.specs.declared.numbers.TheConstants.{DONE}
+use Rattle.txc_c.specs.Keeping.{node_number}
+use Rattle.txc_c.specs.Sites.{SiteValue}
+use Rattle.txc_c.specs.Totals.{crossing_totals}
+use Rattle.txc_c.specs.declared.totals.TxcTotals.{TxcTotals}
+
+-- ---- a trim
+
+abbrev pub trim_number : Result ℕ NodeError → ℕ
+trim_number (Ok count) = DONE
+trim_number (Err error) = node_number error
+
+abbrev pub trim_told : Result ℕ NodeError → ℕ → ℕ
+trim_told (Ok count) was = count
+trim_told (Err error) was = was
+
+-- the node keeps the longest prefix of its entries whose values have at most so many bytes in all, and it is told how many entries
+-- it dropped; or it refuses, and nothing is told
+pub record HasTrimmedNode (most was is : ℕ) (old : CallerValue) (number : ℕ) (new : CallerValue) : Type 0 where
+  pub trimmed : Result ℕ NodeError
+  pub leads : CallerTrimTransition most old.ports.node new.ports.node trimmed
+  pub same : new ≡ record old { ports = record old.ports { node = new.ports.node } }
+  pub number_is : number ≡ trim_number trimmed
+  pub told : is ≡ trim_told trimmed was
+
+-- whatever is open stays so
+abbrev pub TrimComesTo : ℕ → ℕ → ℕ → SiteValue → ℕ → SiteValue → Type 0
+TrimComesTo most was is old number new =
+    HasTrimmedNode most was is old.caller number new.caller × (new ≡ record old { caller = new.caller })
+
+-- ---- what the node holds
+
+abbrev pub crossing_node_totals : NodeTotals → TxcTotals
+crossing_node_totals totals = crossing_totals totals.entries totals.bytes totals.trimmed
+
+-- the entries of the node, the bytes of their values in all, and the entries that its trims have dropped
+abbrev pub TotalsTold : TxcTotals → SiteValue → ℕ → Type 0
+TotalsTold totals s number = (number ≡ DONE) × (totals ≡ crossing_node_totals (totals_of s.caller.ports.node))

@@ -1,0 +1,109 @@
+//! How a site is made, as it crosses.
+ghost use Rattle.std.specs.Prelude.{◌≡◌};
+ghost use Rattle.txc_c.specs.Settings.{are_settings, capacity_of, stored_events_of, site_node_of, or_default, recent_of, renew_after_of, room_for_events, room_of, said};
+
+use txc_node::{MAX_CAPACITY, MAX_RECENT};
+use txc_shared::NodeSettings;
+use txc_stream::MAX_CAPACITY as MAX_EVENTS;
+
+// Where the fields end, of which the first is the size.
+pub(crate) const SIZE_END: usize = 8;
+
+pub(crate) const EVENTS_END: usize = 16;
+
+pub(crate) const CAPACITY_END: usize = 24;
+
+pub(crate) const RECENT_END: usize = 32;
+
+pub(crate) const RENEW_AFTER_END: usize = 40;
+
+/// How a site is made. What lies beyond its size is 0, and a field that is 0 has its default.
+#[repr(C)]
+#[derive(Clone, Copy)]
+pub struct TxcSiteSettings {
+    pub size: usize,
+    pub events: usize,
+    pub capacity: usize,
+    pub recent: usize,
+    pub renew_after: u64,
+}
+
+// The value, or its default.
+fn or_default(default: usize, value: usize) -> usize
+    ensures { result ≡ or_default default value }
+{
+    if value == 0 { default } else { value }
+}
+
+// For how many events there is to be room, if they are stored.
+fn room_in(events: usize) -> Option<usize>
+    ensures { result ≡ room_for_events events }
+{
+    if events == 0 { None } else { Some(events) }
+}
+
+impl TxcSiteSettings {
+    // What a field says that ends there.
+    fn said(&self, end: usize, value: usize) -> usize
+        ensures { result ≡ said self.now.size end value }
+    {
+        if end <= self.size { value } else { 0 }
+    }
+
+    fn events(&self) -> usize
+        ensures { result ≡ stored_events_of self.now }
+    {
+        self.said(EVENTS_END, self.events)
+    }
+
+    fn capacity(&self) -> usize
+        ensures { result ≡ capacity_of self.now }
+    {
+        or_default(MAX_CAPACITY, self.said(CAPACITY_END, self.capacity))
+    }
+
+    fn recent(&self) -> usize
+        ensures { result ≡ recent_of self.now }
+    {
+        or_default(MAX_RECENT, self.said(RECENT_END, self.recent))
+    }
+
+    /// Returns for how many events there is to be room, if they are stored.
+    pub(crate) fn room(&self) -> Option<usize>
+        ensures { result ≡ room_of self.now }
+    {
+        room_in(self.events())
+    }
+
+    /// Returns the settings of the node.
+    pub(crate) fn node(&self) -> NodeSettings
+        ensures { result ≡ site_node_of self.now }
+    {
+        NodeSettings {
+            number: 0,
+            capacity: self.capacity(),
+            recent: self.recent(),
+        }
+    }
+
+    /// Returns after how many milliseconds a pin is renewed.
+    pub(crate) fn renew_after(&self) -> u64
+        ensures { result ≡ renew_after_of self.now }
+    {
+        if RENEW_AFTER_END <= self.size {
+            self.renew_after
+        } else {
+            0
+        }
+    }
+
+    /// Returns whether a site may be made so.
+    pub(crate) fn are_settings(&self) -> bool
+        ensures { result ≡ are_settings self.now }
+    {
+        let is_known = SIZE_END <= self.size && self.size <= RENEW_AFTER_END;
+        is_known
+            && (self.events() <= MAX_EVENTS
+                && (self.capacity() <= MAX_CAPACITY && self.recent() <= MAX_RECENT))
+    }
+}

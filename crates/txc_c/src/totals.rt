@@ -1,0 +1,30 @@
+//! What a node holds in all, for callers in C.
+ghost use Rattle.std.specs.Prelude.{◌≡◌};
+ghost use Rattle.txc_c.specs.Totals.{crossing_totals};
+
+/// How many entries a node holds, how many bytes their values have in all, and how many entries trims have dropped.
+#[repr(C)]
+#[derive(Clone, Copy)]
+pub struct TxcTotals {
+    pub entries: usize,
+    pub bytes: usize,
+    pub trimmed: u64,
+}
+
+impl TxcTotals {
+    /// The struct of these totals. If more entries were dropped than a `u64` counts, it tells the greatest one.
+    pub(crate) fn of(entries: usize, bytes: usize, trimmed: u128) -> TxcTotals
+        ensures { result ≡ crossing_totals entries bytes trimmed }
+    {
+        let trimmed = if trimmed > u64::MAX as u128 {
+            u64::MAX
+        } else {
+            trimmed as u64
+        };
+        TxcTotals {
+            entries,
+            bytes,
+            trimmed,
+        }
+    }
+}

@@ -1,0 +1,40 @@
+-- Pins of the newest state that no transaction uses yet.
+use Rattle.std.specs.Prelude.{◌≡◌, ℕ}
+use Rattle.txc_cushion.specs.Entries.{with_entry}
+use Rattle.txc_cushion.specs.Refusals.{IsAddable, IsAddRefused}
+use Rattle.txc_cushion.specs.declared.error.AddError.{AddError}
+use Rattle.txc_db.specs.Calls.{IsLeft, IsPinnable, IsPinRefused}
+use Rattle.txc_db.specs.DatabaseValue.{after_pin, after_unpin, newest}
+use Rattle.txc_db.specs.declared.error.DbError.{DbError}
+use Rattle.txc_caller.specs.Ports.{CallerPorts}
+use Rattle.txc_caller.specs.declared.pinning.PinError.{PinError}
+use Rattle.txc_caller.specs.declared.pinning.PinError.TheVariants.{Database, Pincushion}
+
+-- A pin of that moment is one event more, and the database holds its stamp, which is the newest. The pincushion has it, and no
+-- transaction uses it. The node is as it was.
+pub record HasPinnedNewest (moment : ℕ) (old : CallerPorts) (stamp : ℕ) (new : CallerPorts) : Type 0 where
+  pub could : IsPinnable old.database 0
+  pub stamp_is : stamp ≡ newest new.database
+  pub addable : IsAddable old.cushion stamp
+  pub database : new.database ≡ after_pin old.database moment
+  pub entries : new.cushion.entries
+      ≡ with_entry (record { pin = record { stamp = stamp; moment = moment }; users = 0 }) old.cushion.entries
+  pub node : new.node ≡ old.node
+
+-- the database refused the pin
+pub record HasRefusedEvent (old : CallerPorts) (error : DbError) (new : CallerPorts) : Type 0 where
+  pub refused : IsPinRefused old.database 0 error
+  pub left_so : IsLeft old.database new.database error
+  pub same : new ≡ record old { database = new.database }
+
+-- The pincushion refused it. The event has happened, and its hold is taken away. The pincushion and the node are as they were.
+pub record HasRefusedUnusedPin (moment : ℕ) (old : CallerPorts) (error : AddError) (new : CallerPorts) : Type 0 where
+  pub could : IsPinnable old.database 0
+  pub refused : IsAddRefused old.cushion (newest (after_pin old.database moment)) error
+  pub unheld : new.database ≡ after_unpin (after_pin old.database moment) (newest (after_pin old.database moment))
+  pub same : new ≡ record old { database = new.database }
+
+-- why there is no pin, and what that leaves
+abbrev pub HasNotPinned : ℕ → CallerPorts → PinError → CallerPorts → Type 0
+HasNotPinned moment old (Database error) new = HasRefusedEvent old error new
+HasNotPinned moment old (Pincushion error) new = HasRefusedUnusedPin moment old error new

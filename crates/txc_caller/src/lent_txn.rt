@@ -1,0 +1,194 @@
+//! A transaction that only reads, whose caller runs the functions of its calls: one request or one ask after another.
+ghost use Rattle.std.specs.Prelude.{◌≡◌, ◌≤◌, None, Some};
+ghost use Rattle.std.specs.Option.{ForSome};
+ghost use Rattle.txc_app.specs.Eval.{Next};
+ghost use Rattle.txc_tags.specs.declared.key.TheConstants.{LAST_FUNCTION};
+ghost use Rattle.txc_call.specs.Running.{NeedsFunction};
+ghost use Rattle.txc_ports.specs.Fronts.{front_of_reply};
+ghost use Rattle.txc_txn.specs.ByHand.{ObjectsLeft};
+ghost use Rattle.txc_tags.specs.Keys.{Call};
+ghost use Rattle.txc_app.specs.declared.ask.Ask.TheVariants as asks;
+ghost use Rattle.txc_registry.specs.Objects.{numbers_of, AllIdle, Objects};
+ghost use Rattle.txc_told.specs.Steps.{objects_after_ask};
+ghost use Rattle.txc_caller.specs.Telling.{AsksNext};
+
+use std::alloc::Global;
+use std::marker::{Model, PhantomData};
+use txc_app::{App, Ask};
+use txc_node::Value;
+use txc_ports::{PortReply, PortRequest, Turn};
+use txc_stamp::Stamp;
+use txc_tags::Key;
+use txc_told::Told;
+use txc_txn::{Left, Receipt, TxnCore};
+
+/// A core, with the objects that a registry would have for its functions. In the history that it has seen, its pin set means
+/// what it says.
+pub(crate) struct LentTxn<A: App> {
+    core: TxnCore,
+    told: Told,
+    of: PhantomData<A>,
+}
+
+// Not derived: a derived one is proved again in each crate above.
+impl<A: App> Drop for LentTxn<A> {
+    fn drop(self) {
+        let LentTxn {
+            core: _,
+            told: _,
+            of: _,
+        } = self;
+    }
+}
+
+impl<A: App> Model for LentTxn<A> {
+    ghost use Rattle.txc_txn.specs.Core.{value_of};
+    ghost use Rattle.txc_txn.specs.Kept.{txn_value, TxnValue};
+    ghost use Rattle.txc_caller.specs.Reading.{IsLent};
+
+    ghost Value = { TxnValue };
+
+    ghost view = { λ t. txn_value (value_of t.core) t.told.objects };
+
+    ghost invariant = { λ t. IsLent A.next (txn_value (value_of t.core) t.told.objects) };
+}
+
+// Leaves the objects as they are, unless the call ended without a value: then none runs.
+fn settle(turn: &Option<Turn<PortRequest, Value>>, told: &mut Told)
+    ensures left { ObjectsLeft told.old.objects turn.now told.new.objects }
+    ensures functions { numbers_of told.new.objects ≡ numbers_of told.old.objects }
+{
+    if let Some(Turn::Ended(Err(_))) = turn {
+        *told = told.idled();
+    }
+}
+
+impl<A: App> LentTxn<A> {
+    ghost use Rattle.txc_txn.specs.ByHand.{HasAskedByHand, HasGoneOnByHand};
+    ghost use Rattle.txc_txn.specs.Core.{left_pin, receipt_pin, value_of, CoreHolds, Explains, IsAnswered, IsCore, IsIdle};
+    ghost use Rattle.txc_txn.specs.Kept.{HasBegunCall, IsShownRight};
+    ghost use Rattle.txc_caller.specs.Reading.{IsLent};
+
+    /// Returns a transaction that has begun with this core.
+    pub(crate) fn new(core: TxnCore) -> LentTxn<A>
+        requires fits { (next : Next) (objects : Objects) → AllIdle objects → IsCore next objects (value_of core) }
+        requires holds { (next : Next) (objects : Objects)
+            → CoreHolds next (value_of core).seen.history objects (value_of core) }
+        requires idle { IsIdle (value_of core) }
+        requires nodes { (value_of core).nodes ≡ 1 }
+        ensures core { result.core ≡ value_of core }
+        ensures idle { AllIdle result.objects }
+        ensures lent { IsLent A.next result }
+    {
+        LentTxn {
+            core,
+            told: Told::new(),
+            of: PhantomData,
+        }
+    }
+
+    /// Returns its core.
+    pub(crate) fn core(&self) -> &TxnCore
+        ensures { value_of result.now ≡ self.now.core }
+    {
+        &self.core
+    }
+
+    /// What is true of every such transaction. It does nothing when it runs.
+    pub(crate) fn is_lent(&self)
+        ensures { IsLent A.next self.now }
+    {
+        let _core = &self.core;
+    }
+
+    /// Begins a call.
+    pub(crate) fn start(&mut self, key: Key) -> Turn<PortRequest, Value>
+        requires { IsIdle self.old.core }
+        ensures begun { HasBegunCall self.old key self.new result }
+        ensures objects { ObjectsLeft self.old.objects (Some result) self.new.objects }
+    {
+        let _function = key.function();
+        self.core.start_by_hand(key)
+    }
+
+    /// Goes on with the reply to what it asked, which is right in the history that it shows.
+    pub(crate) fn hear(
+        &mut self,
+        alloc: Global,
+        reply: PortReply,
+    ) -> Option<Turn<PortRequest, Value>>
+        requires reply { IsAnswered self.old.core reply }
+        requires row { ForSome (front_of_reply reply) (λ front. front.events ≡ self.old.core.seen.events) }
+        requires right { IsShownRight A.next self.old reply }
+        ensures gone_on { HasGoneOnByHand self.old.core reply self.new.core result }
+        ensures objects { ObjectsLeft self.old.objects result self.new.objects }
+        ensures functions { numbers_of self.new.objects ≡ numbers_of self.old.objects }
+    {
+        let turn = self.core.hear(alloc, reply);
+        settle(&turn, &mut self.told);
+        turn
+    }
+
+    /// Takes the ask of the function that is to begin or to continue.
+    pub(crate) fn ran(&mut self, alloc: Global, ask: Ask) -> Option<Turn<PortRequest, Value>>
+        requires runs { NeedsFunction self.old.core.call.need }
+        requires none { self.old.core.pinning ≡ None }
+        requires asks { AsksNext A.next self.old.objects self.old.core.call ask }
+        requires there { (k : Call) → ask ≡ asks.Call k → k.function ≤ LAST_FUNCTION }
+        ensures asked { HasAskedByHand A.next.limits self.old.core ask self.new.core result }
+        ensures objects { ObjectsLeft (objects_after_ask self.old.objects self.old.core.call ask) result
+            self.new.objects }
+        ensures functions { numbers_of self.new.objects ≡ numbers_of self.old.objects }
+    {
+        let after = self.told.ran(self.core.machine(), &ask);
+        let limits = A::limits();
+        let turn = self.core.ran(limits, alloc, ask);
+        self.told = after;
+        settle(&turn, &mut self.told);
+        turn
+    }
+
+    /// Gives the open call up, if one is. No pin is under way.
+    pub(crate) fn give_up(&mut self)
+        requires { self.old.core.pinning ≡ None }
+        ensures idle { IsIdle self.new.core }
+        ensures objects { AllIdle self.new.objects }
+        ensures functions { numbers_of self.new.objects ≡ numbers_of self.old.objects }
+        ensures same { self.new.core ≡ record self.old.core { call = self.new.core.call } }
+    {
+        let _none = self.core.give_up_by_hand();
+        self.told = self.told.idled();
+    }
+
+    /// Ends the transaction, and returns what explains its answers, and the pins to be given back, by their stamps. It does not
+    /// allocate.
+    pub(crate) fn finish(self) -> (Receipt, Vec<Stamp>)
+        requires { IsIdle self.core }
+        ensures answers { result.0.answers.items ≡ self.core.recorded }
+        ensures pin { result.0.pin ≡ receipt_pin self.core.recorded self.core.pins.members }
+        ensures explained { Explains A.next result.0.seen.history self.core.bounds result.0.pin
+            result.0.answers.items }
+        ensures seen { result.0.seen ≡ self.core.seen }
+        ensures give_back { result.1.items ≡ self.core.taken }
+    {
+        let LentTxn {
+            core,
+            told: _,
+            of: _,
+        } = self;
+        core.finish()
+    }
+
+    /// Gives the transaction up, in the middle of a call too, and returns what is left to be done. It does not allocate.
+    pub(crate) fn cancel(self) -> Left
+        ensures give_back { result.give_back.items ≡ self.core.taken }
+        ensures unpin { result.unpin ≡ left_pin self.core.pinning }
+    {
+        let LentTxn {
+            core,
+            told: _,
+            of: _,
+        } = self;
+        core.cancel_by_hand()
+    }
+}
