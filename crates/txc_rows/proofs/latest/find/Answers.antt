@@ -6,7 +6,7 @@ use Rattle.txc_rows.specs.Stored.{version_shown}
 use Rattle.txc_rows.specs.Kept.{latest_in}
 use Rattle.txc_rows.proofs.Listed.{many_listed}
 use Rattle.txc_rows.proofs.FindLemmas.{read_finding, read_few}
-use Rattle.txc_rows.proofs.store.find.Goals as goal
+use Rattle.txc_rows.proofs.latest.find.Goals as goal
 
 pub returns-clause-finds : goal.returns-clause-finds
 returns-clause-finds c =

@@ -4,7 +4,7 @@ use Rattle.txc_rows.specs.Placed.{version_of}
 use Rattle.txc_rows.specs.Stored.{placed_from}
 use Rattle.txc_rows.specs.Kept.{latest_in}
 use Rattle.txc_rows.proofs.FindLemmas.{row_finding, row_few, row_many, row_among}
-use Rattle.txc_rows.proofs.store.find_row.Goals as goal
+use Rattle.txc_rows.proofs.latest.find_row.Goals as goal
 
 pub returns-then-len-most-clause-refused : goal.returns-then-len-most-clause-refused
 returns-then-len-most-clause-refused c = λ _.

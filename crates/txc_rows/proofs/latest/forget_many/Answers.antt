@@ -1,5 +1,5 @@
 use Rattle.std.proofs.Common.{arith}
-use Rattle.txc_rows.proofs.store.forget_many.Goals as goal
+use Rattle.txc_rows.proofs.latest.forget_many.Goals as goal
 
 pub returns-clause-among : goal.returns-clause-among
 returns-clause-among c = λ latest before. rw c.clear.ensures.items tt
