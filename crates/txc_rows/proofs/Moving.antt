@@ -24,7 +24,7 @@ use Rattle.txc_rows.proofs.ChangeSteps.{removed_all}
 keys_permuted : (xs ys : List Placed) → IsPermutation xs ys → HaveOwnKeys xs → HaveOwnKeys ys
 keys_permuted xs ys same own =
     (pairs_permuted (λ x y. has_key x.version.row.table x.version.row.id x.version.row.group y ≡ false)
-    (λ x y off. key_turned y.version.row.table y.version.row.id y.version.row.group x.version.row.table x.version.row.id x.version.row.group ∙ off) xs ys same).1 own
+    (λ x y off. key_turned x.version.row.table x.version.row.id x.version.row.group y.version.row.table y.version.row.id y.version.row.group ∙ off) xs ys same).1 own
 
 one_permuted : (xs ys : List Placed) → IsPermutation xs ys → IsAscending IsOneCurrent xs → IsAscending IsOneCurrent ys
 one_permuted xs ys same one = (pairs_permuted IsOneCurrent one_turned xs ys same).1 one
@@ -91,8 +91,8 @@ module _ (t i s place : ℕ) (low : s ≤ MOST_STAMP) (latest replaced new_lates
   rest_apart : AreWellPlaced m.rest (replaced ++ gone)
   rest_apart = record {
     places = own_places_permuted _ _ whole ended_are.apart.places;
-    keys = (parts _ was m.rest (keys_permuted latest (was ++ m.rest) m.before apart.keys)).1.0;
-    current = (parts IsOneCurrent was m.rest (one_permuted latest (was ++ m.rest) m.before apart.current)).1.0;
+    keys = (parts _ was m.rest (keys_permuted latest (was ++ m.rest) m.before apart.keys)).1;
+    current = (parts IsOneCurrent was m.rest (one_permuted latest (was ++ m.rest) m.before apart.current)).1;
     ended = all-append (λ x. x.version.died ≢ None) replaced gone apart.ended (ended_now m.was m.at);
     each = all-permutation (λ x. IsStorable x.version) _ _ whole ended_are.apart.each;
   }

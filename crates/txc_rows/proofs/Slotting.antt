@@ -1,5 +1,5 @@
 -- Current versions in slots: what a change makes of them, and what is found in them.
-use Rattle.std.proofs.Common.{◌≡◌, ◌≢◌, ℕ, ◌<◌, ◌≤◌, ◌==◌, List, [], ◌∷◌, ◌++◌, map, filter, option_to_list, Bool, true, false, cond, not, ◌&&◌, nat_le, Option, Some, None, refl, sym, ap, subst, ◌∙◌, append_assoc, arith}
+use Rattle.std.proofs.Common.{◌≡◌, ◌≢◌, ℕ, ◌+◌, ◌<◌, ◌≤◌, ◌==◌, List, [], ◌∷◌, ◌++◌, map, filter, length, option_to_list, Bool, true, false, cond, not, ◌&&◌, nat_le, Option, Some, None, is_none, refl, sym, ap, subst, ◌∙◌, append_assoc, length-append, arith}
 use Rattle.std.proofs.lemmas.Bool.Decides.{nat_tests}
 use borrow.Author.Tests.{eqb-true}
 use Rattle.std.specs.Option.{MatchOption}
@@ -10,17 +10,22 @@ use Rattle.std.specs.Ordering.{nat_cmp, ordering_then, is_eq, is_le, is_lt}
 use Rattle.std.specs.declared.cmp.Ordering.TheVariants.{Equal}
 use Rattle.std.specs.BTreeMap.Range.{range_contains}
 use Rattle.std.specs.declared.ops.Bound.TheVariants.{Included}
-use Rattle.std.proofs.lemmas.List.{map-append}
+use Rattle.std.proofs.lemmas.List.{map-append, length-map}
 use Rattle.std.proofs.lemmas.List.Elements.{filter-append}
 use Rattle.std.proofs.lemmas.List.Sorted.{IsPermutation-refl, IsPermutation-trans, IsPermutation-sym, IsPermutation-map, IsPermutation-append_right}
-use Rattle.sqlite_trees.proofs.ListLemmas.{map-map, filter-map, filter_all, filter_none, filter_same, all_both, all_weaker, all-append, all-filter, all-map, all-permutation, flat_map-map, flat_map_same, IsPermutation-filter, IsPermutation-flat_map}
+use Rattle.sqlite_trees.proofs.ListLemmas.{map-map, filter-map, filter_all, filter_none, filter_same, all_of, all_both, all_weaker, all-append, all-filter, all-map, all-permutation, flat_map-map, flat_map_same, IsPermutation-filter, IsPermutation-flat_map}
 use Rattle.txc_slots.specs.declared.slots.SlotKey.{SlotKey}
 use Rattle.txc_slots.specs.Slots.{key_cmp, is_key, held_at, held, Changes}
 use Rattle.txc_slots.proofs.SlotLemmas.{key_exact, key_itself, held_found}
 use Rattle.txc_rows.specs.States.{is_at}
 use Rattle.txc_rows.specs.Holdable.{IsStorable}
 use Rattle.txc_rows.specs.declared.placed.Placed.{Placed}
-use Rattle.txc_rows.specs.Placed.{closed_placed}
+use Rattle.txc_rows.specs.declared.query.Query.{Query}
+use Rattle.txc_rows.specs.declared.query.Query.TheVariants.{ById, ByGroup, All, Range}
+use Rattle.txc_rows.specs.declared.version.Versioned.{Versioned}
+use Rattle.txc_rows.specs.Versions.{suits}
+use Rattle.txc_rows.specs.Placed.{version_of, is_left, left_from, placed_left, closed_placed}
+use Rattle.txc_rows.specs.Kept.{IsFinding}
 use Rattle.txc_rows.specs.Slotted.{row_key, group_key, row_slot, group_slot, in_slots, row_between, in_group_of, AreCurrent, Moves}
 use Rattle.txc_rows.proofs.Members.{both_true, passing}
 use Rattle.txc_rows.proofs.PutLemmas.{all_front, all_back}
@@ -58,18 +63,18 @@ groups_apart t i x y here off = go (is_key (group_slot x) (group_slot y)) refl
 
 -- ---- one slot is marked
 
+abbrev other : SlotKey → SlotKey → Bool
+other k l = not (is_key k l)
+
+others_kept : (k : SlotKey) (ks : List SlotKey) → AllByRecursion (λ l. is_key k l ≡ false) ks → filter (other k) ks ≡ ks
+others_kept k ks off = filter_all (other k) ks (all_weaker _ _ (λ l e. rw e refl) ks off)
+
 module _ {V : Type 0} where
-  abbrev keys : List (SlotKey × V) → List SlotKey
+  abbrev pub keys : List (SlotKey × V) → List SlotKey
   keys ps = map (λ p. p.0) ps
 
   module _ (k : SlotKey) where
-    abbrev other : SlotKey → Bool
-    other l = not (is_key k l)
-
-    others_kept : (ks : List SlotKey) → AllByRecursion (λ l. is_key k l ≡ false) ks → filter other ks ≡ ks
-    others_kept ks off = filter_all other ks (all_weaker _ _ (λ l e. rw e refl) ks off)
-
-    own_left : (o : Option V) → filter other (keys (held_at k o)) ≡ []
+    own_left : (o : Option V) → filter (other k) (keys (held_at k o)) ≡ []
     own_left None = refl
     own_left (Some v) = rw (key_itself k) refl
 
@@ -77,12 +82,12 @@ module _ {V : Type 0} where
     marked : (value : Option V) (old new : List (SlotKey × Option V)) (mine ks : List SlotKey) → Changes k value old new → AllByRecursion (λ l. is_key k l ≡ true) mine → AllByRecursion (λ l. is_key k l ≡ false) ks
         → IsPermutation (mine ++ ks) (keys (held old)) → IsPermutation (keys (held_at k value) ++ ks) (keys (held new))
     marked value old new mine ks h own off same =
-        let left : filter other (mine ++ ks) ≡ ks = filter-append other mine ks ∙ ap (λ ls. ls ++ filter other ks) (filter_none other mine (all_weaker _ _ (λ l e. rw e refl) mine own)) ∙ others_kept ks off in
+        let left : filter (other k) (mine ++ ks) ≡ ks = filter-append (other k) mine ks ∙ ap (λ ls. ls ++ filter (other k) ks) (filter_none (other k) mine (all_weaker _ _ (λ l e. rw e refl) mine own)) ∙ others_kept k ks off in
         let rest_off : AllByRecursion (λ l. is_key k l ≡ false) (keys h.rest) = all-map (λ l. is_key k l ≡ false) (λ (p : SlotKey × V). p.0) h.rest h.others in
-        let right : filter other (keys (held_at k h.was ++ h.rest)) ≡ keys h.rest
-        = ap (filter other) (map-append (λ (p : SlotKey × V). p.0) (held_at k h.was) h.rest) ∙ filter-append other (keys (held_at k h.was)) (keys h.rest) ∙ ap (λ ls. ls ++ filter other (keys h.rest)) (own_left h.was) ∙ others_kept (keys h.rest) rest_off in
+        let right : filter (other k) (keys (held_at k h.was ++ h.rest)) ≡ keys h.rest
+        = ap (filter (other k)) (map-append (λ (p : SlotKey × V). p.0) (held_at k h.was) h.rest) ∙ filter-append (other k) (keys (held_at k h.was)) (keys h.rest) ∙ ap (λ ls. ls ++ filter (other k) (keys h.rest)) (own_left h.was) ∙ others_kept k (keys h.rest) rest_off in
         let before : IsPermutation (mine ++ ks) (keys (held_at k h.was ++ h.rest)) = IsPermutation-trans _ _ _ same (IsPermutation-map (λ (p : SlotKey × V). p.0) _ _ h.before) in
-        let rest : IsPermutation ks (keys h.rest) = subst (λ l. IsPermutation l (keys h.rest)) left (subst (IsPermutation (filter other (mine ++ ks))) right (IsPermutation-filter other _ _ before)) in
+        let rest : IsPermutation ks (keys h.rest) = subst (λ l. IsPermutation l (keys h.rest)) left (subst (IsPermutation (filter (other k) (mine ++ ks))) right (IsPermutation-filter (other k) _ _ before)) in
         let after : IsPermutation (keys (held_at k value) ++ keys h.rest) (keys (held new))
         = subst (λ l. IsPermutation l (keys (held new))) (map-append (λ (p : SlotKey × V). p.0) (held_at k value) h.rest) (IsPermutation-map (λ (p : SlotKey × V). p.0) _ _ (IsPermutation-sym _ _ h.after)) in
         IsPermutation-trans _ _ _ (IsPermutation-append_right (keys (held_at k value)) _ _ rest) after
@@ -142,8 +147,15 @@ module _ {V : Type 0} (t i s : ℕ) (mark : V) (rows rows_then : List (SlotKey �
       go None keyed = tt
       go (Some x) keyed = (at_slot t i x keyed.0, tt)
 
-  pub moves : (replaced : List Placed) → Moves t i s came (in_slots rows) (in_slots rows_then) replaced (replaced ++ map (closed_placed t i s) (option_to_list was))
+  moves : (replaced : List Placed) → Moves t i s came (in_slots rows) (in_slots rows_then) replaced (replaced ++ map (closed_placed t i s) (option_to_list was))
   moves replaced = record { was = was; rest = rest; at = was_at; off = rest_off; before = before; after = after; replaced_are = refl }
+
+  pub moves_so : (replaced new : List Placed) → new ≡ replaced ++ map (λ x. closed_placed x.version.row.table x.version.row.id s x) (option_to_list was) → Moves t i s came (in_slots rows) (in_slots rows_then) replaced new
+  moves_so replaced new are = subst (λ xs. Moves t i s came (in_slots rows) (in_slots rows_then) replaced xs) (sym (are ∙ ap (λ xs. replaced ++ xs) (go was was_at))) (moves replaced)
+    where
+      go : (o : Option Placed) → AllByRecursion (λ x. is_at t i x.version.row ≡ true) (option_to_list o) → map (λ x. closed_placed x.version.row.table x.version.row.id s x) (option_to_list o) ≡ map (closed_placed t i s) (option_to_list o)
+      go None at = refl
+      go (Some x) at = let same = same_at t i x.version.row.table x.version.row.id at.0 in rw (same.0, same.1) refl
 
   -- ---- what is kept of them
 
@@ -198,7 +210,7 @@ high_end : is_lt (nat_cmp 0 0) ≡ false
 high_end = refl
 
 module _ (t a b : ℕ) where
-  abbrev within : SlotKey → Bool
+  abbrev pub within : SlotKey → Bool
   within = range_contains key_cmp (Included (row_key t a)) (Included (row_key t b))
 
   within_is : (x : Placed) → within (row_slot x) ≡ row_between t a b x
@@ -208,15 +220,19 @@ module _ (t a b : ℕ) where
   found_rows [] keyed = refl
   found_rows (e ∷ es) keyed = go e.1 (all_front _ (held_at e.0 e.1) (held es) keyed) (within e.0) refl (found_rows es (all_back _ (held_at e.0 e.1) (held es) keyed))
     where
-      abbrev rest : List (SlotKey × Option Placed)
-      rest = filter (λ f. within f.0) es
-
-      go : (o : Option Placed) → AllByRecursion (λ p. p.0 ≡ row_slot p.1) (held_at e.0 o) → (c : Bool) → within e.0 ≡ c → in_slots rest ≡ filter (row_between t a b) (in_slots es)
-          → in_slots (cond c ((e.0, o) ∷ rest) rest) ≡ filter (row_between t a b) (map (λ (p : SlotKey × Placed). p.1) (held_at e.0 o ++ held es))
+      go : (o : Option Placed) → AllByRecursion (λ p. p.0 ≡ row_slot p.1) (held_at e.0 o) → (c : Bool) → within e.0 ≡ c → in_slots (filter (λ f. within f.0) es) ≡ filter (row_between t a b) (in_slots es)
+          → in_slots (cond c ((e.0, o) ∷ filter (λ f. within f.0) es) (filter (λ f. within f.0) es)) ≡ filter (row_between t a b) (map (λ (p : SlotKey × Placed). p.1) (held_at e.0 o ++ held es))
       go None keyed true is more = more
       go None keyed false is more = more
       go (Some x) keyed true is more = let on : row_between t a b x ≡ true = sym (within_is x) ∙ subst (λ l. within l ≡ true) keyed.0 is in rw on (ap (λ xs. x ∷ xs) more)
       go (Some x) keyed false is more = let on : row_between t a b x ≡ false = sym (within_is x) ∙ subst (λ l. within l ≡ false) keyed.0 is in rw on more
+
+none_row : (t a b u n : ℕ) → b < a → ((u == t) && (nat_le a n && nat_le n b)) ≡ false
+none_row t a b u n low = grind (arith, nat_tests)
+
+pub none_between : (t a b : ℕ) → b < a → (xs : List Placed) → filter (row_between t a b) xs ≡ []
+none_between t a b low [] = refl
+none_between t a b low (x ∷ xs) = rw (none_row t a b x.version.row.table x.version.row.id low) (none_between t a b low xs)
 
 -- ---- and by table and group
 
@@ -234,11 +250,24 @@ none_there None none = refl
 none_there (Some None) none = refl
 none_there (Some (Some x)) none = absurd (none x refl)
 
+pub gathered_first : {V : Type 0} (rows : List (SlotKey × Option Placed)) (t : ℕ) (k : SlotKey) (o : Option V) (es : List (SlotKey × Option V)) (x : Placed) → is_none o ≡ false → lookup (is_key (row_key t k.id)) rows ≡ Some (Some x)
+    → gathered rows t (keys (held ((k, o) ∷ es))) ≡ x ∷ gathered rows t (keys (held es))
+gathered_first rows t k None es x some found = absurd (let e = some in cc)
+gathered_first rows t k (Some v) es x some found = rw found refl
+
+-- more than there may be
+pub many_left : (most : ℕ) (old found : List Versioned) (x : Placed) (rest all : List Placed) → found ++ map version_of (x ∷ rest) ≡ old ++ map version_of all → length found ≡ most → most < length old + length all
+many_left most old found x rest all same full =
+    omega (arith, full, ap length same, length-append found (map version_of (x ∷ rest)), length-append old (map version_of all), length-map rest version_of, length-map all version_of)
+
 low_id : (n : ℕ) → is_le (nat_cmp 0 n) ≡ true
 low_id n = grind (arith, nat_tests)
 
 high_id : (n : ℕ) → n ≤ 4294967295 → is_lt (nat_cmp 4294967295 n) ≡ false
 high_id n low = grind (arith, nat_tests)
+
+abbrev pub found_keys : {V : Type 0} → ℕ → ℕ → List (SlotKey × Option Placed) → List (SlotKey × Option V) → List Placed
+found_keys t g rows groups = gathered rows t (map (λ p. p.0) (held (filter (λ e. range_contains key_cmp (Included (group_key t g 0)) (Included (group_key t g 4294967295)) e.0) groups)))
 
 module _ (t g : ℕ) where
   abbrev pub in_range : SlotKey → Bool
@@ -254,11 +283,8 @@ module _ (t g : ℕ) where
   group_keys [] low = refl
   group_keys {V} (e ∷ es) low = go e.1 low (in_range e.0) refl (group_keys es)
     where
-      abbrev rest : List (SlotKey × Option V)
-      rest = filter (λ f. in_range f.0) es
-
-      go : (o : Option V) → AllByRecursion (λ l. l.id ≤ 4294967295) (keys (held_at e.0 o ++ held es)) → (c : Bool) → in_range e.0 ≡ c → (AllByRecursion (λ l. l.id ≤ 4294967295) (keys (held es)) → keys (held rest) ≡ filter of_group (keys (held es)))
-          → keys (held (cond c ((e.0, o) ∷ rest) rest)) ≡ filter of_group (keys (held_at e.0 o ++ held es))
+      go : (o : Option V) → AllByRecursion (λ l. l.id ≤ 4294967295) (keys (held_at e.0 o ++ held es)) → (c : Bool) → in_range e.0 ≡ c → (AllByRecursion (λ l. l.id ≤ 4294967295) (keys (held es)) → keys (held (filter (λ f. in_range f.0) es)) ≡ filter of_group (keys (held es)))
+          → keys (held (cond c ((e.0, o) ∷ filter (λ f. in_range f.0) es) (filter (λ f. in_range f.0) es))) ≡ filter of_group (keys (held_at e.0 o ++ held es))
       go None low true is more = more low
       go None low false is more = more low
       go (Some v) low true is more = let on : of_group e.0 ≡ true = sym (range_is e.0 low.0) ∙ is in rw on (ap (λ xs. e.0 ∷ xs) (more low.1))
@@ -288,3 +314,47 @@ module _ (t g : ℕ) where
         let asked : IsPermutation (map group_slot asked_rows) (filter of_group (keys (held groups))) = subst (λ l. IsPermutation l (filter of_group (keys (held groups)))) (filter-map of_group group_slot (in_slots rows)) (IsPermutation-filter of_group _ _ h.grouped) in
         let ranged : IsPermutation (map group_slot asked_rows) (keys (held (filter (λ e. in_range e.0) groups))) = rw (group_keys groups low) asked in
         subst (λ l. IsPermutation l (gathered rows t (keys (held (filter (λ e. in_range e.0) groups))))) all_gathered (IsPermutation-flat_map _ _ _ ranged)
+
+-- ---- the same slots
+
+pub current_same : {V : Type 0} (rows rows_then : List (SlotKey × Option Placed)) (groups groups_then : List (SlotKey × Option V)) → held rows_then ≡ held rows → held groups_then ≡ held groups → AreCurrent rows groups → AreCurrent rows_then groups_then
+current_same rows rows_then groups groups_then rows_same groups_same h = record { keyed = rw rows_same h.keyed; alive = rw rows_same h.alive; grouped = rw (rows_same, groups_same) h.grouped }
+
+-- ---- what a query finds in them
+
+pub alive_left : (from : ℕ) (xs : List Placed) → AllByRecursion (λ x. x.version.died ≡ None) xs → left_from from (map version_of xs) ≡ map version_of xs
+alive_left from [] alive = refl
+alive_left from (x ∷ xs) alive = let on : is_left from x.version ≡ true = rw alive.0 refl in rw on (ap (λ vs. x.version ∷ vs) (alive_left from xs alive.1))
+
+pub alive_placed : (from : ℕ) (xs : List Placed) → AllByRecursion (λ x. x.version.died ≡ None) xs → placed_left from xs ≡ xs
+alive_placed from [] alive = refl
+alive_placed from (x ∷ xs) alive = let on : is_left from x.version ≡ true = rw alive.0 refl in rw on (ap (λ ys. x ∷ ys) (alive_placed from xs alive.1))
+
+module _ (q : Query) (p : Placed → Bool) (xs : List Placed) (agree : AllByRecursion (λ x. p x ≡ suits q x.version) xs) where
+  suited : filter (suits q) (map version_of xs) ≡ map version_of (filter p xs)
+  suited = filter-map (suits q) version_of xs ∙ ap (map version_of) (sym (filter_same p (λ x. suits q x.version) xs agree))
+
+  pub slots_finding : AllByRecursion (λ x. x.version.died ≡ None) xs → (from : ℕ) (more : List Placed) → IsPermutation (filter p xs) more → (old new : List Versioned) → new ≡ old ++ map version_of more → IsFinding q from xs old new
+  slots_finding alive from more same old new are = record {
+    more = map version_of more;
+    same = rw (alive_left from xs alive, suited) (IsPermutation-map version_of _ _ same);
+    are = are;
+  }
+
+  pub slots_many : (most n : ℕ) → most < n + length (filter p xs) → most < n + length (filter (suits q) (map version_of xs))
+  slots_many most n many = omega (arith, many, ap length suited, length-map (filter p xs) version_of)
+
+pub agree_id : (t i : ℕ) (xs : List Placed) → AllByRecursion (λ x. row_between t i i x ≡ suits (ById t i) x.version) xs
+agree_id t i xs = all_of (λ x. row_between t i i x ≡ suits (ById t i) x.version) (λ x. between_one t i x.version.row.table x.version.row.id) xs
+
+pub agree_group : (t g : ℕ) (xs : List Placed) → AllByRecursion (λ x. in_group_of t g x ≡ suits (ByGroup t g) x.version) xs
+agree_group t g xs = all_of (λ x. in_group_of t g x ≡ suits (ByGroup t g) x.version) (λ x. refl) xs
+
+pub agree_range : (t a b : ℕ) (xs : List Placed) → AllByRecursion (λ x. row_between t a b x ≡ suits (Range t a b) x.version) xs
+agree_range t a b xs = all_of (λ x. row_between t a b x ≡ suits (Range t a b) x.version) (λ x. refl) xs
+
+any_id : (t u n : ℕ) → n ≤ 4294967295 → ((u == t) && (nat_le 0 n && nat_le n 4294967295)) ≡ (u == t)
+any_id t u n low = grind (arith, nat_tests)
+
+pub agree_all : (t : ℕ) (xs : List Placed) → AllByRecursion (λ x. IsStorable x.version) xs → AllByRecursion (λ x. row_between t 0 4294967295 x ≡ suits (All t) x.version) xs
+agree_all t xs each = all_weaker (λ x. IsStorable x.version) (λ x. row_between t 0 4294967295 x ≡ suits (All t) x.version) (λ x is. any_id t x.version.row.table x.version.row.id is.row.id) xs each

@@ -6,11 +6,11 @@ use Rattle.txc_rows.specs.declared.placed.Placed.{Placed}
 use Rattle.txc_rows.specs.Kept.{latest_in, IsKept}
 
 -- the last versions in a table or in slots
-abbrev pub last_of : Kind → List Placed
-last_of (Table h) = latest_in h
-last_of (Slots xs) = xs
+abbrev pub latest_of : Kind → List Placed
+latest_of (Table h) = latest_in h
+latest_of (Slots xs) = xs
 
 -- a table is kept
-abbrev pub IsLatest : Kind → Type 0
-IsLatest (Table h) = IsKept h
-IsLatest (Slots xs) = ⊤
+abbrev pub IsLatestKept : Kind → Type 0
+IsLatestKept (Table h) = IsKept h
+IsLatestKept (Slots xs) = ⊤

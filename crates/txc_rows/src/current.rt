@@ -1,6 +1,6 @@
 //! The last versions of a store without SQLite: the current ones alone, in slots by table and id, and by table and group.
 
-ghost use Rattle.std.specs.Prelude.{◌≡◌, ◌≢◌, ◌++◌, ◌+◌, ◌<◌, ◌≤◌, ◌^◌, ℕ, [], true, None, Some, Err, length, map, filter, IfOk, IfErr, OnOk, OnErr, MatchOption};
+ghost use Rattle.std.specs.Prelude.{◌≡◌, ◌≢◌, ◌++◌, ◌∷◌, ◌+◌, ◌<◌, ◌≤◌, ◌^◌, ℕ, [], true, None, Some, Err, length, map, filter, IfOk, IfErr, OnOk, OnErr, MatchOption};
 ghost use Rattle.std.specs.List.{AllByRecursion};
 ghost use Rattle.std.specs.Map.{lookup};
 ghost use Rattle.std.specs.List.Sorted.{IsPermutation};
@@ -379,6 +379,8 @@ fn add_group(
     ensures refused { result ≡ Err StoreError.TooManyRows
         → most < length found.old.items + length (filter (in_group_of table group) (in_slots slots.now.rows.entries)) }
 {
+    // The rows stand in the order of their keys, as any map's.
+    let _count = slots.rows.len();
     let low = group_key(table, group, 0);
     let high = group_key(table, group, u32::MAX);
     for (key, slot) in slots.groups.range(low..=high) {
@@ -409,7 +411,9 @@ impl Current {
     /// None of them has died.
     pub(crate) fn note_alive(&self)
         ensures { AllByRecursion (λ x. x.version.died ≡ None) self.now }
-    {}
+    {
+        let _ = &self.slots;
+    }
 
     /// The versions that match are added to the found ones, which may be so many.
     pub(crate) fn find(

@@ -48,13 +48,13 @@ pub(crate) struct Latest {
 impl Model for Latest {
     ghost use Rattle.std.specs.Prelude.{List};
     ghost use Rattle.txc_rows.specs.declared.placed.Placed.{Placed};
-    ghost use Rattle.txc_rows.specs.Lasting.{last_of, IsLatest};
+    ghost use Rattle.txc_rows.specs.Lasting.{latest_of, IsLatestKept};
 
     ghost Value = { List Placed };
 
-    ghost view = { λ a. last_of a.kind };
+    ghost view = { λ a. latest_of a.kind };
 
-    ghost invariant = { λ a. IsLatest a.kind };
+    ghost invariant = { λ a. IsLatestKept a.kind };
 }
 
 // ---- the table
