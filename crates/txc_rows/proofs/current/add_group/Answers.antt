@@ -36,7 +36,7 @@ returns-in_err-add_one-clause-refused c = λ many.
     = ap (λ es. gathered rows t (keys (held es))) head ∙ gathered_first rows t c.in-Some.key.now c.in-Some.slot.now c.next.new.self x some at in
     let more = many_left c.args.most c.args.found.now.items c.loop-key.found.items x (gathered rows t (keys (held c.next.new.self))) (found_keys t c.args.group rows groups)
     (ap (λ xs. c.loop-key.found.items ++ map version_of xs) (sym first) ∙ c.loop-key.invariant.found) full in
-    omega (arith, more, length_permutation _ _ (found_group t c.args.group rows groups c.requires.current c.len.ensures.ordered c.requires.each))
+    omega (arith, more, length_permutation _ _ (found_group t c.args.group rows groups c.requires.current c.len-count.ensures.ordered c.requires.each))
 
 pub returns-clause-found : goal.returns-clause-found
 returns-clause-found c =
@@ -46,4 +46,4 @@ returns-clause-found c =
     let found = c.loop-key.found.items in
     let are : found ≡ c.args.found.now.items ++ map version_of (found_keys t c.args.group rows groups)
     = sym (append-nil found) ∙ ap (λ es. found ++ map version_of (gathered rows t (keys (held es)))) (sym c.in-None.ensures.steps.0) ∙ c.loop-key.invariant.found in
-    (found_keys t c.args.group rows groups, found_group t c.args.group rows groups c.requires.current c.len.ensures.ordered c.requires.each, are)
+    (found_keys t c.args.group rows groups, found_group t c.args.group rows groups c.requires.current c.len-count.ensures.ordered c.requires.each, are)
