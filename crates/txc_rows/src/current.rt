@@ -131,7 +131,12 @@ fn new_version(alloc: Global, row: &Row, stamp: Stamp, place: u32) -> Result<Pla
 // ---- one change
 
 /// The slot of the version in its group, if there is a version, is taken or vacant from now on.
-fn mark(slots: &mut Slots, log: &mut Log, one: &Option<Placed>, value: Option<()>) -> Result<(), Error>
+fn mark(
+    slots: &mut Slots,
+    log: &mut Log,
+    one: &Option<Placed>,
+    value: Option<()>,
+) -> Result<(), Error>
     ensures marks { OnOk result (MatchOption one.now (slots.new.groups.entries ≡ slots.old.groups.entries)
         (λ x. Changes (group_slot x) value slots.old.groups.entries slots.new.groups.entries)) }
     ensures back { undone log.new.groups.items slots.new.groups.entries ≡ undone log.old.groups.items slots.old.groups.entries }
@@ -140,7 +145,12 @@ fn mark(slots: &mut Slots, log: &mut Log, one: &Option<Placed>, value: Option<()
     let Some(placed) = one else {
         return Ok(());
     };
-    let Ok(()) = change(&mut slots.groups, &mut log.groups, group_slot(placed), value) else {
+    let Ok(()) = change(
+        &mut slots.groups,
+        &mut log.groups,
+        group_slot(placed),
+        value,
+    ) else {
         return Err(out_of_memory());
     };
     Ok(())
@@ -213,7 +223,16 @@ fn write_change(
             let Ok(new) = new_version(alloc, row, stamp, place) else {
                 return Err(out_of_memory());
             };
-            move_version(slots, log, replaced, alloc, row.table(), row.id(), Some(new), stamp)
+            move_version(
+                slots,
+                log,
+                replaced,
+                alloc,
+                row.table(),
+                row.id(),
+                Some(new),
+                stamp,
+            )
         }
         Change::Remove(table, id) => {
             let _number = stamp.number();
@@ -232,7 +251,10 @@ fn make_slots(slots: &mut Slots, net: &[Change]) -> Result<(), AllocError>
     for change in net {
         make(&mut slots.rows, row_key(change.table(), change.id()))?;
         if let Change::Put(row) = change {
-            make(&mut slots.groups, group_key(row.table(), row.group(), row.id()))?;
+            make(
+                &mut slots.groups,
+                group_key(row.table(), row.group(), row.id()),
+            )?;
         }
     }
     Ok(())
@@ -246,7 +268,10 @@ fn drop_slots(slots: &mut Slots, net: &[Change])
     for change in net {
         drop_vacant(&mut slots.rows, row_key(change.table(), change.id()));
         if let Change::Put(row) = change {
-            drop_vacant(&mut slots.groups, group_key(row.table(), row.group(), row.id()));
+            drop_vacant(
+                &mut slots.groups,
+                group_key(row.table(), row.group(), row.id()),
+            );
         }
     }
 }
@@ -432,7 +457,14 @@ impl Current {
     {
         match *query {
             Query::ById(table, id) => add_rows(&self.slots, alloc, table, id, id, most, found),
-            Query::ByGroup(table, group) => add_group(&self.slots, alloc, table, group, most, found),
+            Query::ByGroup(table, group) => add_group(
+                &self.slots,
+                alloc,
+                table,
+                group,
+                most,
+                found,
+            ),
             Query::All(table) => add_rows(&self.slots, alloc, table, 0, u32::MAX, most, found),
             Query::Range(table, first, last) => {
                 add_rows(&self.slots, alloc, table, first, last, most, found)
@@ -462,7 +494,15 @@ impl Current {
             rows: Vec::new(alloc),
             groups: Vec::new(alloc),
         };
-        match try_write(&mut self.slots, &mut log, replaced, alloc, net, stamp, place) {
+        match try_write(
+            &mut self.slots,
+            &mut log,
+            replaced,
+            alloc,
+            net,
+            stamp,
+            place,
+        ) {
             Ok(()) => {
                 self.settle(log);
                 Ok(())

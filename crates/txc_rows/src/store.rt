@@ -67,11 +67,7 @@ fn place_after(place: u32, more: usize) -> Result<u32, sqlite::Error>
 }
 
 /// Makes a table of last versions anew without what died before the stamp, where that is as much as what is left.
-fn sweep(
-    latest: &mut Latest,
-    counts: &mut Counts,
-    from: u32,
-) -> Result<(), sqlite::Error>
+fn sweep(latest: &mut Latest, counts: &mut Counts, from: u32) -> Result<(), sqlite::Error>
     requires { AllByRecursion (λ x. IsStorable x.version) latest.old }
     ensures swept { OnOk result (AreSwept from latest.old latest.new) }
     ensures unchanged { OnErr result (latest.new ≡ latest.old) }

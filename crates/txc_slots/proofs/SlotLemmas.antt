@@ -1,5 +1,5 @@
 -- What changes of slots make of what they hold.
-use Rattle.std.proofs.Common.{◌≡◌, ℕ, List, [], ◌∷◌, ◌++◌, map, option_to_list, Bool, true, false, cond, Option, Some, None, refl, sym, ap, subst, ◌∙◌, append_assoc, arith}
+use Rattle.std.proofs.Common.{◌≡◌, ◌≢◌, ℕ, List, [], ◌∷◌, ◌++◌, Bool, true, false, cond, Option, Some, None, refl, sym, ap, subst, ◌∙◌, append_assoc, arith}
 use Rattle.std.proofs.lemmas.Bool.Decides.{nat_tests}
 use Rattle.std.specs.declared.cmp.Ordering.{Ordering}
 use Rattle.std.specs.declared.cmp.Ordering.TheVariants.{Less, Equal, Greater}
@@ -186,3 +186,18 @@ module _ {V : Type 0} where
       all-append _ (held_at e.0 e.1) (held es) (first_found e.0 e.1 es)
       (both (λ p. is_key p.0 e.0 ≡ false) (λ p. lookup (is_key p.0) es ≡ Some (Some p.1)) (λ p. lookup (is_key p.0) (e ∷ es) ≡ Some (Some p.1)) (λ p off found. rw off found) (held es)
       (apart_after e.0 es (sorted_head key_cmp e.0 (keys_of es) sorted)) (held_found es (sorted_tail key_cmp e.0 (keys_of es) sorted)))
+
+-- ---- vacant slots
+
+-- what is vacant after a removal was so before
+pub still_vacant : {V : Type 0} (b : Bool) (old new : Option (Option V)) → new ≡ cond b None old → new ≡ Some None → old ≡ Some None
+still_vacant true old new is vacant = absurd (let e : None ≡ Some None = sym is ∙ vacant in let f = e in cc)
+still_vacant false old new is vacant = sym is ∙ vacant
+
+-- none of these keys is vacant
+abbrev pub NoneVacant : {V : Type 0} → List (SlotKey × Option V) → List (SlotKey × Option V) → Type 0
+NoneVacant cs es = AllByRecursion (λ c. lookup (is_key c.0) es ≢ Some None) cs
+
+pub still_none : {V : Type 0} (cs old new : List (SlotKey × Option V)) → ((k : SlotKey) → lookup (is_key k) new ≡ Some None → lookup (is_key k) old ≡ Some None) → NoneVacant cs old → NoneVacant cs new
+still_none [] old new more all = tt
+still_none (c ∷ cs) old new more all = ((λ e. all.0 (more c.0 e)), still_none cs old new more all.1)

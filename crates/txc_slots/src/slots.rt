@@ -1,4 +1,5 @@
 ghost use Rattle.std.specs.Prelude.{◌≡◌, ◌≢◌, ◌++◌, ◌∷◌, [], None, Some, IfOk, OnOk, OnErr, MatchOption};
+ghost use Rattle.std.specs.List.{AllByRecursion};
 ghost use Rattle.std.specs.Map.{lookup, set_value};
 ghost use Rattle.txc_slots.specs.Slots.{held, is_key, undone, Changes};
 
@@ -83,6 +84,7 @@ pub fn take_back<V: Drop>(
 pub fn drop_vacant<V: Drop>(slots: &mut BTreeMap<SlotKey, Option<V>>, key: SlotKey)
     ensures same { held slots.new.entries ≡ held slots.old.entries }
     ensures gone { lookup (is_key key) slots.new.entries ≢ Some None }
+    ensures no_more { (k : _) → lookup (is_key k) slots.new.entries ≡ Some None → lookup (is_key k) slots.old.entries ≡ Some None }
 {
     if let Some(None) = slots.get(&key) {
         slots.remove(&key);
@@ -90,13 +92,12 @@ pub fn drop_vacant<V: Drop>(slots: &mut BTreeMap<SlotKey, Option<V>>, key: SlotK
 }
 
 /// Lets go of what was noted, and drops the slots that the changes left vacant.
-pub fn settle<V: Drop>(
-    slots: &mut BTreeMap<SlotKey, Option<V>>,
-    mut log: Vec<(SlotKey, Option<V>)>,
-)
-    ensures { held slots.new.entries ≡ held slots.old.entries }
+pub fn settle<V: Drop>(slots: &mut BTreeMap<SlotKey, Option<V>>, mut log: Vec<(SlotKey, Option<V>)>)
+    ensures same { held slots.new.entries ≡ held slots.old.entries }
+    ensures gone { AllByRecursion (λ c. lookup (is_key c.0) slots.new.entries ≢ Some None) log.items }
 {
-    while let Some((key, _)) = log.pop() {
+    while let Some((key, old)) = log.pop() {
+        drop(old);
         drop_vacant(slots, key);
     }
 }

@@ -1,4 +1,4 @@
-use Rattle.std.proofs.Common.{◌≡◌, None, Option, Some, is_some, false, true, sym, ap, ◌∙◌, rules}
+use Rattle.std.proofs.Common.{◌≡◌, None, Option, Some, is_some, false, ap, ◌∙◌, rules}
 use Rattle.std.specs.Map.{lookup}
 use Rattle.txc_slots.specs.Slots.{held, is_key}
 use Rattle.txc_slots.proofs.SlotLemmas.{held_made}
