@@ -341,8 +341,8 @@ module _ (q : Query) (p : Placed → Bool) (xs : List Placed) (agree : AllByRecu
     are = are;
   }
 
-  pub slots_many : (most n : ℕ) → most < n + length (filter p xs) → most < n + length (filter (suits q) (map version_of xs))
-  slots_many most n many = omega (arith, many, ap length suited, length-map (filter p xs) version_of)
+  pub slots_many : AllByRecursion (λ x. x.version.died ≡ None) xs → (from most n : ℕ) → most < n + length (filter p xs) → most < n + length (filter (suits q) (left_from from (map version_of xs)))
+  slots_many alive from most n many = omega (arith, many, ap (λ vs. length (filter (suits q) vs)) (alive_left from xs alive), ap length suited, length-map (filter p xs) version_of)
 
 pub agree_id : (t i : ℕ) (xs : List Placed) → AllByRecursion (λ x. row_between t i i x ≡ suits (ById t i) x.version) xs
 agree_id t i xs = all_of (λ x. row_between t i i x ≡ suits (ById t i) x.version) (λ x. between_one t i x.version.row.table x.version.row.id) xs

@@ -433,9 +433,9 @@ impl Current {
         }
     }
 
-    /// None of them has died.
-    pub(crate) fn note_alive(&self)
-        ensures { AllByRecursion (λ x. x.version.died ≡ None) self.now }
+    /// None has died, so that from each stamp on all of them are left.
+    pub(crate) fn note_left(&self)
+        ensures { (from : _) → IsPermutation (placed_left from self.now) self.now }
     {
         let _ = &self.slots;
     }
@@ -450,10 +450,10 @@ impl Current {
     ) -> Result<(), StoreError>
         requires each { AllByRecursion (λ x. IsStorable x.version) self.now }
         requires few { length found.old.items ≤ most }
-        ensures finds { OnOk result (IsFinding query.now 0 self.now found.old.items found.new.items) }
+        ensures finds { (from : _) → OnOk result (IsFinding query.now from self.now found.old.items found.new.items) }
         ensures few { OnOk result (length found.new.items ≤ most) }
-        ensures refused { result ≡ Err StoreError.TooManyRows
-            → most < length found.old.items + length (filter (suits query.now) (map version_of self.now)) }
+        ensures refused { (from : _) → result ≡ Err StoreError.TooManyRows
+            → most < length found.old.items + length (filter (suits query.now) (left_from from (map version_of self.now))) }
     {
         match *query {
             Query::ById(table, id) => add_rows(&self.slots, alloc, table, id, id, most, found),

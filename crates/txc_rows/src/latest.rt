@@ -166,6 +166,86 @@ fn find_known(
     }
 }
 
+// ---- the same, by what is in the table
+
+fn leave_out(conn: &mut Connection<MemStore>, from: u32) -> Result<usize, sqlite::Error>
+    requires { IsKept conn.old }
+    ensures kept { IsKept conn.new }
+    ensures left { OnOk result (IsPermutation (placed_left from (latest_in conn.old)) (latest_in conn.new)) }
+    ensures unchanged { OnErr result (latest_in conn.new ≡ latest_in conn.old) }
+{
+    rebuild(conn, from)
+}
+
+fn find_in(
+    conn: &mut Connection<MemStore>,
+    query: &Query,
+    from: u32,
+    most: usize,
+    found: &mut Vec<Versioned>,
+) -> Result<(), StoreError>
+    requires kept { IsKept conn.old }
+    requires few { length found.old.items ≤ most }
+    requires most { most ≤ MOST_MATCHING }
+    ensures kept { IsKept conn.new }
+    ensures same { latest_in conn.new ≡ latest_in conn.old }
+    ensures finds { OnOk result (IsFinding query.now from (latest_in conn.old) found.old.items found.new.items) }
+    ensures few { OnOk result (length found.new.items ≤ most) }
+    ensures refused { result ≡ Err StoreError.TooManyRows
+        → most < length found.old.items + length (filter (suits query.now) (left_from from (map version_of (latest_in conn.old)))) }
+{
+    find(conn, query, from, most, found)
+}
+
+fn find_known_in(
+    conn: &mut Connection<MemStore>,
+    known: &mut Vec<Placed>,
+    alloc: Global,
+    query: &Query,
+    from: u32,
+    most: usize,
+    found: &mut Vec<Versioned>,
+) -> Result<(), StoreError>
+    requires kept { IsKept conn.old }
+    requires known { AreAmong (latest_in conn.old) known.old.items }
+    requires few { length found.old.items ≤ most }
+    requires most { most ≤ MOST_MATCHING }
+    ensures kept { IsKept conn.new }
+    ensures same { latest_in conn.new ≡ latest_in conn.old }
+    ensures known { AreAmong (latest_in conn.old) known.new.items }
+    ensures few_known { length known.old.items ≤ MOST_KNOWN + MOST_MATCHING
+        → length known.new.items ≤ MOST_KNOWN + MOST_MATCHING }
+    ensures finds { OnOk result (IsFinding query.now from (latest_in conn.old) found.old.items found.new.items) }
+    ensures few { OnOk result (length found.new.items ≤ most) }
+    ensures refused { result ≡ Err StoreError.TooManyRows
+        → most < length found.old.items + length (filter (suits query.now) (left_from from (map version_of (latest_in conn.old)))) }
+{
+    find_known(conn, known, alloc, query, from, most, found)
+}
+
+fn write(
+    conn: &mut Connection<MemStore>,
+    replaced: &mut Replaced,
+    known: &mut Vec<Placed>,
+    alloc: Global,
+    net: &[Change],
+    stamp: Stamp,
+    place: u32,
+) -> Result<Written, sqlite::Error>
+    requires kept { IsKept conn.old }
+    requires apart { AreWellPlaced (latest_in conn.old) replaced.old }
+    requires below { AreBelow place (latest_in conn.old ++ replaced.old) }
+    requires room { place + length net.now < 2 ^ 32 }
+    requires known { AreAmong (latest_in conn.old) known.old.items }
+    ensures kept { IsKept conn.new }
+    ensures all { OnOk result (AreAll (after_net stamp net.now (versions_of replaced.old (latest_in conn.old)))
+        (place + length net.now) replaced.new (latest_in conn.new)) }
+    ensures unchanged { OnErr result (latest_in conn.new ≡ latest_in conn.old) }
+    ensures replaced { OnErr result (replaced.new ≡ replaced.old) }
+{
+    write_all(conn, replaced, known, alloc, net, stamp, place)
+}
+
 // ---- either
 
 impl Latest {
@@ -195,9 +275,9 @@ impl Latest {
         ensures unchanged { OnErr result (self.new ≡ self.old) }
     {
         match &mut self.kind {
-            Kind::Table(conn) => rebuild(conn, from),
+            Kind::Table(conn) => leave_out(conn, from),
             Kind::Slots(current) => {
-                current.note_alive();
+                current.note_left();
                 Ok(0)
             }
         }
@@ -222,11 +302,8 @@ impl Latest {
             → most < length found.old.items + length (filter (suits query.now) (left_from from (map version_of self.old))) }
     {
         match &mut self.kind {
-            Kind::Table(conn) => find(conn, query, from, most, found),
-            Kind::Slots(current) => {
-                current.note_alive();
-                current.find(alloc, query, most, found)
-            }
+            Kind::Table(conn) => find_in(conn, query, from, most, found),
+            Kind::Slots(current) => current.find(alloc, query, most, found),
         }
     }
 
@@ -254,11 +331,8 @@ impl Latest {
             → most < length found.old.items + length (filter (suits query.now) (left_from from (map version_of self.old))) }
     {
         match &mut self.kind {
-            Kind::Table(conn) => find_known(conn, known, alloc, query, from, most, found),
-            Kind::Slots(current) => {
-                current.note_alive();
-                current.find(alloc, query, most, found)
-            }
+            Kind::Table(conn) => find_known_in(conn, known, alloc, query, from, most, found),
+            Kind::Slots(current) => current.find(alloc, query, most, found),
         }
     }
 
@@ -283,7 +357,7 @@ impl Latest {
         ensures replaced { OnErr result (replaced.new ≡ replaced.old) }
     {
         match &mut self.kind {
-            Kind::Table(conn) => write_all(conn, replaced, known, alloc, net, stamp, place),
+            Kind::Table(conn) => write(conn, replaced, known, alloc, net, stamp, place),
             Kind::Slots(current) => {
                 current.write(replaced, alloc, net, stamp, place)?;
                 Ok(Written::NOTHING)
