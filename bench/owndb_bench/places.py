@@ -18,7 +18,8 @@ PLACES, STEPS, TAGS, KEPT = (4096, 16_384, 65_536), 64, 500, 16
 
 
 def row(places: int) -> str:
-    from hour import TimedLock, resident_mb
+    from owndb_bench.held import TimedLock
+    from owndb_bench.hour import resident_mb
 
     from txcache._versions import Turn, Versions
 
@@ -36,14 +37,14 @@ def row(places: int) -> str:
         if step % 8 == 7:
             versions.keep(max(0, step - KEPT))
         took += time.process_time() - begun
-    memory, longest = resident_mb(os.getpid()) - before, lock.longest_work
+    memory, longest = resident_mb(os.getpid()) - before, max(it.computed for it in lock.by_section.values())
     versions.close()
-    return f"| {places:,} | {took / STEPS / TAGS * 1e6:.1f} µs | {longest * 1e3:.1f} ms | {memory:.0f} MB |"
+    return f"| {places:,} | {took / STEPS / TAGS * 1e6:.1f} µs | {longest:.1f} ms | {memory:.0f} MB |"
 
 
 def main() -> None:
     os.environ["TXC_LIBRARY"] = os.path.abspath(sys.argv[1]) if len(sys.argv) > 1 else f"{ROOT}/bindings/out"
-    sys.path[:0] = [f"{ROOT}/bindings/python", os.path.dirname(os.path.abspath(__file__))]
+    sys.path[:0] = [f"{ROOT}/bindings/python", f"{ROOT}/bench"]
     print("| Places of tags | A changed tag | Longest under the lock | Memory |\n|---|---|---|---|")
     for places in PLACES:  # each in a process of its own, so that its memory is its own
         sys.stdout.flush()
