@@ -1,81 +1,67 @@
-"""A lock that knows where it was held for how long, and what its holder did meanwhile."""
+"""For how long the library's calls keep the interpreter's lock, which is the only one that all threads of a cache want: each call's longest time."""
 
-import gc
+import contextlib
 import os
-import sys
 import threading
 import time
-from typing import Any, Dict, NamedTuple
+from typing import Any, Callable, Dict, Iterator, NamedTuple
+from unittest import mock
 
 
 class Hold(NamedTuple):
-    """One time that a lock was held: by which function, and for how many milliseconds. Of those its holder computed so many, collected garbage for so many,
-    and stood in the queue for a core of the machine; the rest it waited for the interpreter's lock, or for the system."""
+    """A call of the library, and the milliseconds of the processor's time that it took; beside those its thread stood in the queue for a core of the machine
+    for so many, since other processes ran there."""
 
     section: str
     ms: float
-    computed: float
-    collected: float
     queued: float
-
-    @property
-    def own(self) -> float:
-        """The milliseconds that are not other processes'."""
-        return self.ms - self.queued
 
     def said(self) -> Dict[str, Any]:
         return {name: it if isinstance(it, str) else round(it, 2) for name, it in self._asdict().items()}
 
 
-NONE = Hold("", 0.0, 0.0, 0.0, 0.0)
+NONE = Hold("", 0.0, 0.0)
 
 
-class TimedLock:
-    """A lock. Of each function that held it the longest hold is known, by what is its own."""
+class Holds:
+    """The longest hold of each call. No thread takes the interpreter's lock away within one: they are calls of C that keep it."""
 
     def __init__(self) -> None:
-        self._lock, self._own = threading.Lock(), threading.local()
+        self._own = threading.local()
         self.by_section: Dict[str, Hold] = {}
-        self.longest = NONE  # of all, whatever its holder waited for
-        self._collecting, self._collected = 0.0, 0.0
-        self._holder = 0
-        gc.callbacks.append(self._garbage)
 
-    def _garbage(self, phase: str, info: Dict[str, int]) -> None:
-        if self._holder == threading.get_ident():
-            if phase == "start":
-                self._collecting = time.perf_counter()
-            else:
-                self._collected += time.perf_counter() - self._collecting
-
-    def _spent(self) -> Any:
-        """Returns the seconds of this thread: of the clock, at work, and in the queue for a core."""
+    def _queued(self) -> float:
         file = getattr(self._own, "file", None)
         if file is None:
             file = self._own.file = os.open("/proc/thread-self/schedstat", os.O_RDONLY)
-        return time.perf_counter(), time.thread_time(), int(os.pread(file, 64, 0).split()[1]) / 1e9
+        return int(os.pread(file, 64, 0).split()[1]) / 1e6
 
-    def acquire(self, blocking: bool = True) -> bool:
-        if not self._lock.acquire(blocking):
-            return False
-        self._holder, self._collected = threading.get_ident(), 0.0
-        self._since = self._spent()
-        return True
+    def timed(self, call: Callable[..., int]) -> Callable[..., int]:
+        name = call.__name__
 
-    def release(self) -> None:
-        frame = sys._getframe(1)
-        if frame.f_code.co_name == "__exit__":
-            frame = frame.f_back
-        name = frame.f_code.co_name
-        (wall, worked, queued), collected = (1e3 * (now - then) for now, then in zip(self._spent(), self._since)), self._collected * 1e3
-        self._holder = 0
-        hold = Hold(name, wall, worked, collected, queued)
-        if hold.own > self.by_section.get(name, NONE).own:
-            self.by_section[name] = hold
-        if hold.ms > self.longest.ms:
-            self.longest = hold
-        self._lock.release()
+        def run(*words: Any) -> int:
+            queued, worked = self._queued(), time.thread_time()
+            number = call(*words)
+            hold = Hold(name, (time.thread_time() - worked) * 1e3, self._queued() - queued)
+            if hold.ms > self.by_section.get(name, NONE).ms:
+                self.by_section[name] = hold
+            return number
+
+        run.__name__ = name
+        return run
 
     @property
-    def longest_own(self) -> Hold:
-        return max(self.by_section.values(), key=lambda it: it.own, default=NONE)
+    def longest(self) -> Hold:
+        return max(self.by_section.values(), key=lambda it: it.ms, default=NONE)
+
+    @contextlib.contextmanager
+    def watching(self) -> Iterator["Holds"]:
+        """Has the calls of all caches timed."""
+        from txcache import _versions
+
+        with contextlib.ExitStack() as stack:
+            for name, call in list(vars(_versions._TXC).items()):
+                stack.enter_context(mock.patch.object(_versions._TXC, name, self.timed(call)))
+            for name in _versions._QUICK:
+                stack.enter_context(mock.patch.object(_versions, f"_{name.upper()}", getattr(_versions._TXC, f"quick_{name}")))
+            yield self

@@ -1,5 +1,5 @@
-"""Four writers beside eight reading threads in two processes, for a long time: what is torn, how memory goes, how old a snapshot becomes, and where and for
-how long the cache's lock is held. Writers and readers rest as those of a service do: else they would only measure the machine."""
+"""Four writers beside eight reading threads in two processes, for a long time: what is torn, how memory goes, how old a snapshot becomes, and which call of the
+library keeps the lock for how long. Writers and readers rest as those of a service do: else they would only measure the machine."""
 
 import json
 import os
@@ -9,7 +9,7 @@ import threading
 import time
 from typing import Any, Callable, Dict, List
 
-from owndb_bench.held import Hold, TimedLock
+from owndb_bench.held import Holds
 
 HOLD = 10.0
 WRITERS, READERS, THREADS = 4, 2, 4
@@ -34,24 +34,22 @@ def write(where: str, seconds: float, seed: int) -> Dict[str, Any]:
 def read(where: str, seconds: float, seed: int) -> Dict[str, Any]:
     """What one reading process counts."""
     from tests import beside
-    from txcache._versions import Turn
 
-    lock, oldest = TimedLock(), [0.0]
-    pages = beside.Pages(where, hold=HOLD)
-    pages.cache._open()
-    pages.cache._versions._turn = Turn(lock)
-    counts = [beside.Counter() for _ in range(THREADS)]
-    running = [threading.Thread(target=pages.read, args=(seconds, seed * 100 + at, it, READER_RESTS)) for at, it in enumerate(counts)]
-    threading.Thread(target=watch_snapshots, args=(pages.cache._follower, oldest), daemon=True).start()
-    for it in running:
-        it.start()
-    for it in running:
-        it.join()
-    stats = pages.cache.stats()
-    pages.cache.close()
-    holds = {"longest hold": lock.longest.said(), "longest hold, less the queue for a core": lock.longest_own.said(),
-             "each section's, ms": {name: round(it.own, 2) for name, it in sorted(lock.by_section.items())}}
-    return {**sum(counts, beside.Counter()), **{name: stats[name] for name in ("hits", "computed", "cold")}, "oldest held, s": oldest[0], "holds": holds}
+    counts, oldest = [beside.Counter() for _ in range(THREADS)], [0.0]
+    with Holds().watching() as holds:
+        pages = beside.Pages(where, hold=HOLD)
+        pages.cache._open()
+        running = [threading.Thread(target=pages.read, args=(seconds, seed * 100 + at, it, READER_RESTS)) for at, it in enumerate(counts)]
+        threading.Thread(target=watch_snapshots, args=(pages.cache._follower, oldest), daemon=True).start()
+        for it in running:
+            it.start()
+        for it in running:
+            it.join()
+        stats = pages.cache.stats()
+        pages.cache.close()
+    each = {name: round(it.ms, 2) for name, it in sorted(holds.by_section.items())}
+    return {**sum(counts, beside.Counter()), **{name: stats[name] for name in ("hits", "computed", "cold")}, "oldest held, s": oldest[0],
+            "holds": {"longest": holds.longest.said(), "each, ms": each}}
 
 
 def watch_snapshots(follower: Any, oldest: List[float]) -> None:
@@ -101,11 +99,10 @@ def joined(said: List[Dict[str, Any]]) -> Dict[str, Any]:
 
 def faults(found: Dict[str, Any], memory: List[List[float]]) -> List[str]:
     """Returns which parts of the bar do not stand."""
-    holds = [Hold(**it["longest hold, less the queue for a core"]) for it in found["holds"]]
     parts = {"a page is torn": found["torn"] > 0, "a process has ended": any(len(it) < READERS for it in memory),
              "memory grows": any(now > 1.05 * then + 1 for then, now in zip(memory[0], memory[-1])),
              "a snapshot is too old": max(found["oldest held, s"], found.get("oldest in pg_stat_activity, s", 0.0)) > HOLD,
-             "the lock is held for too long": any(it.own > LONGEST_HOLD for it in holds)}
+             "the lock is held for too long": any(it["longest"]["ms"] > LONGEST_HOLD for it in found["holds"])}
     return [name for name, is_so in parts.items() if is_so]
 
 
