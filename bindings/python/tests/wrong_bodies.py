@@ -154,7 +154,7 @@ WRONG = [
           "tests.test_versions -k test_a_room_of"),
     Wrong("calls side by side without the interpreter's lock", "_calls.py", "            with lock:\n                return call(*words)", "            return call(*words)",
           "tests.test_versions -k test_without"),
-    Wrong("a long value is cut", "_versions.py", "number = self._told_once_more(txn)", "number = DONE", of_each_store("test_long_values")),
+    Wrong("a long value is cut", "_versions.py", "number = self._told_once_more(txn, room)", "number = DONE", of_each_store("test_long_values")),
     Wrong("a call that runs out of asks is not made again", "_page.py", "if self._tries < MAX_TRIES and (", "if False and (", of_each_store("test_as_many_calls")),
     Wrong("the call that ran out of asks is not made by itself", "_page.py", "            if self._ahead is not None:\n", "            if False:\n", of_each_store("test_as_many_calls")),
     Wrong("a budget of bytes that nobody keeps", "cache.py", "self._versions.trim(self._max_bytes)", "pass", of_each_store("test_a_budget")),
@@ -180,6 +180,8 @@ def fails(wrong: Wrong, room: str) -> str:
         except subprocess.TimeoutExpired:
             print(f"{wrong.name}: its test did not end", flush=True)
             return ""  # that is seen too
+        if "_FailedTest" in ran.stdout or "\nImportError" in ran.stdout:
+            return f"its test was not loaded: {ran.stdout[-300:]}"
         return "" if "\nFAILED (" in ran.stdout else f"its test passes: {ran.stdout[-300:]}"
     finally:
         with open(path, "w", encoding="utf-8") as file:
