@@ -23,19 +23,7 @@ INSTALL_TIMEOUT = 5.0  # seconds for which `install` waits for the lock of a tab
 IDLE_TIMEOUT = 30.0  # seconds after which the server ends a snapshot of which nothing was asked
 _TOKEN = re.compile(r"([0-9a-f]{16})-([0-9a-f]{1,16})")
 
-# A snapshot: its numbers, the server's, the number that was purged last, the shape of the tables; and the tags of rows that it sees and the last did not.
-# The server's own processes have other numbers once it has begun anew after one of its processes died; its start time is then as it was.
-_LOOK = """
-SELECT pg_current_snapshot()::text, concat(s.system, ' ', (SELECT oid FROM pg_database WHERE datname = current_database()), ' ',
-        extract(epoch FROM pg_postmaster_start_time()), ' ', c.system_identifier, ' ',
-        (SELECT min(pid) FROM pg_stat_get_activity(NULL) WHERE datid IS NULL AND usesysid IS NULL)),
-    s.upto::text, txcache.shape({oids}), {tags}
-FROM txcache.state s, pg_control_system() c
-"""
-_TAGS = """ARRAY(SELECT DISTINCT n.relation || ':' || k FROM
-    (SELECT relation, keys FROM txcache.notes WHERE xact >= '{xmax}'::xid8 UNION ALL
-     SELECT relation, keys FROM txcache.notes WHERE xact = ANY ('{{{running}}}'::xid8[])) AS n, unnest(''::text || n.keys) AS k
-    WHERE n.relation = ANY (ARRAY[{relations}]::text[]) LIMIT {most})"""
+_LOOK = "SELECT * FROM txcache.look({oids}, {beyond}, '{{{running}}}', ARRAY[{relations}]::text[], {most})"
 _LOCKED = "SELECT relation::bigint FROM pg_locks WHERE pid = pg_backend_pid() AND locktype = 'relation' AND relation <> 'pg_catalog.pg_locks'::regclass"
 _RELATIONS = """
 WITH RECURSIVE up(oid, root) AS (SELECT it, it FROM unnest({oids}) AS it UNION ALL SELECT up.oid, i.inhparent FROM up JOIN pg_inherits i ON i.inhrelid = up.root)
@@ -208,10 +196,10 @@ class PostgresStore:
             link.close()
             raise
 
-    def _begin(self, link: Link, names: Iterable[Name]) -> None:
-        """Begins a transaction and locks its tables. Neither takes the snapshot: what follows does, and then no TRUNCATE can come between."""
+    def _begin(self, names: Iterable[Name]) -> str:
+        """Returns what begins a transaction and locks its tables. Neither takes the snapshot: what follows does, and then no TRUNCATE can come between."""
         lock = f"LOCK TABLE {', '.join(it.quoted for it in names)} IN ACCESS SHARE MODE" if names else ""
-        link.ask(f"BEGIN ISOLATION LEVEL REPEATABLE READ READ ONLY; {self.settings}{lock}")
+        return f"BEGIN ISOLATION LEVEL REPEATABLE READ READ ONLY; {self.settings}{lock}"
 
     def _first(self, link: Link, reason: str) -> Look:
         """Takes a snapshot of which nothing is known from before."""
@@ -219,7 +207,7 @@ class PostgresStore:
         faults = self._faults(link, before)
         if faults:
             raise NotInstalled(faults)
-        self._begin(link, [it.name for it in before.found.values()])
+        link.ask(self._begin([it.name for it in before.found.values()]))
         catalog = self._catalog_of(link)
         faults = self._faults(link, catalog)
         if faults:
@@ -227,7 +215,7 @@ class PostgresStore:
         if catalog.found != before.found:
             raise SnapshotRefused("a table was changed while its snapshot was taken")
         oids = {it.oid: it.name.tag for it in catalog.found.values()}
-        mark, _ = self._marked(link, oids, "NULL::text[]")
+        mark, _ = _marked(link.ask(_look(oids, None)))
         self._tables = _Tables(catalog.layout(), oids, [it.name for it in catalog.found.values()])
         return Look(PostgresSnapshot(self, link, self._tables), mark, None, reason)
 
@@ -237,21 +225,13 @@ class PostgresStore:
         if tables is None:
             return "the store was closed"
         try:
-            self._begin(link, tables.names)
-            relations = ", ".join(literal(it) for it in tables.oids.values())
-            mark, tags = self._marked(link, tables.oids, _TAGS.format(xmax=last.xmax, running=",".join(map(str, last.running)), relations=relations,
-                                                                      most=MAX_TAGS + 1))
+            mark, tags = _marked(link.last(f"{self._begin(tables.names)}; {_look(tables.oids, last)}"))
         except link.driver.Error as error:
             if type(self._meaning(link, error)) is not NotInstalled:
                 raise
             return str(error).strip().splitlines()[0]
         reason = _why_cold(last, mark, tags)
         return reason or Look(PostgresSnapshot(self, link, tables), mark, frozenset(tags))
-
-    @staticmethod
-    def _marked(link: Link, oids: Iterable[int], tags: str) -> Tuple[Mark, List[str]]:
-        (*words, found), = link.ask(_LOOK.format(oids=array(oids), tags=tags))
-        return Mark.of(*words), found or []
 
     @staticmethod
     def _meaning(link: Link, error: Exception) -> Exception:
@@ -299,6 +279,17 @@ class PostgresStore:
         for it in links:
             it.close()
         self.readers.close()
+
+
+def _look(oids: Mapping[int, str], last: Optional[Mark]) -> str:
+    """Returns what takes a snapshot of tables, and says what changed since the last, if there was one."""
+    beyond, running = (f"'{last.xmax}'", ",".join(map(str, last.running))) if last else ("NULL", "")
+    return _LOOK.format(oids=array(oids), beyond=beyond, running=running, relations=", ".join(map(literal, oids.values())), most=MAX_TAGS + 1)
+
+
+def _marked(rows: Sequence[Sequence[Any]]) -> Tuple[Mark, List[str]]:
+    (*words, found), = rows
+    return Mark.of(*words), found or []
 
 
 def _digest(system: str, base: str) -> str:
