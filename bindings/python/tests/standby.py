@@ -38,7 +38,7 @@ def pair() -> Tuple[Server, Standby]:
 
 def follows(primary: Any, standby: Any, seconds: float = 60.0) -> bool:
     """Waits until a standby has replayed all that is committed now, by a link to each. Returns False if it did not."""
-    (place,), = primary.ask("SELECT pg_current_wal_insert_lsn()::text")
+    (place,), = primary.ask("SELECT pg_current_wal_flush_lsn()::text")
     return until(lambda: standby.ask("SELECT pg_last_wal_replay_lsn() >= %s::pg_lsn", (place,))[0][0], seconds)
 
 
