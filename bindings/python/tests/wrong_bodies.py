@@ -146,7 +146,15 @@ WRONG = [
     Wrong("a mark in the place of a value is shown", "_page.py", "        if data == _values.TOO_LONG:\n", "        if False:\n", of_each_store("test_values_that_are_too_long")),
     Wrong("a value that is too long is of the newest snapshot", "_page.py", "self._direct = self._snapshot_now()",
           "self._direct = self.cache._follower.snapshot(self.cache._follower.numbers[-1])", of_each_store("test_values_that_are_too_long")),
-    Wrong("a long value is cut", "_versions.py", "number = self._told_once_more(txn)", "number = DONE", of_each_store("test_long_values")),
+    Wrong("two threads' answers in one room", "_versions.py", "            room = self._free.pop()\n        except IndexError:\n            room = _Room()\n        number = _CALL",
+          "            room = self._free[-1]\n        except IndexError:\n            room = _Room()\n        number = _CALL", "tests.test_versions -k test_a_hit_is_read"),
+    Wrong("a lock that is held in mid-hit", "_versions.py", "        number = _CALL(", "        with _TURN:\n            number = _CALL(",
+          "tests.test_versions -k test_a_thread_that_stops", (("_AS_KEY = struct", "_TURN = threading.Lock()\n_AS_KEY = struct"),)),
+    Wrong("a room of a call that failed is used again", "_versions.py", "        number = _CALL(", "        self._free.append(room)\n        number = _CALL(",
+          "tests.test_versions -k test_a_room_of"),
+    Wrong("calls side by side without the interpreter's lock", "_calls.py", "            with lock:\n                return call(*words)", "            return call(*words)",
+          "tests.test_versions -k test_without"),
+    Wrong("a long value is cut", "_versions.py", "number = self._told_once_more(txn, room)", "number = DONE", of_each_store("test_long_values")),
     Wrong("a call that runs out of asks is not made again", "_page.py", "if self._tries < MAX_TRIES and (", "if False and (", of_each_store("test_as_many_calls")),
     Wrong("the call that ran out of asks is not made by itself", "_page.py", "            if self._ahead is not None:\n", "            if False:\n", of_each_store("test_as_many_calls")),
     Wrong("a budget of bytes that nobody keeps", "cache.py", "self._versions.trim(self._max_bytes)", "pass", of_each_store("test_a_budget")),
@@ -172,6 +180,8 @@ def fails(wrong: Wrong, room: str) -> str:
         except subprocess.TimeoutExpired:
             print(f"{wrong.name}: its test did not end", flush=True)
             return ""  # that is seen too
+        if "_FailedTest" in ran.stdout or "\nImportError" in ran.stdout:
+            return f"its test was not loaded: {ran.stdout[-300:]}"
         return "" if "\nFAILED (" in ran.stdout else f"its test passes: {ran.stdout[-300:]}"
     finally:
         with open(path, "w", encoding="utf-8") as file:
