@@ -263,6 +263,30 @@ class Pages(Case):
         self.is_young()
         self.assertEqual(self.page((self.balance, 0)), [5])
 
+    def test_a_standby_that_has_lost_its_primary(self):
+        """All is replayed that was received, and the primary goes on."""
+        self.open()
+        self.is_young()
+        (place,), = self.there.ask("SHOW primary_conninfo")
+        self.connect_to("")
+        try:
+            self.assertTrue(until(lambda: not self.there.ask("SELECT FROM pg_stat_wal_receiver")))
+            self.it.ask("UPDATE accounts SET balance = 5 WHERE id = 0")
+            time.sleep(1.2)
+            self.assertEqual(self.page((self.balance, 0)), [100])
+            self.assertGreater(self.last.receipt.age, 1.0)
+            self.assertRaises(SnapshotLost, self.page, (self.balance, 0), max_age=0.5)
+        finally:
+            self.connect_to(place)
+        self.follows()
+        self.is_young()
+        self.assertEqual(self.page((self.balance, 0)), [5])
+
+    def connect_to(self, place):
+        text = place.replace("'", "''")
+        self.there.ask(f"ALTER SYSTEM SET primary_conninfo = '{text}'")
+        self.there.ask("SELECT pg_reload_conf()")
+
     def test_a_primary_that_is_idle_makes_no_page_old(self):
         self.open()
         self.follows()
