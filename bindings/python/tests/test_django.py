@@ -218,7 +218,12 @@ class Aliases(Case):
         self.addCleanup(other.close)
         said = r'the alias "txcache" is used outside of a cacheable function: call a function of txcache.django.cache in a page, or read by .using\("default"\)'
         kept = []
-        keeps = self.cache.cacheable(lambda db: kept.extend((its(Item).all(), its(Bid).iterator(), connections["txcache"].cursor())) or kept[2].execute("SELECT 1 FROM bids").close())
+
+        @self.cache.cacheable
+        def keeps(db):
+            kept[:] = its(Item).all(), its(Bid).iterator(), connections["txcache"].cursor()
+            kept[2].execute("SELECT 1 FROM bids")
+
         strange = other.cacheable(lambda db: its(Item).count())
         with self.cache.read():
             keeps()
@@ -307,7 +312,7 @@ class Aliases(Case):
             return [(*row[:5], bytes(row[5]), *row[6:]) for row in rows.values_list("id", "made", "day", "amount", "said", "raw", "is_new", "trunc")]
 
         self.assertEqual(self.asks(lambda db: query("txcache")), query("default"))
-        self.assertEqual(self.asks(lambda db: its(Thing).get()).made, made)
+        self.assertEqual(self.asks(lambda db: its(Thing).get()).made, Thing.objects.get().made)
 
     def test_failures_and_audit(self):
         self.assertRaises(OperationalError if not isinstance(self, OfPostgres) else django.db.ProgrammingError, self.asks, lambda db: its(Item).extra(where=["none = 1"]).count())
