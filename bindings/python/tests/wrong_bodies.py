@@ -13,6 +13,9 @@ import tempfile
 from typing import NamedTuple, Tuple
 
 PYTHON = os.path.dirname(os.path.dirname(os.path.abspath(__file__)))
+sys.path.insert(0, os.path.dirname(os.path.abspath(__file__)))
+
+from wrong_by_hand import BY_HAND  # noqa: E402
 
 
 class Wrong(NamedTuple):
@@ -178,6 +181,7 @@ WRONG = [
     Wrong("the call that ran out of asks is not made by itself", "_page.py", "            if self._ahead is not None:\n", "            if False:\n", of_each_store("test_as_many_calls")),
     Wrong("a budget of bytes that nobody keeps", "cache.py", "self._versions.trim(self._max_bytes)", "pass", of_each_store("test_a_budget")),
     Wrong("a child that goes on with its parent's", "cache.py", "os.register_at_fork(after_in_child=_after_fork_in_child)", "", of_each_store("test_after_a_fork")),
+    *[Wrong(*it) for it in BY_HAND],
 ]
 
 
