@@ -2,7 +2,7 @@
 """Measures the cache beside a service's own database against its bars, each with what it is compared with in one run.
 
 usage: bench/owndb.py [--library FOLDER] [--prototype FOLDER] [WORD..]     bars whose name has one of the words, else all but the last
-       bench/owndb.py [--library FOLDER] --hour SECONDS postgres|sqlite    the last
+       bench/owndb.py [--library FOLDER] --hour SECONDS postgres|sqlite|both    the last; a line of JSON for each store, both at once
 
 It wants a driver of PostgreSQL and initdb, as the package's tests do, and for Redis `apt-get install redis-server python3-redis`; a bar whose other side is not
 there is skipped by name. The prototype is that of a trial (a folder with txcache_db, which wants python3-psycopg2); it runs over today's library.
@@ -22,6 +22,7 @@ import sys
 import tempfile
 import threading
 import time
+from concurrent.futures import ThreadPoolExecutor
 from typing import Any, Callable, Dict, Iterator, List, NamedTuple, Sequence
 
 ROOT = os.path.dirname(os.path.dirname(os.path.abspath(__file__)))
@@ -496,9 +497,13 @@ def main() -> int:
         if given.hour:
             from owndb_bench import hour
 
-            found = hour.measured(room, float(given.hour[0]), given.hour[1])
-            print(json.dumps(found))
-            return int(not found["stands"])
+            seconds, kind = float(given.hour[0]), given.hour[1]
+            wheres = [hour.prepared(room, it) for it in (("postgres", "sqlite") if kind == "both" else (kind,))]
+            with ThreadPoolExecutor() as pool:
+                for found in pool.map(lambda it: hour.measured(it, seconds), wheres):
+                    print(json.dumps(found), flush=True)
+                    failed |= not found["stands"]
+            return int(failed)
         for line in lines(room, given.words):
             print(line, flush=True)
             failed |= "FAILED" in line

@@ -13,8 +13,8 @@ from txcache.cache import TxCache
 from txcache.errors import SnapshotLost
 
 from . import model
-from .test_cache import OfPostgres, OfSqlite
-from .test_cache import Case as CacheCase
+from .cases import OfPostgres, OfSqlite
+from .cases import Case as CacheCase
 
 HISTORIES = int(os.environ.get("TXC_HISTORIES", 0))  # of each store; by default those for which `make test` has time
 ACTS = 16  # of one history
