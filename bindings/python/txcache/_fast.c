@@ -360,7 +360,7 @@ static PyObject *site_rows(PyObject *it, PyObject *args)
         || !read_number(args, 2, UINT32_MAX, &id))
         return NULL;
     wait_for_turn(self);
-    const txc_query query = {(uint8_t)table, TXC_ROW_ID, (uint32_t)id, 0};
+    const txc_query query = {(uint8_t)table, TXC_ID, (uint32_t)id, 0};
     const uint32_t number = self->query_rows(self->site, txn, &query, &count);
     if (number != TXC_ANSWERED)
         return refuse(self, "txc_query_rows", number);
