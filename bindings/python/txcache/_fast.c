@@ -17,6 +17,7 @@
 #define FIRST_ROOM 4096   /* bytes of the buffer for values, which becomes as long as the longest that was a hit */
 #define NAP 50000         /* nanoseconds for which a thread lets others run that finds the site held */
 #define DIGEST_SIZE 16
+#define TABLES 16          /* the version of a place is a row of one of so many tables, as `_versions.py` touches it */
 #define LENGTH(them) (sizeof(them) / sizeof *(them))
 
 /* A call of the library, as `Site` keeps it. */
@@ -25,7 +26,7 @@ typedef struct {
     size_t at;
 } export;
 
-/* The key of a call. `args` are the arguments that it was made of, or NULL. */
+/* The key of a call. `args` are the arguments that it was made of, if they stand for themselves; else None. */
 typedef struct {
     PyObject_HEAD
     PyObject *digest;
@@ -53,12 +54,14 @@ typedef struct {
     uint32_t (*read_stamp)(txc_site *, txc_txn, uint32_t *);
     uint32_t (*query_rows)(txc_site *, txc_txn, const txc_query *, size_t *);
     uint32_t (*finish)(txc_site *, txc_txn, const uint8_t *, size_t, uint8_t *, size_t, size_t *);
+    uint32_t (*give_up)(txc_site *, txc_txn);
 } Site;
 
 static const export EXPORTS[] = {
     {"txc_begin", offsetof(Site, begin)}, {"txc_member_at", offsetof(Site, member_at)}, {"txc_abort", offsetof(Site, abort)},
     {"txc_call", offsetof(Site, call)}, {"txc_answer", offsetof(Site, answer)}, {"txc_commit", offsetof(Site, commit)},
     {"txc_read_stamp", offsetof(Site, read_stamp)}, {"txc_query_rows", offsetof(Site, query_rows)}, {"txc_finish", offsetof(Site, finish)},
+    {"txc_give_up", offsetof(Site, give_up)},
 };
 
 /* Gives back the memory of an object, and its type's reference. */
@@ -238,9 +241,12 @@ static PyObject *site_begin(PyObject *it, PyObject *args)
     if (number != TXC_DONE)
         return refuse(self, "txc_begin", number);
     number = self->member_at(self->site, txn, 0, &stamp, &moment);
-    if (number == TXC_DONE)
-        return PyLong_FromUnsignedLongLong(txn);
+    PyObject *begun = number == TXC_DONE ? PyLong_FromUnsignedLongLong(txn) : NULL;
+    if (begun != NULL)
+        return begun;
     self->abort(self->site, txn);
+    if (PyErr_Occurred())
+        return NULL;
     if (number != TXC_MISS)
         return refuse(self, "txc_member_at", number);
     Py_RETURN_NONE;
@@ -258,20 +264,17 @@ static uint32_t tell_once_more(Site *self, txc_txn txn, size_t *size)
     return self->answer(self->site, txn, buffer, room, size);
 }
 
-/* Returns the value of a call, or `missed` if its function is to be computed. */
-static PyObject *ask(Site *self, txc_txn txn, const Key *key, PyObject *missed)
+/* Asks for the value of a call. Returns what the library returned; of TXC_DONE and TXC_ANSWERED `size` bytes are in the buffer. */
+static uint32_t ask(Site *self, txc_txn txn, const txc_key *key, size_t *size)
 {
-    size_t size;
     wait_for_turn(self);
-    uint32_t number = self->call(self->site, txn, &key->key, self->buffer, self->room, &size);
-    if (number == TXC_NO_ROOM)
-        number = tell_once_more(self, txn, &size);
-    if (number == TXC_DONE || number == TXC_ANSWERED)
-        return PyBytes_FromStringAndSize((const char *)self->buffer, (Py_ssize_t)size);
-    if (number != TXC_COMPUTE)
-        return refuse(self, "txc_call", number);
-    Py_INCREF(missed);
-    return missed;
+    const uint32_t number = self->call(self->site, txn, key, self->buffer, self->room, size);
+    return number == TXC_NO_ROOM ? tell_once_more(self, txn, size) : number;
+}
+
+static PyObject *value_of(const Site *self, size_t size)
+{
+    return PyBytes_FromStringAndSize((const char *)self->buffer, (Py_ssize_t)size);
 }
 
 /* call(txn, key): returns the value of a call; None if its function is to be computed. */
@@ -279,22 +282,29 @@ static PyObject *site_call(PyObject *it, PyObject *args)
 {
     Site *self = (Site *)it;
     uint64_t txn;
+    size_t size;
     if (!has_count(args, 2, "call") || !read_number(args, 0, UINT64_MAX, &txn))
         return NULL;
-    PyObject *key = PyTuple_GetItem(args, 1);
-    if ((PyObject *)Py_TYPE(key) != self->key_type) {
+    Key *key = (Key *)PyTuple_GetItem(args, 1);
+    if ((PyObject *)Py_TYPE((PyObject *)key) != self->key_type) {
         PyErr_SetString(PyExc_TypeError, "a call is asked for by its key");
         return NULL;
     }
-    return ask(self, txn, (Key *)key, Py_None);
+    const uint32_t number = ask(self, txn, &key->key, &size);
+    if (number == TXC_DONE || number == TXC_ANSWERED)
+        return value_of(self, size);
+    if (number != TXC_COMPUTE)
+        return refuse(self, "txc_call", number);
+    Py_RETURN_NONE;
 }
 
-/* hit(txn, known, args): returns the value of a call of a function whose keys are known; its key if the function is to be computed; None,
- * and then nothing was asked, if it is not known. */
+/* hit(txn, known, args): returns the value of an outermost call of a function whose keys are known, if it is cached; else None, and no call
+ * is open. */
 static PyObject *site_hit(PyObject *it, PyObject *args)
 {
     Site *self = (Site *)it;
     uint64_t txn;
+    size_t size;
     if (!has_count(args, 3, "hit") || !read_number(args, 0, UINT64_MAX, &txn))
         return NULL;
     PyObject *known = PyTuple_GetItem(args, 1), *given = PyTuple_GetItem(args, 2);
@@ -302,17 +312,19 @@ static PyObject *site_hit(PyObject *it, PyObject *args)
         PyErr_SetString(PyExc_TypeError, "hit takes a number, a dictionary and a tuple");
         return NULL;
     }
-    Key *key = known_key(self, known, given);
-    if (key == NULL) {
-        if (PyErr_Occurred())
-            return NULL;
+    const Key *found = known_key(self, known, given);
+    if (found == NULL && PyErr_Occurred())
+        return NULL;
+    if (found == NULL)
         Py_RETURN_NONE;
-    }
-    /* a thread that waits for its turn lets others run, and they may forget the key */
-    Py_INCREF((PyObject *)key);
-    PyObject *value = ask(self, txn, key, (PyObject *)key);
-    Py_DECREF((PyObject *)key);
-    return value;
+    const txc_key key = found->key; /* a copy: while this thread waits for its turn others may forget it */
+    const uint32_t number = ask(self, txn, &key, &size);
+    if (number == TXC_DONE)
+        return value_of(self, size);
+    if (number != TXC_COMPUTE)
+        return refuse(self, "txc_call", number);
+    self->give_up(self->site, txn);
+    Py_RETURN_NONE;
 }
 
 /* member(txn, at): returns the stamp and the moment of a pin at which the page may still be serialised, counted from the newest; None
@@ -350,17 +362,16 @@ static PyObject *site_read_stamp(PyObject *it, PyObject *args)
     Py_RETURN_NONE;
 }
 
-/* rows(txn, table, id): asks for the row, on which the function that is computed depends from then on. */
-static PyObject *site_rows(PyObject *it, PyObject *args)
+/* ask(txn, place): asks for the version of a place, on which the function that is computed depends from then on. */
+static PyObject *site_ask(PyObject *it, PyObject *args)
 {
     Site *self = (Site *)it;
-    uint64_t txn, table, id;
+    uint64_t txn, place;
     size_t count;
-    if (!has_count(args, 3, "rows") || !read_number(args, 0, UINT64_MAX, &txn) || !read_number(args, 1, TXC_LAST_TABLE, &table)
-        || !read_number(args, 2, UINT32_MAX, &id))
+    if (!has_count(args, 2, "ask") || !read_number(args, 0, UINT64_MAX, &txn) || !read_number(args, 1, UINT32_MAX, &place))
         return NULL;
     wait_for_turn(self);
-    const txc_query query = {(uint8_t)table, TXC_ID, (uint32_t)id, 0};
+    const txc_query query = {(uint8_t)(place % TABLES), TXC_ID, (uint32_t)(place / TABLES), 0};
     const uint32_t number = self->query_rows(self->site, txn, &query, &count);
     if (number != TXC_ANSWERED)
         return refuse(self, "txc_query_rows", number);
@@ -464,7 +475,7 @@ static void site_free(PyObject *it)
 static PyMethodDef SITE_METHODS[] = {
     {"acquire", site_acquire, METH_VARARGS, NULL}, {"release", site_release, METH_NOARGS, NULL}, {"begin", site_begin, METH_VARARGS, NULL},
     {"call", site_call, METH_VARARGS, NULL}, {"hit", site_hit, METH_VARARGS, NULL}, {"member", site_member, METH_VARARGS, NULL},
-    {"read_stamp", site_read_stamp, METH_VARARGS, NULL}, {"rows", site_rows, METH_VARARGS, NULL}, {"finish", site_finish, METH_VARARGS, NULL},
+    {"read_stamp", site_read_stamp, METH_VARARGS, NULL}, {"ask", site_ask, METH_VARARGS, NULL}, {"finish", site_finish, METH_VARARGS, NULL},
     {"commit", site_commit, METH_VARARGS, NULL}, {NULL, NULL, 0, NULL},
 };
 
