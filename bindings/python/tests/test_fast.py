@@ -14,7 +14,7 @@ from unittest import mock
 
 from txcache import _fast
 from txcache._fast import FASTEST
-from txcache._versions import Refused, Turn, Versions
+from txcache._versions import Refused, Versions
 from txcache.cache import TxCache
 from txcache.sqlite import SqliteStore
 
@@ -115,24 +115,6 @@ class Sites(Extension):
         self.assertIsNone(self.fast.hit(txn, {(1,): key}, (1,)))
         self.assertEqual(self.fast.commit(txn), (0, None))
 
-    def test_it_waits_while_a_thread_holds_the_site(self):
-        self.assertIsInstance(self.fast._turn, Turn)
-        said, key = [], self.keyed(1, (1,))[0]
-        self.computed(self.fast, key, b"value")
-
-        def page():
-            txn = self.fast.begin(1000, 1000, 0)
-            said.append(self.fast.hit(txn, {(1,): key}, (1,)))
-
-        thread = threading.Thread(target=page)
-        with self.fast._turn:
-            self.assertFalse(self.fast._turn.acquire(False))
-            thread.start()
-            thread.join(0.2)
-            self.assertTrue(thread.is_alive())
-        thread.join()
-        self.assertEqual(said, [b"value"])
-
     def test_references_stay_as_they_are(self):
         digest, args, data = b"%016d" % 10**15, (10**30,), b"v" * 1000
         key = self.fast.key(1, digest, args)
@@ -215,7 +197,7 @@ class Choice(unittest.TestCase):
 
 class Threads(Extension):
     def test_pages_beside_looks_and_trims(self):
-        """Threads that read and compute, while calls by ctypes hold the site: each value is that of its arguments."""
+        """Threads that read and compute beside calls by ctypes: each value is that of its arguments."""
         with tempfile.TemporaryDirectory() as room:
             store = SqliteStore(f"{room}/a.db", {"a": ["id"]})
             link = sqlite3.connect(f"{room}/a.db", isolation_level=None)

@@ -1,21 +1,18 @@
 /* The hot calls of a site, for `_fast.py`: what `_versions.py` asks by ctypes, over the same exports of libtxc_c.so.
  *
- * The limited API of Python 3.9, so that one object serves each later Python. Each call here keeps the interpreter's lock, and so is
- * alone in the library while no thread holds the site. Long calls let go of that lock: ctypes makes them, between `acquire` and
- * `release`. */
+ * The limited API of Python 3.9, so that one object serves each later Python. Each call keeps the interpreter's lock, as those of `_versions.py`
+ * do, so that it is alone in the library. */
 #define PY_SSIZE_T_CLEAN
 #define Py_LIMITED_API 0x03090000
 #include <Python.h>
 #include <structmember.h>
 
 #include <dlfcn.h>
-#include <time.h>
 
 #include "txc.h"
 
 #define FORM 1            /* rises with each change of what Python calls here: `_fast.py` has it too */
 #define FIRST_ROOM 4096   /* bytes of the buffer for values, which becomes as long as the longest that was a hit */
-#define NAP 50000         /* nanoseconds for which a thread lets others run that finds the site held */
 #define DIGEST_SIZE 16
 #define TABLES 16          /* the version of a place is a row of one of so many tables, as `_versions.py` touches it */
 #define LENGTH(them) (sizeof(them) / sizeof *(them))
@@ -44,7 +41,6 @@ typedef struct {
     txc_site *site;
     uint8_t *buffer;
     size_t room;
-    int is_held;
     uint32_t (*begin)(txc_site *, uint64_t, uint64_t, uint32_t, txc_txn *);
     uint32_t (*member_at)(txc_site *, txc_txn, size_t, uint32_t *, uint64_t *);
     uint32_t (*abort)(txc_site *, txc_txn);
@@ -197,34 +193,6 @@ static PyObject *refuse(Site *self, const char *call, uint32_t number)
     return NULL;
 }
 
-/* Waits until no thread holds the site. Nobody can take it before the caller lets go of the interpreter's lock. */
-static void wait_for_turn(Site *self)
-{
-    const struct timespec nap = {0, NAP};
-    while (self->is_held) {
-        Py_BEGIN_ALLOW_THREADS
-        nanosleep(&nap, NULL);
-        Py_END_ALLOW_THREADS
-    }
-}
-
-/* acquire(is_blocking): takes the site, for calls by ctypes, as a lock of `threading` does. It never blocks. */
-static PyObject *site_acquire(PyObject *it, PyObject *args)
-{
-    Site *self = (Site *)it;
-    const int was_held = self->is_held;
-    (void)args;
-    self->is_held = 1;
-    return PyBool_FromLong(!was_held);
-}
-
-static PyObject *site_release(PyObject *it, PyObject *args)
-{
-    (void)args;
-    ((Site *)it)->is_held = 0;
-    Py_RETURN_NONE;
-}
-
 /* begin(now, staleness, at_least): begins a page at the pins of these bounds, and returns its number; None if there is no such pin, and then
  * no page is begun. */
 static PyObject *site_begin(PyObject *it, PyObject *args)
@@ -236,7 +204,6 @@ static PyObject *site_begin(PyObject *it, PyObject *args)
     if (!has_count(args, 3, "begin") || !read_number(args, 0, UINT64_MAX, &now) || !read_number(args, 1, UINT64_MAX, &staleness)
         || !read_number(args, 2, UINT32_MAX, &at_least))
         return NULL;
-    wait_for_turn(self);
     uint32_t number = self->begin(self->site, now, staleness, (uint32_t)at_least, &txn);
     if (number != TXC_DONE)
         return refuse(self, "txc_begin", number);
@@ -267,7 +234,6 @@ static uint32_t tell_once_more(Site *self, txc_txn txn, size_t *size)
 /* Asks for the value of a call. Returns what the library returned; of TXC_DONE and TXC_ANSWERED `size` bytes are in the buffer. */
 static uint32_t ask(Site *self, txc_txn txn, const txc_key *key, size_t *size)
 {
-    wait_for_turn(self);
     const uint32_t number = self->call(self->site, txn, key, self->buffer, self->room, size);
     return number == TXC_NO_ROOM ? tell_once_more(self, txn, size) : number;
 }
@@ -317,8 +283,7 @@ static PyObject *site_hit(PyObject *it, PyObject *args)
         return NULL;
     if (found == NULL)
         Py_RETURN_NONE;
-    const txc_key key = found->key; /* a copy: while this thread waits for its turn others may forget it */
-    const uint32_t number = ask(self, txn, &key, &size);
+    const uint32_t number = ask(self, txn, &found->key, &size);
     if (number == TXC_DONE)
         return value_of(self, size);
     if (number != TXC_COMPUTE)
@@ -336,7 +301,6 @@ static PyObject *site_member(PyObject *it, PyObject *args)
     uint32_t stamp;
     if (!has_count(args, 2, "member") || !read_number(args, 0, UINT64_MAX, &txn) || !read_number(args, 1, SIZE_MAX, &at))
         return NULL;
-    wait_for_turn(self);
     const uint32_t number = self->member_at(self->site, txn, (size_t)at, &stamp, &moment);
     if (number == TXC_DONE)
         return Py_BuildValue("(kK)", (unsigned long)stamp, (unsigned long long)moment);
@@ -353,7 +317,6 @@ static PyObject *site_read_stamp(PyObject *it, PyObject *args)
     uint32_t stamp;
     if (!has_count(args, 1, "read_stamp") || !read_number(args, 0, UINT64_MAX, &txn))
         return NULL;
-    wait_for_turn(self);
     const uint32_t number = self->read_stamp(self->site, txn, &stamp);
     if (number == TXC_DONE)
         return PyLong_FromUnsignedLong(stamp);
@@ -370,7 +333,6 @@ static PyObject *site_ask(PyObject *it, PyObject *args)
     size_t count;
     if (!has_count(args, 2, "ask") || !read_number(args, 0, UINT64_MAX, &txn) || !read_number(args, 1, UINT32_MAX, &place))
         return NULL;
-    wait_for_turn(self);
     const txc_query query = {(uint8_t)(place % TABLES), TXC_ID, (uint32_t)(place / TABLES), 0};
     const uint32_t number = self->query_rows(self->site, txn, &query, &count);
     if (number != TXC_ANSWERED)
@@ -389,7 +351,6 @@ static PyObject *site_finish(PyObject *it, PyObject *args)
     if (!has_count(args, 2, "finish") || !read_number(args, 0, UINT64_MAX, &txn)
         || PyBytes_AsStringAndSize(PyTuple_GetItem(args, 1), &bytes, &count) < 0)
         return NULL;
-    wait_for_turn(self);
     const uint32_t number = self->finish(self->site, txn, (const uint8_t *)bytes, (size_t)count, NULL, 0, &size);
     if (number != TXC_DONE && number != TXC_ANSWERED && number != TXC_NO_ROOM)
         return refuse(self, "txc_finish", number);
@@ -404,7 +365,6 @@ static PyObject *site_commit(PyObject *it, PyObject *args)
     txc_receipt receipt;
     if (!has_count(args, 1, "commit") || !read_number(args, 0, UINT64_MAX, &txn))
         return NULL;
-    wait_for_turn(self);
     const uint32_t number = self->commit(self->site, txn, &receipt);
     if (number != TXC_DONE)
         return refuse(self, "txc_commit", number);
@@ -473,8 +433,7 @@ static void site_free(PyObject *it)
 }
 
 static PyMethodDef SITE_METHODS[] = {
-    {"acquire", site_acquire, METH_VARARGS, NULL}, {"release", site_release, METH_NOARGS, NULL}, {"begin", site_begin, METH_VARARGS, NULL},
-    {"call", site_call, METH_VARARGS, NULL}, {"hit", site_hit, METH_VARARGS, NULL}, {"member", site_member, METH_VARARGS, NULL},
+    {"begin", site_begin, METH_VARARGS, NULL}, {"call", site_call, METH_VARARGS, NULL}, {"hit", site_hit, METH_VARARGS, NULL}, {"member", site_member, METH_VARARGS, NULL},
     {"read_stamp", site_read_stamp, METH_VARARGS, NULL}, {"ask", site_ask, METH_VARARGS, NULL}, {"finish", site_finish, METH_VARARGS, NULL},
     {"commit", site_commit, METH_VARARGS, NULL}, {NULL, NULL, 0, NULL},
 };

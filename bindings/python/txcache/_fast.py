@@ -7,7 +7,8 @@ import os
 from typing import Any, Optional
 
 from . import _library
-from ._versions import Turn, Versions, refusal
+from ._calls import HAS_ONE_AT_A_TIME
+from ._versions import Versions, refusal
 
 FORM = 1  # of what is called there: _fast.c has it too
 NAME = "_fast_c.abi3.so"
@@ -16,7 +17,7 @@ NAME = "_fast_c.abi3.so"
 def _loaded() -> Optional[Any]:
     """Returns the extension beside the library, or None if there is none there or TXC_FAST is 0. Fails with ImportError if it is of another form."""
     path = os.path.join(os.path.dirname(_library.path()), NAME)
-    if os.environ.get("TXC_FAST") == "0" or not os.path.exists(path):
+    if os.environ.get("TXC_FAST") == "0" or not HAS_ONE_AT_A_TIME or not os.path.exists(path):
         return None
     loader = importlib.machinery.ExtensionFileLoader(f"{__package__}._fast_c", path)
     spec = importlib.util.spec_from_file_location(loader.name, path, loader=loader)
@@ -31,12 +32,11 @@ _C = _loaded()
 
 
 class FastVersions(Versions):
-    """As `Versions`. Its hot calls keep the interpreter's lock, and so take no other; they wait while a thread holds the site for calls by ctypes."""
+    """As `Versions`, with its hot calls by the extension."""
 
     def __init__(self, capacity: int, recent: int = 4096):
         super().__init__(capacity, recent)
         site = _C.Site(_library.path(), self._site, c.addressof(self._site), _C.Key, refusal)
-        self._turn = Turn(site)
         self.begin, self.call, self.hit, self.commit = site.begin, site.call, site.hit, site.commit
         self.member, self.read_stamp, self.ask, self.finish = site.member, site.read_stamp, site.ask, site.finish
 

@@ -42,7 +42,8 @@ class Function:
     def __call__(self, *args: Any, **named: Any) -> Any:
         page = PAGE.get()
         if page is None or page.cache is not self.cache:
-            raise RuntimeError(f"{self.name} is called outside of a page of its cache: with cache.read(): ..")
+            raise RuntimeError(f"{self.name} is called outside of a page of its cache: with cache.read(): ..; a response that is streamed is made after its "
+                               "request's page has ended, and opens one of its own")
         return page.answer(self, args, named)
 
     def key(self, era: int, forms: Forms, args: Sequence[Any], named: Dict[str, Any]) -> Any:

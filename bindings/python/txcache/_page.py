@@ -26,6 +26,7 @@ LOG = logging.getLogger("txcache")
 MAX_ROW_TAGS = 128  # of one function: beyond that it depends on whole tables, since the library keeps at most 16 places of each of its tables apart
 MAX_TRIES = 64  # of a call that has more to ask than there may be asks, as long as its own calls are computed meanwhile
 LONGEST = 1e9  # seconds
+ENDED = -1  # in the place of a page's process: a task or thread that was begun within the page may still have it
 PAGE: "contextvars.ContextVar[Optional[Page]]" = contextvars.ContextVar("txcache_page", default=None)
 _process = os.getpid()
 
@@ -64,6 +65,7 @@ class Page:
     _has_shown = _has_renewed = False
     _end: Optional[Tuple[float, Any, Optional[int]]] = None
     hits = computed = _txn = 0
+    lost: Optional[SnapshotLost] = None  # what a call raised, whoever caught it
 
     def __init__(self, cache: "TxCache", max_age: float, after: Optional[str]):
         if not 0 <= max_age < LONGEST:
@@ -90,6 +92,7 @@ class Page:
         try:
             self._ended(error)
         finally:
+            self._process = ENDED
             if self._uses:
                 self._leave_snapshots()
 
@@ -159,6 +162,8 @@ class Page:
 
     def _not_its_turn(self, name: str) -> RuntimeError:
         """Returns why this thread may not use the page now."""
+        if self._process == ENDED:
+            return RuntimeError(f"{name}: the page has ended, within which this task or thread was begun: it opens a page of its own")
         if self._process != _process:
             return RuntimeError(f"{name}: the page was begun before a fork, by the parent")
         return RuntimeError(f"{name}: another thread uses this page")
@@ -184,7 +189,10 @@ class Page:
                 if isinstance(found, SnapshotLost) and not self._has_shown and not self._has_renewed:
                     self._renew()
                 elif not isinstance(found, Again):
-                    self._has_shown |= not isinstance(found, SnapshotLost)  # its error shows something of the page's moment
+                    if isinstance(found, SnapshotLost):
+                        self.lost = found
+                    else:
+                        self._has_shown = True  # its error shows something of the page's moment
                     if found is error:
                         raise
                     raise found

@@ -109,6 +109,12 @@ class TxCache:
                     raise
                 self._look_again()
 
+    async def arun(self, view: Callable[..., Any], *args: Any, max_age: float = 5.0, after: Optional[str] = None, **named: Any) -> Any:
+        """As `run`, in a thread: what a function computes or waits for stops no other coroutine."""
+        import asyncio  # here, since it takes longer to import than all else
+
+        return await asyncio.to_thread(functools.partial(self.run, view, *args, max_age=max_age, after=after, **named))
+
     def clear(self) -> None:
         """Has all calls be computed again."""
         with self._stepping:
