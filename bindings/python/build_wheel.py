@@ -26,6 +26,10 @@ Summary: A transactional cache, and its proof: no page mixes data of two moments
 Requires-Python: >=3.9
 Provides-Extra: postgres
 Requires-Dist: psycopg>=3.1; extra == 'postgres'
+Provides-Extra: sqlalchemy
+Requires-Dist: SQLAlchemy>=1.4; extra == 'sqlalchemy'
+Provides-Extra: django
+Requires-Dist: Django>=3.2; extra == 'django'
 """
 WHEEL = f"Wheel-Version: 1.0\nGenerator: {NAME}\nRoot-Is-Purelib: false\nTag: "
 

@@ -64,7 +64,7 @@ class Package(unittest.TestCase):
                 f"{text}\nprint(*shown, (page.receipt.hits, page.receipt.computed))\n")
 
     def test_it_is_of_python_3_9(self):
-        for path in glob.glob(f"{PYTHON}/txcache/*.py"):
+        for path in glob.glob(f"{PYTHON}/txcache/**/*.py", recursive=True):
             with open(path, encoding="utf-8") as file:
                 ast.parse(file.read(), path, feature_version=(3, 9))
 

@@ -13,6 +13,9 @@ import tempfile
 from typing import NamedTuple, Tuple
 
 PYTHON = os.path.dirname(os.path.dirname(os.path.abspath(__file__)))
+sys.path.insert(0, os.path.dirname(os.path.abspath(__file__)))
+
+from wrong_by_hand import BY_HAND  # noqa: E402
 
 
 class Wrong(NamedTuple):
@@ -144,8 +147,8 @@ WRONG = [
           of_each_store("test_a_page_that_begins_within_a_cold_step")),
     Wrong("a page of a number that is no more", "cache.py", "if txn is not None and self._state.era == state.era:", "if txn is not None:", of_each_store("test_a_page_is_not_begun_under")),
     Wrong("a mark in the place of a value is shown", "_page.py", "        if data == _values.TOO_LONG:\n", "        if False:\n", of_each_store("test_values_that_are_too_long")),
-    Wrong("a value that is too long is of the newest snapshot", "_page.py", "self._direct = db_of(self._snapshot_now())",
-          "self._direct = db_of(self.cache._follower.snapshot(self.cache._follower.numbers[-1]))", of_each_store("test_values_that_are_too_long")),
+    Wrong("a value that is too long is of the newest snapshot", "_page.py", "self._direct = self._snapshot_now()",
+          "self._direct = self.cache._follower.snapshot(self.cache._follower.numbers[-1])", of_each_store("test_values_that_are_too_long")),
     Wrong("two threads' answers in one room", "_versions.py", "            room = self._free.pop()\n        except IndexError:\n            room = _Room()\n        number = _CALL",
           "            room = self._free[-1]\n        except IndexError:\n            room = _Room()\n        number = _CALL", "tests.test_versions -k test_a_hit_is_read"),
     Wrong("a lock that is held in mid-hit", "_versions.py", "        number = _CALL(", "        with _TURN:\n            number = _CALL(",
@@ -159,6 +162,7 @@ WRONG = [
     Wrong("the call that ran out of asks is not made by itself", "_page.py", "            if self._ahead is not None:\n", "            if False:\n", of_each_store("test_as_many_calls")),
     Wrong("a budget of bytes that nobody keeps", "cache.py", "self._versions.trim(self._max_bytes)", "pass", of_each_store("test_a_budget")),
     Wrong("a child that goes on with its parent's", "cache.py", "os.register_at_fork(after_in_child=_after_fork_in_child)", "", of_each_store("test_after_a_fork")),
+    *[Wrong(*it) for it in BY_HAND],
 ]
 
 

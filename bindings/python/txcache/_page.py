@@ -12,11 +12,12 @@ from typing import TYPE_CHECKING, Any, Callable, Dict, List, Optional, Sequence,
 
 from . import _values
 from ._computing import Again, Frame
+from ._hand import Hand, HandOfFrame, HandOfSnapshot
 from ._layout import Db, Read, Row, refuse_time_and_chance
 from ._store import Snapshot, db_of
 from ._values import TOO_LONG
 from ._versions import MAX_ASKS, UNCHANGING_PLACE
-from .errors import AuditError, SnapshotLost
+from .errors import AuditError, OutsideSnapshot, SnapshotLost
 
 if TYPE_CHECKING:
     from ._function import Function
@@ -60,7 +61,8 @@ class Page:
     _stamp: Optional[int] = None  # at which the next query runs, where it is known; only a hit, or what is given up, changes it
     _snapshot: Optional[Snapshot] = None  # of that stamp, where it was asked for
     _failed: Optional[BaseException] = None
-    _direct: Optional[Db] = None
+    _direct: Optional[Snapshot] = None  # in which functions are computed uncached
+    hand: Optional[Hand] = None  # of the function that runs
     _shown: Optional[List[Tuple["Function", Sequence[Any], Dict[str, Any], bytes]]] = None  # of a page that is audited
     _has_shown = _has_renewed = False
     _end: Optional[Tuple[float, Any, Optional[int]]] = None
@@ -141,7 +143,7 @@ class Page:
     def _answer_within(self, function: "Function", args: Sequence[Any], named: Dict[str, Any]) -> Any:
         """Returns the value of a call of a function that is computed, or audited."""
         if self._direct is not None:
-            return function.body(self._direct, *args, **named)
+            return self._directly(function, args, named, lambda it: it)
         return _values.decode(self._inner(function, args, named), function.codec)
 
     def _hit(self, function: "Function", args: Sequence[Any]) -> Optional[bytes]:
@@ -256,16 +258,19 @@ class Page:
 
     def _computed_data(self, function: "Function", key: Any, args: Sequence[Any], named: Dict[str, Any]) -> bytes:
         cache, frame = self.cache, Frame(function, args, named, key.level)
+        around, self.hand = self.hand, HandOfFrame(self, frame)
         self._frames = [*self._frames, frame]
         work = cache._works.begin(key.digest, self._stamp_now())
         try:
-            value = function.body(Db(self._snapshot_now().layout, self._read), *args, **named)
+            value = function.body(Db(self._snapshot_now().layout, self._read, self.hand), *args, **named)
+            self.hand.has_returned()
             self._refuse_after_failure(frame)
             self._ask_once(frame)
             data = _values.encode(value, function.codec)
             cache._finish(self._txn, function, data)
         finally:
             cache._works.end(key.digest, work)
+            self._end_hand(around)
             self._frames = self._frames[:-1]
         self._asks += 1
         self._inner_computed += bool(self._frames)
@@ -275,14 +280,29 @@ class Page:
 
     def _uncached_data(self, function: "Function", args: Sequence[Any], named: Dict[str, Any]) -> bytes:
         """Returns the value of a call that is known to be too long for the library: it is computed, in the snapshot of the next query."""
-        self._direct = db_of(self._snapshot_now())
+        self._direct = self._snapshot_now()
         try:
-            data = _values.encode(function.body(self._direct, *args, **named), function.codec)
+            data = self._directly(function, args, named, lambda it: _values.encode(it, function.codec))
         finally:
             self._direct = None
         self.computed += 1
         function.computed += 1
         return data
+
+    def _directly(self, function: "Function", args: Sequence[Any], named: Dict[str, Any], keep: Callable[[Any], Any]) -> Any:
+        """Computes a call uncached, in the one snapshot of `_direct`, and returns what `keep` makes of its value."""
+        around, self.hand = self.hand, HandOfSnapshot(self._direct, function.name, self.cache.store)
+        try:
+            value = function.body(db_of(self._direct, self.hand), *args, **named)
+            self.hand.has_returned()
+            return keep(value)
+        finally:
+            self._end_hand(around)
+
+    def _end_hand(self, around: Optional[Hand]) -> None:
+        """Ends what the function that runs reads by hand; the one around it, if there is one, goes on."""
+        hand, self.hand = self.hand, around
+        hand.close()
 
     def _give_up(self) -> None:
         self._frames = ()
@@ -320,6 +340,22 @@ class Page:
         except BaseException as error:
             self._failed = self._failed or error
             raise
+
+    def within(self, frame: Frame, what: str, read: Callable[[], Any]) -> Any:
+        """Reads for a function, which must be the one that runs."""
+        if self._process != _process or not self._turn.acquire(False):
+            raise self._not_its_turn(what)
+        try:
+            if not self._frames or self._frames[-1] is not frame:
+                raise OutsideSnapshot(f"{what} of {frame.function.name} is used within another function: ask each function's own db")
+            self._refuse_after_failure(frame)
+            try:
+                return read()
+            except BaseException as error:
+                self._failed = self._failed or error
+                raise
+        finally:
+            self._turn.release()
 
     def _read_by_tables(self, frame: Frame, read: Read) -> List[Row]:
         refuse_time_and_chance(read.query)
@@ -398,7 +434,7 @@ class Page:
         """Computes what was shown once more, uncached, in the one snapshot of the receipt."""
         token = PAGE.set(self)
         try:
-            self._direct = db_of(self.cache._follower.snapshot(self.receipt.snapshot))
+            self._direct = self.cache._follower.snapshot(self.receipt.snapshot)
             for function, args, named, data in self._shown:
                 if not self._gives(function, args, named, data):
                     self._report(function, args)
@@ -410,7 +446,7 @@ class Page:
     def _gives(self, function: "Function", args: Sequence[Any], named: Dict[str, Any], data: bytes) -> bool:
         """Returns True if a call gives now what was shown. Equal values may have other bytes, and values that know no equality have the same."""
         try:
-            again = _values.encode(function.body(self._direct, *args, **named), function.codec)
+            again = self._directly(function, args, named, lambda it: _values.encode(it, function.codec))
         except SnapshotLost:
             raise
         except Exception:

@@ -11,6 +11,7 @@ import threading
 from dataclasses import dataclass, field
 from typing import Any, Dict, FrozenSet, Iterable, Iterator, List, Mapping, Optional, Sequence, Tuple, Union
 
+from ._cursor import OWN, Cursor, Result, Source, Statement
 from ._driver import Link
 from ._layout import Layout, Name, Read, Row, dicts, literal, lookups_of
 from ._postgres_schema import Catalog, Installer, array, faults_of_schema
@@ -72,6 +73,8 @@ class Mark:
 class PostgresStore:
     """The database of a connection string. `tables` names of each table the columns by which rows are looked up; a tuple is several together, and none
     follows the whole table. Each open snapshot has a connection, beside those that read."""
+
+    cursor_kind = Cursor
 
     def __init__(self, dsn: str, tables: Mapping[str, Sequence[Union[str, Tuple[str, ...]]]], *, lock_timeout: float = LOCK_TIMEOUT,
                  idle_timeout: float = IDLE_TIMEOUT, driver: Optional[str] = None):
@@ -264,10 +267,10 @@ class PostgresStore:
             return SnapshotLost(f"the server did not answer: {said}")
         return NotInstalled([said])
 
-    def connected(self) -> Link:
+    def connected(self, source: Source = OWN) -> Link:
         """Returns a new connection. Fails with SnapshotLost if there is none."""
         try:
-            return self.connect()
+            return source.connect(self)
         except ImportError:
             raise
         except Exception as error:
@@ -342,6 +345,9 @@ class PostgresSnapshot:
     def rows_and_tables(self, query: str, args: Sequence[Any]) -> Tuple[List[Row], FrozenSet[str]]:
         return self._store.readers.rows_and_tables(self, query, args)
 
+    def by_hand(self, statement: Statement, is_named: bool) -> Tuple[Result, FrozenSet[str]]:
+        return self._store.readers.by_hand(self, statement, is_named)
+
     def name(self) -> str:
         """Returns the name by which another connection joins it."""
         with self._lock:
@@ -376,15 +382,15 @@ class _Reader:
     """A connection that joins snapshots. While it `is_clean` its transaction has asked nothing; else, if it `has_locks`, it holds all that
     the snapshot's own does."""
 
-    def __init__(self, link: Link):
-        self.link, self.snapshot, self.has_locks, self.is_clean = link, None, False, True
+    def __init__(self, link: Link, source: Source):
+        self.link, self.source, self.snapshot, self.has_locks, self.is_clean = link, source, None, False, True
 
     def join(self, snapshot: PostgresSnapshot, settings: str, has_locks: bool) -> None:
         if self.snapshot is snapshot and self.has_locks == has_locks and (has_locks or self.is_clean):
             return
         self.leave()
         lock = f"LOCK TABLE {', '.join(it.quoted for it in snapshot.tables.names)} IN ACCESS SHARE MODE" if has_locks and snapshot.tables.names else ""
-        self.link.ask(f"BEGIN ISOLATION LEVEL REPEATABLE READ READ ONLY; SET TRANSACTION SNAPSHOT {literal(snapshot.name())}; {settings}{lock}")
+        self.link.ask(f"BEGIN ISOLATION LEVEL REPEATABLE READ READ ONLY; SET TRANSACTION SNAPSHOT {literal(snapshot.name())}; {settings}{self.source.settings}{lock}")
         self.snapshot, self.has_locks, self.is_clean = snapshot, has_locks, True
         if has_locks:
             snapshot.check()  # from its locks to ours there was no moment with none
@@ -421,6 +427,17 @@ class Readers:
             snapshot.check()
         return dicts(names, rows), tables
 
+    def by_hand(self, snapshot: PostgresSnapshot, statement: Statement, is_named: bool) -> Tuple[Result, FrozenSet[str]]:
+        """Returns what a statement gives, over a connection of its source; and the tables that the server locked for it, unless those were named."""
+        with self._lent(snapshot, is_named, statement.source) as reader:
+            reader.is_clean = False
+            result = reader.link.run(statement)
+            tables: FrozenSet[str] = frozenset()
+            if not is_named:
+                tables = self._tables_of(reader.link, snapshot.tables, [it for it, in reader.link.ask(_LOCKED)])
+                snapshot.check()
+        return result, tables
+
     @staticmethod
     def _tables_of(link: Link, tables: _Tables, oids: Sequence[int]) -> FrozenSet[str]:
         unknown = [it for it in oids if it not in tables.relations]
@@ -438,9 +455,9 @@ class Readers:
         return frozenset().union(*seen)
 
     @contextlib.contextmanager
-    def _lent(self, snapshot: PostgresSnapshot, has_locks: bool) -> Iterator[_Reader]:
+    def _lent(self, snapshot: PostgresSnapshot, has_locks: bool, source: Source = OWN) -> Iterator[_Reader]:
         """Lends a connection that has joined a snapshot."""
-        reader = self._joined(snapshot, has_locks)
+        reader = self._joined(snapshot, has_locks, source)
         is_kept = False
         try:
             yield reader
@@ -456,9 +473,9 @@ class Readers:
         finally:
             self._give_back(reader, is_kept)
 
-    def _joined(self, snapshot: PostgresSnapshot, has_locks: bool) -> _Reader:
+    def _joined(self, snapshot: PostgresSnapshot, has_locks: bool, source: Source) -> _Reader:
         while True:
-            reader, is_new = self._take(snapshot)
+            reader, is_new = self._take(snapshot, source)
             try:
                 reader.join(snapshot, self._store.settings, has_locks)
                 return reader
@@ -472,18 +489,24 @@ class Readers:
                 self._give_back(reader, False)
                 raise
 
-    def _take(self, snapshot: PostgresSnapshot) -> Tuple[_Reader, bool]:
-        """Returns a free connection, one that has joined the snapshot if there is such, or a new one; and whether it is new."""
+    def _take(self, snapshot: PostgresSnapshot, source: Source) -> Tuple[_Reader, bool]:
+        """Returns a free connection of a source, one that has joined the snapshot if there is such, or a new one; and whether it is new. If there may be no more
+        beside those of other sources, one of these is closed."""
         with self._changed:
             while not self._free and self._count >= self.limit:
                 self._changed.wait()
-            if self._free:
-                found = next((it for it in self._free if it.snapshot is snapshot), self._free[-1])
-                self._free.remove(found)
+            fit = [it for it in self._free if it.source is source]
+            found = next((it for it in fit if it.snapshot is snapshot), None) or next(reversed(fit), None)
+            other = None if found or self._count < self.limit else self._free[0]
+            if found or other:
+                self._free.remove(found or other)
+            if found:
                 return found, False
-            self._count += 1
+            self._count += not other
         try:
-            return _Reader(self._store.connected()), True
+            if other:
+                other.link.close()
+            return _Reader(self._store.connected(source), source), True
         except BaseException:
             self._forget()
             raise
