@@ -37,6 +37,10 @@ def of_many(name: str, text: str, put: str, test: str, file: str = "site.py") ->
     return Wrong(name, file, text, put, f"tests.test_many -k {test}")
 
 
+def of_standby(name: str, text: str, put: str, test: str, more: Tuple[Tuple[str, str], ...] = ()) -> Wrong:
+    return Wrong(name, "_standby.py", text, put, f"tests.test_standby -k {test}", more)
+
+
 WRONG = [
     of_many("a finaliser that waits", "self._site._forgotten.append(self._number)", "self._abort()", "test_a_finaliser"),
     of_many("what is collected stays open", "self._site._forgotten.append(self._number)", "pass", "test_what_is_collected"),
@@ -55,6 +59,21 @@ WRONG = [
           "tests.test_postgres -k test_a_transaction_that_was_open_at_the_last_look_follows_once"),
     Wrong("a snapshot before its lock", "postgres.py", "READ ONLY; {self.settings}{lock}", "READ ONLY; SELECT 1; {self.settings}{lock}",
           "tests.test_postgres -k test_the_lock_comes_before_the_snapshot"),
+    of_standby("a standby followed by pg_visible_in_snapshot", "NOT EXISTS (SELECT FROM unnest('{{{seen}}}'::xid8[]) AS s WHERE s = n.xact)",
+               "NOT pg_visible_in_snapshot(n.xact, '{xmin}:{xmax}:')", "test_a_transaction_that_was_open", (("xmin=last.xmin, seen=", "xmin=last.xmin, xmax=last.xmax, seen="),)),
+    of_standby("a standby followed from xmax alone", "xmin=last.xmin, seen=", "xmin=last.xmax, seen=", "test_a_transaction_that_was_open"),
+    of_standby("a standby's numbers are those of one look", "before.seen.union(numbers)", "frozenset(numbers)", "test_a_transaction_that_was_open -k test_random_transactions"),
+    of_standby("a standby's numbers are cut", "    if len(last.seen or ()) > MAX_SEEN:\n", "    if False:\n", "test_more_numbers"),
+    Wrong("a token that a standby's list sees", "postgres.py", "        if self.seen is not None:\n            return", "        if False:\n            return",
+          "tests.test_standby -k test_a_token_of_what"),
+    Wrong("a promotion that is not seen", "postgres.py", "            if last.seen is not None and delay is None:\n", "            if False:\n", "tests.test_standby -k test_a_promotion"),
+    of_standby("a promotion within a look that is not seen", "    if not is_standby:\n", "    if False:\n", "test_a_promotion"),
+    Wrong("a delay not counted", "_follower.py", "self._shown = moment - found.delay if found.tags is None else max(self._shown, moment - found.delay)", "self._shown = moment",
+          "tests.test_standby -k test_the_delay"),
+    of_standby("a standby that lost its primary is young", "if first.is_standby and first.is_connected:", "if first.is_standby:", "test_a_standby_that_has_lost"),
+    of_standby("what was received counts as replayed", "if place <= found.replayed", "if True", "test_the_delay"),
+    of_standby("a primary that is idle makes pages old", "min(by_place, NEVER if found.since is None else found.since)", "NEVER if found.since is None else found.since", "test_a_primary_that_is_idle"),
+    Wrong("a query that recovery cancels is the page's own error", "postgres.py", "if _state_of(error)[:2] == _ROLLED_BACK:", "if False:", "tests.test_standby -k test_a_snapshot_that_recovery"),
     Wrong("purge by age", "_postgres_schema.py", "INTO upon FROM txcache.purges p WHERE p.made <= clock_timestamp() - make_interval(secs => age)",
           "INTO upon FROM (SELECT pg_snapshot_xmax(pg_current_snapshot()) AS below) p", "tests.test_postgres -k test_by_numbers"),
     Wrong("a purge that says nothing of itself", "_postgres_schema.py", "UPDATE txcache.state SET upto = upon;", "", "tests.test_postgres -k test_by_numbers"),
