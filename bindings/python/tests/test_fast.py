@@ -109,6 +109,29 @@ class Sites(Extension):
         self.assertEqual([self.fast.hit(txn, known, args) for args in ((True,), (1.0,), (2,), ([],), ())], [None] * 5)
         self.assertEqual(self.fast.commit(txn)[0], 4)
 
+    def test_what_is_asked_is_the_place(self):
+        """A result goes with the place that it asked for, and with no other."""
+        for versions, key in zip((self.fast, self.slow), self.keyed(1)):
+            self.computed(versions, key, b"of 17")
+            for place, data in ((16, b"of 17"), (33, b"of 17"), (1, b"of 17"), (17, None)):
+                versions.touch([place], 2)
+                stamp = versions.pin(2000 + place)
+                txn = versions.begin(2000 + place, 0, stamp)
+                self.assertEqual(versions.call(txn, key), data)
+                versions.give_up(txn)
+                versions.abort(txn)
+
+    def test_a_call_within_a_call_is_of_a_lower_level(self):
+        for versions, outer, inner in zip((self.fast, self.slow), self.keyed(1, level=2), self.keyed(2, level=1)):
+            txn = versions.begin(1000, 1000, 0)
+            self.assertIsNone(versions.call(txn, outer))
+            self.assertIsNone(versions.call(txn, inner))
+            versions.ask(txn, 17)
+            versions.finish(txn, b"inner")
+            versions.finish(txn, b"outer")
+            self.assertEqual((versions.call(txn, inner), versions.call(txn, outer), outer.level), (b"inner", b"outer", 2))
+            self.assertEqual(versions.commit(txn)[0], 3)
+
     def test_a_hit_that_is_none_leaves_no_call_open(self):
         key = self.keyed(1, (1,))[0]
         txn = self.fast.begin(1000, 1000, 0)
