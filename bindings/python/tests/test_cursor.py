@@ -327,7 +327,7 @@ class BesideWriters(Case):
             for table in ("items", "bids", "accounts"):
                 self.it.ask(f"DROP TABLE {table}")
         beside.prepare(where)
-        self.cache = cache = TxCache(beside.store_of(where), versions=self.versions)
+        self.cache = cache = TxCache(beside.store_of(where), hold=60.0, versions=self.versions)
         self.addCleanup(cache.close)
         mark = "%s" if isinstance(self, OfPostgres) else "?"
 
