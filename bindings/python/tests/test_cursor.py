@@ -6,9 +6,9 @@ import time
 import unittest
 from unittest import mock
 
-from txcache import OutsideSnapshot, SnapshotLost, TxCache
+from txcache import OutsideSnapshot, SnapshotLost, TxCache, _driver
 
-from . import beside, by_hand
+from . import beside, by_hand, until
 from .cases import Case, OfPostgres, over_each_store
 
 
@@ -251,7 +251,7 @@ class Cursors(Case):
     def words_of_rows(self):
         if self.mark == "?":
             return {}
-        if self.new_store().connect().driver.__name__ == "psycopg2":
+        if _driver.drivers()[0] == "psycopg2":
             from psycopg2.extras import RealDictCursor
 
             return {"cursor_factory": RealDictCursor}
@@ -296,6 +296,30 @@ class Cursors(Case):
             self.assertEqual(len(self.page((long,))[0]), length)
 
 
+class OfAServer(Case):
+    def test_a_holder_that_dies_while_a_query_runs(self):
+        """What was read counts only if the snapshot's own connection was alive after it: else a TRUNCATE may have come between."""
+        cache = self.open(refresh=1000.0)
+        slow = cache.cacheable(lambda db, number: db.cursor().execute("SELECT count(*), pg_advisory_xact_lock(7) FROM items").fetchone()[0])
+        self.page((self.balance, 0), (slow, 1))
+        (pid,), = cache._follower.snapshot(1)._link.ask("SELECT pg_backend_pid()")
+        other = self.writer()
+        other.ask("BEGIN; SELECT pg_advisory_xact_lock(7)")
+
+        def end():
+            until(lambda: self.it.ask("SELECT 1 FROM pg_locks WHERE NOT granted"))
+            self.it.ask("SELECT pg_terminate_backend(%s)", (pid,))
+            until(lambda: not self.it.ask("SELECT 1 FROM pg_stat_activity WHERE pid = %s", (pid,)))
+            other.ask("COMMIT")
+
+        ending = threading.Thread(target=end)
+        ending.start()
+        with cache.read(60.0):
+            self.balance(0)
+            self.assertRaises(SnapshotLost, slow, 2)
+        ending.join()
+
+
 class BesideWriters(Case):
     def test_no_page_is_torn(self):
         where = self.server.dsn(self.base) if isinstance(self, OfPostgres) else f"{self.room}/beside.db"
@@ -303,7 +327,7 @@ class BesideWriters(Case):
             for table in ("items", "bids", "accounts"):
                 self.it.ask(f"DROP TABLE {table}")
         beside.prepare(where)
-        self.cache = cache = TxCache(beside.store_of(where), versions=self.versions)
+        self.cache = cache = TxCache(beside.store_of(where), hold=60.0, versions=self.versions)
         self.addCleanup(cache.close)
         mark = "%s" if isinstance(self, OfPostgres) else "?"
 
@@ -334,7 +358,9 @@ class BesideWriters(Case):
 
 
 def load_tests(loader, tests, pattern):
-    return unittest.TestSuite(over_each_store(loader, it) for it in (Cursors, BesideWriters))
+    suite = unittest.TestSuite(over_each_store(loader, it) for it in (Cursors, BesideWriters))
+    suite.addTests(loader.loadTestsFromTestCase(type("OfAServerOfPostgres", (OfPostgres, OfAServer), {"__module__": __name__})))
+    return suite
 
 
 if __name__ == "__main__":

@@ -22,10 +22,12 @@ from django.conf import settings
 from django.core.exceptions import ImproperlyConfigured
 
 if not settings.configured:
-    settings.configure(DATABASES={"default": {"ENGINE": "django.db.backends.sqlite3", "NAME": "none"}, "txcache": {"ENGINE": "txcache.django", "OF": "default"}}, USE_TZ=True,
+    settings.configure(DATABASES={"default": {"ENGINE": "django.db.backends.sqlite3", "NAME": "none"},
+                                  "txcache": {"ENGINE": "txcache.django", "OF": "default", "OPTIONS": {"hold": 60.0}}}, USE_TZ=True,
                        INSTALLED_APPS=["txcache.django"], DATABASE_ROUTERS=["txcache.django.Router"], TXCACHE_TABLES=beside.TOLD, DEFAULT_AUTO_FIELD="django.db.models.AutoField")
     django.setup()
 
+import django.test.utils
 from django.core.management import CommandError, call_command
 from django.core.signals import request_finished, request_started
 from django.db import connections, models, transaction
@@ -218,7 +220,12 @@ class Aliases(Case):
         self.addCleanup(other.close)
         said = r'the alias "txcache" is used outside of a cacheable function: call a function of txcache.django.cache in a page, or read by .using\("default"\)'
         kept = []
-        keeps = self.cache.cacheable(lambda db: kept.extend((its(Item).all(), its(Bid).iterator(), connections["txcache"].cursor())) or kept[2].execute("SELECT 1 FROM bids").close())
+
+        @self.cache.cacheable
+        def keeps(db):
+            kept[:] = its(Item).all(), its(Bid).iterator(), connections["txcache"].cursor()
+            kept[2].execute("SELECT 1 FROM bids")
+
         strange = other.cacheable(lambda db: its(Item).count())
         with self.cache.read():
             keeps()
@@ -279,9 +286,7 @@ class Aliases(Case):
             self.its["item"](1)
         request_finished.send(None)
         self.assertEqual(connections["txcache"].settings_dict["TEST"]["MIRROR"], "default")
-        from django.test.utils import get_unique_databases_and_mirrors
-
-        self.assertEqual(get_unique_databases_and_mirrors()[1], {"txcache": "default"})
+        self.assertEqual(django.test.utils.get_unique_databases_and_mirrors()[1], {"txcache": "default"})
         for of in (None, "none", "txcache"):
             connections.databases["txcache"]["OF"] = of
             self.assertRaisesRegex(ImproperlyConfigured, f'DATABASES\\["txcache"\\]\\["OF"\\] is {of!r}, and is the alias of a database', _cache.of_alias, "txcache")
@@ -307,7 +312,13 @@ class Aliases(Case):
             return [(*row[:5], bytes(row[5]), *row[6:]) for row in rows.values_list("id", "made", "day", "amount", "said", "raw", "is_new", "trunc")]
 
         self.assertEqual(self.asks(lambda db: query("txcache")), query("default"))
-        self.assertEqual(self.asks(lambda db: its(Thing).get()).made, made)
+        self.assertEqual(self.asks(lambda db: its(Thing).get()).made, Thing.objects.get().made)
+
+    def test_with_debug(self):
+        with django.test.utils.override_settings(DEBUG=True):
+            self.assertEqual(self.asks(lambda db: its(Item).filter(pk=1).count()), 1)
+            self.assertIn("COUNT", connections["txcache"].queries[-1]["sql"])
+            self.assertRaises(django.db.DatabaseError, self.asks, lambda db: its(Item).extra(where=["none = 1"]).count())
 
     def test_failures_and_audit(self):
         self.assertRaises(OperationalError if not isinstance(self, OfPostgres) else django.db.ProgrammingError, self.asks, lambda db: its(Item).extra(where=["none = 1"]).count())
@@ -348,7 +359,7 @@ class OverAServer(OfPostgres, Aliases):
 class Missing(unittest.TestCase):
     def test_without_django(self):
         ran = subprocess.run([sys.executable, "-c", "import sys; sys.modules['django'] = None; import txcache.django"], stderr=subprocess.PIPE, text=True)
-        self.assertIn("ImportError: txcache.django needs Django 3.2 or later: apt-get install python3-django, or pip install Django", ran.stderr)
+        self.assertIn("ImportError: txcache.django needs Django 3.2 or later: apt-get install python3-django, or pip install 'txcache[django]'", ran.stderr)
 
 
 del Aliases, Case  # they run over a store alone

@@ -121,7 +121,7 @@ class Sessions(Case):
             self.write("DROP TABLE items", "DROP TABLE bids", "DROP TABLE accounts")
         self.where = self.server.dsn(self.base) if isinstance(self, OfPostgres) else f"{self.room}/beside.db"
         beside.prepare(self.where)
-        self.cache = TxCache(beside.store_of(self.where), thread=False, refresh=0.001)
+        self.cache = TxCache(beside.store_of(self.where), thread=False, refresh=0.001, hold=60.0)
         self.addCleanup(self.cache.close)
         self.its = functions(self.cache)
 
@@ -156,7 +156,7 @@ class Sessions(Case):
             self.assertEqual(pickle.loads(pickle.dumps(found)).bids[0].price, 0)
 
     def test_what_would_leave_the_snapshot(self):
-        def leaves(act, by_connection=False):
+        def leaves(act, is_spent=False):
             def body(db):
                 its = session(db)
                 before = its.get(Item, 1).top
@@ -164,7 +164,7 @@ class Sessions(Case):
                 with self.assertRaisesRegex(OutsideSnapshot, "body.*write outside of it, by a connection of your own"):
                     act(its)
                 self.assertEqual(session(db).query(Item.top).filter_by(id=1).scalar(), before)
-                if not by_connection:
+                if not is_spent:
                     its.expunge_all()
                     self.assertEqual(its.get(Item, 1).top, before)
             return body
@@ -179,11 +179,13 @@ class Sessions(Case):
 
         for act in (lambda it: it.commit(), lambda it: it.rollback(), lambda it: it.begin_nested(), adds, changes,
                     lambda it: it.execute(text("COMMIT")), lambda it: it.execute(text("DELETE FROM bids")), lambda it: it.query(Bid).delete(),
-                    lambda it: it.bulk_insert_mappings(Bid, [{"id": 98, "item_id": 1, "price": 1}] * 2), lambda it: it.connection(execution_options={"isolation_level": "SERIALIZABLE"}),
+                    lambda it: it.connection().connection.set_isolation_level(1),
                     lambda it: it.connection().connection.commit()):
             self.asks(leaves(act))
-        for act in (lambda it: it.connection().get_transaction().commit(), lambda it: it.connection().get_transaction().rollback()):
-            self.asks(leaves(act, by_connection=True))  # SQLAlchemy has its session go on no further
+        # after these SQLAlchemy has the session go on no further
+        for act in (lambda it: it.connection().get_transaction().commit(), lambda it: it.connection().get_transaction().rollback(),
+                    lambda it: it.bulk_insert_mappings(Bid, [{"id": 98, "item_id": 1, "price": 1}] * 2)):
+            self.asks(leaves(act, is_spent=True))
         self.assertEqual(self.page((self.its["bids"], 1), max_age=0.0)[0][-1].id, 7)
 
     def test_it_ends_with_its_function(self):
@@ -192,11 +194,12 @@ class Sessions(Case):
         @self.cache.cacheable
         def keeps(db):
             its = session(db)
-            its.get(Item, 1)
-            kept.extend((its, db))
+            kept[:] = its, db, its.get(Item, 1)
 
         with self.cache.read():
             keeps()
+            self.assertIsNone(sqlalchemy.inspect(kept[2]).session)
+            self.assertRaises(DetachedInstanceError, lambda: kept[2].bids)
             for act in (lambda: kept[0].get(Item, 2), lambda: kept[0].query(Item).all(), lambda: kept[0].execute(select(Item)), kept[0].commit, lambda: session(kept[1])):
                 self.assertRaisesRegex(OutsideSnapshot, "is used after .*keeps has returned: ask for another in each function", act)
         self.assertRaisesRegex(OutsideSnapshot, r"outside of session\(db\)", Session(bind=kept[0].bind.engine).get, Item, 1)
@@ -226,7 +229,7 @@ class OverAServer(OfPostgres, Sessions):
         super().make()
 
     def test_types_of_the_server(self):
-        """What SQLAlchemy has a driver do for its types, it does on the connections that join snapshots."""
+        """What SQLAlchemy has a driver do for its types, it does on the connections that join snapshots, and on no others."""
         self.change("CREATE TABLE things (id uuid PRIMARY KEY, said jsonb, raw bytea, made timestamptz, words text[])",
                     "INSERT INTO things VALUES ('00000000-0000-0000-0000-000000000007', '{\"a\": [1]}', '\\x0102', '2026-01-02 03:04:05+00', '{a,b}')")
         from sqlalchemy.dialects.postgresql import ARRAY, BYTEA, JSONB, TIMESTAMP, UUID
@@ -237,17 +240,27 @@ class OverAServer(OfPostgres, Sessions):
                                   Column("words", ARRAY(sqlalchemy.Text)))
         store = PostgresStore(self.where, {"things": ["id"]})
         store.install()
-        cache = TxCache(store)
+        cache = TxCache(store, connections=1)
         self.addCleanup(cache.close)
-        found = cache.cacheable(lambda db: tuple(session(db).execute(select(things)).one()))
+
+        @cache.cacheable
+        def found(db, again):
+            return tuple(session(db).execute(select(things)).one())
+
+        @cache.cacheable
+        def own(db, again):
+            return repr(db.rows("things"))
+
         with cache.read(), sqlalchemy.create_engine("postgresql+psycopg2://", creator=lambda: __import__("psycopg2").connect(self.where)).connect() as link:
-            self.assertEqual(found(), tuple(link.execute(select(things)).one()))
+            first = own(0)
+            self.assertEqual((found(0), found(1), own(1)), (*[tuple(link.execute(select(things)).one())] * 2, first))
+            self.assertEqual(cache.stats()["connections"], 1)
 
 
 class Missing(unittest.TestCase):
     def test_without_sqlalchemy(self):
         ran = subprocess.run([sys.executable, "-c", "import sys; sys.modules['sqlalchemy'] = None; import txcache.sqlalchemy"], stderr=subprocess.PIPE, text=True)
-        self.assertIn("ImportError: txcache.sqlalchemy needs SQLAlchemy 1.4 or later: apt-get install python3-sqlalchemy, or pip install", ran.stderr)
+        self.assertIn("ImportError: txcache.sqlalchemy needs SQLAlchemy 1.4 or later: apt-get install python3-sqlalchemy, or pip install 'txcache[sqlalchemy]'", ran.stderr)
 
 
 del Sessions, Case  # they run over a store alone

@@ -106,6 +106,7 @@ class Following(Case):
         self.follows()
         self.assertEqual(self.look(), {"", "id=1", "pair=0"})
         self.assertLess(self.mark.xmin, self.mark.xmax - 1)
+        self.assertEqual([self.look(), self.look()], [set(), set()])
         slow.ask("COMMIT")
         self.it.ask("UPDATE accounts SET balance = 3 WHERE id = 2")
         self.follows()

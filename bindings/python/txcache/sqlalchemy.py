@@ -20,15 +20,16 @@ from ._cursor import Connection as DbConnection
 from ._cursor import Source
 from ._driver import Link
 from ._hand import INSTEAD, Hand
-from .errors import OutsideSnapshot
+from .errors import OutsideSnapshot, SnapshotLost
 
 try:
     from sqlalchemy import create_engine
     from sqlalchemy.engine import Engine
+    from sqlalchemy.exc import DBAPIError
     from sqlalchemy.orm import Session
     from sqlalchemy.pool import NullPool
 except ImportError as error:
-    raise ImportError("txcache.sqlalchemy needs SQLAlchemy 1.4 or later: apt-get install python3-sqlalchemy, or pip install SQLAlchemy") from error
+    raise ImportError("txcache.sqlalchemy needs SQLAlchemy 1.4 or later: apt-get install python3-sqlalchemy, or pip install 'txcache[sqlalchemy]'") from error
 
 __all__ = ["SnapshotSession", "session"]
 _HAND: "contextvars.ContextVar[Optional[Hand]]" = contextvars.ContextVar("txcache_sqlalchemy", default=None)  # for which a connection is made
@@ -52,6 +53,7 @@ class SnapshotSession(Session):
             self._connection = engine.of_snapshots.connect()
         finally:
             _HAND.reset(token)
+        self._facade = self._connection.connection.dbapi_connection
         super().__init__(bind=self._connection, **words)
 
     def get_bind(self, *args: Any, **words: Any) -> Any:
@@ -73,17 +75,16 @@ class SnapshotSession(Session):
 
     def close(self) -> None:
         """Detaches what was read. It ends no transaction, since that is the snapshot's."""
-        facade = self._connection.connection.dbapi_connection
-        facade.is_ending = True
+        self._facade.is_ending = True
         try:
             super().close()
         finally:
-            facade.is_ending = False
+            self._facade.is_ending = False
 
     def end(self) -> None:
         """Of a function that has returned: what it gives is detached, so that to keep it asks nothing."""
         self.close()
-        self._connection.connection.dbapi_connection.is_ending = True
+        self._facade.is_ending = True
         self._connection.close()
 
 
@@ -138,5 +139,8 @@ def _engine_of(store: Any) -> _Engine:
         with _LOCK:
             found = vars(store).get("_of_sqlalchemy")
             if found is None:
-                found = store._of_sqlalchemy = _Engine(store)
+                try:
+                    found = store._of_sqlalchemy = _Engine(store)
+                except DBAPIError as error:
+                    raise SnapshotLost(f"no connection for SQLAlchemy: {error.orig}") from error
     return found

@@ -15,7 +15,7 @@
 try:
     import django as _django  # noqa: F401
 except ImportError as error:
-    raise ImportError("txcache.django needs Django 3.2 or later: apt-get install python3-django, or pip install Django") from error
+    raise ImportError("txcache.django needs Django 3.2 or later: apt-get install python3-django, or pip install 'txcache[django]'") from error
 
 from typing import Any
 

@@ -5,6 +5,7 @@ from typing import Any, Dict, Optional
 
 from django.conf import settings
 from django.db import DEFAULT_DB_ALIAS, connections
+from django.db.backends.base.operations import BaseDatabaseOperations
 from django.db.utils import load_backend
 
 from .._cursor import Connection, Cursor, SqliteCursor
@@ -50,7 +51,8 @@ class _OfFunction:
         super().__init__(settings_dict, alias)
         self.of = of_alias(alias)
         self.features = connections[self.of].features  # some of which ask the server
-        self.autocommit, self.connection, self._source = True, _Facade(self), None
+        self.autocommit, self.connection = True, _Facade(self)
+        self.ops.last_executed_query = functools.partial(BaseDatabaseOperations.last_executed_query, self.ops)  # others ask the connection, or its driver
 
     def ensure_connection(self) -> None:
         running_hand(self.alias)
