@@ -5,8 +5,11 @@ import threading
 from collections import Counter
 from typing import Any, Callable, List
 
+from txcache import SnapshotLost
+
 from . import beside
 
+LEAST = 4  # pages of each thread, on a machine that is busy
 SECONDS = float(os.environ.get("TXC_SECONDS", 3))
 
 
@@ -17,10 +20,14 @@ def counts_beside_writers(where: str, cache: Any, show: Callable[[int], List[Any
 
     def read(number: int, counts: Counter) -> None:
         at = number
-        while counts["pages"] < beside.LEAST or any(it.poll() is None for it in running):
+        while counts["pages"] < LEAST or any(it.poll() is None for it in running):
             at += 1
-            with cache.read(max_age=(0.0, 0.1, 1.0, 5.0)[at % 4]):
-                found = show(at % beside.ITEMS)
+            try:
+                with cache.read(max_age=(0.0, 0.1, 1.0, 5.0)[at % 4]):
+                    found = show(at % beside.ITEMS)
+            except SnapshotLost:  # the machine is very busy
+                counts["lost"] += 1
+                continue
             counts["pages"] += 1
             counts["torn"] += not is_whole(found)
 

@@ -22,7 +22,8 @@ from django.conf import settings
 from django.core.exceptions import ImproperlyConfigured
 
 if not settings.configured:
-    settings.configure(DATABASES={"default": {"ENGINE": "django.db.backends.sqlite3", "NAME": "none"}, "txcache": {"ENGINE": "txcache.django", "OF": "default"}}, USE_TZ=True,
+    settings.configure(DATABASES={"default": {"ENGINE": "django.db.backends.sqlite3", "NAME": "none"},
+                                  "txcache": {"ENGINE": "txcache.django", "OF": "default", "OPTIONS": {"hold": 60.0}}}, USE_TZ=True,
                        INSTALLED_APPS=["txcache.django"], DATABASE_ROUTERS=["txcache.django.Router"], TXCACHE_TABLES=beside.TOLD, DEFAULT_AUTO_FIELD="django.db.models.AutoField")
     django.setup()
 

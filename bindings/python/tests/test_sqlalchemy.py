@@ -121,7 +121,7 @@ class Sessions(Case):
             self.write("DROP TABLE items", "DROP TABLE bids", "DROP TABLE accounts")
         self.where = self.server.dsn(self.base) if isinstance(self, OfPostgres) else f"{self.room}/beside.db"
         beside.prepare(self.where)
-        self.cache = TxCache(beside.store_of(self.where), thread=False, refresh=0.001)
+        self.cache = TxCache(beside.store_of(self.where), thread=False, refresh=0.001, hold=60.0)
         self.addCleanup(self.cache.close)
         self.its = functions(self.cache)
 
@@ -179,7 +179,7 @@ class Sessions(Case):
 
         for act in (lambda it: it.commit(), lambda it: it.rollback(), lambda it: it.begin_nested(), adds, changes,
                     lambda it: it.execute(text("COMMIT")), lambda it: it.execute(text("DELETE FROM bids")), lambda it: it.query(Bid).delete(),
-                    lambda it: it.connection(execution_options={"isolation_level": "SERIALIZABLE"}),
+                    lambda it: it.connection().connection.set_isolation_level(1),
                     lambda it: it.connection().connection.commit()):
             self.asks(leaves(act))
         # after these SQLAlchemy has the session go on no further
@@ -242,8 +242,15 @@ class OverAServer(OfPostgres, Sessions):
         store.install()
         cache = TxCache(store, connections=1)
         self.addCleanup(cache.close)
-        found = cache.cacheable(lambda db, again: tuple(session(db).execute(select(things)).one()))
-        own = cache.cacheable(lambda db, again: repr(db.rows("things")))
+
+        @cache.cacheable
+        def found(db, again):
+            return tuple(session(db).execute(select(things)).one())
+
+        @cache.cacheable
+        def own(db, again):
+            return repr(db.rows("things"))
+
         with cache.read(), sqlalchemy.create_engine("postgresql+psycopg2://", creator=lambda: __import__("psycopg2").connect(self.where)).connect() as link:
             first = own(0)
             self.assertEqual((found(0), found(1), own(1)), (*[tuple(link.execute(select(things)).one())] * 2, first))

@@ -13,9 +13,11 @@ import tempfile
 from typing import NamedTuple, Tuple
 
 PYTHON = os.path.dirname(os.path.dirname(os.path.abspath(__file__)))
-sys.path.insert(0, os.path.dirname(os.path.abspath(__file__)))
+sys.path[:0] = [os.path.dirname(os.path.abspath(__file__)), os.path.normpath(f"{PYTHON}/../../scripts")]
 
+import extension  # noqa: E402
 from wrong_by_hand import BY_HAND  # noqa: E402
+from wrong_fast import FAST  # noqa: E402
 
 
 class Wrong(NamedTuple):
@@ -109,7 +111,7 @@ WRONG = [
           "tests.test_sqlite -k test_the_number_of_a_files_changes"),
     Wrong("a connection of the former file", "sqlite.py", "len(self._spare) < 2 and file == self._file:", "len(self._spare) < 2:", "tests.test_each_store -k test_another_file_at"),
     Wrong("the schema of SQLite is not looked at", "sqlite.py", "if mark.shape != last.shape:", "if False:", "tests.test_sqlite -k test_what_changes_the_schema"),
-    Wrong("a key without types", "_keys.py", "return (kinds, args) if", "return ((), args) if", "tests.test_keys -k test_exact_types"),
+    Wrong("a key without types", "_keys.py", "return all(map(operator.is_, map(type, one), map(type, other)))", "return True", "tests.test_keys -k test_exact_types"),
     Wrong("a key without types, whole", "_keys.py", "    bool: lambda it: b\"T\" if it else b\"F\",", "    bool: lambda it: b\"i%x;\" % it,", "tests.test_keys -k test_each_value"),
     Wrong("the look that fails forgets where it stood", "_follower.py", "            except SnapshotRefused as error:\n                self.let_go()\n", "            except SnapshotRefused as error:\n                self.forget()\n",
           "tests.test_follower -k test_a_lock_that_is_waited_for"),
@@ -135,7 +137,7 @@ WRONG = [
           of_each_store("test_an_audit_is_of_the_receipts_snapshot")),
     Wrong("a place of the version table forgotten", "_versions.py", "found = self._numbers.get(slot)", "found = self._numbers.pop(slot, None)",
           "tests.test_places -k test_places"),
-    Wrong("a page at the present", "_versions.py", "            if number == DONE:\n                return txn\n", "            return txn\n",
+    Wrong("a page at the present", "_versions.py", "        if number == DONE:\n            return txn\n", "        return txn\n",
           of_each_store("test_no_page_is_at_the_present")),
     Wrong("a site that renews pins by itself", "_versions.py", "_EVER = 2**64 - 1", "_EVER = 1", of_each_store("test_a_miss_is_read_at")),
     Wrong("a query after its transaction has ended", "postgres.py", "            if reader.link.is_idle:\n", "            if False:\n", of_each_store("test_a_query_that_ends")),
@@ -144,7 +146,7 @@ WRONG = [
     Wrong("a snapshot that was let go is read", "postgres.py", "            if not snapshot.is_open:\n                raise SnapshotLost(\"the snapshot was let go\")\n        except",
           "        except", of_each_store("test_a_snapshot_that_was_let_go"), (("        if not self.is_open:\n            raise SnapshotLost(\"the snapshot was let go\")\n        try:", "        try:"),)),
     Wrong("a snapshot that becomes too old before the next look", "_follower.py", "limit = self._clock() - self.hold + self._every", "limit = self._clock() - self.hold", "tests.test_follower -k test_none_becomes"),
-    Wrong("a page that goes on in a snapshot it had before a hit", "_page.py", "self._stamp = self._snapshot = None  # it may hold in fewer of them", "pass",
+    Wrong("a page that goes on in a snapshot it had before a hit", "_page.py", "        self._stamp = self._snapshot = None  # it may hold in fewer of them\n        if data", "        if data",
           of_each_store("test_a_page_is_of_one_moment")),
     Wrong("a foreign partition is installed", "postgres.py", "                refused[table] += catalog.faults_of_partitions(table, standing[table])\n", "",
           "tests.test_postgres -k test_a_foreign_table"),
@@ -153,9 +155,9 @@ WRONG = [
     Wrong("a page of a parent's", "_page.py", "around is not None and around._process == _process", "around is not None", of_each_store("test_a_child_of_a_page")),
     Wrong("nothing is ever purged", "cache.py", "if now - self._last_purge > PURGE_EVERY:", "if False:", of_each_store("test_notes_are_purged")),
     Wrong("an audit that leaves the cache warm", "_page.py", "        self.cache.clear()\n", "", of_each_store("test_audit")),
-    Wrong("a page that is older than it may be", "cache.py", "_us(begun - max_age)", "_us(begun - max_age - 60.0)", of_each_store("test_hits_and_changes")),
+    Wrong("a page that is older than it may be", "cache.py", "_us(oldest)", "_us(oldest - 60.0)", of_each_store("test_hits_and_changes")),
     Wrong("a failed step goes on", "cache.py", "            self._is_to_be_cold = True  # until", "            self._is_to_be_cold = False  # until", of_each_store("test_a_step_that_fails_midway")),
-    Wrong("an error that was shown is forgotten", "_page.py", "self._has_shown |= not isinstance(found, SnapshotLost)", "pass", of_each_store("test_an_error_shown")),
+    Wrong("an error that was shown is forgotten", "_page.py", "                        self._has_shown = True  # its error", "                        pass  # its error", of_each_store("test_an_error_shown")),
     Wrong("a caught failure goes on", "_page.py", "        if self._failed is not None:\n", "        if False:\n", of_each_store("test_errors")),
     Wrong("keys of callers stay", "_forms.py", "                left += self._callers.get(it, ())\n", "", of_each_store("test_what_a_key_asks -k test_clearing")),
     Wrong("the tables of a query stay", "_page.py", "        if touched - tables:\n", "        if False:\n", of_each_store("test_tables_of_a_query")),
@@ -165,7 +167,7 @@ WRONG = [
           "        stamp = self._versions.pin(_us(step.moment))\n        self._state = State((), self._state.era + 1) if step.cold else self._state\n",
           of_each_store("test_a_page_that_begins_within_a_cold_step")),
     Wrong("a page of a number that is no more", "cache.py", "if txn is not None and self._state.era == state.era:", "if txn is not None:", of_each_store("test_a_page_is_not_begun_under")),
-    Wrong("a mark in the place of a value is shown", "_page.py", "        if data == _values.TOO_LONG:\n", "        if False:\n", of_each_store("test_values_that_are_too_long")),
+    Wrong("a mark in the place of a value is shown", "_page.py", "        if data == TOO_LONG:\n", "        if False:\n", of_each_store("test_values_that_are_too_long")),
     Wrong("a value that is too long is of the newest snapshot", "_page.py", "self._direct = self._snapshot_now()",
           "self._direct = self.cache._follower.snapshot(self.cache._follower.numbers[-1])", of_each_store("test_values_that_are_too_long")),
     Wrong("two threads' answers in one room", "_versions.py", "            room = self._free.pop()\n        except IndexError:\n            room = _Room()\n        number = _CALL",
@@ -181,7 +183,7 @@ WRONG = [
     Wrong("the call that ran out of asks is not made by itself", "_page.py", "            if self._ahead is not None:\n", "            if False:\n", of_each_store("test_as_many_calls")),
     Wrong("a budget of bytes that nobody keeps", "cache.py", "self._versions.trim(self._max_bytes)", "pass", of_each_store("test_a_budget")),
     Wrong("a child that goes on with its parent's", "cache.py", "os.register_at_fork(after_in_child=_after_fork_in_child)", "", of_each_store("test_after_a_fork")),
-    *[Wrong(*it) for it in BY_HAND],
+    *[Wrong(*it) for it in (*BY_HAND, *FAST)],
 ]
 
 
@@ -199,16 +201,28 @@ def fails(wrong: Wrong, room: str) -> str:
         with open(path, "w", encoding="utf-8") as file:
             file.write(body)
         try:
-            ran = subprocess.run([sys.executable, "-m", "unittest", "-q", *wrong.test.split()], cwd=room, stdout=subprocess.PIPE, stderr=subprocess.STDOUT, text=True, timeout=180)
+            env = {**os.environ, "TXC_LIBRARY": built(path, room)} if path.endswith(".c") else None
+            ran = subprocess.run([sys.executable, "-m", "unittest", "-q", *wrong.test.split()], cwd=room, env=env, stdout=subprocess.PIPE, stderr=subprocess.STDOUT, text=True, timeout=180)
         except subprocess.TimeoutExpired:
             print(f"{wrong.name}: its test did not end", flush=True)
             return ""  # that is seen too
         if "_FailedTest" in ran.stdout or "\nImportError" in ran.stdout:
             return f"its test was not loaded: {ran.stdout[-300:]}"
-        return "" if "\nFAILED (" in ran.stdout else f"its test passes: {ran.stdout[-300:]}"
+        # what the extension does wrong may end the process
+        return "" if "\nFAILED (" in ran.stdout or ran.returncode < 0 else f"its test passes: {ran.stdout[-300:]}"
     finally:
         with open(path, "w", encoding="utf-8") as file:
             file.write(right)
+
+
+def built(source: str, room: str) -> str:
+    """Compiles the extension. Returns its folder, in which the library lies too."""
+    folder = f"{room}/built"
+    os.makedirs(folder, exist_ok=True)
+    if not os.path.exists(f"{folder}/libtxc_c.so"):
+        os.symlink(os.path.abspath(f"{os.environ['TXC_LIBRARY']}/libtxc_c.so"), f"{folder}/libtxc_c.so")
+    subprocess.run([it for it in extension.words_of(folder, source=source) if it != "-Werror"], check=True)
+    return folder
 
 
 def main() -> None:
