@@ -340,22 +340,20 @@ def _functions(link: Link) -> Dict[str, str]:
 
 def faults_of_schema(link: Link) -> List[str]:
     """Returns why the schema `txcache` can't be read from."""
-    (is_standby,), = link.ask("SELECT pg_is_in_recovery()")
-    lines = ["the server is a standby"] if is_standby else []
     comment = _comment(link)
     if comment != COMMENT:
-        return [*lines, f"the schema txcache is {'not there' if comment is None else repr(comment)}, and not {COMMENT!r}"]
+        return [f"the schema txcache is {'not there' if comment is None else repr(comment)}, and not {COMMENT!r}"]
     if _functions(link) != _TEXTS:
-        return [*lines, f"the functions of the schema txcache are not those of version {VERSION}"]
+        return [f"the functions of the schema txcache are not those of version {VERSION}"]
     if not link.ask("SELECT has_schema_privilege('txcache', 'USAGE')")[0][0]:
-        return [*lines, "this role may not use the schema txcache: install --reader ROLE"]
+        return ["this role may not use the schema txcache: install --reader ROLE"]
     (may_read, may_call), = link.ask("SELECT has_table_privilege('txcache.notes', 'SELECT') AND has_table_privilege('txcache.state', 'SELECT'), "
                                      f"has_function_privilege('txcache.shape(oid[])', 'EXECUTE') AND has_function_privilege('{_LOOK_OF}', 'EXECUTE')")
     if not (may_read and may_call):
-        return [*lines, "this role may not read the notes: install --reader ROLE"]
+        return ["this role may not read the notes: install --reader ROLE"]
     if link.ask("SELECT system FROM txcache.state") != link.ask("SELECT system_identifier FROM pg_control_system()"):
-        lines.append("the notes are those of another server, as of a restored dump")
-    return lines
+        return ["the notes are those of another server, as of a restored dump"]
+    return []
 
 
 class Installer:

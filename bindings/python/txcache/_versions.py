@@ -7,7 +7,7 @@ import struct
 import threading
 import time
 from types import SimpleNamespace
-from typing import Callable, Dict, Iterable, List, NamedTuple, Optional, Sequence, Tuple
+from typing import Any, Callable, Dict, Iterable, List, NamedTuple, Optional, Sequence, Tuple
 
 from . import _calls
 from ._calls import ANSWERED, COMPUTE, DONE, MISS, NO_MEMORY, NO_ROOM
@@ -55,12 +55,12 @@ class Totals(NamedTuple):
 
 
 class CallKey:
-    """A call, as it is asked for. `at` is where the library reads it."""
+    """A call, as it is asked for; of one whose arguments stand for themselves these. `at` is where the library reads it."""
 
-    __slots__ = "digest", "level", "at"
+    __slots__ = "digest", "level", "args", "at"
 
-    def __init__(self, level: int, digest: bytes):
-        self.digest, self.level = digest, level
+    def __init__(self, level: int, digest: bytes, args: Optional[Tuple[Any, ...]]):
+        self.digest, self.level, self.args = digest, level, args
         self.at = c.byref(_Key.from_buffer_copy(_AS_KEY(level, 4, digest)))
 
 
@@ -71,7 +71,11 @@ def _do(call: Callable[..., int], *words) -> None:
 
 
 def _error(call: Callable[..., int], number: int) -> Exception:
-    name = getattr(call, "__name__", "the library")
+    return refusal(getattr(call, "__name__", "the library"), number)
+
+
+def refusal(name: str, number: int) -> Exception:
+    """Returns what is raised where a call of the library returned this number."""
     return MemoryError(name) if number == NO_MEMORY else Refused(name, number)
 
 
@@ -90,6 +94,7 @@ class Versions:
     """A site with a node of `capacity` entries. `longest` bounds the bytes of a value."""
 
     longest = MAX_VALUE_LEN
+    hit: Optional[Callable[..., Optional[bytes]]] = None  # the value of an outermost call whose key is known, if it is cached
 
     def __init__(self, capacity: int, recent: int = 4096):
         self._site, self._rows = _Handle(None, False), 4 * _TABLES
@@ -204,9 +209,9 @@ class Versions:
         return None
 
     @staticmethod
-    def key(level: int, digest: bytes) -> CallKey:
+    def key(level: int, digest: bytes, args: Optional[Tuple[Any, ...]] = None) -> CallKey:
         """Returns the call of a function's level and a digest."""
-        return CallKey(level, digest)
+        return CallKey(level, digest, args)
 
     def call(self, txn: c.c_uint64, key: CallKey) -> Optional[bytes]:
         """Returns the value of a call; None where its function is to be computed."""
