@@ -203,7 +203,7 @@ def fails(wrong: Wrong, room: str) -> str:
             file.write(body)
         try:
             env = {**os.environ, "TXC_LIBRARY": built(path, room)} if path.endswith(".c") else None
-            ran = subprocess.run([sys.executable, "-m", "unittest", "-q", "-f", *wrong.test.split()], cwd=room, env=env, stdout=subprocess.PIPE, stderr=subprocess.STDOUT, text=True, timeout=180)
+            ran = subprocess.run([sys.executable, "-m", "unittest", "-q", "-f", *wrong.test.split()], cwd=room, env=env, stdout=subprocess.PIPE, stderr=subprocess.STDOUT, text=True, timeout=400)
         except subprocess.TimeoutExpired:
             print(f"{wrong.name}: its test did not end", flush=True)
             return ""  # that is seen too
