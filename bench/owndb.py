@@ -245,11 +245,11 @@ def beside_a_function(room: Room) -> Dict[str, float]:
                 shop.slow(number)
 
     alone, beside = [], []
-    for _ in range(4):
-        alone.append(pages_in(shop, 1.0))
+    for _ in range(12):
+        alone.append(pages_in(shop, 0.4))
         thread = threading.Thread(target=compute)
         thread.start()
-        beside.append(pages_in(shop, 1.0))
+        beside.append(pages_in(shop, 0.4))
         is_over.set()
         thread.join()
         is_over.clear()
