@@ -12,8 +12,9 @@ ghost use Rattle.txc_shared.specs.Nodes.{NodeValue, IsHistoryFull, after_call, s
 ghost use Rattle.txc_shared.specs.Passes.{PassValue, HasGrown, HasSeen, DoAgree, GrowsByOthers, HasMade, HasInserted, HasTaken, IsPassLeft};
 ghost use Rattle.txc_shared.specs.Refusals.{IsLookupRefused, IsStepRefused, IsTakingRefused, IsCountRefused, IsNodeLeft, IsRefusedThrough, IsNewPassRefused};
 ghost use Rattle.txc_shared.specs.Locked.{IsAhead, IsAdmitted, LiesUnderLock};
+ghost use Rattle.txc_shared.specs.Together.{HasTakenMany};
 
-use crate::advanced::Advanced;
+use crate::advanced::{Advanced, Ended, MAX_TOGETHER};
 use crate::error::NodeError;
 use crate::insertion::Insertion;
 use crate::laws::legal_histories;
@@ -295,6 +296,28 @@ impl<A: App, J: Naming> Held<A, J> {
             }
             Err(refusal) => Err(self.refuse(pass, refusal)),
         }
+    }
+
+    /// Takes the next events, [`MAX_TOGETHER`] at most.
+    #[tactic(auto, using(crate::proofs::Together::grown_then))]
+    pub(crate) fn advance_many(
+        &mut self,
+        rt: &impl Wait,
+        alloc: Global,
+        pass: &mut NodePass<J>,
+    ) -> (usize, Ended)
+        ensures longer { HasGrown pass.old pass.new }
+        ensures taken { HasTakenMany J.database_history J.node_histories MAX_TOGETHER pass.old result.0 result.1 pass.new }
+    {
+        let mut taken = 0;
+        for _ in 0..MAX_TOGETHER {
+            match self.advance(rt, alloc, pass) {
+                Ok(Advanced::Taken { .. }) => taken += 1,
+                Ok(Advanced::Idle) => return (taken, Ended::Idle),
+                Err(error) => return (taken, Ended::Refused(error)),
+            }
+        }
+        (taken, Ended::Paused)
     }
 
     /// Drops the entries whose span ends at the horizon or before it.

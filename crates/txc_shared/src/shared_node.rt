@@ -10,8 +10,9 @@ ghost use Rattle.txc_node.specs.Steps.{found_reply};
 ghost use Rattle.txc_app.specs.Claims.{IsTrueIn, entry_shown};
 ghost use Rattle.txc_shared.specs.Passes.{IsLegalOver, HasGrown, GrowsByOthers, HasMade, HasInserted, HasTaken, IsPassLeft};
 ghost use Rattle.txc_shared.specs.Refusals.{IsLookupRefused, IsStepRefused, IsTakingRefused, IsCountRefused, IsRefusedThrough, IsNewPassRefused, NodeMayRefuse};
+ghost use Rattle.txc_shared.specs.Together.{HasTakenMany};
 
-use crate::advanced::Advanced;
+use crate::advanced::{Advanced, Ended, MAX_TOGETHER};
 use crate::error::NodeError;
 use crate::held::Held;
 use crate::history::History;
@@ -263,6 +264,23 @@ impl<J: Naming> NodePass<J> {
         let advanced = lock_soon(rt, &node.lock).advance(rt, alloc, self);
         self.is_legal();
         advanced
+    }
+
+    /// Takes the next events of the database's history, [`MAX_TOGETHER`] at most, under one lock. Each has a record of its
+    /// own. Returns how many were taken, and how that ended: those before a refusal are taken and counted.
+    pub fn advance_many<A: App>(
+        &mut self,
+        rt: &impl Wait,
+        alloc: Global,
+        node: &SharedNode<A, J>,
+    ) -> (usize, Ended)
+        ensures longer { HasGrown self.old self.new }
+        ensures legal { IsLegalOver J.database_history self.new.history self.new.settings self.new.records }
+        ensures taken { HasTakenMany J.database_history J.node_histories MAX_TOGETHER self.old result.0 result.1 self.new }
+    {
+        let did = lock_soon(rt, &node.lock).advance_many(rt, alloc, self);
+        self.is_legal();
+        did
     }
 
     /// Drops the entries whose span ends at the horizon or before it, and counts them.
