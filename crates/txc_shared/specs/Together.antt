@@ -1,10 +1,12 @@
 -- Events that a node takes together.
-use Rattle.std.specs.Prelude.{◌≡◌, ℕ, ◌≤◌, List, length}
+use Rattle.std.specs.Prelude.{◌≡◌, ℕ, ◌≤◌, List, ◌++◌, length}
 use Rattle.txc_stream.specs.Names.{Name}
+use Rattle.txc_node.specs.declared.record.Record.{Record}
 use Rattle.txc_shared.specs.declared.advanced.Advanced.TheVariants as advances
 use Rattle.txc_shared.specs.declared.advanced.Ended.{Ended}
 use Rattle.txc_shared.specs.declared.advanced.Ended.TheVariants.{Idle, Paused, Refused}
-use Rattle.txc_shared.specs.Passes.{PassValue, HasGrown, HasTaken, HasTakenEach, IsPassLeft}
+use Rattle.txc_shared.specs.Histories.{records_of}
+use Rattle.txc_shared.specs.Passes.{PassValue, HasGrown, GrowsByOthers, HasTaken, HasTakenEach, IsPassLeft}
 use Rattle.txc_shared.specs.Refusals.{IsTakingRefused, IsRefusedThrough, NodeMayRefuse}
 
 -- after so many events there was none that the node had not taken, or it had taken as many as it may at once, or it
@@ -26,3 +28,18 @@ pub record HasTakenMany (row : Name) (histories : ℕ → Name) (most : ℕ) (ol
   pub few : taken ≤ most
   pub grown : HasGrown last new
   pub end : HasStopped row histories most last taken ended new
+
+-- what was seen is followed by records of other passes, and then by so many of its own, with none between them
+pub record EndTogether (pass count : ℕ) (old new : List Record) : Type 0 where
+  pub others : List Record
+  pub own : List Record
+  pub is : new ≡ old ++ others ++ own
+  pub none : records_of pass others ≡ 0
+  pub all : records_of pass own ≡ length own
+  pub counted : length own ≡ count
+
+-- its own stand together, as they do that are made under one lock: before and after them are records of others alone
+pub record StandTogether (pass count : ℕ) (old new : List Record) : Type 0 where
+  pub between : List Record
+  pub own : EndTogether pass count old between
+  pub after : GrowsByOthers pass between new

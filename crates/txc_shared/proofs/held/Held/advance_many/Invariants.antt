@@ -1,5 +1,6 @@
 use Rattle.std.proofs.Common.{◌≡◌, ℕ, List, length}
 use Rattle.txc_shared.specs.Passes.{HasGrown, HasTakenEach}
+use Rattle.txc_shared.proofs.Together.{EndsWithOwn}
 use Rattle.txc_shared.proofs.held.Held.advance_many.Given as goal
 
 -- the stamps of the events that were taken, the latest first
@@ -9,3 +10,4 @@ invariant-loop g l = (stamps : List ℕ)
     × (l.taken ≡ length stamps)
     × (l.taken ≡ l.counter)
     × HasGrown l.fn.pass l.pass
+    × EndsWithOwn l.fn.pass l.pass l.self l.taken
