@@ -22,7 +22,7 @@ use txc_ledger::{Horizon, Ledger};
 use txc_shared::{Ended, MAX_TOGETHER, NodeError, SharedNode};
 use txc_stamp::Stamp;
 
-/// How often a node takes events together in one call of [`Keeper::keep`].
+/// Maximum number of locked calls in which a node takes events during one call of [`Keeper::keep`].
 const MOST_ROUNDS: usize = 64;
 
 /// The most events that a node takes in one call of [`Keeper::keep`].
@@ -67,7 +67,7 @@ pub struct Keeper<'a, A: App, J: Naming> {
     stations: Vec<Station<'a, A, J>>,
 }
 
-/// Lets the node take events, [`MAX_TAKEN`] at most: one lock after the other, so that calls get theirs in between.
+/// Lets the node take up to [`MAX_TAKEN`] events, in several locked calls, so that other threads get the lock in between.
 #[tactic(auto, using(crate::proofs::NodesKept::same_then))]
 fn advance<A: App, J: Naming>(
     rt: &impl Wait,

@@ -68,7 +68,7 @@ impl<'a, A: App, J: Naming> Station<'a, A, J> {
         self.budget
     }
 
-    /// Lets the node take the next events, [`MAX_TOGETHER`] at most.
+    /// Lets the node take up to [`MAX_TOGETHER`] events in one locked call.
     #[tactic(auto, using(crate::proofs::NodesKept::same_settings, crate::proofs::NodesKept::same_pass))]
     pub(crate) fn advance_many(&mut self, rt: &impl Wait, alloc: Global) -> (usize, Ended)
         ensures same { IsSamePass self.old self.new }

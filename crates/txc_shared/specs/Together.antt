@@ -9,8 +9,8 @@ use Rattle.txc_shared.specs.Histories.{records_of}
 use Rattle.txc_shared.specs.Passes.{PassValue, HasGrown, GrowsByOthers, HasTaken, HasTakenEach, IsPassLeft}
 use Rattle.txc_shared.specs.Refusals.{IsTakingRefused, IsRefusedThrough, NodeMayRefuse}
 
--- after so many events there was none that the node had not taken, or it had taken as many as it may at once, or it
--- refused the next one, as some node of its history does, which leaves the pass so
+-- After so many events there was none left that the node had seen, or it had taken as many as it may at once, or it
+-- refused the next one. Then some node of its history refuses so, and the pass is left so.
 abbrev pub HasStopped : Name → (ℕ → Name) → ℕ → PassValue → ℕ → Ended → PassValue → Type 0
 HasStopped row histories most old taken Idle new = HasTaken row old new advances.Idle
 HasStopped row histories most old taken Paused new = (new ≡ old) × (taken ≡ most)
@@ -18,8 +18,8 @@ HasStopped row histories most old taken (Refused error) new =
     NodeMayRefuse histories (λ n. IsRefusedThrough IsTakingRefused n old) error
     × IsPassLeft (histories old.settings.number) old new error
 
--- the pass took so many events, each with a record of its own, and at most so many; and it ended so: also where one was
--- refused, those before it were taken and are counted
+-- The pass took so many events, each with a record of its own, and at most so many; and it ended so. If one was refused,
+-- those before it were taken and are counted.
 pub record HasTakenMany (row : Name) (histories : ℕ → Name) (most : ℕ) (old : PassValue) (taken : ℕ) (ended : Ended) (new : PassValue) : Type 0 where
   pub stamps : List ℕ
   pub last : PassValue

@@ -1,7 +1,7 @@
 use crate::error::NodeError;
 use txc_stamp::Stamp;
 
-/// The most events that a node takes under one lock.
+/// Maximum number of events that a node takes under one lock.
 pub const MAX_TOGETHER: usize = 64;
 
 /// What an advance did.
@@ -13,13 +13,13 @@ pub enum Advanced {
     Idle,
 }
 
-/// How the taking of several events ended.
+/// Reason for which a node stopped taking events.
 #[derive(Clone, Copy, Debug, PartialEq, Eq)]
 pub enum Ended {
-    /// The node has taken all events that it has seen.
+    /// It has taken all events that it has seen.
     Idle,
-    /// It has taken as many as it may at once.
+    /// It has taken as many as it may in one call.
     Paused,
-    /// It refused the next one.
+    /// It returned this error for the next event. Those before it stay taken.
     Refused(NodeError),
 }

@@ -299,7 +299,7 @@ impl<A: App, J: Naming> Held<A, J> {
         }
     }
 
-    /// Takes the next events, [`MAX_TOGETHER`] at most.
+    /// Takes up to [`MAX_TOGETHER`] events, in order.
     #[tactic(auto, using(crate::proofs::Together::grown_then))]
     pub(crate) fn advance_many(
         &mut self,

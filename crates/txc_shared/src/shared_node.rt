@@ -266,8 +266,9 @@ impl<J: Naming> NodePass<J> {
         advanced
     }
 
-    /// Takes the next events of the database's history, [`MAX_TOGETHER`] at most, under one lock. Each has a record of its
-    /// own. Returns how many were taken, and how that ended: those before a refusal are taken and counted.
+    /// Takes up to [`MAX_TOGETHER`] events of the database's history, in order, under one lock, each with a record of its
+    /// own. Returns their number and the reason for which it stopped. If it returns an error for one of them, those before
+    /// it are taken and counted.
     pub fn advance_many<A: App>(
         &mut self,
         rt: &impl Wait,
