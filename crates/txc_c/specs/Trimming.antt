@@ -1,7 +1,7 @@
 -- What a trim of a site's node comes to, and what is told of the node.
 use Rattle.std.specs.Prelude.{◌≡◌, ℕ, Result, Ok, Err}
 use Rattle.txc_shared.specs.declared.error.NodeError.{NodeError}
-use Rattle.txc_caller.specs.Budgets.{IsWithin}
+use Rattle.txc_caller.specs.Budgets.{IsInBudget}
 use Rattle.txc_caller.specs.Ports.{totals_of, CallerTrimTransition}
 use Rattle.txc_caller.specs.Reading.{CallerValue}
 use Rattle.txc_caller.specs.declared.nodes.NodeTotals.{NodeTotals}
@@ -45,4 +45,4 @@ crossing_node_totals totals = crossing_totals totals.entries totals.bytes totals
 pub record TotalsTold (totals : TxcTotals) (s : SiteValue) (number : ℕ) : Type 0 where
   pub number_is : number ≡ DONE
   pub told : totals ≡ crossing_node_totals (totals_of s.caller.ports.node)
-  pub within : IsWithin s.caller.ports.budget totals.bytes
+  pub within : IsInBudget s.caller.ports.budget totals.bytes

@@ -39,7 +39,7 @@ use Rattle.txc_ports.specs.declared.reply.PortReply.{PortReply}
 use Rattle.txc_ports.specs.declared.reply.PortReply.TheVariants as replies
 use Rattle.txc_caller.proofs.Some.{for_none, for_this}
 use Rattle.txc_caller.proofs.Letting.{grown_by, grown_same}
-use Rattle.txc_caller.specs.Budgets.{bytes_in, HasComeWithin, HasMadeRoomFor, IsWithin}
+use Rattle.txc_caller.specs.Budgets.{node_bytes, HasComeWithin, HasMadeRoomFor, IsInBudget}
 use Rattle.txc_caller.specs.Ports.{CallerPorts, AreCallerPorts, CallerAddTransition, CallerFindTransition, HasAskedPorts, HasGrownDatabase, CallerInsertTransition, KeepsNode, CallerLookupTransition, CallerPinTransition, CallerSweepTransition, CallerTrimTransition, CallerUnpinTransition}
 
 -- ---- the node
@@ -155,7 +155,7 @@ node_inserted budget old new seen entry None (inr refused) =
     (node_left refused.mid new refused.refused.0 (step_breaks refused.mid refused.refused.0 refused.refused.1) refused.refused.2)
 
 -- the ports with the node after such a step
-pub ports_with_node : (p : CallerPorts) (node : NodeValue) → AreCallerPorts p → KeepsNode p.node node → IsWithin p.budget (bytes_in node)
+pub ports_with_node : (p : CallerPorts) (node : NodeValue) → AreCallerPorts p → KeepsNode p.node node → IsInBudget p.budget (node_bytes node)
     → AreCallerPorts (record p { node = node })
 ports_with_node p node are keeps within = record {
   cushion = are.cushion;

@@ -22,7 +22,7 @@ use Rattle.txc_shared.specs.Refusals.{IsLookupRefused, IsNodeLeft, IsStepRefused
 use Rattle.txc_shared.specs.declared.error.NodeError.{NodeError}
 use Rattle.txc_shared.specs.declared.error.NodeError.TheVariants as errors
 use Rattle.txc_ports.specs.declared.kept.Kept.{Kept}
-use Rattle.txc_caller.specs.Budgets.{bytes_in, fits_alone, HasComeWithin, HasMadeRoomFor, IsWithin}
+use Rattle.txc_caller.specs.Budgets.{node_bytes, fits_alone, HasComeWithin, HasMadeRoomFor, IsInBudget}
 use Rattle.txc_caller.specs.Ports.{CallerInsertTransition, CallerLookupTransition, CallerSweepTransition, CallerTrimTransition, HasDeclined, HasRefusedStep, HasRefusedWithin, HasTakenWithin}
 use Rattle.txc_caller.proofs.Asked.{lookup_breaks, step_breaks, MayBreak}
 
@@ -122,59 +122,59 @@ left_cache old new errors.HistoryFull may none same = ap (λ (n : NodeValue). n.
 left_cache old new errors.PassesFull may none same = ap (λ (n : NodeValue). n.cache) same
 left_cache old new errors.Memory may none same = ap (λ (n : NodeValue). n.cache) same
 
-pub left_bytes : (old new : NodeValue) (e : NodeError) → IsStepRefused old e → ¬ (HasRow old.name) → IsNodeLeft old new e → bytes_in new ≡ bytes_in old
+pub left_bytes : (old new : NodeValue) (e : NodeError) → IsStepRefused old e → ¬ (HasRow old.name) → IsNodeLeft old new e → node_bytes new ≡ node_bytes old
 left_bytes old new e refused none left = ap (λ (c : Cache). bytes_of c.entries) (left_cache old new e (step_breaks old e refused) none left)
 
 -- ---- the budget
 
-pub within_less : (budget : Option ℕ) (more less : ℕ) → less ≤ more → IsWithin budget more → IsWithin budget less
+pub within_less : (budget : Option ℕ) (more less : ℕ) → less ≤ more → IsInBudget budget more → IsInBudget budget less
 within_less None more less l h = tt
 within_less (Some most) more less l h = omega (arith, l, h)
 
-pub within_same : (budget : Option ℕ) (old new : ℕ) → new ≡ old → IsWithin budget old → IsWithin budget new
+pub within_same : (budget : Option ℕ) (old new : ℕ) → new ≡ old → IsInBudget budget old → IsInBudget budget new
 within_same budget old new is h = within_less budget old new (omega (arith, is)) h
 
-refused_step_bytes : (old new : NodeValue) → ¬ (HasRow old.name) → HasRefusedStep old new → bytes_in new ≡ bytes_in old
+refused_step_bytes : (old new : NodeValue) → ¬ (HasRow old.name) → HasRefusedStep old new → node_bytes new ≡ node_bytes old
 refused_step_bytes old new none refused = left_bytes old new refused.0 refused.1 none refused.2
 
 pub looked_within : (budget : Option ℕ) (old new : NodeValue) (key : Call) (lo hi : ℕ) (hit : Option (Answered Shown)) → ¬ (HasRow old.name)
-    → CallerLookupTransition key lo hi old new hit → IsWithin budget (bytes_in old) → IsWithin budget (bytes_in new)
+    → CallerLookupTransition key lo hi old new hit → IsInBudget budget (node_bytes old) → IsInBudget budget (node_bytes new)
 looked_within budget old new key lo hi hit none leads h = go hit leads
   where
-    stepped : new ≡ after_call old 0 _ → bytes_of (after_lookup old.cache key lo hi).entries ≡ bytes_in new → IsWithin budget (bytes_in new)
-    stepped is at = let less = lookup_bytes old.cache key lo hi in within_less budget (bytes_in old) (bytes_in new) (omega (arith, less, at)) h
+    stepped : new ≡ after_call old 0 _ → bytes_of (after_lookup old.cache key lo hi).entries ≡ node_bytes new → IsInBudget budget (node_bytes new)
+    stepped is at = let less = lookup_bytes old.cache key lo hi in within_less budget (node_bytes old) (node_bytes new) (omega (arith, less, at)) h
 
-    go : (o : Option (Answered Shown)) → CallerLookupTransition key lo hi old new o → IsWithin budget (bytes_in new)
-    go (Some it) l = stepped l.0 (ap (λ (n : NodeValue). bytes_in n) (sym l.0))
-    go None (inl l) = stepped l.0 (ap (λ (n : NodeValue). bytes_in n) (sym l.0))
+    go : (o : Option (Answered Shown)) → CallerLookupTransition key lo hi old new o → IsInBudget budget (node_bytes new)
+    go (Some it) l = stepped l.0 (ap (λ (n : NodeValue). node_bytes n) (sym l.0))
+    go None (inl l) = stepped l.0 (ap (λ (n : NodeValue). node_bytes n) (sym l.0))
     go None (inr l) =
-        within_same budget (bytes_in old) (bytes_in new)
+        within_same budget (node_bytes old) (node_bytes new)
         (ap (λ (c : Cache). bytes_of c.entries) (left_cache old new l.0 (lookup_breaks old lo hi l.0 l.1) none l.2)) h
 
 pub swept_within : (budget : Option ℕ) (old new : NodeValue) (horizon : ℕ) (r : Result ℕ NodeError) → ¬ (HasRow old.name)
-    → CallerSweepTransition horizon old new r → IsWithin budget (bytes_in old) → IsWithin budget (bytes_in new)
+    → CallerSweepTransition horizon old new r → IsInBudget budget (node_bytes old) → IsInBudget budget (node_bytes new)
 swept_within budget old new horizon (Ok count) none leads h =
     let less = filter_bytes (λ e. not (has_ended old.cache.processed horizon e)) old.cache.entries in
-    let at : bytes_in new ≡ bytes_of (after_sweep old.cache horizon).entries = ap (λ (n : NodeValue). bytes_in n) leads.0 in
-    within_less budget (bytes_in old) (bytes_in new) (omega (arith, less, at)) h
-swept_within budget old new horizon (Err e) none leads h = within_same budget (bytes_in old) (bytes_in new) (left_bytes old new e leads.0 none leads.1) h
+    let at : node_bytes new ≡ bytes_of (after_sweep old.cache horizon).entries = ap (λ (n : NodeValue). node_bytes n) leads.0 in
+    within_less budget (node_bytes old) (node_bytes new) (omega (arith, less, at)) h
+swept_within budget old new horizon (Err e) none leads h = within_same budget (node_bytes old) (node_bytes new) (left_bytes old new e leads.0 none leads.1) h
 
 pub trimmed_within : (budget : Option ℕ) (old new : NodeValue) (most : ℕ) (r : Result ℕ NodeError) → ¬ (HasRow old.name)
-    → CallerTrimTransition most old new r → IsWithin budget (bytes_in old) → IsWithin budget (bytes_in new)
+    → CallerTrimTransition most old new r → IsInBudget budget (node_bytes old) → IsInBudget budget (node_bytes new)
 trimmed_within budget old new most (Ok count) none leads h =
     let less = take_bytes (staying_count most old.cache.entries) old.cache.entries in
-    let at : bytes_in new ≡ bytes_of (after_trim old.cache most).entries = ap (λ (n : NodeValue). bytes_in n) leads.0 in
-    within_less budget (bytes_in old) (bytes_in new) (omega (arith, less, at)) h
-trimmed_within budget old new most (Err e) none leads h = within_same budget (bytes_in old) (bytes_in new) (left_bytes old new e leads.0 none leads.1) h
+    let at : node_bytes new ≡ bytes_of (after_trim old.cache most).entries = ap (λ (n : NodeValue). node_bytes n) leads.0 in
+    within_less budget (node_bytes old) (node_bytes new) (omega (arith, less, at)) h
+trimmed_within budget old new most (Err e) none leads h = within_same budget (node_bytes old) (node_bytes new) (left_bytes old new e leads.0 none leads.1) h
 
 -- ---- room for an entry
 
 -- of a node that has come within so many bytes
-pub come_within : (most : ℕ) (old new : NodeValue) → HasComeWithin most old new → bytes_in new ≤ most
-come_within most old new (inl h) = let at : bytes_in new ≡ bytes_in old = ap (λ (n : NodeValue). bytes_in n) h.1 in let l = h.0 in omega (arith, at, l)
+pub come_within : (most : ℕ) (old new : NodeValue) → HasComeWithin most old new → node_bytes new ≤ most
+come_within most old new (inl h) = let at : node_bytes new ≡ node_bytes old = ap (λ (n : NodeValue). node_bytes n) h.1 in let l = h.0 in omega (arith, at, l)
 come_within most old new (inr h) =
     let few = (trim_keeps_the_first old.cache most).within in
-    let at : bytes_in new ≡ bytes_of (after_trim old.cache most).entries = ap (λ (n : NodeValue). bytes_in n) h.1 in
+    let at : node_bytes new ≡ bytes_of (after_trim old.cache most).entries = ap (λ (n : NodeValue). node_bytes n) h.1 in
     omega (arith, few, at)
 
 come_name : (most : ℕ) (old new : NodeValue) → HasComeWithin most old new → new.name ≡ old.name
@@ -190,7 +190,7 @@ fits_so most len h = grind (arith, nat_tests)
 
 -- the values with the new one are within the budget
 room_within : (budget : Option ℕ) (len : ℕ) (old mid : NodeValue) (bytes : ℕ) → fits_alone budget len ≡ true → HasMadeRoomFor budget len old mid
-    → bytes ≤ bytes_in mid + len → IsWithin budget bytes
+    → bytes ≤ node_bytes mid + len → IsInBudget budget bytes
 room_within None len old mid bytes fits room l = tt
 room_within (Some most) len old mid bytes fits room l =
     let alone = fits_so most len fits in
@@ -198,24 +198,24 @@ room_within (Some most) len old mid bytes fits room l =
     omega (arith, alone, few, l)
 
 -- .. and so are they without it
-room_kept : (budget : Option ℕ) (len : ℕ) (old mid : NodeValue) → (mid ≡ old) ⊎ HasMadeRoomFor budget len old mid → IsWithin budget (bytes_in old)
-    → IsWithin budget (bytes_in mid) × (mid.name ≡ old.name)
+room_kept : (budget : Option ℕ) (len : ℕ) (old mid : NodeValue) → (mid ≡ old) ⊎ HasMadeRoomFor budget len old mid → IsInBudget budget (node_bytes old)
+    → IsInBudget budget (node_bytes mid) × (mid.name ≡ old.name)
 room_kept budget len old mid (inl same) h =
-    (within_same budget (bytes_in old) (bytes_in mid) (ap (λ (n : NodeValue). bytes_in n) same) h, ap (λ (n : NodeValue). n.name) same)
+    (within_same budget (node_bytes old) (node_bytes mid) (ap (λ (n : NodeValue). node_bytes n) same) h, ap (λ (n : NodeValue). n.name) same)
 room_kept None len old mid (inr room) h = (tt, room_name None len old mid room)
 room_kept (Some most) len old mid (inr room) h =
     let few = come_within (most - len) old mid room in
     (omega (arith, few), room_name (Some most) len old mid room)
 
 pub inserted_within : (budget : Option ℕ) (old new : NodeValue) (seen : FrontValue) (entry : Entry) (kept : Option Kept) → ¬ (HasRow old.name)
-    → CallerInsertTransition budget seen entry old new kept → IsWithin budget (bytes_in old) → IsWithin budget (bytes_in new)
+    → CallerInsertTransition budget seen entry old new kept → IsInBudget budget (node_bytes old) → IsInBudget budget (node_bytes new)
 inserted_within budget old new seen entry (Some kept) none has h =
     let more = insert_bytes has.mid.cache entry in
-    let at : bytes_in new ≡ bytes_of (after_insert has.mid.cache entry).entries = ap (λ (n : NodeValue). bytes_in n) has.taken.after in
-    room_within budget (length entry.value) old has.mid (bytes_in new) has.fits has.room (omega (arith, more, at))
+    let at : node_bytes new ≡ bytes_of (after_insert has.mid.cache entry).entries = ap (λ (n : NodeValue). node_bytes n) has.taken.after in
+    room_within budget (length entry.value) old has.mid (node_bytes new) has.fits has.room (omega (arith, more, at))
 inserted_within budget old new seen entry None none (inl declined) h =
-    within_same budget (bytes_in old) (bytes_in new) (ap (λ (n : NodeValue). bytes_in n) declined.same) h
+    within_same budget (node_bytes old) (node_bytes new) (ap (λ (n : NodeValue). node_bytes n) declined.same) h
 inserted_within budget old new seen entry None none (inr refused) h =
     let room = room_kept budget (length entry.value) old refused.mid refused.room h in
-    within_same budget (bytes_in refused.mid) (bytes_in new)
+    within_same budget (node_bytes refused.mid) (node_bytes new)
     (refused_step_bytes refused.mid new (λ has. none (subst HasRow room.1 has)) refused.refused) room.0

@@ -12,7 +12,7 @@ use Rattle.txc_shared.specs.declared.advanced.Advanced.{Advanced}
 use Rattle.txc_shared.specs.declared.advanced.Advanced.TheVariants as advances
 use Rattle.txc_shared.specs.declared.error.NodeError.{NodeError}
 use Rattle.txc_shared.specs.declared.error.NodeError.TheVariants as errors
-use Rattle.txc_caller.specs.Budgets.{bytes_in}
+use Rattle.txc_caller.specs.Budgets.{node_bytes}
 use Rattle.txc_caller.specs.Ports.{GoesOnByEvents, HasNoEventFor, IsOfEvent, MayHaveTaken, StaysBehind}
 use Rattle.txc_caller.proofs.Budgets.{event_bytes, left_bytes}
 use Rattle.txc_caller.proofs.Asked.{changes_so, node_left, node_same, step_breaks}
@@ -25,7 +25,7 @@ both (r ∷ rs) ss hr hs = (hr.0, both rs ss hr.1 hs)
 pub none_taken : (old new : NodeValue) → new ≡ old → GoesOnByEvents old new
 none_taken old new is = record {
   keeps = node_same old new is;
-  bytes = λ none. ap (λ (n : NodeValue). bytes_in n) is;
+  bytes = λ none. ap (λ (n : NodeValue). node_bytes n) is;
   more = [];
   records = ap (λ (n : NodeValue). n.records) is ∙ sym (append-nil old.records);
   events = tt;
@@ -53,7 +53,7 @@ advanced_so old new seen (advances.Taken stamp closed) row h = record {
     same = changes_so old _ new h.0 refl;
     whole = λ none. ap (λ (n : NodeValue). n.broken) h.0;
   };
-  bytes = λ none. ap (λ (n : NodeValue). bytes_in n) h.0 ∙ event_bytes old.cache _ _;
+  bytes = λ none. ap (λ (n : NodeValue). node_bytes n) h.0 ∙ event_bytes old.cache _ _;
   more = _;
   records = ap (λ (n : NodeValue). n.records) h.0;
   events = (tt, tt);
@@ -64,7 +64,7 @@ advanced_so old new seen advances.Idle row h = record {
     same = changes_so old _ new h.0 refl;
     whole = λ none. ap (λ (n : NodeValue). n.broken) h.0;
   };
-  bytes = λ none. ap (λ (n : NodeValue). bytes_in n) h.0;
+  bytes = λ none. ap (λ (n : NodeValue). node_bytes n) h.0;
   more = [];
   records = ap (λ (n : NodeValue). n.records) h.0 ∙ sym (append-nil old.records);
   events = tt;

@@ -5,13 +5,13 @@ use Rattle.txc_node.specs.declared.op.Op.TheVariants.{Trim}
 use Rattle.txc_shared.specs.Nodes.{NodeValue, after_call}
 
 -- the bytes of a node's values in all
-abbrev pub bytes_in : NodeValue → ℕ
-bytes_in n = bytes_of n.cache.entries
+abbrev pub node_bytes : NodeValue → ℕ
+node_bytes n = bytes_of n.cache.entries
 
 -- so many bytes are within the budget; without one any number is
-abbrev pub IsWithin : Option ℕ → ℕ → Type 0
-IsWithin (Some budget) bytes = bytes ≤ budget
-IsWithin None bytes = Unit {0}
+abbrev pub IsInBudget : Option ℕ → ℕ → Type 0
+IsInBudget (Some budget) bytes = bytes ≤ budget
+IsInBudget None bytes = Unit {0}
 
 -- a value of so many bytes alone is within the budget
 abbrev pub fits_alone : Option ℕ → ℕ → Bool
@@ -21,7 +21,7 @@ fits_alone None len = true
 -- the values have at most so many bytes, and the node is as it was; or they had more, and the node was trimmed to that number
 abbrev pub HasComeWithin : ℕ → NodeValue → NodeValue → Type 0
 HasComeWithin most old new =
-    ((bytes_in old ≤ most) × (new ≡ old)) ⊎ ((most < bytes_in old) × (new ≡ after_call old 0 (Trim most)))
+    ((node_bytes old ≤ most) × (new ≡ old)) ⊎ ((most < node_bytes old) × (new ≡ after_call old 0 (Trim most)))
 
 -- The node has room for a value of so many bytes: its own values are within what the budget leaves beside that one. Without a
 -- budget it is as it was.

@@ -43,7 +43,7 @@ use Rattle.txc_ports.specs.declared.reply.PortReply.{PortReply}
 use Rattle.txc_ports.specs.Exchanges.{Exchange, IsExchange}
 use Rattle.txc_ports.specs.Exchanges as exchanges
 use Rattle.txc_caller.specs.declared.nodes.NodeTotals.{NodeTotals}
-use Rattle.txc_caller.specs.Budgets.{bytes_in, fits_alone, HasMadeRoomFor, IsWithin}
+use Rattle.txc_caller.specs.Budgets.{node_bytes, fits_alone, HasMadeRoomFor, IsInBudget}
 
 -- it is of the same row, and its history has only grown
 pub record HasGrownDatabase (old new : DatabaseValue) : Type 0 where
@@ -65,7 +65,7 @@ pub record AreCallerPorts (p : CallerPorts) : Type 0 where
   pub pass : p.node.passes ≡ 1
   pub unstored : ¬ (HasRow p.node.name)
   pub whole : p.node.broken ≡ false
-  pub within : IsWithin p.budget (bytes_in p.node)
+  pub within : IsInBudget p.budget (node_bytes p.node)
 
 -- the database has room for so many events; or, where no number is given, it stores none
 abbrev pub HasEventRoom : Option ℕ → Name → Type 0
@@ -239,7 +239,7 @@ IsOfEvent op = ⊥
 -- Its history goes on by such steps alone. If it stores no records, its values have as many bytes as before.
 pub record GoesOnByEvents (old new : NodeValue) : Type 0 where
   pub keeps : KeepsNode old new
-  pub bytes : ¬ (HasRow old.name) → bytes_in new ≡ bytes_in old
+  pub bytes : ¬ (HasRow old.name) → node_bytes new ≡ node_bytes old
   pub more : List Record
   pub records : new.records ≡ old.records ++ more
   pub events : AllByRecursion (λ r. IsOfEvent r.op) more

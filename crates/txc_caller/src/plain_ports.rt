@@ -174,7 +174,7 @@ impl<A: App> PlainPorts<A> {
     }
 
     /// An empty database with room for so many events, or that stores none where no number is given; an empty pincushion and
-    /// an empty node, whose values have at most `budget` bytes in all, or any number where none is given.
+    /// an empty node, whose values are to stay within the budget.
     pub(crate) fn new(
         alloc: Global,
         room: Option<usize>,
