@@ -11,19 +11,19 @@ use Rattle.txc_db.specs.Seen.{FrontValue}
 use Rattle.txc_db.specs.declared.answered.Answered.{Answered}
 use Rattle.txc_node.specs.declared.entry.Entry.{Entry}
 use Rattle.txc_node.specs.declared.hit.Shown.{Shown}
-use Rattle.txc_node.specs.declared.op.Op.TheVariants.{Insert, Trim}
-use Rattle.txc_node.specs.Entries.{others, same_place}
-use Rattle.txc_node.specs.Cache.{after_event, after_insert, after_lookup, after_sweep, after_trim, after_use, bytes_of, entries_with, entry_after, found, has_ended, is_best, is_invalidated, is_kept, longest_within, staying_count, Cache}
+use Rattle.txc_node.specs.declared.op.Op.TheVariants.{Lookup}
+use Rattle.txc_node.specs.Entries.{is_best, others, same_place}
+use Rattle.txc_node.specs.Cache.{after_event, after_insert, after_lookup, after_sweep, after_trim, after_use, bytes_of, entries_with, entry_after, found, has_ended, is_invalidated, is_kept, replayed_entry, staying_count, Cache}
 use Rattle.txc_node.proofs.Apart.{same_place_self}
 use Rattle.txc_node.proofs.Trims.{trim_keeps_the_first}
 use Rattle.txc_node.proofs.Weights.{bytes_more}
-use Rattle.txc_shared.specs.Nodes.{after_call, seeing, NodeValue}
+use Rattle.txc_shared.specs.Nodes.{after_call, NodeValue}
 use Rattle.txc_shared.specs.Refusals.{IsLookupRefused, IsNodeLeft, IsStepRefused}
 use Rattle.txc_shared.specs.declared.error.NodeError.{NodeError}
 use Rattle.txc_shared.specs.declared.error.NodeError.TheVariants as errors
 use Rattle.txc_ports.specs.declared.kept.Kept.{Kept}
 use Rattle.txc_caller.specs.Budgets.{node_bytes, fits_alone, HasComeWithin, HasMadeRoomFor, IsInBudget}
-use Rattle.txc_caller.specs.Ports.{CallerInsertTransition, CallerLookupTransition, CallerSweepTransition, CallerTrimTransition, HasDeclined, HasRefusedStep, HasRefusedWithin, HasTakenWithin}
+use Rattle.txc_caller.specs.Ports.{CallerInsertTransition, CallerLookupTransition, CallerSweepTransition, CallerTrimTransition, HasRefusedStep}
 use Rattle.txc_caller.proofs.Asked.{lookup_breaks, step_breaks, MayBreak}
 
 -- ---- entries
@@ -91,7 +91,7 @@ insert_bytes c e = elim (is_kept c e) as (λ b. bytes_of (cond b c (record c { e
   | false ↦
       let few = take_bytes c.capacity (entries_with c e) in
       let rest = filter_bytes (λ o. not (same_place o e)) c.entries in
-      let more = bytes_more (record e { reach = _ }) (others e c.entries) in
+      let more = bytes_more (replayed_entry c e) (others e c.entries) in
       omega (arith, few, rest, more)
 ]
 
@@ -141,7 +141,7 @@ pub looked_within : (budget : Option ℕ) (old new : NodeValue) (key : Call) (lo
     → CallerLookupTransition key lo hi old new hit → IsInBudget budget (node_bytes old) → IsInBudget budget (node_bytes new)
 looked_within budget old new key lo hi hit none leads h = go hit leads
   where
-    stepped : new ≡ after_call old 0 _ → bytes_of (after_lookup old.cache key lo hi).entries ≡ node_bytes new → IsInBudget budget (node_bytes new)
+    stepped : new ≡ after_call old 0 (Lookup key lo hi) → bytes_of (after_lookup old.cache key lo hi).entries ≡ node_bytes new → IsInBudget budget (node_bytes new)
     stepped is at = let less = lookup_bytes old.cache key lo hi in within_less budget (node_bytes old) (node_bytes new) (omega (arith, less, at)) h
 
     go : (o : Option (Answered Shown)) → CallerLookupTransition key lo hi old new o → IsInBudget budget (node_bytes new)
