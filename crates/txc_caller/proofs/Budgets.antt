@@ -23,8 +23,8 @@ use Rattle.txc_shared.specs.declared.error.NodeError.{NodeError}
 use Rattle.txc_shared.specs.declared.error.NodeError.TheVariants as errors
 use Rattle.txc_ports.specs.declared.kept.Kept.{Kept}
 use Rattle.txc_caller.specs.Budgets.{node_bytes, fits_alone, HasComeWithin, HasMadeRoomFor, IsInBudget}
-use Rattle.txc_caller.specs.Ports.{CallerInsertTransition, CallerLookupTransition, CallerSweepTransition, CallerTrimTransition, HasRefusedStep}
-use Rattle.txc_caller.proofs.Asked.{lookup_breaks, step_breaks, MayBreak}
+use Rattle.txc_caller.specs.Ports.{AreCallerPorts, CallerPorts, CallerInsertTransition, CallerLookupTransition, CallerSweepTransition, CallerTrimTransition, HasRefusedStep}
+use Rattle.txc_caller.proofs.Asked.{lookup_breaks, node_inserted, node_looked_up, node_swept, ports_with_node, step_breaks, MayBreak}
 
 -- ---- entries
 
@@ -219,3 +219,20 @@ inserted_within budget old new seen entry None none (inr refused) h =
     let room = room_kept budget (length entry.value) old refused.mid refused.room h in
     within_same budget (node_bytes refused.mid) (node_bytes new)
     (refused_step_bytes refused.mid new (λ has. none (subst HasRow room.1 has)) refused.refused) room.0
+
+-- ---- the ports
+
+pub looked_ports : (p : CallerPorts) (node : NodeValue) (key : Call) (lo hi : ℕ) (hit : Option (Answered Shown)) → AreCallerPorts p
+    → CallerLookupTransition key lo hi p.node node hit → AreCallerPorts (record p { node = node })
+looked_ports p node key lo hi hit are leads =
+    ports_with_node p node are (node_looked_up p.node node key lo hi hit leads) (looked_within p.budget p.node node key lo hi hit are.unstored leads are.within)
+
+pub swept_ports : (p : CallerPorts) (node : NodeValue) (horizon : ℕ) (r : Result ℕ NodeError) → AreCallerPorts p → CallerSweepTransition horizon p.node node r
+    → AreCallerPorts (record p { node = node })
+swept_ports p node horizon r are leads =
+    ports_with_node p node are (node_swept p.node node horizon r leads) (swept_within p.budget p.node node horizon r are.unstored leads are.within)
+
+pub inserted_ports : (p : CallerPorts) (node : NodeValue) (seen : FrontValue) (entry : Entry) (kept : Option Kept) → AreCallerPorts p
+    → CallerInsertTransition p.budget seen entry p.node node kept → AreCallerPorts (record p { node = node })
+inserted_ports p node seen entry kept are leads =
+    ports_with_node p node are (node_inserted p.budget p.node node seen entry kept leads) (inserted_within p.budget p.node node seen entry kept are.unstored leads are.within)

@@ -9,6 +9,7 @@ use Rattle.txc_ports.specs.declared.request.PortRequest.TheVariants as requests
 use Rattle.txc_ports.specs.declared.reply.PortReply.TheVariants as replies
 use Rattle.txc_caller.specs.Ports.{CallerPorts, HasAskedPorts}
 use Rattle.txc_caller.proofs.Asked.{added_so, asked_add, asked_insert, asked_lookup, asked_pin, asked_query, asked_so, asked_unpin, found_so, hit_row, looked_up, pinned_grown, pinned_so, unpinned_so}
+use Rattle.txc_caller.proofs.Budgets.{inserted_ports, looked_ports}
 use Rattle.txc_caller.proofs.Letting.{let_go_grown, let_go_so}
 use Rattle.txc_caller.proofs.plain_ports.PlainPortsCallPorts.ask.Goals as goal
 
@@ -80,3 +81,16 @@ returns-in-Insert g c =
     let new : CallerPorts = record old { node = c.insert.new.node } in
     asked_so g.A.App.next c.args.seen.now c.args.request asked c.args.self.now old new (replies.Insert c.insert.result) c.in-Insert.is c.self.view_is
     (asked_insert g.A.App.next c.args.seen.now old new c.in-Insert.node c.in-Insert.entry c.insert.result refl c.insert.ensures)
+
+pub invariant_of-self-in-Lookup : goal.invariant_of-self-in-Lookup
+invariant_of-self-in-Lookup g c =
+    let key = c.in-Lookup.key in
+    let old : CallerPorts = record { database = c.self.inside.database; cushion = c.self.inside.cushion; node = c.self.inside.node; budget = c.self.inside.budget } in
+    let done = c.lookup.ensures in
+    looked_ports old c.lookup.new.self key c.in-Lookup.lo c.in-Lookup.hi (result_unwrap_or c.lookup.result None) c.self.invariant
+    (looked_up key c.in-Lookup.lo c.in-Lookup.hi old.node c.lookup.new.self c.lookup.result done.after done.answer done.front done.left done.refused)
+
+pub invariant_of-self-in-Insert : goal.invariant_of-self-in-Insert
+invariant_of-self-in-Insert g c =
+    let old : CallerPorts = record { database = c.self.inside.database; cushion = c.self.inside.cushion; node = c.self.inside.node; budget = c.self.inside.budget } in
+    inserted_ports old c.insert.new.node c.args.seen.now c.in-Insert.entry c.insert.result c.self.invariant c.insert.ensures
