@@ -91,13 +91,9 @@ class Room:
 
     @staticmethod
     def _fill(ask: Callable[..., List[Any]]) -> None:
-        ask("BEGIN")
-        for at in range(ROWS):
-            ask("INSERT INTO items VALUES (%s, %s, %s, 100)", at, at % 50, f"item {at}")
-            ask("INSERT INTO bids VALUES (%s, %s, 100), (%s, %s, 90)", 2 * at, at, 2 * at + 1, at)
-            ask("INSERT INTO accounts VALUES (%s, %s, 1000)", at, at // 2)
-            ask("INSERT INTO copies VALUES (%s, 1000)", at)
-        ask("COMMIT")
+        for table, row in (("items", "({at}, {at} % 50, 'item {at}', 100)"), ("bids", "(2 * {at}, {at}, 100), (2 * {at} + 1, {at}, 90)"),
+                           ("accounts", "({at}, {at} / 2, 1000)"), ("copies", "({at}, 1000)")):
+            ask(f"INSERT INTO {table} VALUES " + ", ".join(row.format(at=at) for at in range(ROWS)))
 
     @staticmethod
     def store(where: str, told: Dict[str, Any] = TOLD) -> Any:

@@ -8,7 +8,7 @@ import os
 import subprocess
 import sys
 import time
-from typing import Any, Dict, Iterator, List
+from typing import Dict, Iterator, List
 
 from owndb import TOLD, Room, commits_of, link_of, look_ms
 

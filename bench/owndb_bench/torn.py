@@ -9,7 +9,7 @@ import random
 import subprocess
 import sys
 import time
-from typing import Any, Callable, Dict, Iterator, List, Tuple
+from typing import Any, Dict, Iterator, List, Tuple
 
 from owndb import TOLD, Room, Skipped, link_of
 

@@ -8,7 +8,7 @@ import time
 import unittest
 from collections import Counter
 
-from txcache import SnapshotLost, TxCache, _driver, _standby
+from txcache import SnapshotLost, TxCache, _standby
 from txcache.errors import NotInstalled, NotSeen, SnapshotRefused
 
 from . import beside, until
@@ -406,15 +406,15 @@ class Promotion(Case):
         """It may be of either kind, and is not taken."""
         store = self.store_at(self.standby)
         mark = store.look().mark
-        before = _standby.marked
+        before = _standby.followed
 
         def promoted(*args):
-            _standby.marked = before
+            _standby.followed = before
             self.standby.promote()
             return before(*args)
 
-        _standby.marked = promoted
-        self.addCleanup(setattr, _standby, "marked", before)
+        _standby.followed = promoted
+        self.addCleanup(setattr, _standby, "followed", before)
         self.assertRaises(SnapshotRefused, store.look, mark)
         self.assertEqual(store.look(mark).reason, _standby.PROMOTED)
 

@@ -57,7 +57,7 @@ WRONG = [
     of_many("a lock that is held beside a function", "            given = bytes(function(asking, *args))\n", "            with self._site._lock:\n                given = bytes(function(asking, *args))\n",
             "test_nobody_waits"),
     of_many("a library of another header", "if number != ABI:", "if False:", "Abi", "_library.py"),
-    Wrong("followed from xmax alone", "postgres.py", "running=\",\".join(map(str, last.running))", "running=\"\"",
+    Wrong("followed from xmax alone", "postgres.py", "\",\".join(map(str, last.running)))", "\"\")",
           "tests.test_postgres -k test_a_transaction_that_was_open_at_the_last_look_follows_once"),
     Wrong("a snapshot before its lock", "postgres.py", "READ ONLY; {self.settings}{lock}", "READ ONLY; SELECT 1; {self.settings}{lock}",
           "tests.test_postgres -k test_the_lock_comes_before_the_snapshot"),
@@ -79,7 +79,8 @@ WRONG = [
     Wrong("purge by age", "_postgres_schema.py", "INTO upon FROM txcache.purges p WHERE p.made <= clock_timestamp() - make_interval(secs => age)",
           "INTO upon FROM (SELECT pg_snapshot_xmax(pg_current_snapshot()) AS below) p", "tests.test_postgres -k test_by_numbers"),
     Wrong("a purge that says nothing of itself", "_postgres_schema.py", "UPDATE txcache.state SET upto = upon;", "", "tests.test_postgres -k test_by_numbers"),
-    Wrong("a fingerprint without classes", "_postgres_schema.py", "(oid, ' ', relfilenode, ' ', xmin), 0)) FROM pg_class WHERE oid = ANY (them)", "(1), 0)) FROM pg_class WHERE false",
+    Wrong("plans of a look that are compiled", "_postgres_schema.py", " SET jit = off", "", "tests.test_postgres -k test_a_look_goes_by"),
+    Wrong("a fingerprint without classes", "_postgres_schema.py", "concat(oid, ' ', relfilenode, ' ', xmin)", "''",
           "tests.test_postgres -k test_the_fingerprint -k test_each_change_of_a_partition_begins_cold"),
     Wrong("a fingerprint without triggers", "_postgres_schema.py", "FROM pg_trigger WHERE tgrelid = ANY (them)", "FROM pg_trigger WHERE false",
           "tests.test_postgres -k test_a_trigger_that_was_off_for_a_while"),
@@ -96,7 +97,7 @@ WRONG = [
     Wrong("only the row as it is", "_postgres_schema.py", "coalesce(old_keys, '{{}}') || coalesce(new_keys, '{{}}')", "coalesce(new_keys, old_keys)", "tests.test_postgres -k test_each_kind"),
     Wrong("a reader that does not ask whether the snapshot stands", "postgres.py", "            snapshot.check()\n        return dicts", "        return dicts",
           "tests.test_postgres -k test_a_holder_that_dies_while_a_query_runs"),
-    Wrong("a server's start time alone", "postgres.py", "(SELECT min(pid) FROM pg_stat_get_activity(NULL) WHERE datid IS NULL AND usesysid IS NULL)", "''",
+    Wrong("a server's start time alone", "_postgres_schema.py", "(SELECT min(pid) FROM pg_stat_get_activity(NULL) WHERE datid IS NULL AND usesysid IS NULL)", "''",
           "tests.test_postgres -k test_a_killed_server_process_begins_cold"),
     Wrong("a token that its own snapshot sees", "postgres.py", "xact < self.xmax and xact not in self.running", "xact < self.xmax", "tests.test_postgres -k test_a_snapshot_sees_a_token_or_not"),
     Wrong("a value by its own text", "_layout.py", "if kind is Kind.INTEGER and isinstance(value, int) and not isinstance(value, bool):", "if kind is Kind.INTEGER:",
@@ -202,7 +203,7 @@ def fails(wrong: Wrong, room: str) -> str:
             file.write(body)
         try:
             env = {**os.environ, "TXC_LIBRARY": built(path, room)} if path.endswith(".c") else None
-            ran = subprocess.run([sys.executable, "-m", "unittest", "-q", *wrong.test.split()], cwd=room, env=env, stdout=subprocess.PIPE, stderr=subprocess.STDOUT, text=True, timeout=180)
+            ran = subprocess.run([sys.executable, "-m", "unittest", "-q", "-f", *wrong.test.split()], cwd=room, env=env, stdout=subprocess.PIPE, stderr=subprocess.STDOUT, text=True, timeout=180)
         except subprocess.TimeoutExpired:
             print(f"{wrong.name}: its test did not end", flush=True)
             return ""  # that is seen too

@@ -7,9 +7,10 @@ transactions whose notes it has, from its xmin on: all below are over.
 import time
 from collections import deque
 from dataclasses import replace
-from typing import TYPE_CHECKING, Deque, FrozenSet, NamedTuple, Optional, Tuple
+from typing import TYPE_CHECKING, Deque, FrozenSet, Iterable, List, NamedTuple, Optional, Tuple
 
 from ._driver import Link
+from ._layout import literal
 from .errors import NotInstalled, SnapshotRefused
 
 if TYPE_CHECKING:
@@ -22,11 +23,11 @@ KEPT_PLACES = 64  # of the log, one of each look
 NEVER = 1e9  # seconds behind, where nothing says how many
 PROMOTED = "the standby was promoted"
 
-# The tags of rows that this snapshot sees and the last did not. `is_new` is of a note `n`.
-TAGS = """ARRAY(SELECT DISTINCT n.relation || ':' || k FROM txcache.notes n, unnest(''::text || n.keys) AS k
-    WHERE {is_new} AND n.relation = ANY (ARRAY[{relations}]::text[]) LIMIT {most})"""
+# Of the notes that this snapshot sees and the last did not: the numbers of their transactions, and the tags of the followed tables.
 _IS_NEW = "n.xact >= '{xmin}'::xid8 AND NOT EXISTS (SELECT FROM unnest('{{{seen}}}'::xid8[]) AS s WHERE s = n.xact)"
-_NUMBERS = "SELECT pg_is_in_recovery(), ARRAY(SELECT DISTINCT n.xact::text::bigint FROM txcache.notes n WHERE {is_new} LIMIT {most})"
+_FOLLOWED = """SELECT pg_is_in_recovery(), ARRAY(SELECT DISTINCT n.xact::text::bigint FROM txcache.notes n WHERE {is_new} LIMIT {most_numbers}),
+    ARRAY(SELECT DISTINCT n.relation || ':' || k FROM txcache.notes n, unnest(''::text || n.keys) AS k
+        WHERE {is_new} AND n.relation = ANY (ARRAY[{relations}]::text[]) LIMIT {most_tags})"""
 
 # Where the log was replayed to and received to; whether the primary is connected; and how long ago the last transaction that was replayed had ended.
 # The end that the primary told last is shown to roles that may read statistics.
@@ -43,19 +44,19 @@ def refuse(link: Link, command: str) -> None:
         raise NotInstalled([f"the server is a standby: run {command} on the primary"])
 
 
-def is_new(last: "Mark") -> str:
+def _is_new(last: "Mark") -> str:
     """Returns the condition of notes that the snapshot of a mark does not have."""
     return _IS_NEW.format(xmin=last.xmin, seen=",".join(map(str, last.seen or ())))
 
 
-def marked(link: Link, mark: "Mark", last: Optional["Mark"]) -> "Mark":
-    """Returns the mark of the snapshot that is open on a connection, with the numbers that it has seen. Fails with SnapshotRefused if the server was promoted
-    meanwhile, since the snapshot may be of either kind."""
+def followed(link: Link, mark: "Mark", last: Optional["Mark"], relations: Iterable[str], most: int) -> Tuple["Mark", List[str]]:
+    """Returns the mark of the snapshot that is open on a connection, with the numbers that it has seen, and the tags that it is the first to see, at most so many.
+    Fails with SnapshotRefused if the server was promoted meanwhile, since the snapshot may be of either kind."""
     before = last or replace(mark, seen=frozenset())
-    (is_standby, numbers), = link.ask(_NUMBERS.format(is_new=is_new(before), most=MAX_SEEN + 1))
+    (is_standby, numbers, tags), = link.ask(_FOLLOWED.format(is_new=_is_new(before), relations=", ".join(map(literal, relations)), most_numbers=MAX_SEEN + 1, most_tags=most))
     if not is_standby:
         raise SnapshotRefused("the standby was promoted while its snapshot was taken")
-    return replace(mark, seen=_still_of_use(before.seen.union(numbers), mark.xmin))
+    return replace(mark, seen=_still_of_use(before.seen.union(numbers), mark.xmin)), tags
 
 
 def _still_of_use(seen: FrozenSet[int], xmin: int) -> FrozenSet[int]:

@@ -25,19 +25,7 @@ INSTALL_TIMEOUT = 5.0  # seconds for which `install` waits for the lock of a tab
 IDLE_TIMEOUT = 30.0  # seconds after which the server ends a snapshot of which nothing was asked
 _TOKEN = re.compile(r"([0-9a-f]{16})-([0-9a-f]{1,16})")
 
-# A snapshot: its numbers, the server's, the number that was purged last, the shape of the tables; and the tags of rows that it sees and the last did not.
-# The server's own processes have other numbers once it has begun anew after one of its processes died; its start time is then as it was.
-_LOOK = """
-SELECT pg_current_snapshot()::text, concat(s.system, ' ', (SELECT oid FROM pg_database WHERE datname = current_database()), ' ',
-        extract(epoch FROM pg_postmaster_start_time()), ' ', c.system_identifier, ' ',
-        (SELECT min(pid) FROM pg_stat_get_activity(NULL) WHERE datid IS NULL AND usesysid IS NULL)),
-    s.upto::text, txcache.shape({oids}), {tags}
-FROM txcache.state s, pg_control_system() c
-"""
-_TAGS = """ARRAY(SELECT DISTINCT n.relation || ':' || k FROM
-    (SELECT relation, keys FROM txcache.notes WHERE xact >= '{xmax}'::xid8 UNION ALL
-     SELECT relation, keys FROM txcache.notes WHERE xact = ANY ('{{{running}}}'::xid8[])) AS n, unnest(''::text || n.keys) AS k
-    WHERE n.relation = ANY (ARRAY[{relations}]::text[]) LIMIT {most})"""
+_LOOK = "SELECT * FROM txcache.look({oids}, {beyond}, '{{{running}}}', ARRAY[{relations}]::text[], {most})"
 _LOCKED = "SELECT relation::bigint FROM pg_locks WHERE pid = pg_backend_pid() AND locktype = 'relation' AND relation <> 'pg_catalog.pg_locks'::regclass"
 _RELATIONS = """
 WITH RECURSIVE up(oid, root) AS (SELECT it, it FROM unnest({oids}) AS it UNION ALL SELECT up.oid, i.inhparent FROM up JOIN pg_inherits i ON i.inhrelid = up.root)
@@ -220,10 +208,10 @@ class PostgresStore:
             link.close()
             raise
 
-    def _begin(self, link: Link, names: Iterable[Name]) -> None:
-        """Begins a transaction and locks its tables. Neither takes the snapshot: what follows does, and then no TRUNCATE can come between."""
+    def _begin(self, names: Iterable[Name]) -> str:
+        """Returns what begins a transaction and locks its tables. Neither takes the snapshot: what follows does, and then no TRUNCATE can come between."""
         lock = f"LOCK TABLE {', '.join(it.quoted for it in names)} IN ACCESS SHARE MODE" if names else ""
-        link.ask(f"BEGIN ISOLATION LEVEL REPEATABLE READ READ ONLY; {self.settings}{lock}")
+        return f"BEGIN ISOLATION LEVEL REPEATABLE READ READ ONLY; {self.settings}{lock}"
 
     def _first(self, link: Link, reason: str) -> Look:
         """Takes a snapshot of which nothing is known from before."""
@@ -232,7 +220,7 @@ class PostgresStore:
         if faults:
             raise NotInstalled(faults)
         delay = self._replay.delay(link)
-        self._begin(link, [it.name for it in before.found.values()])
+        link.ask(self._begin([it.name for it in before.found.values()]))
         catalog = self._catalog_of(link)
         faults = self._faults(link, catalog)
         if faults:
@@ -240,9 +228,9 @@ class PostgresStore:
         if catalog.found != before.found:
             raise SnapshotRefused("a table was changed while its snapshot was taken")
         oids = {it.oid: it.name.tag for it in catalog.found.values()}
-        mark, _ = self._marked(link, oids, "NULL::text[]")
+        mark, _ = _marked(link.ask(_look(oids, None)))
         if delay is not None:
-            mark = _standby.marked(link, mark, None)
+            mark, _ = _standby.followed(link, mark, None, oids.values(), MAX_TAGS + 1)
         self._tables = _Tables(catalog.layout(), oids, [it.name for it in catalog.found.values()])
         return Look(PostgresSnapshot(self, link, self._tables), mark, None, reason, delay or 0.0)
 
@@ -255,29 +243,15 @@ class PostgresStore:
             delay = self._replay.delay(link) if last.seen is not None else None
             if last.seen is not None and delay is None:
                 return _standby.PROMOTED
-            self._begin(link, tables.names)
-            mark, tags = self._marked(link, tables.oids, self._tags_since(last, tables))
+            mark, tags = _marked(link.last(f"{self._begin(tables.names)}; {_look(tables.oids, last if delay is None else None)}"))
             if delay is not None:
-                mark = _standby.marked(link, mark, last)
+                mark, tags = _standby.followed(link, mark, last, tables.oids.values(), MAX_TAGS + 1)
         except link.driver.Error as error:
             if type(self._meaning(link, error)) is not NotInstalled:
                 raise
             return str(error).strip().splitlines()[0]
         reason = _why_cold(last, mark, tags)
         return reason or Look(PostgresSnapshot(self, link, tables), mark, frozenset(tags), delay=delay or 0.0)
-
-    @staticmethod
-    def _tags_since(last: Mark, tables: "_Tables") -> str:
-        """Returns the text of the tags that a snapshot sees and that of a mark did not."""
-        words = {"relations": ", ".join(literal(it) for it in tables.oids.values()), "most": MAX_TAGS + 1}
-        if last.seen is not None:
-            return _standby.TAGS.format(is_new=_standby.is_new(last), **words)
-        return _TAGS.format(xmax=last.xmax, running=",".join(map(str, last.running)), **words)
-
-    @staticmethod
-    def _marked(link: Link, oids: Iterable[int], tags: str) -> Tuple[Mark, List[str]]:
-        (*words, found), = link.ask(_LOOK.format(oids=array(oids), tags=tags))
-        return Mark.of(*words), found or []
 
     @staticmethod
     def _meaning(link: Link, error: Exception) -> Exception:
@@ -329,6 +303,17 @@ class PostgresStore:
 
 def _state_of(error: Exception) -> str:
     return getattr(error, "sqlstate", None) or getattr(error, "pgcode", None) or ""
+
+
+def _look(oids: Mapping[int, str], last: Optional[Mark]) -> str:
+    """Returns what takes a snapshot of tables, and says what changed since the last, if there was one."""
+    beyond, running = (f"'{last.xmax}'", ",".join(map(str, last.running))) if last else ("NULL", "")
+    return _LOOK.format(oids=array(oids), beyond=beyond, running=running, relations=", ".join(map(literal, oids.values())), most=MAX_TAGS + 1)
+
+
+def _marked(rows: Sequence[Sequence[Any]]) -> Tuple[Mark, List[str]]:
+    (*words, found), = rows
+    return Mark.of(*words), found or []
 
 
 def _digest(system: str, base: str) -> str:
