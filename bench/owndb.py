@@ -195,20 +195,45 @@ def in_turn(ways: Dict[str, Callable[[int], Any]], clock: Callable[[], float] = 
 # ---- pages
 
 
-def hits_of(room: Room, other: str) -> Dict[str, float]:
-    shop = Shop(room.store(room.database("sqlite")), refresh=1000.0)
-    ways: Dict[str, Callable[[int], Any]] = {"txcache": shop.four}
+def names_of(item: int) -> List[str]:
+    """The names under which a far cache has the parts of a page."""
+    return [f"head:{item}", f"bids:{item}", f"balance:{item}", f"balance:{item + 1}"]
+
+
+def far_page(room: Room, other: str, shop: "Shop") -> Callable[[int], Any]:
+    """Returns a page of the same four values from a cache in another process, with one request."""
+    far = room.redis() if other == "redis" else room.memcached()
+    for item in range(52):
+        for name, value in zip(names_of(item), shop.four(item)):
+            far.set(name, pickle.dumps(value, pickle.HIGHEST_PROTOCOL))
     if other == "redis":
-        far = room.redis()
-        for item in range(52):
-            for name, value in zip(("head", "bids", "balance"), shop.four(item)):
-                far.set(f"{name}:{item}", pickle.dumps(value, pickle.HIGHEST_PROTOCOL))
-        ways["redis"] = lambda item: [pickle.loads(it) for it in far.mget(f"head:{item}", f"bids:{item}", f"balance:{item}", f"balance:{item + 1}")]
-    else:
+        return lambda item: [pickle.loads(it) for it in far.mget(names_of(item))]
+
+    def page(item: int) -> List[Any]:
+        names = names_of(item)
+        found = far.get_many(names)
+        return [pickle.loads(found[it]) for it in names]
+
+    return page
+
+
+def hits_of(room: Room, other: str, is_empty: bool = False) -> Dict[str, float]:
+    """A page of four hits, or of no call, and in turn with it the same four values elsewhere."""
+    shop = Shop(room.store(room.database("sqlite")), refresh=1000.0)
+
+    def no_call(item: int) -> None:
+        with shop.cache.read(max_age=60.0):
+            pass
+
+    ways: Dict[str, Callable[[int], Any]] = {"txcache": no_call if is_empty else shop.four}
+    if other == "prototype":
         from owndb_bench import prototype
 
-        ways["prototype"] = prototype.shop(room.prototype, room.database("sqlite", installs=False)).four
-    took = in_turn(ways, time.perf_counter if other == "redis" else time.thread_time)  # another process works for Redis; else what others run does not count
+        ways[other] = prototype.shop(room.prototype, room.database("sqlite", installs=False)).four
+    else:
+        ways[other] = far_page(room, other, shop)
+        assert ways[other](7) == shop.four(7)
+    took = in_turn(ways, time.thread_time if other == "prototype" else time.perf_counter)  # in one process what others run does not count
     shop.cache.close()
     return {**{f"{name}, us": value for name, value in took.items()}, "ratio": took["txcache"] / took[other]}
 
@@ -456,7 +481,9 @@ def read(where: str, seconds: float) -> None:
 
 
 BARS = [
-    Bar("a page of four hits, of Redis' MGET", 0.6, False, lambda room: hits_of(room, "redis")),
+    Bar("a page of four hits, of Redis' MGET", 0.35, False, lambda room: hits_of(room, "redis")),
+    Bar("a page of four hits, of memcached's get_many", 0.6, False, lambda room: hits_of(room, "memcached")),
+    Bar("a page of no call, of Redis' MGET of four", 0.07, False, lambda room: hits_of(room, "redis", is_empty=True)),
     Bar("a page of four hits, of the prototype's", 1.2, False, lambda room: hits_of(room, "prototype")),
     Bar("pages of hits beside a function of 100 ms, of those without", 0.8, True, beside_a_function),
     Bar("eight threads of hits, of one", 0.9, True, eight_threads),
