@@ -2,10 +2,11 @@
 """Measures the cache beside a service's own database against its bars, each with what it is compared with in one run.
 
 usage: bench/owndb.py [--library FOLDER] [--prototype FOLDER] [WORD..]     bars whose name has one of the words, else all but the last
-       bench/owndb.py [--library FOLDER] --hour SECONDS postgres|sqlite    the last
+       bench/owndb.py [--library FOLDER] --hour SECONDS postgres|sqlite|both    the last; a line of JSON for each store, both at once
+       bench/owndb.py [--library FOLDER] --figures [short] [TABLE..]    tables of what a cache buys and costs: torn, pages, threads, commits, processes, snapshots
 
 It wants a driver of PostgreSQL and initdb, as the package's tests do, and for Redis `apt-get install redis-server python3-redis`; a bar whose other side is not
-there is skipped by name. The prototype is that of a trial (a folder with txcache_db, which wants python3-psycopg2); it runs over today's library.
+there is skipped by name. The figures want memcached, python3-pymemcache, python3-django and python3-django-redis too. The prototype is that of a trial (a folder with txcache_db, which wants python3-psycopg2); it runs over today's library.
 It prints a table in markdown. The exit status is 0 if each bar that was measured stands.
 """
 
@@ -22,6 +23,7 @@ import sys
 import tempfile
 import threading
 import time
+from concurrent.futures import ThreadPoolExecutor
 from typing import Any, Callable, Dict, Iterator, List, NamedTuple, Sequence
 
 ROOT = os.path.dirname(os.path.dirname(os.path.abspath(__file__)))
@@ -63,7 +65,8 @@ class Room:
     """The databases of a run, each made when it is first wanted."""
 
     def __init__(self, prototype: str):
-        self.folder, self.prototype, self._count, self._redis = tempfile.mkdtemp(prefix="owndb-", dir="/tmp"), prototype, 0, None
+        self.folder, self.prototype, self._count = tempfile.mkdtemp(prefix="owndb-", dir="/tmp"), prototype, 0
+        self._servers: Dict[str, Any] = {}
 
     def database(self, kind: str, installs: bool = True, texts: Sequence[str] = TABLES, told: Dict[str, Any] = TOLD) -> str:
         """Returns where a new database lies, with a thousand rows a table."""
@@ -88,13 +91,9 @@ class Room:
 
     @staticmethod
     def _fill(ask: Callable[..., List[Any]]) -> None:
-        ask("BEGIN")
-        for at in range(ROWS):
-            ask("INSERT INTO items VALUES (%s, %s, %s, 100)", at, at % 50, f"item {at}")
-            ask("INSERT INTO bids VALUES (%s, %s, 100), (%s, %s, 90)", 2 * at, at, 2 * at + 1, at)
-            ask("INSERT INTO accounts VALUES (%s, %s, 1000)", at, at // 2)
-            ask("INSERT INTO copies VALUES (%s, 1000)", at)
-        ask("COMMIT")
+        for table, row in (("items", "({at}, {at} % 50, 'item {at}', 100)"), ("bids", "(2 * {at}, {at}, 100), (2 * {at} + 1, {at}, 90)"),
+                           ("accounts", "({at}, {at} / 2, 1000)"), ("copies", "({at}, 1000)")):
+            ask(f"INSERT INTO {table} VALUES " + ", ".join(row.format(at=at) for at in range(ROWS)))
 
     @staticmethod
     def store(where: str, told: Dict[str, Any] = TOLD) -> Any:
@@ -113,17 +112,38 @@ class Room:
             import redis
         except ImportError:
             raise Skipped("python3-redis is not there") from None
-        if self._redis is None:
-            path = f"{self.folder}/redis"
-            self._redis = subprocess.Popen(["redis-server", "--port", "0", "--unixsocket", path, "--save", "", "--dir", self.folder], stdout=subprocess.DEVNULL)
-            while not os.path.exists(path):
+        return redis.Redis(unix_socket_path=self.redis_path())
+
+    def redis_path(self) -> str:
+        return self._server("redis", ["redis-server", "--port", "0", "--unixsocket", f"{self.folder}/redis", "--save", "", "--dir", self.folder])
+
+    def memcached(self) -> Any:
+        if not shutil.which("memcached"):
+            raise Skipped("memcached is not there")
+        try:
+            from pymemcache.client.base import Client
+        except ImportError:
+            raise Skipped("python3-pymemcache is not there") from None
+        return Client(f"unix:{self.memcached_path()}")
+
+    def memcached_path(self) -> str:
+        return self._server("memcached", ["memcached", "-u", "nobody", "-s", f"{self.folder}/memcached", "-a", "0777"])
+
+    def _server(self, name: str, words: List[str]) -> str:
+        """Returns the socket of a server, which is started if none is."""
+        if name not in self._servers:
+            os.chmod(self.folder, 0o777)
+            self._servers[name] = subprocess.Popen(words, stdout=subprocess.DEVNULL)
+            while not os.path.exists(f"{self.folder}/{name}"):
+                if self._servers[name].poll() is not None:
+                    raise Skipped(f"{name} does not run")
                 time.sleep(0.05)
-        return redis.Redis(unix_socket_path=f"{self.folder}/redis")
+        return f"{self.folder}/{name}"
 
     def close(self) -> None:
-        if self._redis is not None:
-            self._redis.terminate()
-            self._redis.wait()
+        for it in self._servers.values():
+            it.terminate()
+            it.wait()
         shutil.rmtree(self.folder, ignore_errors=True)
 
 
@@ -385,10 +405,10 @@ def write(where: str, seconds: float, seed: int, is_hot: bool) -> int:
     return count
 
 
-def commits_in(where: str, seconds: float, is_hot: bool) -> float:
-    """Returns the commits a second of eight writing processes."""
+def commits_of(where: str, seconds: float, is_hot: bool, writers: int = 8) -> float:
+    """Returns the commits a second of writing processes."""
     words = [sys.executable, os.path.abspath(__file__), "--write", where, str(seconds), str(int(is_hot))]
-    running = [subprocess.Popen([*words, str(seed)], stdout=subprocess.PIPE, text=True) for seed in range(8)]
+    running = [subprocess.Popen([*words, str(seed)], stdout=subprocess.PIPE, text=True) for seed in range(writers)]
     return sum(int(it.communicate()[0]) for it in running) / seconds
 
 
@@ -396,7 +416,7 @@ def with_notes(room: Room, kind: str) -> Dict[str, float]:
     wheres, counts = [room.database(kind, installs) for installs in (False, True)], ([], [])
     for _ in range(3):
         for where, found in zip(wheres, counts):
-            found.append(commits_in(where, 4.0, False))
+            found.append(commits_of(where, 4.0, False))
     plain, noted = map(statistics.median, counts)
     return {"commits/s without": plain, "with notes": noted, "ratio": noted / plain}
 
@@ -411,7 +431,7 @@ def beside_a_cache(room: Room, kind: str, is_hot: bool) -> Dict[str, float]:
         for is_read, found in counts.items():
             reading = subprocess.Popen([sys.executable, os.path.abspath(__file__), "--read", where, "7.0"]) if is_read else None
             time.sleep(1.5)
-            found.append(commits_in(where, 4.0, is_hot))
+            found.append(commits_of(where, 4.0, is_hot))
             if reading:
                 reading.wait()
     alone, beside = (statistics.median(it) for it in counts.values())
@@ -478,6 +498,7 @@ def main() -> int:
     parser.add_argument("--library", default=os.environ.get("TXC_LIBRARY") or f"{ROOT}/bindings/out")
     parser.add_argument("--prototype", default="")
     parser.add_argument("--hour", nargs=2, metavar=("SECONDS", "STORE"))
+    parser.add_argument("--figures", action="store_true")
     parser.add_argument("--write", nargs=4, help=argparse.SUPPRESS)
     parser.add_argument("--read", nargs=2, help=argparse.SUPPRESS)
     parser.add_argument("words", nargs="*")
@@ -496,9 +517,19 @@ def main() -> int:
         if given.hour:
             from owndb_bench import hour
 
-            found = hour.measured(room, float(given.hour[0]), given.hour[1])
-            print(json.dumps(found))
-            return int(not found["stands"])
+            seconds, kind = float(given.hour[0]), given.hour[1]
+            wheres = [hour.prepared(room, it) for it in (("postgres", "sqlite") if kind == "both" else (kind,))]
+            with ThreadPoolExecutor() as pool:
+                for found in pool.map(lambda it: hour.measured(it, seconds), wheres):
+                    print(json.dumps(found), flush=True)
+                    failed |= not found["stands"]
+            return int(failed)
+        if given.figures:
+            from owndb_bench import figures
+
+            for line in figures.lines(room, given.words):
+                print(line, flush=True)
+            return 0
         for line in lines(room, given.words):
             print(line, flush=True)
             failed |= "FAILED" in line

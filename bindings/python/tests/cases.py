@@ -7,6 +7,7 @@ import tempfile
 import unittest
 
 from txcache import _driver
+from txcache._fast import FASTEST
 from txcache._versions import Versions
 from txcache.cache import TxCache
 from txcache.sqlite import SqliteStore
@@ -85,7 +86,7 @@ class OfPostgres:
 
 
 class Case(unittest.TestCase):
-    versions = Versions
+    versions = FASTEST
 
     def setUp(self):
         logging.getLogger("txcache").setLevel(logging.CRITICAL)
@@ -131,10 +132,12 @@ class Case(unittest.TestCase):
 
 
 def over_each_store(loader, case):
-    """Returns a case's tests over each store: with the site of the library, and with a plain model of it."""
+    """Returns a case's tests over each store: with the site of the library, and with a plain model of it. Over SQLite also with no extension of C."""
     suite = unittest.TestSuite()
-    for store in (OfSqlite, OfPostgres):
-        for name, versions in (("", Versions), ("OverAModel", model.Versions)):
-            made = type(f"{case.__name__}{store.__name__}{name}", (store, case), {"__module__": case.__module__, "versions": versions})
-            suite.addTests(loader.loadTestsFromTestCase(made))
+    kinds = [(store, *it) for store in (OfSqlite, OfPostgres) for it in (("", FASTEST), ("OverAModel", model.Versions))]
+    if FASTEST is not Versions:
+        kinds.append((OfSqlite, "ByCtypes", Versions))
+    for store, name, versions in kinds:
+        made = type(f"{case.__name__}{store.__name__}{name}", (store, case), {"__module__": case.__module__, "versions": versions})
+        suite.addTests(loader.loadTestsFromTestCase(made))
     return suite

@@ -43,6 +43,9 @@ class Examples(unittest.TestCase):
         self.assertEqual(self.printed("sqlalchemy_page.py", "SQLAlchemy"), [
             "a lamp [90, 110] highest 110; 0 hits, 2 computed", "a lamp [90, 110, 120] highest 120; 0 hits, 2 computed", "a lamp [90, 110, 120] highest 120; 1 hits, 1 computed"])
 
+    def test_flask(self):
+        self.assertEqual(self.printed("flask_page.py", "Flask"), ["{'bids': [90], 'highest': 90}", "{'bids': [90, 110], 'highest': 110}", "4 hits, 2 computed"])
+
     def test_django(self):
         self.assertEqual(self.printed("django_page.py", "Django")[2:], [
             "{'name': 'a lamp', 'bids': [90], 'highest': 90}", "{'name': 'a lamp', 'bids': [90, 110], 'highest': 110}", "0 hits, 4 computed"])

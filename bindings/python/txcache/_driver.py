@@ -36,6 +36,7 @@ class Link:
     def _take(self, connection: Any, name: str) -> None:
         self.driver, self.lock, self._connection = importlib.import_module(name), threading.RLock(), connection
         self._connection.autocommit = True
+        self._has_sets = name == "psycopg"  # psycopg2 keeps the rows of the last statement alone
         if name == "psycopg":
             self._connection.prepare_threshold = None  # nothing is prepared, so a pooler may lend each transaction another connection
         else:
@@ -59,6 +60,14 @@ class Link:
             if cursor.description is None:
                 return [], []
             return [it[0] for it in cursor.description], cursor.fetchall()
+
+    def last(self, text: str) -> List[Tuple[Any, ...]]:
+        """Returns the rows of the last of some statements, which go to the server at once."""
+        with self.lock, self._connection.cursor() as cursor:
+            cursor.execute(text)
+            while self._has_sets and cursor.nextset():
+                pass
+            return cursor.fetchall()
 
     @property
     def is_idle(self) -> bool:

@@ -4,9 +4,10 @@ import contextvars
 import logging
 import os
 import random
-import threading
 import time
+from _thread import RLock  # as threading.RLock() makes it, with a call less
 from dataclasses import dataclass
+from time import monotonic
 from typing import TYPE_CHECKING, Any, Callable, Dict, List, Optional, Sequence, Tuple
 
 from . import _values
@@ -14,6 +15,7 @@ from ._computing import Again, Frame
 from ._hand import Hand, HandOfFrame, HandOfSnapshot
 from ._layout import Db, Read, Row, refuse_time_and_chance
 from ._store import Snapshot, db_of
+from ._values import TOO_LONG
 from ._versions import MAX_ASKS, UNCHANGING_PLACE
 from .errors import AuditError, OutsideSnapshot, SnapshotLost
 
@@ -25,6 +27,7 @@ LOG = logging.getLogger("txcache")
 MAX_ROW_TAGS = 128  # of one function: beyond that it depends on whole tables, since the library keeps at most 16 places of each of its tables apart
 MAX_TRIES = 64  # of a call that has more to ask than there may be asks, as long as its own calls are computed meanwhile
 LONGEST = 1e9  # seconds
+ENDED = -1  # in the place of a page's process: a task or thread that was begun within the page may still have it
 PAGE: "contextvars.ContextVar[Optional[Page]]" = contextvars.ContextVar("txcache_page", default=None)
 _process = os.getpid()
 
@@ -50,25 +53,29 @@ class Receipt:
 class Page:
     """What is read in a block of `TxCache.read`. Its receipt is there once the block has ended."""
 
+    # most pages change few of these, and so each begins with its class's
+    _frames: Sequence[Frame] = ()  # the functions that stand open
+    _asks = _inner_computed = _tries = 0  # of the outermost call: since it was made last, and how often it ran out of asks
+    _ahead: Optional[Frame] = None  # the call within it that is to be made first, since it ran out of asks
+    _uses: Sequence[int] = ()  # the snapshots that stay open for this page
+    _stamp: Optional[int] = None  # at which the next query runs, where it is known; only a hit, or what is given up, changes it
+    _snapshot: Optional[Snapshot] = None  # of that stamp, where it was asked for
+    _failed: Optional[BaseException] = None
+    _direct: Optional[Snapshot] = None  # in which functions are computed uncached
+    hand: Optional[Hand] = None  # of the function that runs
+    _shown: Optional[List[Tuple["Function", Sequence[Any], Dict[str, Any], bytes]]] = None  # of a page that is audited
+    _has_shown = _has_renewed = False
+    _end: Optional[Tuple[float, Any, Optional[int]]] = None
+    hits = computed = _txn = 0
+    lost: Optional[SnapshotLost] = None  # what a call raised, whoever caught it
+
     def __init__(self, cache: "TxCache", max_age: float, after: Optional[str]):
         if not 0 <= max_age < LONGEST:
             raise ValueError(f"max_age is {max_age} seconds, and is from 0 to less than {LONGEST:,.0f}")
         self.cache, self.max_age, self.after = cache, max_age, after
-        self._frames: List[Frame] = []
-        self._asks = self._inner_computed = self._tries = 0  # of the outermost call: since it was made last, and how often it ran out of asks
-        self._ahead: Optional[Frame] = None  # the call within it that is to be made first, since it ran out of asks
-        self._uses: List[int] = []  # the snapshots that stay open for this page
-        self._stamp: Optional[int] = None  # at which the next query runs, where it is known; only a hit, or what is given up, changes it
-        self._snapshot: Optional[Snapshot] = None  # of that stamp, where it was asked for
-        self._failed: Optional[BaseException] = None
-        self._turn = threading.RLock()
-        self._direct: Optional[Snapshot] = None  # in which functions are computed uncached
-        self.hand: Optional[Hand] = None  # of the function that runs
-        self._is_audited = cache.audit > 0 and random.random() < cache.audit
-        self._shown: List[Tuple["Function", Sequence[Any], Dict[str, Any], bytes]] = []
-        self._has_shown = self._has_renewed = False
-        self.hits = self.computed = self._txn = 0
-        self._process, self._end = _process, None
+        self._process, self._turn = _process, RLock()
+        if cache.audit > 0 and random.random() < cache.audit:
+            self._shown = []
 
     def __enter__(self) -> "Page":
         around = PAGE.get()
@@ -87,17 +94,19 @@ class Page:
         try:
             self._ended(error)
         finally:
+            self._process = ENDED
             if self._uses:
                 self._leave_snapshots()
 
     def _ended(self, error: Optional[BaseException]) -> None:
         if error is None:
-            pin = self.cache._versions.commit(self._txn)[1]
-            self._end = time.monotonic(), pin, pin and self.cache._numbers.get(pin.stamp)
-            if self._is_audited and pin is not None:
+            cache = self.cache
+            pin = cache._versions.commit(self._txn)[1]
+            self._end = monotonic(), pin, pin and cache._numbers.get(pin[0])
+            if self._shown and pin is not None:
                 self._audit()
-            if self.cache._has_grown():
-                self.cache._trim_soon()
+            if self.computed and cache._has_grown():
+                cache._trim_soon()
             return
         self.cache._versions.abort(self._txn)
         if isinstance(error, SnapshotLost):
@@ -112,8 +121,8 @@ class Page:
         ended, pin, number = self._end
         if pin is None:
             return Receipt(None, None, None, self.hits, self.computed)
-        age = ended - pin.moment / 1e6
-        return Receipt(time.time() - (time.monotonic() - ended) - age, age, number, self.hits, self.computed)
+        age = ended - pin[1] / 1e6
+        return Receipt(time.time() - (monotonic() - ended) - age, age, number, self.hits, self.computed)
 
     # ---- calls
 
@@ -122,16 +131,41 @@ class Page:
         if self._process != _process or not self._turn.acquire(False):
             raise self._not_its_turn(function.name)
         try:
-            if self._direct is not None:
-                return self._directly(function, args, named, lambda it: it)
-            if self._frames:
-                return _values.decode(self._inner(function, args, named), function.codec)
-            return _values.decode(self._outermost(function, args, named), function.codec)
+            if self._frames or self._direct is not None:
+                return self._answer_within(function, args, named)
+            data = None if named or self._shown is not None else self._hit(function, args)
+            if data is None:
+                data = self._outermost(function, args, named)
+            return _values.decode(data, function.codec)
         finally:
             self._turn.release()
 
+    def _answer_within(self, function: "Function", args: Sequence[Any], named: Dict[str, Any]) -> Any:
+        """Returns the value of a call of a function that is computed, or audited."""
+        if self._direct is not None:
+            return self._directly(function, args, named, lambda it: it)
+        return _values.decode(self._inner(function, args, named), function.codec)
+
+    def _hit(self, function: "Function", args: Sequence[Any]) -> Optional[bytes]:
+        """Returns the value of an outermost call, if it is cached, its key is known and nobody computes anything now; else None, and nothing was done."""
+        cache = self.cache
+        era, forms, _, known = function.known
+        hit = cache._versions.hit
+        if hit is None or era != self._era or forms is not cache._growth.forms or cache._works.known:
+            return None
+        data = hit(self._txn, known, args)
+        if data is None or data == TOO_LONG:
+            return None
+        self._stamp = self._snapshot = None  # it may hold in fewer of them
+        self._has_shown = True
+        self.hits += 1
+        function.hits += 1
+        return data
+
     def _not_its_turn(self, name: str) -> RuntimeError:
         """Returns why this thread may not use the page now."""
+        if self._process == ENDED:
+            return RuntimeError(f"{name}: the page has ended, within which this task or thread was begun: it opens a page of its own")
         if self._process != _process:
             return RuntimeError(f"{name}: the page was begun before a fork, by the parent")
         return RuntimeError(f"{name}: another thread uses this page")
@@ -140,7 +174,7 @@ class Page:
         self._tries = 0
         data = self._made(function, args, named)
         self._has_shown = True
-        if self._is_audited:
+        if self._shown is not None:
             self._shown.append((function, args, named, data))
         return data
 
@@ -157,7 +191,10 @@ class Page:
                 if isinstance(found, SnapshotLost) and not self._has_shown and not self._has_renewed:
                     self._renew()
                 elif not isinstance(found, Again):
-                    self._has_shown |= not isinstance(found, SnapshotLost)  # its error shows something of the page's moment
+                    if isinstance(found, SnapshotLost):
+                        self.lost = found
+                    else:
+                        self._has_shown = True  # its error shows something of the page's moment
                     if found is error:
                         raise
                     raise found
@@ -213,16 +250,16 @@ class Page:
         if data is None:
             return self._computed_data(function, key, args, named)
         self._stamp = self._snapshot = None  # it may hold in fewer of them
-        if data == _values.TOO_LONG:
+        if data == TOO_LONG:
             return self._uncached_data(function, args, named)
         self.hits += 1
-        function._hits += 1
+        function.hits += 1
         return data
 
     def _computed_data(self, function: "Function", key: Any, args: Sequence[Any], named: Dict[str, Any]) -> bytes:
         cache, frame = self.cache, Frame(function, args, named, key.level)
         around, self.hand = self.hand, HandOfFrame(self, frame)
-        self._frames.append(frame)
+        self._frames = [*self._frames, frame]
         work = cache._works.begin(key.digest, self._stamp_now())
         try:
             value = function.body(Db(self._snapshot_now().layout, self._read, self.hand), *args, **named)
@@ -234,11 +271,11 @@ class Page:
         finally:
             cache._works.end(key.digest, work)
             self._end_hand(around)
-            self._frames.pop()
+            self._frames = self._frames[:-1]
         self._asks += 1
         self._inner_computed += bool(self._frames)
         self.computed += 1
-        function._computed += 1
+        function.computed += 1
         return data
 
     def _uncached_data(self, function: "Function", args: Sequence[Any], named: Dict[str, Any]) -> bytes:
@@ -249,7 +286,7 @@ class Page:
         finally:
             self._direct = None
         self.computed += 1
-        function._computed += 1
+        function.computed += 1
         return data
 
     def _directly(self, function: "Function", args: Sequence[Any], named: Dict[str, Any], keep: Callable[[Any], Any]) -> Any:
@@ -268,7 +305,7 @@ class Page:
         hand.close()
 
     def _give_up(self) -> None:
-        self._frames.clear()
+        self._frames = ()
         self._stamp = self._snapshot = None
         self.cache._versions.give_up(self._txn)
 
@@ -361,12 +398,13 @@ class Page:
                 self._snapshot = follower.snapshot(number)
             else:
                 self._snapshot = follower.use(number)
-                self._uses.append(number)
+                self._uses = [*self._uses, number]
         return self._snapshot
 
     def _leave_snapshots(self) -> None:
-        while self._uses:
-            self.cache._follower.leave(self._uses.pop())
+        uses, self._uses = self._uses, ()
+        for it in uses:
+            self.cache._follower.leave(it)
 
     def _in_snapshot(self, read: Callable[[Snapshot], Any]) -> Any:
         """Reads in the snapshot of the next query. If that was let go meanwhile, for one in which nothing had changed, in that one."""
@@ -384,9 +422,9 @@ class Page:
         at = 0
         while True:
             member = self.cache._versions.member(self._txn, at)
-            if member is None or member.stamp < stamp:
+            if member is None or member[0] < stamp:
                 return False
-            if member.stamp == stamp:
+            if member[0] == stamp:
                 return True
             at += 1
 

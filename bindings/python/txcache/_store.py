@@ -32,12 +32,14 @@ class Snapshot(Protocol):
 
 class Look(NamedTuple):
     """A new snapshot, where it stands among the database's commits, and the tags of what changed since the last; None and why where that
-    is not known, and all that is cached must go. No snapshot where nothing has changed since, and none was wanted."""
+    is not known, and all that is cached must go. No snapshot where nothing has changed since, and none was wanted. `delay` is how many seconds
+    before it was taken it may stand, as on a server that follows another."""
 
     snapshot: Optional[Snapshot]
     mark: Any
     tags: Optional[FrozenSet[str]]
     reason: str = ""
+    delay: float = 0.0
 
 
 class Store(Protocol):

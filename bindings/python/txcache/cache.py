@@ -7,10 +7,12 @@ import os
 import threading
 import time
 import weakref
+from time import monotonic
 from typing import Any, Callable, Dict, List, Optional, Sequence, Tuple
 
 from . import _page, _values
 from ._computing import Works
+from ._fast import FASTEST
 from ._follower import Follower, Step
 from ._forms import Growth
 from ._function import CacheInfo, Function
@@ -18,7 +20,7 @@ from ._page import LONGEST, Page, Receipt
 from ._pins import Pin, State
 from ._store import PURGE_AGE, Store
 from ._thread import Bell, keep_looking
-from ._versions import MAX_CAPACITY, MAX_PINS, Places, Versions
+from ._versions import MAX_CAPACITY, MAX_PINS, Places
 from .errors import AuditError, NotSeen, SnapshotLost
 
 __all__ = ["CacheInfo", "Function", "Page", "Receipt", "TxCache"]
@@ -43,7 +45,7 @@ class TxCache:
     computed once more, uncached, and compared: a difference goes to `on_audit_error`, or is raised."""
 
     def __init__(self, store: Store, capacity: int = 65_536, max_bytes: Optional[int] = None, refresh: float = 0.5, hold: float = 10.0, connections: int = 4,
-                 audit: float = 0.0, *, thread: bool = True, on_audit_error: Optional[Callable[[AuditError], None]] = None, versions: Callable[[int], Any] = Versions):
+                 audit: float = 0.0, *, thread: bool = True, on_audit_error: Optional[Callable[[AuditError], None]] = None, versions: Callable[[int], Any] = FASTEST):
         if max_bytes is not None and max_bytes < 0:
             raise ValueError(f"max_bytes is {max_bytes}, and is at least 0")
         if not 1 <= capacity <= MAX_CAPACITY:
@@ -107,6 +109,12 @@ class TxCache:
                     raise
                 self._look_again()
 
+    async def arun(self, view: Callable[..., Any], *args: Any, max_age: float = 5.0, after: Optional[str] = None, **named: Any) -> Any:
+        """As `run`, in a thread: what a function computes or waits for stops no other coroutine."""
+        import asyncio  # here, since it takes longer to import than all else
+
+        return await asyncio.to_thread(functools.partial(self.run, view, *args, max_age=max_age, after=after, **named))
+
     def clear(self) -> None:
         """Has all calls be computed again."""
         with self._stepping:
@@ -129,7 +137,7 @@ class TxCache:
         seconds; the connections that read; the places of tags."""
         pins, versions = self._state.pins, self._versions
         entries, count, trimmed = versions.totals() if versions is not None else (0, 0, 0)
-        return {"entries": entries, "bytes": count, "trimmed": trimmed, "hits": sum(it._hits for it in self._functions.values()), "computed": sum(it._computed for it in self._functions.values()), "lost": self._lost,
+        return {"entries": entries, "bytes": count, "trimmed": trimmed, "hits": sum(it.hits for it in self._functions.values()), "computed": sum(it.computed for it in self._functions.values()), "lost": self._lost,
                 "cold": self._cold, "age": time.monotonic() - pins[-1].moment if pins else None, "connections": getattr(getattr(self.store, "readers", None), "count", 0),
                 "places": len(self._places)}
 
@@ -150,14 +158,18 @@ class TxCache:
         """Begins a page: its transaction, and the number in its keys."""
         if self._versions is None:
             self._open()
-        self._last_page = begun = time.monotonic()
-        self._look_if_old(begun, max_age)
+        self._last_page = begun = monotonic()
+        oldest, pins = begun - max_age, self._state.pins
+        if not pins or pins[-1].moment < oldest or begun - self._last_try > self.refresh:
+            self._look_if_old(begun, max_age)
         at_least = self._stamp_of(after) if after is not None else 0
         for _ in range(3):
             state = self._state
             if state.pins:
-                now, since = _us(max(begun, state.pins[-1].moment)), _us(begun - max_age)
-                txn = self._versions.begin(now, max(0, now - since), max(at_least, self._oldest_open_stamp(state)))
+                newest, known = state.pins[-1].moment, self._least
+                least = known[2] if known[0] is state and known[1] == self._follower.oldest else self._oldest_open_stamp(state)
+                now, since = _us(newest if newest > begun else begun), _us(oldest)
+                txn = self._versions.begin(now, now - since, at_least if at_least > least else least)
                 # one that began under a number which is no more may have a pin of the next
                 if txn is not None and self._state.era == state.era:
                     return txn, state.era

@@ -11,6 +11,7 @@ import threading
 from dataclasses import dataclass, field
 from typing import Any, Dict, FrozenSet, Iterable, Iterator, List, Mapping, Optional, Sequence, Tuple, Union
 
+from . import _standby
 from ._cursor import OWN, Cursor, Result, Source, Statement
 from ._driver import Link
 from ._layout import Layout, Name, Read, Row, dicts, literal, lookups_of
@@ -24,19 +25,7 @@ INSTALL_TIMEOUT = 5.0  # seconds for which `install` waits for the lock of a tab
 IDLE_TIMEOUT = 30.0  # seconds after which the server ends a snapshot of which nothing was asked
 _TOKEN = re.compile(r"([0-9a-f]{16})-([0-9a-f]{1,16})")
 
-# A snapshot: its numbers, the server's, the number that was purged last, the shape of the tables; and the tags of rows that it sees and the last did not.
-# The server's own processes have other numbers once it has begun anew after one of its processes died; its start time is then as it was.
-_LOOK = """
-SELECT pg_current_snapshot()::text, concat(s.system, ' ', (SELECT oid FROM pg_database WHERE datname = current_database()), ' ',
-        extract(epoch FROM pg_postmaster_start_time()), ' ', c.system_identifier, ' ',
-        (SELECT min(pid) FROM pg_stat_get_activity(NULL) WHERE datid IS NULL AND usesysid IS NULL)),
-    s.upto::text, txcache.shape({oids}), {tags}
-FROM txcache.state s, pg_control_system() c
-"""
-_TAGS = """ARRAY(SELECT DISTINCT n.relation || ':' || k FROM
-    (SELECT relation, keys FROM txcache.notes WHERE xact >= '{xmax}'::xid8 UNION ALL
-     SELECT relation, keys FROM txcache.notes WHERE xact = ANY ('{{{running}}}'::xid8[])) AS n, unnest(''::text || n.keys) AS k
-    WHERE n.relation = ANY (ARRAY[{relations}]::text[]) LIMIT {most})"""
+_LOOK = "SELECT * FROM txcache.look({oids}, {beyond}, '{{{running}}}', ARRAY[{relations}]::text[], {most})"
 _LOCKED = "SELECT relation::bigint FROM pg_locks WHERE pid = pg_backend_pid() AND locktype = 'relation' AND relation <> 'pg_catalog.pg_locks'::regclass"
 _RELATIONS = """
 WITH RECURSIVE up(oid, root) AS (SELECT it, it FROM unnest({oids}) AS it UNION ALL SELECT up.oid, i.inhparent FROM up JOIN pg_inherits i ON i.inhrelid = up.root)
@@ -44,6 +33,7 @@ SELECT up.oid::bigint, up.root::bigint, c.relkind::text, n.nspname, c.relname, c
 """
 _INDEXES = "i", "I", "t"  # and what lies beside a table's rows: the table itself is locked too, as are those of a view
 _LOCK_NOT_AVAILABLE = "55P03"
+_ROLLED_BACK = "40"
 _OF_SERVER = "08", "57", "53", "40"  # classes of errors: of the connection, of a server that ends, of its resources, of a transaction that is to be tried again
 MAX_SPARE = 2  # connections that are kept for the next snapshots
 _KIND_NAMES = {"r": "table", "p": "table", "m": "materialized view", "f": "foreign table", "S": "sequence", "c": "type"}
@@ -59,6 +49,7 @@ class Mark:
     running: FrozenSet[int]
     upto: int
     shape: str
+    seen: Optional[FrozenSet[int]] = None  # of a standby, in the place of `running`: the numbers from `xmin` on whose notes it has
 
     @staticmethod
     def of(text: str, server: str, upto: str, shape: str) -> "Mark":
@@ -67,6 +58,8 @@ class Mark:
 
     def sees(self, xact: int) -> bool:
         """Returns True if the transaction was over when the snapshot was taken."""
+        if self.seen is not None:
+            return xact < self.xmin or xact in self.seen
         return xact < self.xmax and xact not in self.running
 
 
@@ -94,6 +87,7 @@ class PostgresStore:
         """Of a child after a fork: returns all that its parent has open, which it may neither use nor close, and has none of its own."""
         inherited = vars(self).get("_spare"), vars(self).get("readers")
         self._tables: Optional[_Tables] = None
+        self._replay = _standby.Replay()
         self._spare: List[Link] = []
         self._lock = threading.Lock()
         self.readers = Readers(self, self._connections)
@@ -114,6 +108,7 @@ class PostgresStore:
         """Writes the triggers and lets the role `reader` read the notes. It takes each table's lock for a moment, and may be run again.
         Returns a line for each table; fails with NotInstalled, whose lines say which tables it could not write and why."""
         with contextlib.closing(self.connect()) as link:
+            _standby.refuse(link, "install")
             faults = self._catalog_of(link).missing
             if faults:
                 raise NotInstalled(faults)
@@ -142,6 +137,7 @@ class PostgresStore:
     def purge(self, age: float = PURGE_AGE) -> int:
         """Deletes the notes of transactions that were over when a purge of `age` seconds ago or more looked. Returns how many."""
         with contextlib.closing(self.connect()) as link:
+            _standby.refuse(link, "purge")
             link.ask("BEGIN ISOLATION LEVEL READ COMMITTED")
             (deleted,), = link.ask("SELECT txcache.purge(%s::double precision)", (age,))
             link.ask("COMMIT")
@@ -150,6 +146,7 @@ class PostgresStore:
     def uninstall(self) -> List[str]:
         """Drops the triggers of these tables, and the schema where no other table has one. Returns a line for each table."""
         with contextlib.closing(self.connect()) as link:
+            _standby.refuse(link, "uninstall")
             catalog, installer = self._catalog_of(link), Installer(link, INSTALL_TIMEOUT)
             standing = catalog.triggers()
             lines = catalog.missing + [f"{it}: {'uninstalled' if installer.uninstall_table(standing[it]) else 'no trigger stood'}" for it in catalog.found]
@@ -211,10 +208,10 @@ class PostgresStore:
             link.close()
             raise
 
-    def _begin(self, link: Link, names: Iterable[Name]) -> None:
-        """Begins a transaction and locks its tables. Neither takes the snapshot: what follows does, and then no TRUNCATE can come between."""
+    def _begin(self, names: Iterable[Name]) -> str:
+        """Returns what begins a transaction and locks its tables. Neither takes the snapshot: what follows does, and then no TRUNCATE can come between."""
         lock = f"LOCK TABLE {', '.join(it.quoted for it in names)} IN ACCESS SHARE MODE" if names else ""
-        link.ask(f"BEGIN ISOLATION LEVEL REPEATABLE READ READ ONLY; {self.settings}{lock}")
+        return f"BEGIN ISOLATION LEVEL REPEATABLE READ READ ONLY; {self.settings}{lock}"
 
     def _first(self, link: Link, reason: str) -> Look:
         """Takes a snapshot of which nothing is known from before."""
@@ -222,7 +219,8 @@ class PostgresStore:
         faults = self._faults(link, before)
         if faults:
             raise NotInstalled(faults)
-        self._begin(link, [it.name for it in before.found.values()])
+        delay = self._replay.delay(link)
+        link.ask(self._begin([it.name for it in before.found.values()]))
         catalog = self._catalog_of(link)
         faults = self._faults(link, catalog)
         if faults:
@@ -230,9 +228,11 @@ class PostgresStore:
         if catalog.found != before.found:
             raise SnapshotRefused("a table was changed while its snapshot was taken")
         oids = {it.oid: it.name.tag for it in catalog.found.values()}
-        mark, _ = self._marked(link, oids, "NULL::text[]")
+        mark, _ = _marked(link.ask(_look(oids, None)))
+        if delay is not None:
+            mark, _ = _standby.followed(link, mark, None, oids.values(), MAX_TAGS + 1)
         self._tables = _Tables(catalog.layout(), oids, [it.name for it in catalog.found.values()])
-        return Look(PostgresSnapshot(self, link, self._tables), mark, None, reason)
+        return Look(PostgresSnapshot(self, link, self._tables), mark, None, reason, delay or 0.0)
 
     def _next(self, link: Link, last: Mark) -> Union[Look, str]:
         """Takes the snapshot after the last; or returns why all must begin anew."""
@@ -240,30 +240,27 @@ class PostgresStore:
         if tables is None:
             return "the store was closed"
         try:
-            self._begin(link, tables.names)
-            relations = ", ".join(literal(it) for it in tables.oids.values())
-            mark, tags = self._marked(link, tables.oids, _TAGS.format(xmax=last.xmax, running=",".join(map(str, last.running)), relations=relations,
-                                                                      most=MAX_TAGS + 1))
+            delay = self._replay.delay(link) if last.seen is not None else None
+            if last.seen is not None and delay is None:
+                return _standby.PROMOTED
+            mark, tags = _marked(link.last(f"{self._begin(tables.names)}; {_look(tables.oids, last if delay is None else None)}"))
+            if delay is not None:
+                mark, tags = _standby.followed(link, mark, last, tables.oids.values(), MAX_TAGS + 1)
         except link.driver.Error as error:
             if type(self._meaning(link, error)) is not NotInstalled:
                 raise
             return str(error).strip().splitlines()[0]
         reason = _why_cold(last, mark, tags)
-        return reason or Look(PostgresSnapshot(self, link, tables), mark, frozenset(tags))
-
-    @staticmethod
-    def _marked(link: Link, oids: Iterable[int], tags: str) -> Tuple[Mark, List[str]]:
-        (*words, found), = link.ask(_LOOK.format(oids=array(oids), tags=tags))
-        return Mark.of(*words), found or []
+        return reason or Look(PostgresSnapshot(self, link, tables), mark, frozenset(tags), delay=delay or 0.0)
 
     @staticmethod
     def _meaning(link: Link, error: Exception) -> Exception:
         """Returns the error of ours for one of the driver's."""
-        state = getattr(error, "sqlstate", None) or getattr(error, "pgcode", None)
+        state = _state_of(error)
         said = (str(error).strip().splitlines() or [type(error).__name__])[0]
         if state == _LOCK_NOT_AVAILABLE:
             return SnapshotRefused(f"the lock of a table was waited for: {said}")
-        if link.is_broken(error) or state is None or state[:2] in _OF_SERVER:
+        if link.is_broken(error) or not state or state[:2] in _OF_SERVER:
             return SnapshotLost(f"the server did not answer: {said}")
         return NotInstalled([said])
 
@@ -304,6 +301,21 @@ class PostgresStore:
         self.readers.close()
 
 
+def _state_of(error: Exception) -> str:
+    return getattr(error, "sqlstate", None) or getattr(error, "pgcode", None) or ""
+
+
+def _look(oids: Mapping[int, str], last: Optional[Mark]) -> str:
+    """Returns what takes a snapshot of tables, and says what changed since the last, if there was one."""
+    beyond, running = (f"'{last.xmax}'", ",".join(map(str, last.running))) if last else ("NULL", "")
+    return _LOOK.format(oids=array(oids), beyond=beyond, running=running, relations=", ".join(map(literal, oids.values())), most=MAX_TAGS + 1)
+
+
+def _marked(rows: Sequence[Sequence[Any]]) -> Tuple[Mark, List[str]]:
+    (*words, found), = rows
+    return Mark.of(*words), found or []
+
+
 def _digest(system: str, base: str) -> str:
     return hashlib.blake2b(f"{system} {base}".encode(), digest_size=8).hexdigest()
 
@@ -318,7 +330,7 @@ def _why_cold(last: Mark, mark: Mark, tags: Sequence[str]) -> str:
         return "notes were purged that the last snapshot had not seen"
     if len(tags) > MAX_TAGS:
         return f"more than {MAX_TAGS} tags changed"
-    return ""
+    return _standby.why_cold(last, mark) if last.seen is not None else ""
 
 
 @dataclass(frozen=True)
@@ -469,6 +481,8 @@ class Readers:
         except reader.link.driver.Error as error:
             if reader.link.is_broken(error):
                 raise SnapshotLost(f"a reading connection was lost: {error}") from error
+            if _state_of(error)[:2] == _ROLLED_BACK:  # a standby that has waited for too long replays a lock, or what a vacuum removed
+                raise SnapshotLost(f"the server ended the query's transaction: {error}") from error
             raise
         finally:
             self._give_back(reader, is_kept)
