@@ -23,6 +23,11 @@ def setUpModule():
     PRIMARY, STANDBY = pair()
 
 
+def tearDownModule():
+    STANDBY.remove()
+    PRIMARY.remove()
+
+
 class Case(unittest.TestCase):
     """A database of its own for each test, on a primary and its standby."""
 
