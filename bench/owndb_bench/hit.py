@@ -49,7 +49,7 @@ def parts() -> Dict[str, float]:
     ways = {"a page of four hits": shop.four, "a page of no call": no_call, "begin and commit": lambda item: versions.commit(versions.begin(10**12, 10**12, 0)),
             "the library's answer": in_page(by_key if versions.hit is None else by_arguments), "the value, from pickle": lambda item: pickle.loads(dumped),
             "the whole of a hit": in_page(lambda page, item: shop.head(item))}
-    took = owndb.in_turn(ways)
+    took = owndb.in_turn(ways, blocks=240, pages=50)  # short blocks, so that some are not interrupted on a busy machine
     cache.close()
     room.close()
     for name in ("the library's answer", "the whole of a hit"):

@@ -156,7 +156,7 @@ WRONG = [
     Wrong("a page of a parent's", "_page.py", "around is not None and around._process == _process", "around is not None", of_each_store("test_a_child_of_a_page")),
     Wrong("nothing is ever purged", "cache.py", "if now - self._last_purge > PURGE_EVERY:", "if False:", of_each_store("test_notes_are_purged")),
     Wrong("an audit that leaves the cache warm", "_page.py", "        self.cache.clear()\n", "", of_each_store("test_audit")),
-    Wrong("a page that is older than it may be", "cache.py", "_us(oldest)", "_us(oldest - 60.0)", of_each_store("test_hits_and_changes")),
+    Wrong("a page that is older than it may be", "cache.py", "int(oldest * 1e6) if oldest > 0 else 0", "max(0, int((oldest - 60.0) * 1e6))", of_each_store("test_hits_and_changes")),
     Wrong("a failed step goes on", "cache.py", "            self._is_to_be_cold = True  # until", "            self._is_to_be_cold = False  # until", of_each_store("test_a_step_that_fails_midway")),
     Wrong("an error that was shown is forgotten", "_page.py", "                        self._has_shown = True  # its error", "                        pass  # its error", of_each_store("test_an_error_shown")),
     Wrong("a caught failure goes on", "_page.py", "        if self._failed is not None:\n", "        if False:\n", of_each_store("test_errors")),

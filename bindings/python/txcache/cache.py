@@ -168,15 +168,19 @@ class TxCache:
             if state.pins:
                 newest, known = state.pins[-1].moment, self._least
                 least = known[2] if known[0] is state and known[1] == self._follower.oldest else self._oldest_open_stamp(state)
-                now, since = _us(newest if newest > begun else begun), _us(oldest)
+                now, since = int((newest if newest > begun else begun) * 1e6), int(oldest * 1e6) if oldest > 0 else 0
                 txn = self._versions.begin(now, now - since, at_least if at_least > least else least)
                 # one that began under a number which is no more may have a pin of the next
                 if txn is not None and self._state.era == state.era:
                     return txn, state.era
                 if txn is not None:
                     self._versions.abort(txn)
+                if state.pins[-1].moment < begun - max_age:
+                    break  # a new one was just taken, of a server that is so far behind another
             self._look()
-        raise SnapshotLost(f"no snapshot of the last {max_age} seconds")
+        pins = self._state.pins
+        newest = f": the newest is of {time.monotonic() - pins[-1].moment:.1f} seconds ago" if pins else ""
+        raise SnapshotLost(f"no snapshot of the last {max_age} seconds{newest}")
 
     def _look_if_old(self, begun: float, max_age: float) -> None:
         """Takes a snapshot if the newest is too old for a page; or if none is open, or, with no thread, it is to be refreshed, and then if that fails a
