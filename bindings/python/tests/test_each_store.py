@@ -83,6 +83,15 @@ class OverAServer(Case):
         self.assertEqual(self.page((self.balance, 0), (self.balance, 1), (self.balance, 2), max_age=0.0), [5, 100, 100])
         self.assertEqual((self.counts(), cache.stats()["cold"]), ((1, 2), 1))
 
+    def test_killed_connections_of_a_database_in_which_nothing_changes(self):
+        """A page that computes finds its snapshot lost, and begins anew in one that takes its place."""
+        cache = self.open(refresh=1000.0)
+        self.page((self.balance, 0))
+        for number in (1, 2, 3):
+            self.it.ask("SELECT pg_terminate_backend(pid) FROM pg_stat_activity WHERE pid <> pg_backend_pid() AND datname = current_database()")
+            self.assertEqual(self.page((self.balance, number), (self.balance, 0)), [100, 100])
+        self.assertEqual((self.counts(), cache.stats()["cold"], cache.stats()["lost"]), ((1, 1), 1, 0))
+
     def test_a_truncate_and_a_disabled_trigger(self):
         cache = self.open()
         self.page((self.balance, 0), (self.bids, 7))

@@ -85,7 +85,7 @@ class Follower:
             number = self._number
             before = next((it for it in self._held if it.number == number), None)
             over = before.snapshot if before else None
-            if before and snapshot and moment - before.taken <= self.hold / 2:
+            if before and snapshot and not before.snapshot.is_lost and moment - before.taken <= self.hold / 2:
                 over = snapshot  # the one before is young, and connections have joined it
             elif snapshot:
                 self._held = [it for it in self._held if it is not before] + [_Held(number, snapshot, moment)]
@@ -99,7 +99,8 @@ class Follower:
     def _is_half_old(self) -> bool:
         """Returns True if the newest snapshot is to be replaced, though nothing may have changed."""
         with self._lock:
-            return self._clock() - self._held[-1].taken > self.hold / 2 if self._held else True
+            last = self._held[-1] if self._held else None
+            return last is None or last.snapshot.is_lost or self._clock() - last.taken > self.hold / 2
 
     def _first_of_all_open(self) -> Optional[int]:
         numbers = [it.number for it in self._held]

@@ -16,6 +16,7 @@ class Snapshot(Protocol):
     """An open read-only transaction: all that is read through it is of one moment."""
 
     layout: Layout
+    is_lost: bool  # True once a read has found that its transaction has ended: then the next look takes its place
 
     def rows(self, read: Read) -> List[Row]:
         """Returns the rows of a query."""

@@ -347,7 +347,7 @@ class PostgresSnapshot:
     """A transaction that holds a snapshot, and the locks of its tables. Queries run on connections that join it."""
 
     def __init__(self, store: PostgresStore, link: Link, tables: _Tables):
-        self.layout, self.tables, self.is_open = tables.layout, tables, True
+        self.layout, self.tables, self.is_open, self.is_lost = tables.layout, tables, True, False
         self._store, self._link, self._name = store, link, None
         self._lock = threading.Lock()
 
@@ -379,6 +379,7 @@ class PostgresSnapshot:
             (found,), = self._link.ask(text)
             return found
         except self._link.driver.Error as error:
+            self.is_lost = True
             raise SnapshotLost(f"the snapshot's connection was lost: {error}") from error
 
     def close(self) -> None:
@@ -480,6 +481,8 @@ class Readers:
                 raise SnapshotLost("the snapshot was let go")
         except reader.link.driver.Error as error:
             if reader.link.is_broken(error):
+                with contextlib.suppress(SnapshotLost):
+                    snapshot.check()  # it may be lost too, and then it is not begun anew in it
                 raise SnapshotLost(f"a reading connection was lost: {error}") from error
             if _state_of(error)[:2] == _ROLLED_BACK:  # a standby that has waited for too long replays a lock, or what a vacuum removed
                 raise SnapshotLost(f"the server ended the query's transaction: {error}") from error
@@ -497,6 +500,7 @@ class Readers:
                 is_broken = reader.link.is_broken(error)
                 self._give_back(reader, False)
                 if is_new or not is_broken:
+                    snapshot.is_lost = True
                     raise SnapshotLost(f"the snapshot could not be joined: {error}") from error
                 # one that was kept may have ended long ago
             except BaseException:

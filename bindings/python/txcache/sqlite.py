@@ -318,6 +318,10 @@ class SqliteSnapshot:
         self.layout, self.is_open, self._read_by = layout, True, read_by
         self._store, self._link, self._file, self._lock = store, link, file, threading.RLock()
 
+    @property
+    def is_lost(self) -> bool:
+        return not self.is_open
+
     def rows(self, read: Read) -> List[Row]:
         return self._rows(read.query, read.args)
 
