@@ -300,7 +300,7 @@ class OfAServer(Case):
     def test_a_holder_that_dies_while_a_query_runs(self):
         """What was read counts only if the snapshot's own connection was alive after it: else a TRUNCATE may have come between."""
         cache = self.open(refresh=1000.0)
-        slow = cache.cacheable(lambda db, number: db.cursor().execute("SELECT count(*), pg_advisory_xact_lock(7) FROM items").fetchone()[0])
+        slow = cache.cacheable(lambda db, number: db.cursor().execute(f"SELECT count(*), pg_advisory_xact_lock({number}) FROM items").fetchone()[0])
         self.page((self.balance, 0), (slow, 1))
         (pid,), = cache._follower.snapshot(1)._link.ask("SELECT pg_backend_pid()")
         other = self.writer()
@@ -316,7 +316,7 @@ class OfAServer(Case):
         ending.start()
         with cache.read(60.0):
             self.balance(0)
-            self.assertRaises(SnapshotLost, slow, 2)
+            self.assertRaises(SnapshotLost, slow, 7)
         ending.join()
 
 

@@ -19,6 +19,7 @@ from txcache.cache import TxCache
 from txcache.sqlite import SqliteStore
 
 from . import skipped
+from .cases import Case, OfSqlite
 
 HAS_IT = _fast._C is not None
 IS_WATCHED = "asan" in os.environ.get("LD_PRELOAD", "")  # by a sanitizer, which keeps what was freed
@@ -213,9 +214,47 @@ class Choice(unittest.TestCase):
         if not HAS_IT:
             self.skipTest(skipped("the extension of C", "it was not built, or TXC_FAST is 0"))
         with mock.patch.object(_fast._library, "ABI", 1):
-            self.assertRaisesRegex(ImportError, "TXC_ABI 2, and this package needs 1 and 1: make library again", _fast._loaded)
+            self.assertRaisesRegex(ImportError, f"TXC_ABI {_fast._C.ABI}, and this package needs 1 and 1: make library again", _fast._loaded)
         with mock.patch.object(_fast, "FORM", 0):
             self.assertRaisesRegex(ImportError, "is of form 1 .* needs 0", _fast._loaded)
+
+
+class Pages(OfSqlite, Case):
+    """Hits of pages whose keys are known."""
+
+    def setUp(self):
+        if not HAS_IT:
+            self.skipTest(skipped("the extension of C", "it was not built, or TXC_FAST is 0"))
+        super().setUp()
+        self.open()
+        self.assertEqual([self.page((self.balance, 0), (self.highest, 7)) for _ in range(2)], [[100, 110]] * 2)
+        self.assertEqual(self.counts(), (2, 0))
+
+    def test_a_function_that_was_cleared(self):
+        self.bids.cache_clear()
+        self.assertEqual(self.page((self.balance, 0), (self.highest, 7)), [100, 110])
+        self.assertEqual(self.counts(), (1, 2))
+
+    def test_a_cache_that_was_cleared(self):
+        self.cache.clear()
+        self.assertEqual(self.page((self.balance, 0), (self.highest, 7)), [100, 110])
+        self.assertEqual(self.counts(), (0, 3))
+
+    def test_no_hit_waits_for_what_another_thread_computes(self):
+        began, goes_on = threading.Event(), threading.Event()
+
+        @self.cache.cacheable
+        def slow(db, number):
+            began.set()
+            return goes_on.wait(60)
+
+        thread = threading.Thread(target=self.cache.run, args=(slow, 1), kwargs={"max_age": 60.0})
+        thread.start()
+        self.assertTrue(began.wait(60))
+        self.assertEqual(self.page((self.balance, 0), (self.highest, 7)), [100, 110])
+        self.assertEqual(self.counts(), (2, 0))
+        goes_on.set()
+        thread.join()
 
 
 class Threads(Extension):

@@ -5,6 +5,7 @@ import pickle
 import subprocess
 import sys
 import unittest
+from unittest import mock
 
 from txcache import OutsideSnapshot, TxCache
 
@@ -20,7 +21,7 @@ from sqlalchemy import Column, Integer, func, select, text
 from sqlalchemy.orm import Session, declarative_base, foreign, joinedload, relationship, remote, selectinload
 from sqlalchemy.orm.exc import DetachedInstanceError
 
-from txcache.sqlalchemy import session
+from txcache.sqlalchemy import _Engine, session
 
 Base = declarative_base()
 
@@ -252,9 +253,11 @@ class OverAServer(OfPostgres, Sessions):
             return repr(db.rows("things"))
 
         with cache.read(), sqlalchemy.create_engine("postgresql+psycopg2://", creator=lambda: __import__("psycopg2").connect(self.where)).connect() as link:
-            first = own(0)
+            first, opening = own(0), mock.patch.object(_Engine, "connect", autospec=True, side_effect=_Engine.connect)
+            opened = opening.start()
+            self.addCleanup(opening.stop)
             self.assertEqual((found(0), found(1), own(1)), (*[tuple(link.execute(select(things)).one())] * 2, first))
-            self.assertEqual(cache.stats()["connections"], 1)
+            self.assertEqual((cache.stats()["connections"], opened.call_count), (1, 1))
 
 
 class Missing(unittest.TestCase):

@@ -15,7 +15,8 @@ CONFLICT = 18
 
 
 class Settings(c.Structure):
-    _fields_ = [("size", c.c_size_t), ("events", c.c_size_t), ("capacity", c.c_size_t), ("recent", c.c_size_t), ("renew_after", c.c_uint64)]
+    _fields_ = [("size", c.c_size_t), ("events", c.c_size_t), ("capacity", c.c_size_t), ("recent", c.c_size_t), ("renew_after", c.c_uint64),
+                ("bytes", c.c_size_t)]
 
 
 class Row(c.Structure):

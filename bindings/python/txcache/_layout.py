@@ -276,4 +276,4 @@ def refuse_time_and_chance(query: str) -> None:
     found = _CLOCK.search(query)
     if found:
         name = next(filter(None, found.groups()))
-        raise ValueError(f"the query names {name!r}: give what depends on the time or on chance as an argument, or give the tags")
+        raise ValueError(f"the query names {name!r}: give what depends on the time or on chance as an argument, or give the tags, of a cursor by db.reads(..)")

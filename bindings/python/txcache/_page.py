@@ -147,11 +147,11 @@ class Page:
         return _values.decode(self._inner(function, args, named), function.codec)
 
     def _hit(self, function: "Function", args: Sequence[Any]) -> Optional[bytes]:
-        """Returns the value of an outermost call, if it is cached, its key is known and nobody computes anything now; else None, and nothing was done."""
+        """Returns the value of an outermost call, if its key is known and it is cached; else None, and nothing was done."""
         cache = self.cache
         era, forms, _, known = function.known
         hit = cache._versions.hit
-        if hit is None or era != self._era or forms is not cache._growth.forms or cache._works.known:
+        if hit is None or era != self._era or forms is not cache._growth.forms:
             return None
         data = hit(self._txn, known, args)
         if data is None or data == TOO_LONG:

@@ -168,7 +168,7 @@ class TxCache:
             if state.pins:
                 newest, known = state.pins[-1].moment, self._least
                 least = known[2] if known[0] is state and known[1] == self._follower.oldest else self._oldest_open_stamp(state)
-                now, since = _us(newest if newest > begun else begun), _us(oldest)
+                now, since = int((newest if newest > begun else begun) * 1e6), int(oldest * 1e6) if oldest > 0 else 0
                 txn = self._versions.begin(now, now - since, at_least if at_least > least else least)
                 # one that began under a number which is no more may have a pin of the next
                 if txn is not None and self._state.era == state.era:

@@ -463,7 +463,7 @@ class Readers:
         seen = [tables.relations[it] for it in oids]
         for it in seen:
             if isinstance(it, str):
-                raise ValueError(f"the query reads {it}, on which no triggers stand: tell the store of it, or give the tags")
+                raise ValueError(f"the query reads {it}, on which no triggers stand: tell the store of it, or give the tags, of a cursor by db.reads(..)")
         return frozenset().union(*seen)
 
     @contextlib.contextmanager

@@ -373,7 +373,7 @@ class SqliteSnapshot:
         views = {it.lower() for it, in self._link.execute("SELECT name FROM sqlite_master WHERE type = 'view'")}
         for table, base in seen:
             if base != "main" or table.lower() not in told and table.lower() not in views and table not in _PURE_TABLES:
-                raise ValueError(f"the query reads {table}, on which no triggers stand: tell the store of it, or give the tags")
+                raise ValueError(f"the query reads {table}, on which no triggers stand: tell the store of it, or give the tags, of a cursor by db.reads(..)")
         return frozenset(told[table.lower()] for table, _ in seen if table.lower() in told)
 
     def _compiled(self, query: str, args: Any) -> Set[Tuple[str, str]]:

@@ -20,7 +20,7 @@ from typing import Any, Dict, List, Optional
 import look
 from plain import Plain
 from shop import PARTS, PRODUCTS, Database, Shown, buy, keep_buying
-from txcache import NotSeen, TxCache
+from txcache import NotSeen, SnapshotLost, TxCache
 
 MAX_AGE = 2.0  # seconds
 
@@ -37,7 +37,15 @@ class Shop:
         self.pages, self.torn = 0, {"txcache": 0, "plain": 0}
         self._turn, self._has_ended = threading.Lock(), threading.Event()
         for seed in range(customers):
-            threading.Thread(target=keep_buying, args=(self.database, self.cache.store, seed, self._has_ended, pause), daemon=True).start()
+            threading.Thread(target=keep_buying, args=(self.database, self.cache.store, self.look_at, seed, self._has_ended, pause), daemon=True).start()
+
+    def look_at(self, *parts: Any) -> None:
+        """A smaller page, by both caches, of which nothing is shown: so parts are computed at different times, as they are in a shop of many pages."""
+        with contextlib.suppress(SnapshotLost), self.cache.read(max_age=MAX_AGE):
+            for part, args in parts:
+                self.cached[part](*args)
+        for part, args in parts:
+            self.plain.get(part, *args)
 
     def shown_by_txcache(self, after: Optional[str]) -> Shown:
         values, hits = [], []

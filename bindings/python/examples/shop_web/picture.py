@@ -20,11 +20,11 @@ def main() -> None:
     try:
         address = running.stdout.readline().split()[0]
         torn = 0
-        while torn < 20:
+        while torn < 5:
             time.sleep(0.2)
-            with urllib.request.urlopen(f"{address}page.json") as answer:
+            with urllib.request.urlopen(f"{address}page.json", timeout=60) as answer:
                 torn = json.load(answer)["plain"]["torn"]
-        subprocess.run([browser, "--headless", "--no-sandbox", "--disable-gpu", "--hide-scrollbars", "--window-size=960,560",
+        subprocess.run([browser, "--headless", "--no-sandbox", "--disable-gpu", "--disable-dev-shm-usage", "--hide-scrollbars", "--window-size=960,560",
                         f"--screenshot={os.path.abspath(sys.argv[1])}", address], check=True, stderr=subprocess.DEVNULL)
     finally:
         running.terminate()

@@ -8,7 +8,7 @@ import queue
 import random
 import sqlite3
 import threading
-from typing import Any, Dict, Iterator, List, NamedTuple, Optional, Sequence, Tuple
+from typing import Any, Callable, Dict, Iterator, List, NamedTuple, Optional, Sequence, Tuple
 
 PRODUCTS = {1: ("Teapot", 24), 2: ("Kettle", 45), 3: ("Cup", 8), 4: ("Tray", 15), 5: ("Spoon", 3), 6: ("Honey", 11)}
 SHIPPED = 60  # of each product
@@ -152,8 +152,10 @@ def buy(database: Database, store: Any, product: int, rand: random.Random) -> st
         return token
 
 
-def keep_buying(database: Database, store: Any, seed: int, has_ended: threading.Event, pause: float) -> None:
-    """A customer, who buys each `pause` seconds, about."""
+def keep_buying(database: Database, store: Any, look_at: Callable[..., None], seed: int, has_ended: threading.Event, pause: float) -> None:
+    """A customer, who each `pause` seconds, about, looks at a product, or at the till, and buys something."""
     rand = random.Random(seed)
     while not has_ended.wait(rand.uniform(0, 2 * pause)):
-        buy(database, store, rand.choice(list(PRODUCTS)), rand)
+        product = rand.choice(list(PRODUCTS))
+        look_at(*rand.choice([((stock, (product,)), (orders, (product,))), ((till, ()),)]))
+        buy(database, store, product, rand)
