@@ -179,16 +179,16 @@ class Shop:
             return [self.head(item), self.bids(item), self.balance(item), self.balance(item + 1)]
 
 
-def in_turn(ways: Dict[str, Callable[[int], Any]], blocks: int = BLOCKS, pages: int = PAGES) -> Dict[str, float]:
+def in_turn(ways: Dict[str, Callable[[int], Any]], clock: Callable[[], float] = time.perf_counter, blocks: int = BLOCKS, pages: int = PAGES) -> Dict[str, float]:
     """Returns the microseconds of each way: they are asked in turn, and of each the least block counts."""
     least = dict.fromkeys(ways, float("inf"))
     for block in range(blocks + 2):
         for name, way in ways.items():
-            begun = time.perf_counter()
+            begun = clock()
             for at in range(pages):
                 way(at % 50)
             if block > 1:
-                least[name] = min(least[name], (time.perf_counter() - begun) / pages * 1e6)
+                least[name] = min(least[name], (clock() - begun) / pages * 1e6)
     return least
 
 
@@ -233,7 +233,7 @@ def hits_of(room: Room, other: str, is_empty: bool = False) -> Dict[str, float]:
     else:
         ways[other] = far_page(room, other, shop)
         assert ways[other](7) == shop.four(7)
-    took = in_turn(ways)
+    took = in_turn(ways, time.thread_time if other == "prototype" else time.perf_counter)  # in one process what others run does not count
     shop.cache.close()
     return {**{f"{name}, us": value for name, value in took.items()}, "ratio": took["txcache"] / took[other]}
 
@@ -270,11 +270,11 @@ def beside_a_function(room: Room) -> Dict[str, float]:
                 shop.slow(number)
 
     alone, beside = [], []
-    for _ in range(4):
-        alone.append(pages_in(shop, 1.0))
+    for _ in range(12):
+        alone.append(pages_in(shop, 0.4))
         thread = threading.Thread(target=compute)
         thread.start()
-        beside.append(pages_in(shop, 1.0))
+        beside.append(pages_in(shop, 0.4))
         is_over.set()
         thread.join()
         is_over.clear()
@@ -287,9 +287,9 @@ def eight_threads(room: Room) -> Dict[str, float]:
     for item in range(50):
         shop.four(item)
     one, eight = [], []
-    for _ in range(5):
-        one.append(pages_in(shop, 1.0))
-        eight.append(pages_in(shop, 1.0, 8))
+    for _ in range(15):
+        one.append(pages_in(shop, 0.4))
+        eight.append(pages_in(shop, 0.4, 8))
     shop.cache.close()
     return {"pages/s, one": max(one), "eight": max(eight), "ratio": max(eight) / max(one)}
 
@@ -310,12 +310,13 @@ def first_time(room: Room, kind: str) -> Dict[str, float]:
         ask("SELECT * FROM bids WHERE item = %s ORDER BY id", item)
         ask("COMMIT")
 
+    clock = time.thread_time if kind == "sqlite" else time.perf_counter  # a server works in processes of its own
     took: Dict[str, List[float]] = {"page": [], "queries": []}
     for item in range(ROWS):
         for name, way in (("page", page), ("queries", queries)):
-            begun = time.perf_counter()
+            begun = clock()
             way(item)
-            took[name].append((time.perf_counter() - begun) * 1e6)
+            took[name].append((clock() - begun) * 1e6)
     shop.cache.close()
     page_us, queries_us = (statistics.median(it[50:]) for it in took.values())
     return {"page, us": page_us, "queries, us": queries_us, "ratio": page_us / queries_us}

@@ -212,7 +212,7 @@ def measured(room: Room, way: str, seconds: float, writers: int = 4, readers: in
 
 
 def lines(room: Room, scale: float) -> Iterator[str]:
-    seconds = 12.0 * scale
+    seconds = 10.0 * scale
     yield f"Four writers beside two reading processes, pages of five parts over {ITEMS} items, {seconds:g} s each; PostgreSQL.\n"
     yield "| | pages | torn | of 100 pages | hits of 100 parts | us of the processor a page | commits a second |\n|---|---|---|---|---|---|---|"
     for way, name in WAYS.items():

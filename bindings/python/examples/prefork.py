@@ -62,10 +62,13 @@ def forked(listening):
     """Returns the number of a new worker."""
     worker = os.fork()
     if not worker:
-        signal.signal(signal.SIGTERM, signal.SIG_DFL)
-        server = HTTPServer(listening.getsockname(), Pages, bind_and_activate=False)
-        server.socket = listening
-        server.serve_forever()
+        try:
+            signal.signal(signal.SIGTERM, signal.SIG_DFL)
+            server = HTTPServer(listening.getsockname(), Pages, bind_and_activate=False)
+            server.socket = listening
+            server.serve_forever()
+        finally:
+            os._exit(1)
     print("worker", worker, flush=True)
     return worker
 

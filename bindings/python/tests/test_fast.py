@@ -215,7 +215,7 @@ class Choice(unittest.TestCase):
         if not HAS_IT:
             self.skipTest(skipped("the extension of C", "it was not built, or TXC_FAST is 0"))
         with mock.patch.object(_fast._library, "ABI", 1):
-            self.assertRaisesRegex(ImportError, fr"TXC_ABI {_fast._C.ABI}, and this package needs 1 and 1: make library again", _fast._loaded)
+            self.assertRaisesRegex(ImportError, f"TXC_ABI {_fast._C.ABI}, and this package needs 1 and 1: make library again", _fast._loaded)
         with mock.patch.object(_fast, "FORM", 0):
             self.assertRaisesRegex(ImportError, "is of form 1 .* needs 0", _fast._loaded)
 

@@ -23,6 +23,11 @@ def setUpModule():
     PRIMARY, STANDBY = pair()
 
 
+def tearDownModule():
+    STANDBY.remove()
+    PRIMARY.remove()
+
+
 class Case(unittest.TestCase):
     """A database of its own for each test, on a primary and its standby."""
 
@@ -347,12 +352,13 @@ class Pages(Case):
             begun = time.monotonic()
             self.follows()
             waits.append(time.monotonic() - begun)
+        is_read = until(lambda: shown[200] > 5)
         ended.set()
         thread.join()
+        self.assertTrue(is_read)
         self.assertLessEqual(set(shown), {200, "lost"})
         self.assertLess(min(waits), 2.0, waits)
         self.assertLess(max(waits), 10.0, waits)  # one, on a machine with nothing else to do
-        self.assertGreater(shown[200], 5)
 
     def test_a_snapshot_that_recovery_cancels(self):
         """A page that waits for longer than the standby does has `SnapshotLost`, and the next is well."""
@@ -418,6 +424,22 @@ class Promotion(Case):
         self.assertRaises(SnapshotRefused, store.look, mark)
         self.assertEqual(store.look(mark).reason, _standby.PROMOTED)
 
+    def read(self, pages, seed, counts):
+        rand = random.Random(seed)
+        while not self.is_over.is_set():
+            try:
+                with pages.cache.read(max_age=rand.choice((0.0, 0.1, 1.0, 5.0))):
+                    found = pages.shown(rand.randrange(beside.ITEMS), rand)
+            except SnapshotLost:
+                counts["lost"] += 1
+                continue
+            counts["pages"] += 1
+            counts["torn"] += not pages.is_whole(found)
+
+    def write(self, where):
+        for it in [beside.started("write", where, SECONDS / 2, seed) for seed in range(3)]:
+            self.assertGreater(json.loads(it.communicate()[0])["commits"], 5)
+
     def test_no_page_is_torn(self):
         """Writers on the primary, pages at the standby, which is promoted in the middle and written to from then on."""
         self.base = "torn"
@@ -426,23 +448,30 @@ class Promotion(Case):
         top.close()
         at, there = self.primary.dsn(self.base), self.standby.dsn(self.base)
         beside.prepare(at)
-        self.assertTrue(follows(self.it, self.there))
-        running = [beside.started("write", at, SECONDS / 2, it) for it in range(3)] + [beside.started("read", there, SECONDS * 2, it, 3) for it in range(2)]
-        time.sleep(SECONDS / 2)
-        counts = Counter()
-        for it in running[:3]:
-            it.communicate()
-        self.standby.promote()
-        running = running[3:] + [beside.started("write", there, SECONDS / 2, it) for it in range(3)]
+        self.follows()
+        each, self.is_over = [(beside.Pages(there), Counter()) for _ in range(2)], threading.Event()
+        running = [threading.Thread(target=self.read, args=(pages, seed, counts)) for pages, counts in each for seed in range(2)]
         for it in running:
-            counts.update(json.loads(it.communicate()[0]))
-        print(f"a standby and its promotion: {dict(counts)}" if SECONDS > 30 else "", end="\n" if SECONDS > 30 else "")
-        self.assertEqual((counts["torn"], counts["cold"]), (0, 4), counts)
-        self.assertGreater(counts["pages"], 20)
-        self.assertGreater(counts["hits"], counts["computed"] / 10)
-        pages = beside.Pages(there)
-        self.addCleanup(pages.cache.close)
-        with beside.asker(there) as ask:
+            it.start()
+        try:
+            self.write(at)
+            self.assertTrue(until(lambda: all(counts["pages"] > 20 for _, counts in each)), each)
+            self.standby.promote()
+            before = [counts["pages"] for _, counts in each]
+            self.write(there)
+            self.assertTrue(until(lambda: all(counts["pages"] > 20 + it for it, (_, counts) in zip(before, each))), each)
+        finally:
+            self.is_over.set()
+            for it in running:
+                it.join()
+        self.assertEqual([(counts["torn"], pages.cache.stats()["cold"]) for pages, counts in each], [(0, 2)] * 2)
+        self.assertGreater(sum(pages.cache.stats()["hits"] for pages, _ in each), 20)
+        self.each_gives_what_its_query_gives(each[0][0], there)
+        for pages, _ in each:
+            pages.cache.close()
+
+    def each_gives_what_its_query_gives(self, pages, where):
+        with beside.asker(where) as ask:
             for item in range(beside.ITEMS):
                 with pages.cache.read(max_age=0.0):
                     shown = pages.shown(item, random.Random(1))

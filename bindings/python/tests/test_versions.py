@@ -71,10 +71,11 @@ class Rooms(unittest.TestCase):
             if first.acquire(False):
                 other = threading.Thread(target=self.all_else, args=(others,), daemon=True)
                 other.start()
-                other.join(10)
+                other.join(60)
+                others["has ended"] = not other.is_alive()
 
         self.assertEqual(self.side_by_side(after), {0: self.value(0), 1: self.value(1)})
-        self.assertEqual(others, {0: self.value(0), 1: self.value(1), "entries": 2})
+        self.assertEqual(others, {0: self.value(0), 1: self.value(1), "entries": 2, "has ended": True})
 
     def all_else(self, found):
         for number in range(2):

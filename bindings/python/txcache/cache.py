@@ -175,8 +175,12 @@ class TxCache:
                     return txn, state.era
                 if txn is not None:
                     self._versions.abort(txn)
+                if state.pins[-1].moment < begun - max_age:
+                    break  # a new one was just taken, of a server that is so far behind another
             self._look()
-        raise SnapshotLost(f"no snapshot of the last {max_age} seconds")
+        pins = self._state.pins
+        newest = f": the newest is of {time.monotonic() - pins[-1].moment:.1f} seconds ago" if pins else ""
+        raise SnapshotLost(f"no snapshot of the last {max_age} seconds{newest}")
 
     def _look_if_old(self, begun: float, max_age: float) -> None:
         """Takes a snapshot if the newest is too old for a page; or if none is open, or, with no thread, it is to be refreshed, and then if that fails a
