@@ -159,7 +159,8 @@ class Sites(Extension):
         for _ in range(200):
             some()
         self.assertEqual([sys.getrefcount(it) for it in them], before)
-        del known, them
+        del them
+        known.clear()
         gc.collect()
         self.assertEqual((key.args, key.digest), (args, digest))
 

