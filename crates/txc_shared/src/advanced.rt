@@ -5,6 +5,6 @@ use txc_stamp::Stamp;
 pub enum Advanced {
     /// The node took the event of that stamp, which closed so many entries.
     Taken { stamp: Stamp, closed: usize },
-    /// It had taken every event that it has seen. Where events are not stored, that is said of those after some beginning.
+    /// It had taken every event that it has seen.
     Idle,
 }
