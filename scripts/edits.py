@@ -17,13 +17,13 @@ usage: [JOBS=N] scripts/edits.py [CRATE | CRATE/NAME]..
   --check  looks at the files alone, and tries nothing
 
 No CRATE means all of them. Each wrong body is applied to a copy of its crate, and of the function that it changes the prover is to say that
-a goal is not proved. If it only says that a proof names what is gone, the verdict begins with `names:`: that shows no clause. A contract is all that the proofs of others know of a function, so wrong bodies of several functions are tried in one
-check; one whose function only waits for another is tried again, alone. The checks of a crate share what they saw of functions that stayed
-the same.
+a goal is not proved. If it only says that a proof names what is gone, the verdict begins with `names:`: that shows no clause. A contract is
+all that the proofs of others know of a function, so wrong bodies of several functions are tried in one check; one whose function only waits
+for another is tried again, alone. The checks of a crate share what they saw of functions that stayed the same.
 
-It prints each wrong body with its verdict, and last `N refused, M proved`, with `, K bad` if some could not be tried, and how many were
-refused by a name alone. The exit status is 0 only if M and K are 0. It is 2, and nothing was tried, if there is no such crate, name, commit or library, or if a file of wrong bodies
-has a fault; each is named with its file and line.
+It prints each wrong body with its verdict, how many were refused by a name alone, and last `N refused, M proved`, with `, K bad` if some
+could not be tried. The exit status is 0 only if M and K are 0. It is 2, and nothing was tried, if there is no such crate, name, commit or
+library, or if a file of wrong bodies has a fault; each is named with its file and line.
 """
 
 from __future__ import annotations
@@ -250,8 +250,9 @@ def try_all(root: Path, bodies: list[WrongBody]) -> int:
     trials = [it for own in by_crate.values() for it in own]
     count = {verdict: sum(it.verdict == verdict for it in trials) for verdict in ("refused", "proved", "bad")}
     by_names = sum(it.verdict == "refused" and it.said.startswith(BY_NAMES) for it in trials)
-    print(f"{count['refused']} refused, {count['proved']} proved" + (f", {count['bad']} bad" if count["bad"] else "")
-          + (f"; {by_names} of the refused by a name alone" if by_names else ""))
+    if by_names:
+        print(f"refused by a name alone: {by_names}")
+    print(f"{count['refused']} refused, {count['proved']} proved" + (f", {count['bad']} bad" if count["bad"] else ""))
     return int(count["refused"] != len(trials))
 
 
