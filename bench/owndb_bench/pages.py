@@ -127,8 +127,8 @@ def page_lines(room: Room, scale: float) -> Iterator[str]:
     blocks, pages = max(3, int(30 * scale)), max(10, int(100 * scale))
     for kind, parts_of in KINDS.items():
         shop = Shop(room.store(where, TOLD), refresh=1000.0)
-        took = in_turn(ways_of(room, where, shop, parts_of), blocks, pages)
-        looks = in_turn({"txcache, hits, a look each": lambda it: shop.page(parts_of(it), 0.0)}, max(2, blocks // 5), 20)
+        took = in_turn(ways_of(room, where, shop, parts_of), blocks=blocks, pages=pages)
+        looks = in_turn({"txcache, hits, a look each": lambda it: shop.page(parts_of(it), 0.0)}, blocks=max(2, blocks // 5), pages=20)
         shop.cache.close()
         columns[kind] = {**took, **looks, "txcache, for the first time": first_us(room, where, parts_of, scale)}
     yield "Microseconds a page, asked in turn, the least block of each; nobody writes; PostgreSQL.\n"
