@@ -6,6 +6,8 @@
 # make library: the library for callers in C, proved and built where it has to be; it says where it lies.
 # make try-library: the same with no proof, in some four minutes of one core.
 # make wheel: the package for Python, with the library that `make library` left in bindings/out; it says where it lies.
+# make demo [DEMO="--postgres DSN"]: a web shop whose page shows the same parts by this cache and by a plain one, which tears. It wants make library or
+#   make try-library before.
 # make edits [CRATE=NAME]: all wrong bodies, also those that `make prove` leaves out for its time.
 # make refusals [TEST=NAME]: every allocation of the tests and of the program, refused in its turn.
 # make soak: 3,000,000 lookups through one node that stores no records, and 3,000,000 commits from C through one site that stores no
@@ -16,12 +18,12 @@ MODE ?=
 
 # A word of the command line that nothing here knows is a slip of the pen.
 GIVEN := $(foreach it,$(.VARIABLES),$(if $(findstring command line,$(origin $(it))),$(it)))
-UNKNOWN := $(filter-out SCRIPT MODE SETTINGS CRATE TEST JOBS RT_JOBS SEED,$(GIVEN))
+UNKNOWN := $(filter-out SCRIPT MODE SETTINGS CRATE TEST DEMO JOBS RT_JOBS SEED,$(GIVEN))
 ifneq ($(UNKNOWN),)
-$(error there is no $(firstword $(UNKNOWN))=: the words are SCRIPT=, MODE=, SETTINGS=, CRATE= and TEST=)
+$(error there is no $(firstword $(UNKNOWN))=: the words are SCRIPT=, MODE=, SETTINGS=, CRATE=, TEST= and DEMO=)
 endif
 
-.PHONY: try run test test-all prove library try-library wheel edits refusals soak docs
+.PHONY: try run test test-all prove library try-library wheel demo edits refusals soak docs
 
 try run:
 	@scripts/$@.py $(if $(MODE),--mode "$(MODE)") $(if $(SETTINGS),--settings "$(SETTINGS)") "$(SCRIPT)"
@@ -43,6 +45,10 @@ try-library:
 
 wheel:
 	@bindings/python/build_wheel.py
+
+demo:
+	@cd bindings/python && PYTHONPATH=. TXC_LIBRARY=$${TXC_LIBRARY:-$$(ls -d ../out/libtxc_c.so ../out/unproved/libtxc_c.so 2>/dev/null | head -1 | xargs -r dirname)} \
+	    python3 examples/shop_web $(DEMO)
 
 edits:
 	scripts/edits.py $(CRATE)

@@ -2,10 +2,11 @@
 """Measures the cache beside a service's own database against its bars, each with what it is compared with in one run.
 
 usage: bench/owndb.py [--library FOLDER] [--prototype FOLDER] [WORD..]     bars whose name has one of the words, else all but the last
-       bench/owndb.py [--library FOLDER] --hour SECONDS postgres|sqlite    the last
+       bench/owndb.py [--library FOLDER] --hour SECONDS postgres|sqlite|both    the last; a line of JSON for each store, both at once
+       bench/owndb.py [--library FOLDER] --figures [short] [TABLE..]    tables of what a cache buys and costs: torn, pages, threads, commits, processes, snapshots
 
 It wants a driver of PostgreSQL and initdb, as the package's tests do, and for Redis `apt-get install redis-server python3-redis`; a bar whose other side is not
-there is skipped by name. The prototype is that of a trial (a folder with txcache_db, which wants python3-psycopg2); it runs over today's library.
+there is skipped by name. The figures want memcached, python3-pymemcache, python3-django and python3-django-redis too. The prototype is that of a trial (a folder with txcache_db, which wants python3-psycopg2); it runs over today's library.
 It prints a table in markdown. The exit status is 0 if each bar that was measured stands.
 """
 
@@ -22,6 +23,7 @@ import sys
 import tempfile
 import threading
 import time
+from concurrent.futures import ThreadPoolExecutor
 from typing import Any, Callable, Dict, Iterator, List, NamedTuple, Sequence
 
 ROOT = os.path.dirname(os.path.dirname(os.path.abspath(__file__)))
@@ -63,7 +65,8 @@ class Room:
     """The databases of a run, each made when it is first wanted."""
 
     def __init__(self, prototype: str):
-        self.folder, self.prototype, self._count, self._redis = tempfile.mkdtemp(prefix="owndb-", dir="/tmp"), prototype, 0, None
+        self.folder, self.prototype, self._count = tempfile.mkdtemp(prefix="owndb-", dir="/tmp"), prototype, 0
+        self._servers: Dict[str, Any] = {}
 
     def database(self, kind: str, installs: bool = True, texts: Sequence[str] = TABLES, told: Dict[str, Any] = TOLD) -> str:
         """Returns where a new database lies, with a thousand rows a table."""
@@ -88,13 +91,9 @@ class Room:
 
     @staticmethod
     def _fill(ask: Callable[..., List[Any]]) -> None:
-        ask("BEGIN")
-        for at in range(ROWS):
-            ask("INSERT INTO items VALUES (%s, %s, %s, 100)", at, at % 50, f"item {at}")
-            ask("INSERT INTO bids VALUES (%s, %s, 100), (%s, %s, 90)", 2 * at, at, 2 * at + 1, at)
-            ask("INSERT INTO accounts VALUES (%s, %s, 1000)", at, at // 2)
-            ask("INSERT INTO copies VALUES (%s, 1000)", at)
-        ask("COMMIT")
+        for table, row in (("items", "({at}, {at} % 50, 'item {at}', 100)"), ("bids", "(2 * {at}, {at}, 100), (2 * {at} + 1, {at}, 90)"),
+                           ("accounts", "({at}, {at} / 2, 1000)"), ("copies", "({at}, 1000)")):
+            ask(f"INSERT INTO {table} VALUES " + ", ".join(row.format(at=at) for at in range(ROWS)))
 
     @staticmethod
     def store(where: str, told: Dict[str, Any] = TOLD) -> Any:
@@ -113,17 +112,38 @@ class Room:
             import redis
         except ImportError:
             raise Skipped("python3-redis is not there") from None
-        if self._redis is None:
-            path = f"{self.folder}/redis"
-            self._redis = subprocess.Popen(["redis-server", "--port", "0", "--unixsocket", path, "--save", "", "--dir", self.folder], stdout=subprocess.DEVNULL)
-            while not os.path.exists(path):
+        return redis.Redis(unix_socket_path=self.redis_path())
+
+    def redis_path(self) -> str:
+        return self._server("redis", ["redis-server", "--port", "0", "--unixsocket", f"{self.folder}/redis", "--save", "", "--dir", self.folder])
+
+    def memcached(self) -> Any:
+        if not shutil.which("memcached"):
+            raise Skipped("memcached is not there")
+        try:
+            from pymemcache.client.base import Client
+        except ImportError:
+            raise Skipped("python3-pymemcache is not there") from None
+        return Client(f"unix:{self.memcached_path()}")
+
+    def memcached_path(self) -> str:
+        return self._server("memcached", ["memcached", "-u", "nobody", "-s", f"{self.folder}/memcached", "-a", "0777"])
+
+    def _server(self, name: str, words: List[str]) -> str:
+        """Returns the socket of a server, which is started if none is."""
+        if name not in self._servers:
+            os.chmod(self.folder, 0o777)
+            self._servers[name] = subprocess.Popen(words, stdout=subprocess.DEVNULL)
+            while not os.path.exists(f"{self.folder}/{name}"):
+                if self._servers[name].poll() is not None:
+                    raise Skipped(f"{name} does not run")
                 time.sleep(0.05)
-        return redis.Redis(unix_socket_path=f"{self.folder}/redis")
+        return f"{self.folder}/{name}"
 
     def close(self) -> None:
-        if self._redis is not None:
-            self._redis.terminate()
-            self._redis.wait()
+        for it in self._servers.values():
+            it.terminate()
+            it.wait()
         shutil.rmtree(self.folder, ignore_errors=True)
 
 
@@ -159,36 +179,61 @@ class Shop:
             return [self.head(item), self.bids(item), self.balance(item), self.balance(item + 1)]
 
 
-def in_turn(ways: Dict[str, Callable[[int], Any]], blocks: int = BLOCKS, pages: int = PAGES) -> Dict[str, float]:
+def in_turn(ways: Dict[str, Callable[[int], Any]], clock: Callable[[], float] = time.perf_counter, blocks: int = BLOCKS, pages: int = PAGES) -> Dict[str, float]:
     """Returns the microseconds of each way: they are asked in turn, and of each the least block counts."""
     least = dict.fromkeys(ways, float("inf"))
     for block in range(blocks + 2):
         for name, way in ways.items():
-            begun = time.perf_counter()
+            begun = clock()
             for at in range(pages):
                 way(at % 50)
             if block > 1:
-                least[name] = min(least[name], (time.perf_counter() - begun) / pages * 1e6)
+                least[name] = min(least[name], (clock() - begun) / pages * 1e6)
     return least
 
 
 # ---- pages
 
 
-def hits_of(room: Room, other: str) -> Dict[str, float]:
-    shop = Shop(room.store(room.database("sqlite")), refresh=1000.0)
-    ways: Dict[str, Callable[[int], Any]] = {"txcache": shop.four}
+def names_of(item: int) -> List[str]:
+    """The names under which a far cache has the parts of a page."""
+    return [f"head:{item}", f"bids:{item}", f"balance:{item}", f"balance:{item + 1}"]
+
+
+def far_page(room: Room, other: str, shop: "Shop") -> Callable[[int], Any]:
+    """Returns a page of the same four values from a cache in another process, with one request."""
+    far = room.redis() if other == "redis" else room.memcached()
+    for item in range(52):
+        for name, value in zip(names_of(item), shop.four(item)):
+            far.set(name, pickle.dumps(value, pickle.HIGHEST_PROTOCOL))
     if other == "redis":
-        far = room.redis()
-        for item in range(52):
-            for name, value in zip(("head", "bids", "balance"), shop.four(item)):
-                far.set(f"{name}:{item}", pickle.dumps(value, pickle.HIGHEST_PROTOCOL))
-        ways["redis"] = lambda item: [pickle.loads(it) for it in far.mget(f"head:{item}", f"bids:{item}", f"balance:{item}", f"balance:{item + 1}")]
-    else:
+        return lambda item: [pickle.loads(it) for it in far.mget(names_of(item))]
+
+    def page(item: int) -> List[Any]:
+        names = names_of(item)
+        found = far.get_many(names)
+        return [pickle.loads(found[it]) for it in names]
+
+    return page
+
+
+def hits_of(room: Room, other: str, is_empty: bool = False) -> Dict[str, float]:
+    """A page of four hits, or of no call, and in turn with it the same four values elsewhere."""
+    shop = Shop(room.store(room.database("sqlite")), refresh=1000.0)
+
+    def no_call(item: int) -> None:
+        with shop.cache.read(max_age=60.0):
+            pass
+
+    ways: Dict[str, Callable[[int], Any]] = {"txcache": no_call if is_empty else shop.four}
+    if other == "prototype":
         from owndb_bench import prototype
 
-        ways["prototype"] = prototype.shop(room.prototype, room.database("sqlite", installs=False)).four
-    took = in_turn(ways)
+        ways[other] = prototype.shop(room.prototype, room.database("sqlite", installs=False)).four
+    else:
+        ways[other] = far_page(room, other, shop)
+        assert ways[other](7) == shop.four(7)
+    took = in_turn(ways, time.thread_time if other == "prototype" else time.perf_counter)  # in one process what others run does not count
     shop.cache.close()
     return {**{f"{name}, us": value for name, value in took.items()}, "ratio": took["txcache"] / took[other]}
 
@@ -225,11 +270,11 @@ def beside_a_function(room: Room) -> Dict[str, float]:
                 shop.slow(number)
 
     alone, beside = [], []
-    for _ in range(4):
-        alone.append(pages_in(shop, 1.0))
+    for _ in range(12):
+        alone.append(pages_in(shop, 0.4))
         thread = threading.Thread(target=compute)
         thread.start()
-        beside.append(pages_in(shop, 1.0))
+        beside.append(pages_in(shop, 0.4))
         is_over.set()
         thread.join()
         is_over.clear()
@@ -242,9 +287,9 @@ def eight_threads(room: Room) -> Dict[str, float]:
     for item in range(50):
         shop.four(item)
     one, eight = [], []
-    for _ in range(5):
-        one.append(pages_in(shop, 1.0))
-        eight.append(pages_in(shop, 1.0, 8))
+    for _ in range(15):
+        one.append(pages_in(shop, 0.4))
+        eight.append(pages_in(shop, 0.4, 8))
     shop.cache.close()
     return {"pages/s, one": max(one), "eight": max(eight), "ratio": max(eight) / max(one)}
 
@@ -265,12 +310,13 @@ def first_time(room: Room, kind: str) -> Dict[str, float]:
         ask("SELECT * FROM bids WHERE item = %s ORDER BY id", item)
         ask("COMMIT")
 
+    clock = time.thread_time if kind == "sqlite" else time.perf_counter  # a server works in processes of its own
     took: Dict[str, List[float]] = {"page": [], "queries": []}
     for item in range(ROWS):
         for name, way in (("page", page), ("queries", queries)):
-            begun = time.perf_counter()
+            begun = clock()
             way(item)
-            took[name].append((time.perf_counter() - begun) * 1e6)
+            took[name].append((clock() - begun) * 1e6)
     shop.cache.close()
     page_us, queries_us = (statistics.median(it[50:]) for it in took.values())
     return {"page, us": page_us, "queries, us": queries_us, "ratio": page_us / queries_us}
@@ -385,10 +431,10 @@ def write(where: str, seconds: float, seed: int, is_hot: bool) -> int:
     return count
 
 
-def commits_in(where: str, seconds: float, is_hot: bool) -> float:
-    """Returns the commits a second of eight writing processes."""
+def commits_of(where: str, seconds: float, is_hot: bool, writers: int = 8) -> float:
+    """Returns the commits a second of writing processes."""
     words = [sys.executable, os.path.abspath(__file__), "--write", where, str(seconds), str(int(is_hot))]
-    running = [subprocess.Popen([*words, str(seed)], stdout=subprocess.PIPE, text=True) for seed in range(8)]
+    running = [subprocess.Popen([*words, str(seed)], stdout=subprocess.PIPE, text=True) for seed in range(writers)]
     return sum(int(it.communicate()[0]) for it in running) / seconds
 
 
@@ -396,7 +442,7 @@ def with_notes(room: Room, kind: str) -> Dict[str, float]:
     wheres, counts = [room.database(kind, installs) for installs in (False, True)], ([], [])
     for _ in range(3):
         for where, found in zip(wheres, counts):
-            found.append(commits_in(where, 4.0, False))
+            found.append(commits_of(where, 4.0, False))
     plain, noted = map(statistics.median, counts)
     return {"commits/s without": plain, "with notes": noted, "ratio": noted / plain}
 
@@ -411,7 +457,7 @@ def beside_a_cache(room: Room, kind: str, is_hot: bool) -> Dict[str, float]:
         for is_read, found in counts.items():
             reading = subprocess.Popen([sys.executable, os.path.abspath(__file__), "--read", where, "7.0"]) if is_read else None
             time.sleep(1.5)
-            found.append(commits_in(where, 4.0, is_hot))
+            found.append(commits_of(where, 4.0, is_hot))
             if reading:
                 reading.wait()
     alone, beside = (statistics.median(it) for it in counts.values())
@@ -435,7 +481,9 @@ def read(where: str, seconds: float) -> None:
 
 
 BARS = [
-    Bar("a page of four hits, of Redis' MGET", 0.6, False, lambda room: hits_of(room, "redis")),
+    Bar("a page of four hits, of Redis' MGET", 0.35, False, lambda room: hits_of(room, "redis")),
+    Bar("a page of four hits, of memcached's get_many", 0.6, False, lambda room: hits_of(room, "memcached")),
+    Bar("a page of no call, of Redis' MGET of four", 0.07, False, lambda room: hits_of(room, "redis", is_empty=True)),
     Bar("a page of four hits, of the prototype's", 1.2, False, lambda room: hits_of(room, "prototype")),
     Bar("pages of hits beside a function of 100 ms, of those without", 0.8, True, beside_a_function),
     Bar("eight threads of hits, of one", 0.9, True, eight_threads),
@@ -478,6 +526,7 @@ def main() -> int:
     parser.add_argument("--library", default=os.environ.get("TXC_LIBRARY") or f"{ROOT}/bindings/out")
     parser.add_argument("--prototype", default="")
     parser.add_argument("--hour", nargs=2, metavar=("SECONDS", "STORE"))
+    parser.add_argument("--figures", action="store_true")
     parser.add_argument("--write", nargs=4, help=argparse.SUPPRESS)
     parser.add_argument("--read", nargs=2, help=argparse.SUPPRESS)
     parser.add_argument("words", nargs="*")
@@ -496,9 +545,19 @@ def main() -> int:
         if given.hour:
             from owndb_bench import hour
 
-            found = hour.measured(room, float(given.hour[0]), given.hour[1])
-            print(json.dumps(found))
-            return int(not found["stands"])
+            seconds, kind = float(given.hour[0]), given.hour[1]
+            wheres = [hour.prepared(room, it) for it in (("postgres", "sqlite") if kind == "both" else (kind,))]
+            with ThreadPoolExecutor() as pool:
+                for found in pool.map(lambda it: hour.measured(it, seconds), wheres):
+                    print(json.dumps(found), flush=True)
+                    failed |= not found["stands"]
+            return int(failed)
+        if given.figures:
+            from owndb_bench import figures
+
+            for line in figures.lines(room, given.words):
+                print(line, flush=True)
+            return 0
         for line in lines(room, given.words):
             print(line, flush=True)
             failed |= "FAILED" in line

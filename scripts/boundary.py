@@ -29,6 +29,7 @@ import sys
 import tempfile
 
 import exports
+import extension
 import library
 import run
 import unproved
@@ -318,6 +319,30 @@ def try_bindings(trial, folder, is_all):
         trial.skip("Python, since there is no libtxc_c.so")
 
 
+def try_extension(trial, folder, room):
+    """Tries the extension of Python's package: each compiler takes it with no warning; and under the sanitizers of addresses and of undefined behaviour
+    its tests and those of pages pass."""
+    for compiler in filter(shutil.which, COMPILERS):
+        words = extension.words_of(room, compiler)
+        if words is None:
+            return trial.skip("the extension of Python's package, since there is no Python.h")
+        trial.ran(f"{compiler}: the extension of Python's package", words)
+    by = next(filter(shutil.which, COMPILERS), None)
+    runtime = subprocess.run([by, "-print-file-name=libasan.so"], stdout=subprocess.PIPE, text=True).stdout.strip() if by == "gcc" else ""
+    if not os.path.isabs(runtime):
+        return trial.skip("the extension under sanitizers, since gcc has no libasan.so")
+    os.makedirs(f"{room}/extension")
+    os.symlink(f"{folder}/libtxc_c.so", f"{room}/extension/libtxc_c.so")
+    if trial.ran(f"{by}: the extension under sanitizers", extension.words_of(f"{room}/extension", by, SANITIZERS)).returncode:
+        return None
+    # the interpreter itself keeps memory until it ends; its own allocator would hide what is used after it was freed
+    where = {**os.environ, "TXC_LIBRARY": f"{room}/extension", "LD_PRELOAD": runtime, "PYTHONMALLOC": "malloc", "ASAN_OPTIONS": "detect_leaks=0"}
+    tests = [f"tests.{it}" for it in ("test_fast", "test_pages", "test_calls", "test_values")]
+    of_sites = ["-k", "test_fast", "-k", "OfSqlite.test_"]
+    trial.ran("Python: the extension's tests under sanitizers", [python_of_tests(), "-m", "unittest", "-q", *of_sites, *tests], cwd=f"{ROOT}/bindings/python", env=where)
+    return None
+
+
 def compilers(trial, is_all):
     """The compilers of C that the library is tried by; says which are not there."""
     there = [it for it in COMPILERS if shutil.which(it)]
@@ -343,7 +368,12 @@ def try_all(trial, given, room):
     of_sites = {}, program, sites
     for compiler in compilers(trial, given.all):
         try_c(trial, room, compiler, archives, played, wanted, of_sites)
-    try_bindings(trial, given.library or f"{room}/library", given.all)
+    folder = given.library or f"{room}/library"
+    if os.path.exists(f"{folder}/libtxc_c.so"):
+        extension.make(folder)
+    try_bindings(trial, folder, given.all)
+    if given.all and os.path.exists(f"{folder}/libtxc_c.so"):
+        try_extension(trial, folder, room)
 
 
 def main():

@@ -17,13 +17,13 @@ usage: [JOBS=N] scripts/edits.py [CRATE | CRATE/NAME]..
   --check  looks at the files alone, and tries nothing
 
 No CRATE means all of them. Each wrong body is applied to a copy of its crate, and of the function that it changes the prover is to say that
-a goal is not proved. A contract is all that the proofs of others know of a function, so wrong bodies of several functions are tried in one
-check; one whose function only waits for another is tried again, alone. The checks of a crate share what they saw of functions that stayed
-the same.
+a goal is not proved. If it only says that a proof names what is gone, the verdict begins with `names:`: that shows no clause. A contract is
+all that the proofs of others know of a function, so wrong bodies of several functions are tried in one check; one whose function only waits
+for another is tried again, alone. The checks of a crate share what they saw of functions that stayed the same.
 
-It prints each wrong body with its verdict, and last `N refused, M proved`, with `, K bad` if some could not be tried. The exit status is 0
-only if M and K are 0. It is 2, and nothing was tried, if there is no such crate, name, commit or library, or if a file of wrong bodies
-has a fault; each is named with its file and line.
+It prints each wrong body with its verdict, how many were refused by a name alone, and last `N refused, M proved`, with `, K bad` if some
+could not be tried. The exit status is 0 only if M and K are 0. It is 2, and nothing was tried, if there is no such crate, name, commit or
+library, or if a file of wrong bodies has a fault; each is named with its file and line.
 """
 
 from __future__ import annotations
@@ -58,6 +58,10 @@ MOST_SAID = 200
 MOST_SAID_OF_A_BUILD = 3000
 # What is said where a proof names what the wrong body took away: that shows little of a contract.
 NAMES = re.compile(r"has no field|\(nearest: |is not in scope|has no `|was not admitted")
+# How the text of a verdict begins that rests on such names alone.
+BY_NAMES = "names: "
+# How a message of the prover begins. A line that begins otherwise continues the message before it.
+HEAD = re.compile(r"\S+:\d+:\d+: |fn |note: |help: |error\b|warning\b|by-macro:|statements |logic=")
 # What is said of a function of which only a callee is not proved.
 WAITS = re.compile(r"not proved; it waits|(?:no proof:|not proved;) it calls `.*`, which (?:is|are) not proved$"
                    r"|no proof: the borrow checker's part in its proof is not made yet: a call of .*, which has no proof")
@@ -196,9 +200,20 @@ def judge(trial: Trial, lines: list[str]) -> None:
         trial.end("bad", uncovered[0])
     elif failing:
         folders = [re.compile(f"proofs/{it.proof_folder}/") for it in trial.functions]
-        errors = [it for it in lines if ": error" in it and any(folder.search(it) for folder in folders)]
+        errors = [it for it in messages(lines) if ": error" in it and any(folder.search(it) for folder in folders)]
         by_names = errors and all(map(NAMES.search, errors)) and not any("it is not proved that" in it for it in own)
-        trial.end("refused", f"names: {errors[0]}" if by_names else failing[0])
+        trial.end("refused", f"{BY_NAMES}{errors[0]}" if by_names else failing[0])
+
+
+def messages(lines: Iterable[str]) -> list[str]:
+    """Returns the messages of a check, each in one line: the prover breaks long ones."""
+    found: list[str] = []
+    for line in lines:
+        if found and not HEAD.match(line):
+            found[-1] += f" {line.strip()}"
+        else:
+            found.append(line)
+    return found
 
 
 def try_crate(root: Path, trials: list[Trial], jobs: int) -> None:
@@ -234,6 +249,9 @@ def try_all(root: Path, bodies: list[WrongBody]) -> int:
         list(pool.map(lambda own: try_crate(root, own, max(1, jobs // len(by_crate))), sorted(by_crate.values(), key=len, reverse=True)))
     trials = [it for own in by_crate.values() for it in own]
     count = {verdict: sum(it.verdict == verdict for it in trials) for verdict in ("refused", "proved", "bad")}
+    by_names = sum(it.verdict == "refused" and it.said.startswith(BY_NAMES) for it in trials)
+    if by_names:
+        print(f"refused by a name alone: {by_names}")
     print(f"{count['refused']} refused, {count['proved']} proved" + (f", {count['bad']} bad" if count["bad"] else ""))
     return int(count["refused"] != len(trials))
 

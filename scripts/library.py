@@ -1,6 +1,6 @@
 #!/usr/bin/env python3
 """Makes the library for callers in C: `libtxc_c.a`, which needs malloc, realloc, free and memcpy's kind alone; `libtxc_c.so`; and their
-header. It says where they lie.
+header; and, where Python's headers are there, the extension of its package. It says where they lie.
 
 usage: scripts/library.py [--try] [FOLDER]
   --try    compiles it in some minutes, with no proof; else it is proved first, where it has to be
@@ -16,9 +16,11 @@ import tempfile
 import time
 
 import exports
+import extension
 import run
 import unproved
 from check import check_words
+from extension import compiler
 
 ROOT = os.path.dirname(os.path.dirname(os.path.abspath(__file__)))
 CRATE = "txc_c"
@@ -135,11 +137,6 @@ def objects_of(archive, folder):
 # ---- both
 
 
-def compiler():
-    """A C compiler of the machine, or None."""
-    return next((it for it in ("gcc", "clang", "cc") if shutil.which(it)), None)
-
-
 def make(objects, folder, is_shared=True):
     """Makes the archive and, where it is wanted, the shared object of the objects, with the toolchain's calls of malloc, realloc and free."""
     os.makedirs(folder, exist_ok=True)
@@ -165,7 +162,7 @@ def make(objects, folder, is_shared=True):
 def library(is_try, folder):
     with tempfile.TemporaryDirectory(prefix="library-") as room:
         objects = [object_of(exported(room), f"{room}/{CRATE}.o")] if is_try else proved_objects(room)
-        return make(objects, folder)
+        return [*make(objects, folder), *filter(None, [extension.make(folder)])]
 
 
 def main():

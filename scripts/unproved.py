@@ -83,7 +83,7 @@ def build(crate, program, words=("--test", "--steps", "1")):
     for words in commands:
         ran = subprocess.run(words, capture_output=True, text=True, errors="replace")
         if ran.returncode:
-            return ran.stdout + ran.stderr
+            return ran.stdout + ran.stderr or f"{words[0]} ended with {ran.returncode}"
     return ""
 
 

@@ -209,11 +209,21 @@ class Rounds(Repository):
 
 
 class Judging(Repository):
-    def verdict(self, said: str) -> str:
+    def judged(self, said: str) -> edits.Trial:
         body = wrong_bodies.read(self.root)[0]
         trial = edits.Trial(body, body.functions(self.root))
         edits.judge(trial, said.split("\n"))
-        return trial.verdict
+        return trial
+
+    def verdict(self, said: str) -> str:
+        return self.judged(said).verdict
+
+    def is_by_a_name(self, *errors: str) -> bool:
+        """Returns whether a function is refused by a name alone where its proof has these errors."""
+        heads = [f"./proofs/lib/Count/go/Answers.antt:{at}:2: error: {it}" for at, it in enumerate(errors, 1)]
+        trial = self.judged("\n".join([*heads, "fn low::Count::go: not proved", "help: the crate has no `more`"]))
+        self.assertEqual(trial.verdict, "refused")
+        return trial.said.startswith(edits.BY_NAMES)
 
     def test_verdicts(self) -> None:
         self.assertEqual(self.verdict("fn low::Count::go: not proved"), "refused")
@@ -222,6 +232,13 @@ class Judging(Repository):
         self.assertEqual(self.verdict("fn low::Count::go: proved"), "")
         self.assertEqual(self.verdict("fn low::Count::go: could not tell"), "")
         self.assertEqual(self.verdict("fn low::Count::go: no proof: the borrow checker does not cover it"), "bad")
+
+    def test_by_a_name_alone(self) -> None:
+        self.assertTrue(self.is_by_a_name("`returns`: record `Start` has no field `more`"))
+        self.assertTrue(self.is_by_a_name("`returns`: record `Start`\n  has no field `more`", "`returns`: `more` is not\nin scope"))
+        self.assertFalse(self.is_by_a_name("`returns`: record `Start`\n  has no field `more`", "`arith` found no proof"))
+        self.assertFalse(self.is_by_a_name("`returns`: `1` is not `2`"))
+        self.assertFalse(self.is_by_a_name())
 
     def tried(self, said: dict[str, str]) -> tuple[int, str, list[list[str]]]:
         """Returns what a trial ends with, where a check says this of each wrong body; its last line; and what was checked together."""

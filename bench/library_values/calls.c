@@ -101,7 +101,7 @@ int main(int count, char **words) {
     uint32_t made = (uint32_t)strtoul(words[3], NULL, 10);
     txc_site_settings settings = TXC_SITE_SETTINGS;
     settings.renew_after = 1000;
-    must(txc_node_open(&node, TXC_MAX_CAPACITY, 64), TXC_DONE);
+    must(txc_node_open(&node, 65536, 64), TXC_DONE);
     must(txc_site_open(&site, &settings), TXC_DONE);
     if (!strcmp(words[1], "entries")) {
         measure_entries(made, length);

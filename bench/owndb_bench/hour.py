@@ -1,4 +1,5 @@
-"""Four writers beside eight reading threads in two processes, for a long time: what is torn, how memory goes, how old a snapshot becomes, how long the lock is held."""
+"""Four writers beside eight reading threads in two processes, for a long time: what is torn, how memory goes, how old a snapshot becomes, and which call of the
+library keeps the lock for how long. Writers and readers rest as those of a service do: else they would only measure the machine."""
 
 import json
 import os
@@ -6,37 +7,16 @@ import subprocess
 import sys
 import threading
 import time
-from typing import Any, Dict, List
+from typing import Any, Callable, Dict, List
+
+from owndb_bench.held import Holds
 
 HOLD = 10.0
-WARM = 600.0  # seconds, or a sixth of the time, from which on memory is to be flat
-LONGEST_LOCK = 0.02
-
-
-class TimedLock:
-    """A lock that knows for how long it was held at most, and how much of the processor's time its holder took at most: the rest goes to other threads
-    and processes."""
-
-    def __init__(self) -> None:
-        self._lock, self.longest, self.longest_work = threading.Lock(), 0.0, 0.0
-        self.works: Dict[str, float] = {}
-
-    def acquire(self, blocking: bool = True) -> bool:
-        if not self._lock.acquire(blocking):
-            return False
-        self._since = time.perf_counter(), time.thread_time()
-        return True
-
-    def release(self) -> None:
-        since, worked = self._since
-        frame = sys._getframe(1)
-        if frame.f_code.co_name == "__exit__":
-            frame = frame.f_back
-        work, name = time.thread_time() - worked, frame.f_code.co_name
-        self.longest_work = max(self.longest_work, work)
-        self.works[name] = max(self.works.get(name, 0.0), work)
-        self.longest = max(self.longest, time.perf_counter() - since)
-        self._lock.release()
+WRITERS, READERS, THREADS = 4, 2, 4
+WRITER_RESTS, READER_RESTS = 0.02, 0.01  # seconds, on average, after each commit, and after each page
+MARKS = 600.0  # seconds from one printed look at memory to the next, or a sixth of the time; from the first on memory is to be flat
+LOOKS = 0.5  # seconds
+LONGEST_HOLD = 20.0  # milliseconds
 
 
 def resident_mb(pid: int) -> float:
@@ -44,72 +24,115 @@ def resident_mb(pid: int) -> float:
         return int(file.read().split()[1]) * os.sysconf("SC_PAGE_SIZE") / 1e6
 
 
-def read(where: str, seconds: float, seed: int) -> Dict[str, Any]:
-    """What one reading process counts. It is this module's `main`."""
+def write(where: str, seconds: float, seed: int) -> Dict[str, Any]:
+    """What one writing process counts."""
     from tests import beside
-    from txcache._versions import Turn
 
-    threads, lock = 4, TimedLock()
-    pages = beside.Pages(where, hold=HOLD)
-    pages.cache._open()
-    pages.cache._versions._turn = Turn(lock)
-    counts = [beside.Counter() for _ in range(threads)]
-    running = [threading.Thread(target=pages.read, args=(seconds, seed * 100 + at, it, 0.005)) for at, it in enumerate(counts)]
-    for it in running:
-        it.start()
-    for it in running:
-        it.join()
-    stats = pages.cache.stats()
-    pages.cache.close()
-    print({name: round(work * 1e3, 1) for name, work in lock.works.items()}, "ms of work at most", file=sys.stderr)
-    return {**sum(counts, beside.Counter()), "hits": stats["hits"], "computed": stats["computed"], "cold": stats["cold"], "longest_lock": lock.longest, "longest_work": lock.longest_work}
+    return beside.write(where, seconds, seed, pause=WRITER_RESTS)
 
 
-def oldest(ask: Any) -> float:
-    """Returns the age of the oldest snapshot of the readers."""
+def read(where: str, seconds: float, seed: int) -> Dict[str, Any]:
+    """What one reading process counts."""
+    from tests import beside
+
+    counts, oldest = [beside.Counter() for _ in range(THREADS)], [0.0]
+    with Holds().watching() as holds:
+        pages = beside.Pages(where, hold=HOLD)
+        pages.cache._open()
+        running = [threading.Thread(target=pages.read, args=(seconds, seed * 100 + at, it, READER_RESTS)) for at, it in enumerate(counts)]
+        threading.Thread(target=watch_snapshots, args=(pages.cache._follower, oldest), daemon=True).start()
+        for it in running:
+            it.start()
+        for it in running:
+            it.join()
+        stats = pages.cache.stats()
+        pages.cache.close()
+    each = {name: round(it.ms, 2) for name, it in sorted(holds.by_section.items())}
+    return {**sum(counts, beside.Counter()), **{name: stats[name] for name in ("hits", "computed", "cold")}, "oldest held, s": oldest[0],
+            "holds": {"longest": holds.longest.said(), "each, ms": each}}
+
+
+def watch_snapshots(follower: Any, oldest: List[float]) -> None:
+    """Keeps the greatest age at which a snapshot of this process is seen open."""
+    while True:
+        held = follower._held[:1]
+        oldest[0] = max([oldest[0], *(time.monotonic() - it.taken for it in held if it.snapshot.is_open)])
+        time.sleep(LOOKS / 2)
+
+
+def oldest_on_server(ask: Callable[..., List[Any]]) -> float:
+    """Returns the age of the oldest snapshot of the readers, as the server has it."""
     (found,), = ask("SELECT coalesce(extract(epoch FROM max(clock_timestamp() - xact_start)), 0)::float8 FROM pg_stat_activity "
                     "WHERE datname = current_database() AND application_name = 'reader'")
     return found
 
 
-def watched(where: str, readers: List["subprocess.Popen[str]"], seconds: float, ask: Any) -> Dict[str, Any]:
-    """Looks each second at the readers, until they end."""
-    memory: List[List[float]] = [[] for _ in readers]
-    begun, age, log = time.monotonic(), 0.0, 0
-    while any(it.poll() is None for it in readers):
-        time.sleep(1.0)
-        if "=" in where:
-            age = max(age, oldest(ask))
+def watched(where: str, readers: List["subprocess.Popen[str]"], seconds: float, ask: Callable[..., List[Any]]) -> Dict[str, Any]:
+    """Looks at the readers until they end, and says how it goes at each mark."""
+    is_server, every = "=" in where, min(MARKS, seconds / 6)
+    memory: List[List[float]] = []
+    begun, age, log = time.monotonic(), 0.0, 0.0
+    while all(it.poll() is None for it in readers) and time.monotonic() - begun < seconds:
+        time.sleep(LOOKS)
+        if is_server:
+            age = max(age, oldest_on_server(ask))
         elif os.path.exists(f"{where}-wal"):
-            log = max(log, os.path.getsize(f"{where}-wal"))
-        if time.monotonic() - begun < seconds:
-            for it, sizes in zip(readers, memory):
-                sizes.append(resident_mb(it.pid) if it.poll() is None else sizes[-1])
-    warm = int(min(WARM, seconds / 6))
-    return {"oldest snapshot, s": round(age, 2), "longest log, MB": round(log / 1e6, 1), "MB when warm": [round(it[warm], 1) for it in memory],
-            "MB at the end": [round(it[-2], 1) for it in memory]}
+            log = max(log, os.path.getsize(f"{where}-wal") / 1e6)
+        if time.monotonic() - begun >= every * (len(memory) + 1) - 2 * LOOKS and len(memory) < seconds / every:
+            memory.append([round(resident_mb(it.pid), 1) for it in readers if it.poll() is None])
+            print(f"{'postgres' if is_server else 'sqlite'}, after {time.monotonic() - begun:,.0f} s: MB of the readers {memory[-1]}, load {os.getloadavg()[0]:.0f}", file=sys.stderr, flush=True)
+    found = {f"MB each {every:,.0f} s": memory}
+    return {**found, "oldest in pg_stat_activity, s": round(age, 2)} if is_server else {**found, "longest log, MB": round(log, 1)}
 
 
-def measured(room: Any, seconds: float, kind: str) -> Dict[str, Any]:
-    from owndb import link_of
+def joined(said: List[Dict[str, Any]]) -> Dict[str, Any]:
+    """Returns the sums of what processes counted, the oldest snapshot, and each reader's holds."""
+    found: Dict[str, Any] = {"torn": 0, "holds": []}
+    for it in said:
+        if "holds" in it:
+            found["holds"].append(it.pop("holds"))
+            found["oldest held, s"] = round(max(found.get("oldest held, s", 0.0), it.pop("oldest held, s")), 2)
+        for name, value in it.items():
+            found[name] = found.get(name, 0) + value
+    return found
 
+
+def faults(found: Dict[str, Any], memory: List[List[float]]) -> List[str]:
+    """Returns which parts of the bar do not stand."""
+    parts = {"a page is torn": found["torn"] > 0, "a process has ended": any(len(it) < READERS for it in memory),
+             "memory grows": any(now > 1.05 * then + 1 for then, now in zip(memory[0], memory[-1])),
+             "a snapshot is too old": max(found["oldest held, s"], found.get("oldest in pg_stat_activity, s", 0.0)) > HOLD,
+             "the lock is held for too long": any(it["longest"]["ms"] > LONGEST_HOLD for it in found["holds"])}
+    return [name for name, is_so in parts.items() if is_so]
+
+
+def started(kind: str, where: str, seconds: float, seed: int) -> "subprocess.Popen[str]":
+    env = {**os.environ, "PYTHONPATH": os.pathsep.join(sys.path[:2])}
+    return subprocess.Popen([sys.executable, "-m", "owndb_bench.hour", kind, where, str(seconds), str(seed)], env=env, stdout=subprocess.PIPE, text=True)
+
+
+def prepared(room: Any, kind: str) -> str:
     from tests import beside
 
     where = room.database(kind, installs=False, texts=[])
     beside.prepare(where)
-    reading = f"{where} application_name=reader" if "=" in where else where
-    env = {**os.environ, "PYTHONPATH": os.pathsep.join(sys.path[:2])}
-    writers = [subprocess.Popen([sys.executable, "-m", "tests.beside", "write", where, str(seconds), str(it)], env=env, stdout=subprocess.PIPE, text=True) for it in range(4)]
-    readers = [subprocess.Popen([sys.executable, "-m", "owndb_bench.hour", reading, str(seconds), str(it)], env=env, stdout=subprocess.PIPE, text=True) for it in range(2)]
-    found = watched(where, readers, seconds, link_of(where))
-    counts: Dict[str, float] = {}
-    for it in writers + readers:
-        for name, value in json.loads(it.communicate()[0]).items():
-            counts[name] = max(counts.get(name, 0), value) if name.startswith("longest") else counts.get(name, 0) + value
-    flat = all(end <= 1.05 * warm + 1 for warm, end in zip(found["MB when warm"], found["MB at the end"]))
-    stands = not counts.get("torn") and flat and found["oldest snapshot, s"] <= HOLD and counts["longest_lock"] <= LONGEST_LOCK and found["longest log, MB"] < 16
-    return {"store": kind, "seconds": seconds, **counts, **found, "stands": stands}
+    return where
+
+
+def measured(where: str, seconds: float) -> Dict[str, Any]:
+    from owndb import link_of
+
+    is_server = "=" in where
+    writers = [started("write", where, seconds, it) for it in range(WRITERS)]
+    readers = [started("read", f"{where} application_name=reader" if is_server else where, seconds, it) for it in range(READERS)]
+    seen = watched(where, readers, seconds, link_of(where))
+    found = {**joined([json.loads(it.communicate()[0]) for it in writers + readers]), **seen}
+    memory = next(it for name, it in seen.items() if name.startswith("MB"))
+    rates = {"commits/s of each writer": round(found["commits"] / seconds / WRITERS, 1), "pages/s of each thread": round(found["pages"] / seconds / READERS / THREADS, 1)}
+    rests = {"rests after a commit, s": WRITER_RESTS, "rests after a page, s": READER_RESTS}
+    failed = faults(found, memory)
+    return {"store": "postgres" if is_server else "sqlite", "seconds": seconds, **rests, **rates, **found, "load": round(os.getloadavg()[1], 1), "stands": not failed, "failed": failed}
 
 
 if __name__ == "__main__":
-    print(json.dumps(read(sys.argv[1], float(sys.argv[2]), int(sys.argv[3]))))
+    print(json.dumps({"write": write, "read": read}[sys.argv[1]](sys.argv[2], float(sys.argv[3]), int(sys.argv[4]))))

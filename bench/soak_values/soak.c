@@ -90,12 +90,12 @@ static bool is_of(uint32_t item, uint32_t number, size_t len) {
     return len == length_of(item, number) && !memcmp(value, &pattern, most) && (len <= sizeof pattern || !memcmp(value, value + sizeof pattern, len - sizeof pattern));
 }
 
-/* After how many changes of the item the value was right, of those that are kept; or one more than there were. */
-static uint32_t number_shown(uint32_t item, size_t len) {
-    uint32_t newest = changes[item], number = newest;
-    while (number && number + KEPT > newest + 1 && !is_of(item, number, len))
-        number--;
-    return is_of(item, number, len) ? number : newest + 1;
+/* For which of the item's last states the value is right: a bit for each, the newest first. Short values of two states may be the same. */
+static uint32_t right_for(uint32_t item, size_t len) {
+    uint32_t bits = 0;
+    for (uint32_t back = 0; back < KEPT && back <= changes[item]; back++)
+        bits |= (uint32_t)is_of(item, changes[item] - back, len) << back;
+    return bits;
 }
 
 /* After how many changes the item was at a stamp. */
@@ -107,16 +107,18 @@ static uint32_t number_at(uint32_t item, uint32_t stamp) {
 }
 
 static void show_page(uint64_t now) {
-    uint32_t items[SHOWN], numbers[SHOWN];
+    uint32_t items[SHOWN], right[SHOWN];
     txc_receipt receipt;
     must(txc_begin(&site, now, STALE, 0, &txn), TXC_DONE);
     for (int at = 0; at < SHOWN; at++) {
         items[at] = chance(at % 2 ? OFTEN : ITEMS);
-        numbers[at] = number_shown(items[at], call(items[at]));
+        right[at] = right_for(items[at], call(items[at]));
     }
     must(txc_commit(&site, txn, &receipt), TXC_DONE);
-    for (int at = 0; at < SHOWN; at++)
-        wrong += numbers[at] != number_at(items[at], receipt.stamp);
+    for (int at = 0; at < SHOWN; at++) {
+        uint32_t back = changes[items[at]] - number_at(items[at], receipt.stamp);
+        wrong += back >= KEPT || !(right[at] >> back & 1);
+    }
     pages++;
 }
 

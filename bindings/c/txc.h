@@ -30,17 +30,17 @@ extern "C" {
 #endif
 
 /* The number of this header: it rises with each change of a call or a struct. txc_abi() gives that of the library. */
-#define TXC_ABI 2
+#define TXC_ABI 3
 
 #define TXC_LAST_FUNCTION 63       /* functions are 0 to 63 */
 #define TXC_MAX_ARGS 4             /* arguments of a call */
 #define TXC_LAST_TABLE 15          /* tables are 0 to 15 */
-#define TXC_LAST_STAMP 1048576     /* stamps of a node are 0 to 1,048,576; and so many events a site stores at most */
-#define TXC_LAST_SITE_STAMP 4294967294 /* stamps of a site are 0 to 4,294,967,294 */
+#define TXC_LAST_STAMP 4294967294  /* stamps are 0 to 4,294,967,294 */
+#define TXC_MAX_EVENTS 1048576     /* events that a site stores */
 #define TXC_MAX_VALUE_LEN 1048576  /* bytes of a value */
 #define TXC_MAX_ASKS 4096          /* asks of the functions of an outermost call, all together */
 #define TXC_MAX_BODY_LEN 65536     /* bytes of a row's body */
-#define TXC_MAX_CAPACITY 65536     /* entries of a node */
+#define TXC_MAX_CAPACITY 1048576   /* entries of a node */
 #define TXC_MAX_RECENT 4096        /* events whose tags a node keeps */
 #define TXC_MAX_OPEN 65536         /* transactions that are open at one site */
 
@@ -164,18 +164,22 @@ typedef uint64_t txc_txn;
 
 /* How a site is made. A field that is 0 has its default. `size` is sizeof(txc_site_settings): a field that does not lie in it
  * whole counts as 0, so that a program which was built with an older header may use a newer library. TXC_SITE_SETTINGS has
- * the size and the defaults. */
+ * the size and the defaults. Beside its value an entry takes some 400 bytes. */
 typedef struct {
     size_t size;
-    size_t events;       /* 0: what was committed and pinned is not stored. There is room for TXC_LAST_SITE_STAMP commits and pins,
-                          * and what no transaction can read any more txc_keep lets go. 1 to TXC_LAST_STAMP: there is room for so
+    size_t events;       /* 0: what was committed and pinned is not stored. There is room for TXC_LAST_STAMP commits and pins,
+                          * and what no transaction can read any more txc_keep lets go. 1 to TXC_MAX_EVENTS: there is room for so
                           * many, and they are stored until the site is closed */
-    size_t capacity;     /* entries of the node, at most TXC_MAX_CAPACITY, which is the default */
+    size_t capacity;     /* entries of the node, at most TXC_MAX_CAPACITY; 0: 65,536 */
     size_t recent;       /* events whose tags the node keeps, at most TXC_MAX_RECENT, which is the default */
     uint64_t renew_after; /* a pin that is older than so many milliseconds is renewed */
+    size_t bytes;        /* the budget of the node: the values of its entries have at most so many bytes in all, after each call.
+                          * Before it keeps a value it drops the entries that were used longest ago, as txc_site_trim does, until
+                          * there is room. A value of more bytes is answered and not kept. 0: there is no budget, and nothing is
+                          * dropped for its bytes */
 } txc_site_settings;
 
-#define TXC_SITE_SETTINGS {sizeof(txc_site_settings), 0, 0, 0, 0}
+#define TXC_SITE_SETTINGS {sizeof(txc_site_settings), 0, 0, 0, 0, 0}
 
 /* What a keep did: how many pins it retired, the horizon that it left, below which nothing is read any more, and how many
  * results the node dropped. */
@@ -279,7 +283,7 @@ uint32_t txc_site_close(txc_site *site);
 
 /* Begins a transaction that only reads, and writes its number: now is `now`, in milliseconds; what it reads is no more than
  * `staleness` older, and not before the stamp `at_least`. The node takes the events that it has not taken.
- * TXC_DONE, TXC_BAD_ARGUMENT where `at_least` is above TXC_LAST_SITE_STAMP, TXC_NO_MEMORY, or TXC_REFUSED: TXC_MAX_OPEN are
+ * TXC_DONE, TXC_BAD_ARGUMENT where `at_least` is above TXC_LAST_STAMP, TXC_NO_MEMORY, or TXC_REFUSED: TXC_MAX_OPEN are
  * open, or 2^48 - 1 have begun. */
 uint32_t txc_begin(txc_site *site, uint64_t now, uint64_t staleness, uint32_t at_least, txc_txn *txn);
 
@@ -344,7 +348,7 @@ uint32_t txc_begin_write(txc_site *site, txc_txn *txn);
 /* The same over the state `stamp`, such as a receipt's: what was decided by what was read there is committed only if no later event
  * changed what this transaction reads of it. So of two who read one state and then change what they read, the second is told. This
  * state does not stay: once a txc_keep has let it go, each query is TXC_REFUSED, and so is the commit.
- * TXC_DONE, TXC_BAD_ARGUMENT where `stamp` is above TXC_LAST_SITE_STAMP, TXC_NO_MEMORY, or TXC_REFUSED: as above, or where there
+ * TXC_DONE, TXC_BAD_ARGUMENT where `stamp` is above TXC_LAST_STAMP, TXC_NO_MEMORY, or TXC_REFUSED: as above, or where there
  * is no such state: it is beyond the newest, or below the horizon of a keep. With stored events one can begin below the horizon, and
  * then each query is TXC_REFUSED. */
 uint32_t txc_begin_write_at(txc_site *site, uint32_t stamp, txc_txn *txn);

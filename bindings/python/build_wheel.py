@@ -17,7 +17,7 @@ import zipfile
 HERE = os.path.dirname(os.path.abspath(__file__))
 OUT = os.path.normpath(f"{HERE}/../out")
 NAME, VERSION = "txcache", "0.1"
-TAG = f"py3-none-linux_{platform.machine()}"
+SHARED, EXTENSION = "libtxc_c.so", "_fast_c.abi3.so"
 INFO = f"{NAME}-{VERSION}.dist-info"
 METADATA = f"""Metadata-Version: 2.1
 Name: {NAME}
@@ -26,8 +26,12 @@ Summary: A transactional cache, and its proof: no page mixes data of two moments
 Requires-Python: >=3.9
 Provides-Extra: postgres
 Requires-Dist: psycopg>=3.1; extra == 'postgres'
+Provides-Extra: sqlalchemy
+Requires-Dist: SQLAlchemy>=1.4; extra == 'sqlalchemy'
+Provides-Extra: django
+Requires-Dist: Django>=3.2; extra == 'django'
 """
-WHEEL = f"Wheel-Version: 1.0\nGenerator: {NAME}\nRoot-Is-Purelib: false\nTag: {TAG}\n"
+WHEEL = f"Wheel-Version: 1.0\nGenerator: {NAME}\nRoot-Is-Purelib: false\nTag: "
 
 
 class UnsupportedOperation(Exception):
@@ -36,8 +40,10 @@ class UnsupportedOperation(Exception):
 
 def build_wheel(wheel_directory, config_settings=None, metadata_directory=None):
     """Writes the wheel into the folder, and returns its name."""
-    name = f"{NAME}-{VERSION}-{TAG}.whl"
-    files = {**_sources(), f"{NAME}/libtxc_c.so": _library(), f"{INFO}/METADATA": METADATA.encode(), f"{INFO}/WHEEL": WHEEL.encode()}
+    built = _built()
+    tag = f"{'cp39-abi3' if EXTENSION in built else 'py3-none'}-linux_{platform.machine()}"
+    name = f"{NAME}-{VERSION}-{tag}.whl"
+    files = {**_sources(), **{f"{NAME}/{it}": data for it, data in built.items()}, f"{INFO}/METADATA": METADATA.encode(), f"{INFO}/WHEEL": f"{WHEEL}{tag}\n".encode()}
     files[f"{INFO}/RECORD"] = _record(files).encode()
     with zipfile.ZipFile(os.path.join(wheel_directory, name), "w", zipfile.ZIP_DEFLATED) as wheel:
         for path, data in files.items():
@@ -57,11 +63,12 @@ def _sources():
     return {os.path.relpath(path, HERE): _bytes(path) for path in found}
 
 
-def _library():
-    path = os.path.join(os.environ.get("TXC_LIBRARY") or OUT, "libtxc_c.so")
-    if not os.path.exists(path):
-        sys.exit(f"{NAME}: there is no {path}: make library first")
-    return _bytes(path)
+def _built():
+    """Returns what `make library` made: the library, and the extension where Python's headers were there."""
+    folder = os.environ.get("TXC_LIBRARY") or OUT
+    if not os.path.exists(os.path.join(folder, SHARED)):
+        sys.exit(f"{NAME}: there is no {os.path.join(folder, SHARED)}: make library first")
+    return {it: _bytes(os.path.join(folder, it)) for it in (SHARED, EXTENSION) if os.path.exists(os.path.join(folder, it))}
 
 
 def _bytes(path):

@@ -78,7 +78,7 @@ static void play_at_node(const char *kind, void (*round)(uint32_t)) {
 }
 
 static void play_at_site(const char *kind, void (*prepare)(void), void (*round)(uint32_t)) {
-    txc_site_settings settings = {sizeof settings, 0, ENTRIES, RECENT, RENEW};
+    txc_site_settings settings = {sizeof settings, 0, ENTRIES, RECENT, RENEW, 0};
     MUST(txc_site_open(&site, &settings), TXC_DONE);
     if (prepare)
         prepare();

@@ -1,5 +1,5 @@
-/* Values of up to 1 MiB, functions that ask up to 4,096 times, and trims, at a node and at a site, each with what must come of it; a hit of a long value
- * makes no allocation of its size; and a page of long values with every allocation refused in its turn. Prints how many there are. */
+/* Values of up to 1 MiB, functions that ask up to 4,096 times, trims and budgets, at a node and at a site, each with what must come of it; a hit of a
+ * long value makes no allocation of its size; and a page of long values with every allocation refused in its turn. Prints how many there are. */
 #include "odd.h"
 
 enum { MOST = TXC_MAX_VALUE_LEN, PAGE = 200 * 1000, SMALL = 4096 };
@@ -136,11 +136,13 @@ static bool site_drops(size_t most, size_t wanted) { return txc_site_trim(&site,
 static uint32_t begin(bool is_writing) { return is_writing ? txc_begin_write(&site, &txn) : txc_begin(&site, 1000, 30000, 0, &txn); }
 static uint32_t commit(bool is_writing) { return is_writing ? txc_commit_write(&site, txn, &stamp) : txc_commit(&site, txn, &receipt); }
 
-static void open_site(size_t events) {
+static void open_within(size_t events, size_t bytes) {
     site = (txc_site)TXC_SITE_CLOSED;
-    CHECK(txc_site_open(&site, &(txc_site_settings){sizeof(txc_site_settings), events, 0, 0, 30000}) == TXC_DONE);
+    CHECK(txc_site_open(&site, &(txc_site_settings){sizeof(txc_site_settings), events, 0, 0, 30000, bytes}) == TXC_DONE);
     CHECK(begin(true) == TXC_DONE && txc_put(&site, txn, 1, 1, 7, (const uint8_t *)"110", 3) == TXC_DONE && commit(true) == TXC_DONE);
 }
+
+static void open_site(size_t events) { open_within(events, 0); }
 
 static void try_closed_site(void) {
     dropped = totals.bytes = 77;
@@ -215,6 +217,44 @@ static void try_trims(void) {
     CHECK(commit(false) == TXC_DONE && receipt.answers == 6 && site_drops(SIZE_MAX, 0));
 }
 
+/* ---- budgets */
+
+/* The call is computed, reads rows and has this value, which is kept if it may be. */
+static bool makes(uint32_t number, size_t bytes) {
+    return call(0, number, MOST) == TXC_COMPUTE && rows() == TXC_ANSWERED && finish(number, bytes, MOST) == TXC_DONE && is_of(number, bytes);
+}
+
+static bool has(uint32_t number, size_t bytes) { return call(0, number, MOST) == TXC_DONE && is_of(number, bytes); }
+
+/* A site makes room for a value within its budget, and keeps none that alone is over it. */
+static void try_budget(size_t events) {
+    enum { BUDGET = 3 * PAGE };
+    open_within(events, BUDGET);
+    CHECK(begin(false) == TXC_DONE && makes(1, PAGE) && makes(2, PAGE) && makes(3, PAGE) && site_has(3, BUDGET, 0) && has(1, PAGE));
+    CHECK(makes(4, 1) && site_has(3, 2 * PAGE + 1, 1) && has(3, PAGE) && has(1, PAGE) && has(4, 1)); /* 2 was used longest ago */
+    CHECK(makes(5, BUDGET + 1) && site_has(3, 2 * PAGE + 1, 1) && has(1, PAGE) && makes(5, BUDGET + 1)); /* it is not kept, and no other goes */
+    CHECK(makes(6, PAGE - 1) && site_has(4, BUDGET, 1) && makes(7, 0) && site_has(5, BUDGET, 1)); /* they just fit */
+    CHECK(call(1, 8, MOST) == TXC_COMPUTE && call(0, 9, MOST) == TXC_COMPUTE && rows() == TXC_ANSWERED && finish(9, BUDGET, MOST) == TXC_ANSWERED);
+    CHECK(is_of(9, BUDGET) && site_has(2, BUDGET, 5) && /* 7 has no byte, and stays */
+         finish(8, 1, MOST) == TXC_DONE && site_has(1, 1, 7) && site_drops(BUDGET, 0));
+    CHECK(commit(false) == TXC_DONE && receipt.answers == 14 && txc_site_close(&site) == TXC_DONE);
+}
+
+/* Whatever comes, a site is never over its budget; without one nothing is trimmed. */
+static void try_sums(size_t events, size_t bytes) {
+    enum { CALLS = 400 };
+    size_t sum = 0;
+    open_within(events, bytes);
+    CHECK(begin(false) == TXC_DONE);
+    for (uint32_t at = 0; at < CALLS; at++) {
+        size_t given = at * 7919 % 5000;
+        sum += given;
+        CHECK(makes(at, given) && txc_site_totals(&site, &totals) == TXC_DONE && (bytes ? totals.bytes <= bytes : totals.bytes == sum && totals.trimmed == 0));
+        CHECK(at % 50 || (commit(false) == TXC_DONE && begin(false) == TXC_DONE));
+    }
+    CHECK(commit(false) == TXC_DONE && txc_site_close(&site) == TXC_DONE);
+}
+
 static void try_site(size_t events) {
     void (*tries[])(bool) = {try_values, try_asks};
     for (size_t at = 0; at < 4; at++) {
@@ -228,6 +268,9 @@ static void try_site(size_t events) {
     open_site(events);
     try_trims();
     CHECK(txc_site_close(&site) == TXC_DONE);
+    try_budget(events);
+    for (size_t bytes = 0; bytes <= 20000; bytes += bytes ? 9999 : 1)
+        try_sums(events ? 1024 : 0, bytes);
     try_closed_site();
 }
 
@@ -235,7 +278,7 @@ static void try_site(size_t events) {
 
 static bool is_page(size_t events) {
     site = (txc_site)TXC_SITE_CLOSED;
-    bool is_whole = txc_site_open(&site, &(txc_site_settings){sizeof(txc_site_settings), events, 8, 8, 30000}) == TXC_DONE
+    bool is_whole = txc_site_open(&site, &(txc_site_settings){sizeof(txc_site_settings), events, 8, 8, 30000, 0}) == TXC_DONE
         && begin(true) == TXC_DONE && txc_put(&site, txn, 1, 1, 7, (const uint8_t *)"110", 3) == TXC_DONE && commit(true) == TXC_DONE
         && begin(false) == TXC_DONE && call(1, 1, MOST) == TXC_COMPUTE && call(0, 1, MOST) == TXC_COMPUTE && asked(70) == 70
         && finish(1, PAGE, MOST) == TXC_ANSWERED && finish(2, 2 * PAGE, MOST) == TXC_DONE && call(0, 1, MOST) == TXC_DONE && is_of(1, PAGE)
@@ -253,6 +296,6 @@ int main(void) {
         CHECK(of_page > 0);
         refused += of_page;
     }
-    printf("%d uses of long values, many asks and trims, %d wrong; %ld allocations of a page, each refused in its turn\n", uses, wrong, refused);
+    printf("%d uses of long values, many asks, trims and budgets, %d wrong; %ld allocations of a page, each refused in its turn\n", uses, wrong, refused);
     return wrong != 0;
 }

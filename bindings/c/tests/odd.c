@@ -74,10 +74,11 @@ static void try_null(txc_node *node) {
 static void try_arguments(txc_node *node) {
     const txc_tag table = {TXC_LAST_TABLE + 1, TXC_ALL, 0}, kind = {1, 3, 0}, good[2] = {{15, TXC_GROUP, UINT32_MAX}, {0, TXC_ID, 0}};
     const txc_key function = {TXC_LAST_FUNCTION + 1, 0, {0}}, many = {1, TXC_MAX_ARGS + 1, {0}}, most = {63, 4, {1, 2, 3, UINT32_MAX}};
-    const txc_reach late = {0, TXC_LAST_STAMP + 1, true}, turned = {2, 1, true}, both = {TXC_LAST_STAMP + 1, 0, true};
+    const uint32_t beyond = UINT32_MAX; /* TXC_LAST_STAMP + 1 */
+    const txc_reach late = {0, beyond, true}, turned = {2, 1, true}, both = {beyond, 0, true};
     len = closed = 77;
     CHECK(look(node, &function, 8) == TXC_BAD_ARGUMENT && look(node, &many, 8) == TXC_BAD_ARGUMENT);
-    CHECK(txc_node_lookup(node, &KEY, TXC_LAST_STAMP + 1, 0, &reach, value, 8, &len) == TXC_BAD_ARGUMENT);
+    CHECK(txc_node_lookup(node, &KEY, beyond, 0, &reach, value, 8, &len) == TXC_BAD_ARGUMENT);
     CHECK(txc_node_lookup(node, &KEY, 0, UINT32_MAX, &reach, value, 8, &len) == TXC_BAD_ARGUMENT);
     CHECK(txc_node_lookup(node, &KEY, 1, 0, &reach, value, 8, &len) == TXC_EMPTY_RANGE && len == 77);
     CHECK(keep(node, &function, NULL, 0, 1) == TXC_BAD_ARGUMENT && keep(node, &many, NULL, 0, 1) == TXC_BAD_ARGUMENT);
@@ -86,11 +87,11 @@ static void try_arguments(txc_node *node) {
     CHECK(txc_node_insert(node, &KEY, &both, NULL, 0, value, 1, &stored) == TXC_BAD_ARGUMENT);
     CHECK(txc_node_insert(node, &KEY, &turned, NULL, 0, value, TXC_MAX_VALUE_LEN + 1, &stored) == TXC_BAD_REACH);
     CHECK(keep(node, &KEY, NULL, 0, TXC_MAX_VALUE_LEN + 1) == TXC_VALUE_TOO_LONG);
-    CHECK(txc_node_event(node, TXC_LAST_STAMP + 1, NULL, 0, &closed, &processed) == TXC_BAD_ARGUMENT && processed == 1);
+    CHECK(txc_node_event(node, beyond, NULL, 0, &closed, &processed) == TXC_BAD_ARGUMENT && processed == 1);
     CHECK(txc_node_event(node, 2, &kind, 1, &closed, &processed) == TXC_BAD_ARGUMENT && processed == 1 && closed == 77);
     CHECK(txc_node_event(node, 1, NULL, 0, &closed, &processed) == TXC_OUT_OF_ORDER && processed == 1);
     CHECK(txc_node_event(node, 3, NULL, 0, &closed, &processed) == TXC_OUT_OF_ORDER && processed == 1 && closed == 77);
-    CHECK(txc_node_sweep(node, TXC_LAST_STAMP + 1, &swept) == TXC_BAD_ARGUMENT);
+    CHECK(txc_node_sweep(node, beyond, &swept) == TXC_BAD_ARGUMENT);
     CHECK(txc_node_count(node, TXC_LAST_FUNCTION + 1, &counts) == TXC_BAD_ARGUMENT);
     CHECK(keep(node, &most, good, 2, TXC_MAX_VALUE_LEN) == TXC_DONE && look(node, &most, TXC_MAX_VALUE_LEN) == TXC_DONE);
     CHECK(look(node, &most, TXC_MAX_VALUE_LEN - 1) == TXC_NO_ROOM && len == TXC_MAX_VALUE_LEN);

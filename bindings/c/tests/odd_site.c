@@ -24,7 +24,7 @@ static uint32_t row_at(txc_site *site, size_t at, size_t room) { return txc_row_
 static uint32_t put(txc_site *site, const char *text) { return txc_put(site, txn, 1, 1, 7, (const uint8_t *)text, strlen(text)); }
 static uint32_t begin(txc_site *site, uint64_t now) { return txc_begin(site, now, 30000, 0, &txn); }
 static uint32_t open_site(txc_site *site, size_t events, size_t capacity, size_t recent, uint64_t renew_after) {
-    return txc_site_open(site, &(txc_site_settings){sizeof(txc_site_settings), events, capacity, recent, renew_after});
+    return txc_site_open(site, &(txc_site_settings){sizeof(txc_site_settings), events, capacity, recent, renew_after, 0});
 }
 static uint32_t finish(txc_site *site, const char *text) {
     return txc_finish(site, txn, (const uint8_t *)text, strlen(text), value, sizeof value, &len);
@@ -57,11 +57,11 @@ static void try_closed(txc_site *site) {
 }
 
 static void try_opening(txc_site *site, size_t events) {
-    CHECK(open_site(site, TXC_LAST_STAMP + 1, 8, 8, 1000) == TXC_BAD_ARGUMENT && !site->is_open);
+    CHECK(open_site(site, TXC_MAX_EVENTS + 1, 8, 8, 1000) == TXC_BAD_ARGUMENT && !site->is_open);
     CHECK(open_site(site, SIZE_MAX, 8, 8, 1000) == TXC_BAD_ARGUMENT);
     CHECK(open_site(site, events, TXC_MAX_CAPACITY + 1, 8, 1000) == TXC_BAD_ARGUMENT);
     CHECK(open_site(site, events, 8, TXC_MAX_RECENT + 1, 1000) == TXC_BAD_ARGUMENT && !site->is_open);
-    CHECK(open_site(site, TXC_LAST_STAMP, 8, 8, 1000) == TXC_DONE && txc_site_close(site) == TXC_DONE);
+    CHECK(open_site(site, TXC_MAX_EVENTS, TXC_MAX_CAPACITY, 8, 1000) == TXC_DONE && txc_site_close(site) == TXC_DONE);
     CHECK(open_site(site, events, 8, 8, 30000) == TXC_DONE && site->is_open);
     void *slot = site->slot;
     CHECK(open_site(site, events, 8, 8, 1000) == TXC_ALREADY_OPEN && site->slot == slot);
@@ -71,14 +71,17 @@ static void try_opening(txc_site *site, size_t events) {
 /* A field beyond the size counts as 0, and a size that the library does not know is refused. */
 static void try_settings(void) {
     txc_site site = TXC_SITE_CLOSED;
-    txc_site_settings settings = TXC_SITE_SETTINGS, odd = {0, SIZE_MAX, SIZE_MAX, SIZE_MAX, UINT64_MAX};
+    txc_site_settings settings = TXC_SITE_SETTINGS, odd = {0, SIZE_MAX, SIZE_MAX, SIZE_MAX, UINT64_MAX, SIZE_MAX};
     CHECK(txc_site_open(&site, &settings) == TXC_DONE && txc_site_close(&site) == TXC_DONE);
     for (odd.size = 0; odd.size < sizeof(size_t); odd.size++)
         CHECK(txc_site_open(&site, &odd) == TXC_BAD_ARGUMENT && !site.is_open);
     for (; odd.size < 2 * sizeof(size_t); odd.size++)
         CHECK(txc_site_open(&site, &odd) == TXC_DONE && txc_site_close(&site) == TXC_DONE);
     CHECK(txc_site_open(&site, &odd) == TXC_BAD_ARGUMENT && !site.is_open);
-    settings.size++;
+    settings.bytes = 1; /* an older program's settings end before it */
+    settings.size = offsetof(txc_site_settings, bytes);
+    CHECK(txc_site_open(&site, &settings) == TXC_DONE && txc_site_close(&site) == TXC_DONE);
+    settings.size = sizeof settings + 1;
     CHECK(txc_site_open(&site, &settings) == TXC_BAD_ARGUMENT);
     settings.size = SIZE_MAX;
     CHECK(txc_site_open(&site, &settings) == TXC_BAD_ARGUMENT && !site.is_open && txc_abi() == TXC_ABI);
@@ -96,11 +99,11 @@ static void try_at_rest(txc_site *site) {
     CHECK(put(site, "110") == TXC_NOT_OPEN && txc_remove(site, txn, 1, 1) == TXC_NOT_OPEN);
     CHECK(txc_commit_write(site, txn, &stamp) == TXC_NOT_OPEN && stamp == 77);
     CHECK(txc_begin(site, 0, 0, UINT32_MAX, &txn) == TXC_BAD_ARGUMENT && txc_begin_write_at(site, UINT32_MAX, &txn) == TXC_BAD_ARGUMENT);
-    CHECK(txc_begin(site, 0, 0, TXC_LAST_STAMP + 1, &txn) == TXC_DONE && txc_abort(site, txn) == TXC_DONE);
-    CHECK(txc_begin_write_at(site, 1, &txn) == TXC_REFUSED && txc_begin_write_at(site, TXC_LAST_SITE_STAMP, &txn) == TXC_REFUSED);
+    CHECK(txc_begin(site, 0, 0, TXC_MAX_EVENTS + 1, &txn) == TXC_DONE && txc_abort(site, txn) == TXC_DONE);
+    CHECK(txc_begin_write_at(site, 1, &txn) == TXC_REFUSED && txc_begin_write_at(site, TXC_LAST_STAMP, &txn) == TXC_REFUSED);
     CHECK(txc_abort(site, txn) == TXC_NOT_OPEN);
     CHECK(txc_begin_write_at(site, 0, &txn) == TXC_DONE && rows(site) == TXC_ANSWERED && count == 0 && txc_abort(site, txn) == TXC_DONE);
-    CHECK(txc_begin(site, 0, 0, TXC_LAST_SITE_STAMP, &txn) == TXC_DONE && call(site, &HIGHEST, 8) == TXC_REFUSED && txc_abort(site, txn) == TXC_DONE);
+    CHECK(txc_begin(site, 0, 0, TXC_LAST_STAMP, &txn) == TXC_DONE && call(site, &HIGHEST, 8) == TXC_REFUSED && txc_abort(site, txn) == TXC_DONE);
 }
 
 static void try_writing(txc_site *site) {

@@ -115,9 +115,11 @@ static bool is_word(word it, const char *text) {
     return read_text(&it.at, it.end, text) && it.at == it.end;
 }
 
+enum { LAST_SCRIPT_STAMP = 1048576 }; /* of a script: a node takes later ones */
+
 static bool read_stamp(word it, uint32_t *stamp) {
     uint64_t number;
-    if (!read_number(&it.at, it.end, TXC_LAST_STAMP, &number) || it.at != it.end)
+    if (!read_number(&it.at, it.end, LAST_SCRIPT_STAMP, &number) || it.at != it.end)
         return false;
     *stamp = (uint32_t)number;
     return true;

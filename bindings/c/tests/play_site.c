@@ -547,7 +547,7 @@ static bool close_site(void) {
 static bool play(size_t events, size_t capacity, size_t recent, uint64_t renew, const char *name) {
     FILE *file = fopen(name, "r");
     char line[LONGEST];
-    txc_site_settings settings = {sizeof settings, events, capacity, recent, renew};
+    txc_site_settings settings = {sizeof settings, events, capacity, recent, renew, 0};
     site = (txc_site)TXC_SITE_CLOSED;
     last_given = 0;
     if (!file || txc_site_open(&site, &settings) != TXC_DONE)

@@ -48,6 +48,7 @@ class Txn:
 class Key(NamedTuple):
     level: int
     digest: bytes
+    args: Optional[Tuple] = None
 
 
 class Totals(NamedTuple):
@@ -59,7 +60,7 @@ class Totals(NamedTuple):
 class Versions:
     """As `txcache._versions.Versions`."""
 
-    longest = 1 << 20
+    longest, hit = 1 << 20, None
 
     def __init__(self, capacity: int):
         self.capacity, self.newest, self.pins, self.given, self.uses, self.trimmed = capacity, 0, [], 0, 0, 0
@@ -136,7 +137,7 @@ class Versions:
             return members[0].stamp if members else None
 
     def call(self, txn: int, key: Key) -> Optional[bytes]:
-        level, digest = key
+        level, digest, _ = key
         with self.lock:
             it = self.txns[txn]
             self._ask(it)

@@ -74,16 +74,21 @@ _SERVERS = []
 
 def server() -> Server:
     """Returns the one server of this process; fails, or says what is skipped, if there can be none."""
+    if not _SERVERS:
+        _SERVERS.append(another())
+    return _SERVERS[0]
+
+
+def another() -> Server:
+    """Returns a new server; fails, or says what is skipped, if there can be none."""
     import unittest
 
     from txcache import _driver
 
     if not _driver.drivers():
         raise unittest.SkipTest(skipped("PostgreSQL", "there is no driver"))
-    if not _SERVERS:
-        found = sorted(glob.glob("/usr/lib/postgresql/*/bin/initdb"), key=lambda it: float(it.split("/")[4]))
-        initdb = found[-1] if found else shutil.which("initdb")
-        if not initdb:
-            raise unittest.SkipTest(skipped("PostgreSQL", "there is no initdb"))
-        _SERVERS.append(Server(os.path.dirname(os.path.realpath(initdb))))
-    return _SERVERS[0]
+    found = sorted(glob.glob("/usr/lib/postgresql/*/bin/initdb"), key=lambda it: float(it.split("/")[4]))
+    initdb = found[-1] if found else shutil.which("initdb")
+    if not initdb:
+        raise unittest.SkipTest(skipped("PostgreSQL", "there is no initdb"))
+    return Server(os.path.dirname(os.path.realpath(initdb)))

@@ -12,11 +12,10 @@ import time
 import unittest
 from collections import Counter
 
-from txcache import NotInstalled, SnapshotLost, _driver
+from txcache import NotInstalled, SnapshotLost
 
 from . import beside
-from .server import server
-from .test_cache import Case, OfPostgres, OfSqlite
+from .cases import Case, OfPostgres, OfSqlite
 
 PYTHON = os.path.dirname(os.path.dirname(os.path.abspath(__file__)))
 

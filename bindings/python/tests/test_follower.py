@@ -19,7 +19,7 @@ class Snapshot:
     layout = Layout([], "?", ("0", "1"))
 
     def __init__(self):
-        self.is_open = True
+        self.is_open, self.is_lost = True, False
 
     def close(self):
         self.is_open = False
@@ -88,6 +88,16 @@ class Looks(unittest.TestCase):
         self.assertEqual((numbers, it.numbers), ([1, 1, 1, 2, 2], [1, 2]))
         self.assertEqual(self.open(), [False, False, True, True, False])
         self.assertEqual([last for last, _ in self.store.marks], [None, 1, 2, 3, 4])
+
+    def test_one_that_was_lost_is_replaced_though_nothing_changed(self):
+        it = self.follower("the first snapshot", set(), set(), hold=10.0)
+        it.look()
+        it.look()
+        self.assertEqual(self.open(), [True, False])
+        self.store.snapshots[0].is_lost = True
+        self.assertEqual((it.look().number, self.open()), (1, [False, False, True]))
+        self.assertEqual([is_wanted for _, is_wanted in self.store.marks], [True, False, True])
+        self.assertIs(it.snapshot(1), self.store.snapshots[2])
 
     def test_none_is_held_for_too_long(self):
         it = self.follower("the first snapshot", {"a"}, {"b"}, hold=10.0)

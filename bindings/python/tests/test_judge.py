@@ -8,13 +8,13 @@ import sqlite3
 import unittest
 
 from txcache._layout import Read
-from txcache._versions import Versions
+from txcache._fast import FASTEST
 from txcache.cache import TxCache
 from txcache.errors import SnapshotLost
 
 from . import model
-from .test_cache import OfPostgres, OfSqlite
-from .test_cache import Case as CacheCase
+from .cases import OfPostgres, OfSqlite
+from .cases import Case as CacheCase
 
 HISTORIES = int(os.environ.get("TXC_HISTORIES", 0))  # of each store; by default those for which `make test` has time
 ACTS = 16  # of one history
@@ -209,7 +209,7 @@ class PostgresActs(OfPostgres):
 class Judge(unittest.TestCase):
     """Of each history a cache; of all of them one database."""
 
-    versions, histories, begin = Versions, 1, CacheCase.setUp
+    versions, histories, begin = FASTEST, 1, CacheCase.setUp
 
     def setUp(self):
         self.begin()
@@ -354,7 +354,7 @@ def load_tests(loader, tests, pattern):
     suite = unittest.TestSuite()
     for store, few in ((SqliteActs, 300), (PostgresActs, 50)):
         count = HISTORIES or few
-        for name, versions, histories in (("", Versions, count), ("OverAModel", model.Versions, count // 10)):
+        for name, versions, histories in (("", FASTEST, count), ("OverAModel", model.Versions, count // 10)):
             made = type(f"Judge{store.__name__}{name}", (store, Judge), {"__module__": __name__, "versions": versions, "histories": histories})
             suite.addTests(loader.loadTestsFromTestCase(made))
     return suite

@@ -75,8 +75,9 @@ class Calls(unittest.TestCase):
         it = arguments(lambda db, n: None)
         self.assertEqual(len({it.encoded((n,), {}) for n in (1, True, 1.0, "1", b"1", decimal.Decimal(1))}), 6)
         self.assertEqual(len({it.encoded((n,), {}) for n in ((1,), (True,), (1.0,))}), 3)
-        self.assertEqual(len({it.mark((n,), {}) for n in (1, True, "1", b"1", None)}), 5)
-        self.assertEqual([it.mark(args, named) for args, named in (((1.0,), {}), (((1,),), {}), ((), {"n": 1}), ((1, 2), {}), (([1],), {}))], [None] * 5)
+        self.assertTrue(all(it.stand_for_themselves((n,), {}) for n in (1, True, "1", b"1", None)))
+        self.assertFalse(any(it.stand_for_themselves(args, named) for args, named in (((1.0,), {}), (((1,),), {}), ((), {"n": 1}), ((1, 2), {}), (([1],), {}))))
+        self.assertEqual([_keys.are_of_one_type((1, "a"), other) for other in ((1, "a"), (True, "a"))], [True, False])
 
     def test_many_arguments(self):
         it = arguments(lambda db, *items, **more: None)

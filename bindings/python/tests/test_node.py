@@ -3,7 +3,7 @@
 import threading
 import unittest
 
-from txcache.node import LAST_STAMP, MAX_VALUE_LEN, Counts, Hit, Key, Node, OutOfOrder, Reach, Refused, Stored, Tag, Totals
+from txcache.node import LAST_STAMP, MAX_CAPACITY, MAX_VALUE_LEN, Counts, Hit, Key, Node, OutOfOrder, Reach, Refused, Stored, Tag, Totals
 
 
 class NodeTests(unittest.TestCase):
@@ -27,10 +27,17 @@ class NodeTests(unittest.TestCase):
             self.assertEqual(node.trim(MAX_VALUE_LEN - 1), 1)
             self.assertEqual(node.totals(), Totals(0, 0, 1))
 
+    def test_late_stamps_and_a_wide_node(self):
+        with Node(MAX_CAPACITY, 4) as node:
+            node.insert(Key(1), Reach(LAST_STAMP - 1, LAST_STAMP), [Tag.id(1, 2)], b"late")
+            self.assertEqual(node.lookup(Key(1), 1_048_577, LAST_STAMP), Hit(Reach(LAST_STAMP - 1, LAST_STAMP), b"late"))
+            self.assertIsNone(node.lookup(Key(1), 0, LAST_STAMP - 2))
+            self.assertEqual(node.sweep(LAST_STAMP), 0)
+
     def test_refusals(self):
         with Node(2, 4) as node:
             wrong = [
-                lambda: Node(0, 4), lambda: Node(4, 4097), lambda: Key(64), lambda: Key(1, 1, 2, 3, 4, 5), lambda: Key(1, 2**32), lambda: Tag.all(16),
+                lambda: Node(0, 4), lambda: Node(4, 4097), lambda: Node(MAX_CAPACITY + 1, 4), lambda: Key(64), lambda: Key(1, 1, 2, 3, 4, 5), lambda: Key(1, 2**32), lambda: Tag.all(16),
                 lambda: node.lookup(Key(1), 5, 4), lambda: node.lookup(Key(1), 0, LAST_STAMP + 1), lambda: node.lookup(Key(1), -1, 0),
                 lambda: node.insert(Key(1), Reach(3, 2), [], b""), lambda: node.insert(Key(1), Reach(0, 0), [], bytes(MAX_VALUE_LEN + 1)),
                 lambda: node.insert(Key(1), Reach(0, 0), [Tag(1, 3, 0)], b""), lambda: node.sweep(LAST_STAMP + 1), lambda: node.counts(64),

@@ -64,7 +64,7 @@ class Package(unittest.TestCase):
                 f"{text}\nprint(*shown, (page.receipt.hits, page.receipt.computed))\n")
 
     def test_it_is_of_python_3_9(self):
-        for path in glob.glob(f"{PYTHON}/txcache/*.py"):
+        for path in glob.glob(f"{PYTHON}/txcache/**/*.py", recursive=True):
             with open(path, encoding="utf-8") as file:
                 ast.parse(file.read(), path, feature_version=(3, 9))
 
@@ -72,11 +72,14 @@ class Package(unittest.TestCase):
         made = [run([sys.executable, f"{PYTHON}/build_wheel.py", f"{self.room}/{it}"], env=self.env, cwd=self.room) for it in "ab"]
         self.assertEqual([it.returncode for it in made], [0, 0], made[0].stdout)
         first, second = (glob.glob(f"{self.room}/{it}/*.whl")[0] for it in "ab")
-        self.assertEqual(os.path.basename(first), f"txcache-0.1-py3-none-linux_{os.uname().machine}.whl")
+        has_extension = os.path.exists(f"{LIBRARY}/_fast_c.abi3.so")
+        self.assertEqual(os.path.basename(first), f"txcache-0.1-{'cp39-abi3' if has_extension else 'py3-none'}-linux_{os.uname().machine}.whl")
         with open(first, "rb") as one, open(second, "rb") as other:
             self.assertEqual(one.read(), other.read())
         with zipfile.ZipFile(first) as wheel:
             self.assertIn("txcache/libtxc_c.so", wheel.namelist())
+            self.assertEqual("txcache/_fast_c.abi3.so" in wheel.namelist(), has_extension)
+            self.assertIn(f"Tag: {os.path.basename(first)[len('txcache-0.1-'):-len('.whl')]}\n", wheel.read("txcache-0.1.dist-info/WHEEL").decode())
             recorded = {it.split(",")[0] for it in wheel.read("txcache-0.1.dist-info/RECORD").decode().splitlines()}
             self.assertEqual(recorded, set(wheel.namelist()))
 

@@ -9,6 +9,7 @@ import threading
 import time
 import unittest
 import uuid
+from unittest import mock
 
 from txcache import _driver
 from txcache._store import db_of
@@ -266,6 +267,31 @@ class Shape(Case):
         look.join()
         self.addCleanup(found[0].snapshot.close)
         self.assertEqual([it["id"] for it in db_of(found[0].snapshot).rows("items")], [2])
+
+    def test_a_look_goes_to_the_server_once(self):
+        self.follow()
+        self.held.close()
+        self.ask("INSERT INTO items (id) VALUES (1)")
+        with mock.patch.object(_driver.Link, "last", autospec=True, side_effect=_driver.Link.last) as last, mock.patch.object(_driver.Link, "named") as named:
+            found = self.s.look(self.mark)
+        self.addCleanup(found.snapshot.close)
+        self.assertEqual((last.call_count, named.call_count, len(found.tags)), (1, 0, 7))
+
+    def test_a_look_goes_by_the_indexes_and_is_not_compiled(self):
+        """Its plans are kept, so they are made with no number at hand, and nothing says that few notes are above it. The notes lie in no order, as after purges."""
+        self.follow()
+        self.ask("INSERT INTO txcache.notes SELECT (n * 7919 % 20000 + 10)::text::xid8, 'public.items', '{id=1}' FROM generate_series(1, 20000) AS n")
+        self.ask("ANALYZE txcache.notes")
+        for setting in ("LOAD 'auto_explain'", "SET auto_explain.log_min_duration = 0", "SET auto_explain.log_nested_statements = on", "SET client_min_messages = log"):
+            self.ask(setting)
+        said = []
+        if hasattr(self.it._connection, "add_notice_handler"):
+            self.it._connection.add_notice_handler(lambda it: said.append(it.message_primary))
+        self.ask("SELECT * FROM txcache.look((SELECT array_agg(oid) FROM pg_class WHERE relname = 'items'), '3', '{5,7}', '{public.items}', 100)")
+        plans = "\n".join(said or self.it._connection.notices)
+        self.assertIn("notes_xact", plans)
+        for word in ("Seq Scan on notes", "Seq Scan on pg_attribute", "JIT"):
+            self.assertNotIn(word, plans)
 
     def test_a_new_lookup_of_another_service_keeps_those_of_the_first(self):
         self.follow({"items": ["id"]})

@@ -2,8 +2,8 @@
 
 import unittest
 
-from txcache.node import LAST_STAMP, MAX_ASKS, MAX_VALUE_LEN, Refused, Totals
-from txcache.site import LAST_SITE_STAMP, Conflict, Kept, Query, Site, cacheable
+from txcache.node import LAST_STAMP, MAX_ASKS, MAX_CAPACITY, MAX_VALUE_LEN, Refused, Totals
+from txcache.site import MAX_EVENTS, Conflict, Kept, Query, Site, cacheable
 
 
 @cacheable(0)
@@ -115,6 +115,30 @@ class Transactions(unittest.TestCase):
         self.assertEqual(self.site.totals(), Totals(0, 0, 6))
         self.assertRaises(Refused, lambda: self.site.trim(-1))
 
+    def test_a_site_is_never_over_its_budget(self):
+        many = cacheable(2)(lambda call, it, count: bytes(count * len(call.rows(Query.id(1, 1)))))
+        for wrong in (0, -1, 2**64):
+            self.assertRaises(Refused, lambda: Site(max_bytes=wrong))
+        with Site(max_bytes=5000) as site:
+            with site.write() as write:
+                write.put(1, 1, 7, b"110")
+            with site.read(now=1000, staleness=30_000) as page:
+                for it in range(300):
+                    page(many, it, it * 37 % 6000)  # some alone are over the budget
+                    self.assertLessEqual(site.totals().bytes, 5000)
+                held = site.totals()
+                self.assertEqual(page(many, 1000, 5001), bytes(5001))
+                self.assertEqual(site.totals(), held)  # it was not kept, and nothing went for it
+                self.assertEqual(page(many, 1001, 5000), bytes(5000))
+                self.assertEqual(site.totals()[:2], (1, 5000))
+
+    def test_without_a_budget_nothing_is_trimmed(self):
+        many = cacheable(2)(lambda call, it: bytes(100_000 * len(call.rows(Query.id(1, 1)))))
+        with self.site.read(now=1000, staleness=30_000) as page:
+            for it in range(100):
+                page(many, it)
+        self.assertEqual(self.site.totals(), Totals(100, 10_000_000, 0))
+
     def test_an_update_is_not_lost(self):
         stamp = self.seen()
         self.assertEqual(self.seen(), stamp)
@@ -138,13 +162,15 @@ class Transactions(unittest.TestCase):
             write.put(3, 1, 0, b"other")
 
     def test_what_cannot_begin(self):
-        for events in (0, LAST_STAMP + 1, -1, 2**64):
+        for events in (0, MAX_EVENTS + 1, -1, 2**64):
             self.assertRaises(Refused, lambda: Site(events, 100, 64))
-        for stamp in (-1, 2, LAST_SITE_STAMP, LAST_SITE_STAMP + 1, 2**32):
+        self.assertRaises(Refused, lambda: Site(None, MAX_CAPACITY + 1))
+        Site(None, MAX_CAPACITY).close()
+        for stamp in (-1, 2, LAST_STAMP, LAST_STAMP + 1, 2**32):
             self.assertRaises(Refused, lambda: self.site.write(at=stamp))
-        for stamp in (-1, LAST_SITE_STAMP + 1, 2**32 + 1):
+        for stamp in (-1, LAST_STAMP + 1, 2**32 + 1):
             self.assertRaises(Refused, lambda: self.site.read(0, 0, at_least=stamp))
-        with self.site.read(0, 0, at_least=LAST_SITE_STAMP):
+        with self.site.read(0, 0, at_least=LAST_STAMP):
             pass
 
     def test_below_the_horizon_nothing_is_read(self):

@@ -13,6 +13,11 @@ import tempfile
 from typing import NamedTuple, Tuple
 
 PYTHON = os.path.dirname(os.path.dirname(os.path.abspath(__file__)))
+sys.path[:0] = [os.path.dirname(os.path.abspath(__file__)), os.path.normpath(f"{PYTHON}/../../scripts")]
+
+import extension  # noqa: E402
+from wrong_by_hand import BY_HAND  # noqa: E402
+from wrong_fast import FAST  # noqa: E402
 
 
 class Wrong(NamedTuple):
@@ -27,11 +32,15 @@ class Wrong(NamedTuple):
 
 
 def of_each_store(test: str) -> str:
-    return f"tests.test_cache -k {test}"
+    return f"tests.test_pages tests.test_calls tests.test_values tests.test_threads tests.test_keeping -k {test}"
 
 
 def of_many(name: str, text: str, put: str, test: str, file: str = "site.py") -> Wrong:
     return Wrong(name, file, text, put, f"tests.test_many -k {test}")
+
+
+def of_standby(name: str, text: str, put: str, test: str, more: Tuple[Tuple[str, str], ...] = ()) -> Wrong:
+    return Wrong(name, "_standby.py", text, put, f"tests.test_standby -k {test}", more)
 
 
 WRONG = [
@@ -48,14 +57,30 @@ WRONG = [
     of_many("a lock that is held beside a function", "            given = bytes(function(asking, *args))\n", "            with self._site._lock:\n                given = bytes(function(asking, *args))\n",
             "test_nobody_waits"),
     of_many("a library of another header", "if number != ABI:", "if False:", "Abi", "_library.py"),
-    Wrong("followed from xmax alone", "postgres.py", "running=\",\".join(map(str, last.running))", "running=\"\"",
+    Wrong("followed from xmax alone", "postgres.py", "\",\".join(map(str, last.running)))", "\"\")",
           "tests.test_postgres -k test_a_transaction_that_was_open_at_the_last_look_follows_once"),
     Wrong("a snapshot before its lock", "postgres.py", "READ ONLY; {self.settings}{lock}", "READ ONLY; SELECT 1; {self.settings}{lock}",
           "tests.test_postgres -k test_the_lock_comes_before_the_snapshot"),
+    of_standby("a standby followed by pg_visible_in_snapshot", "NOT EXISTS (SELECT FROM unnest('{{{seen}}}'::xid8[]) AS s WHERE s = n.xact)",
+               "NOT pg_visible_in_snapshot(n.xact, '{xmin}:{xmax}:')", "test_a_transaction_that_was_open", (("xmin=last.xmin, seen=", "xmin=last.xmin, xmax=last.xmax, seen="),)),
+    of_standby("a standby followed from xmax alone", "xmin=last.xmin, seen=", "xmin=last.xmax, seen=", "test_a_transaction_that_was_open"),
+    of_standby("a standby's numbers are those of one look", "before.seen.union(numbers)", "frozenset(numbers)", "test_a_transaction_that_was_open -k test_random_transactions"),
+    of_standby("a standby's numbers are cut", "    if len(last.seen or ()) > MAX_SEEN:\n", "    if False:\n", "test_more_numbers"),
+    Wrong("a token that a standby's list sees", "postgres.py", "        if self.seen is not None:\n            return", "        if False:\n            return",
+          "tests.test_standby -k test_a_token_of_what"),
+    Wrong("a promotion that is not seen", "postgres.py", "            if last.seen is not None and delay is None:\n", "            if False:\n", "tests.test_standby -k test_a_promotion"),
+    of_standby("a promotion within a look that is not seen", "    if not is_standby:\n", "    if False:\n", "test_a_promotion"),
+    Wrong("a delay not counted", "_follower.py", "self._shown = moment - found.delay if found.tags is None else max(self._shown, moment - found.delay)", "self._shown = moment",
+          "tests.test_standby -k test_the_delay"),
+    of_standby("a standby that lost its primary is young", "if first.is_standby and first.is_connected:", "if first.is_standby:", "test_a_standby_that_has_lost"),
+    of_standby("what was received counts as replayed", "if place <= found.replayed", "if True", "test_the_delay"),
+    of_standby("a primary that is idle makes pages old", "min(by_place, NEVER if found.since is None else found.since)", "NEVER if found.since is None else found.since", "test_a_primary_that_is_idle"),
+    Wrong("a query that recovery cancels is the page's own error", "postgres.py", "if _state_of(error)[:2] == _ROLLED_BACK:", "if False:", "tests.test_standby -k test_a_snapshot_that_recovery"),
     Wrong("purge by age", "_postgres_schema.py", "INTO upon FROM txcache.purges p WHERE p.made <= clock_timestamp() - make_interval(secs => age)",
           "INTO upon FROM (SELECT pg_snapshot_xmax(pg_current_snapshot()) AS below) p", "tests.test_postgres -k test_by_numbers"),
     Wrong("a purge that says nothing of itself", "_postgres_schema.py", "UPDATE txcache.state SET upto = upon;", "", "tests.test_postgres -k test_by_numbers"),
-    Wrong("a fingerprint without classes", "_postgres_schema.py", "(oid, ' ', relfilenode, ' ', xmin), 0)) FROM pg_class WHERE oid = ANY (them)", "(1), 0)) FROM pg_class WHERE false",
+    Wrong("plans of a look that are compiled", "_postgres_schema.py", " SET jit = off", "", "tests.test_postgres -k test_a_look_goes_by"),
+    Wrong("a fingerprint without classes", "_postgres_schema.py", "concat(oid, ' ', relfilenode, ' ', xmin)", "''",
           "tests.test_postgres -k test_the_fingerprint -k test_each_change_of_a_partition_begins_cold"),
     Wrong("a fingerprint without triggers", "_postgres_schema.py", "FROM pg_trigger WHERE tgrelid = ANY (them)", "FROM pg_trigger WHERE false",
           "tests.test_postgres -k test_a_trigger_that_was_off_for_a_while"),
@@ -72,7 +97,7 @@ WRONG = [
     Wrong("only the row as it is", "_postgres_schema.py", "coalesce(old_keys, '{{}}') || coalesce(new_keys, '{{}}')", "coalesce(new_keys, old_keys)", "tests.test_postgres -k test_each_kind"),
     Wrong("a reader that does not ask whether the snapshot stands", "postgres.py", "            snapshot.check()\n        return dicts", "        return dicts",
           "tests.test_postgres -k test_a_holder_that_dies_while_a_query_runs"),
-    Wrong("a server's start time alone", "postgres.py", "(SELECT min(pid) FROM pg_stat_get_activity(NULL) WHERE datid IS NULL AND usesysid IS NULL)", "''",
+    Wrong("a server's start time alone", "_postgres_schema.py", "(SELECT min(pid) FROM pg_stat_get_activity(NULL) WHERE datid IS NULL AND usesysid IS NULL)", "''",
           "tests.test_postgres -k test_a_killed_server_process_begins_cold"),
     Wrong("a token that its own snapshot sees", "postgres.py", "xact < self.xmax and xact not in self.running", "xact < self.xmax", "tests.test_postgres -k test_a_snapshot_sees_a_token_or_not"),
     Wrong("a value by its own text", "_layout.py", "if kind is Kind.INTEGER and isinstance(value, int) and not isinstance(value, bool):", "if kind is Kind.INTEGER:",
@@ -85,14 +110,18 @@ WRONG = [
           "tests.test_sqlite -k test_another_file"),
     Wrong("the number of a file's changes by another connection", "sqlite.py", "            self._probes += 1\n", "",
           "tests.test_sqlite -k test_the_number_of_a_files_changes"),
-    Wrong("a connection of the former file", "sqlite.py", "len(self._spare) < 2 and file == self._file:", "len(self._spare) < 2:", "tests.test_cache -k test_another_file_at"),
+    Wrong("a connection of the former file", "sqlite.py", "len(self._spare) < 2 and file == self._file:", "len(self._spare) < 2:", "tests.test_each_store -k test_another_file_at"),
     Wrong("the schema of SQLite is not looked at", "sqlite.py", "if mark.shape != last.shape:", "if False:", "tests.test_sqlite -k test_what_changes_the_schema"),
-    Wrong("a key without types", "_keys.py", "return (kinds, args) if", "return ((), args) if", "tests.test_keys -k test_exact_types"),
+    Wrong("a key without types", "_keys.py", "return all(map(operator.is_, map(type, one), map(type, other)))", "return True", "tests.test_keys -k test_exact_types"),
     Wrong("a key without types, whole", "_keys.py", "    bool: lambda it: b\"T\" if it else b\"F\",", "    bool: lambda it: b\"i%x;\" % it,", "tests.test_keys -k test_each_value"),
     Wrong("the look that fails forgets where it stood", "_follower.py", "            except SnapshotRefused as error:\n                self.let_go()\n", "            except SnapshotRefused as error:\n                self.forget()\n",
           "tests.test_follower -k test_a_lock_that_is_waited_for"),
-    Wrong("a moment after its snapshot", "_follower.py", "return Step(number, moment,", "return Step(number, self._clock(),", "tests.test_follower -k test_the_moment"),
+    Wrong("a moment after its snapshot", "_follower.py", "self._shown = moment - found.delay if", "self._shown = self._clock() - found.delay if", "tests.test_follower -k test_the_moment"),
     Wrong("a snapshot that is held for ever", "_follower.py", "            self._let_old_go()\n", "", "tests.test_follower -k test_none_is_held"),
+    Wrong("a snapshot that was lost is kept", "_follower.py", "not before.snapshot.is_lost and ", "", "tests.test_follower tests.test_each_store -k test_one_that_was_lost -k test_killed_connections_of"),
+    Wrong("a connection that was lost says nothing of its snapshot", "postgres.py", "                    snapshot.check()  # it may be lost too", "                    pass  # it may be lost too",
+          "tests.test_each_store -k test_killed_connections_of"),
+    Wrong("nobody is told that a snapshot was lost", "postgres.py", "            self.is_lost = True\n", "", "tests.test_each_store -k test_killed_connections_of"),
     Wrong("a shared value", "_values.py", "return pickle.loads(data)", "return globals().setdefault('_known', {}).setdefault(data, pickle.loads(data))",
           "tests.test_keys -k test_no_two_get_one_object"),
     Wrong("a snapshot closed that a page may read", "cache.py", "self._least = state, oldest, max(state.first, found)", "self._least = state, oldest, state.first",
@@ -101,19 +130,19 @@ WRONG = [
           "        self._versions.touch(self._places.all_of(step.tags), step.number)\n        stamp = self._versions.pin(_us(step.moment))\n",
           "        stamp = self._versions.pin(_us(step.moment))\n        self._versions.touch(self._places.all_of(step.tags), step.number)\n", of_each_store("test_hits_and_changes")),
     Wrong("a tag of a step is forgotten", "cache.py", "self._places.all_of(step.tags)", "self._places.all_of(sorted(step.tags)[:-1])", of_each_store("test_hits_and_changes")),
-    Wrong("what asks nothing is computed on each page", "cache.py", "        if not frame.asks:\n", "        if False:\n", of_each_store("test_functions_and_their_levels")),
+    Wrong("what asks nothing is computed on each page", "_page.py", "        if not frame.asks:\n", "        if False:\n", of_each_store("test_functions_and_their_levels")),
     Wrong("a query in the newest snapshot", "cache.py", "        number = self._numbers.get(stamp) if stamp is not None else None\n",
           "        number = max(self._follower.numbers, default=None)\n", of_each_store("test_a_page_is_of_one_moment")),
     Wrong("after= by the newest held", "cache.py", "found = next((it.stamp for it in self._state.pins if self.store.sees(it.mark, token)), None)",
           "found = self._state.pins[-1].stamp",
           of_each_store("test_tokens")),
-    Wrong("a wait for a snapshot that one may not read", "cache.py", "and may_read(it.stamp)), None)", "), None)", of_each_store("test_nobody_waits")),
-    Wrong("nobody waits", "cache.py", "            with found.turn:\n                pass", "            pass", of_each_store("test_who_asks")),
-    Wrong("an audit in another snapshot", "cache.py", "self.cache._follower.snapshot(self.receipt.snapshot)", "self.cache._follower.snapshot(self.cache._follower.numbers[-1])",
+    Wrong("a wait for a snapshot that one may not read", "_computing.py", "and may_read(it.stamp)), None)", "), None)", of_each_store("test_nobody_waits")),
+    Wrong("nobody waits", "_computing.py", "            with found.turn:\n                pass", "            pass", of_each_store("test_who_asks")),
+    Wrong("an audit in another snapshot", "_page.py", "self.cache._follower.snapshot(self.receipt.snapshot)", "self.cache._follower.snapshot(self.cache._follower.numbers[-1])",
           of_each_store("test_an_audit_is_of_the_receipts_snapshot")),
     Wrong("a place of the version table forgotten", "_versions.py", "found = self._numbers.get(slot)", "found = self._numbers.pop(slot, None)",
-          "tests.test_cache -k test_places"),
-    Wrong("a page at the present", "_versions.py", "            if number == DONE:\n                return txn\n", "            return txn\n",
+          "tests.test_places -k test_places"),
+    Wrong("a page at the present", "_versions.py", "        if number == DONE:\n            return txn\n", "        return txn\n",
           of_each_store("test_no_page_is_at_the_present")),
     Wrong("a site that renews pins by itself", "_versions.py", "_EVER = 2**64 - 1", "_EVER = 1", of_each_store("test_a_miss_is_read_at")),
     Wrong("a query after its transaction has ended", "postgres.py", "            if reader.link.is_idle:\n", "            if False:\n", of_each_store("test_a_query_that_ends")),
@@ -122,35 +151,44 @@ WRONG = [
     Wrong("a snapshot that was let go is read", "postgres.py", "            if not snapshot.is_open:\n                raise SnapshotLost(\"the snapshot was let go\")\n        except",
           "        except", of_each_store("test_a_snapshot_that_was_let_go"), (("        if not self.is_open:\n            raise SnapshotLost(\"the snapshot was let go\")\n        try:", "        try:"),)),
     Wrong("a snapshot that becomes too old before the next look", "_follower.py", "limit = self._clock() - self.hold + self._every", "limit = self._clock() - self.hold", "tests.test_follower -k test_none_becomes"),
-    Wrong("a page that goes on in a snapshot it had before a hit", "cache.py", "self._stamp = self._snapshot = None  # it may hold in fewer of them", "pass",
+    Wrong("a page that goes on in a snapshot it had before a hit", "_page.py", "        self._stamp = self._snapshot = None  # it may hold in fewer of them\n        if data", "        if data",
           of_each_store("test_a_page_is_of_one_moment")),
     Wrong("a foreign partition is installed", "postgres.py", "                refused[table] += catalog.faults_of_partitions(table, standing[table])\n", "",
           "tests.test_postgres -k test_a_foreign_table"),
     Wrong("a snapshot closed in which a page computes", "_follower.py", "if not self._uses.get(it)]", "if True]", of_each_store("test_a_snapshot_in_which")),
     Wrong("a page that begins where a snapshot between is closed", "_follower.py", "            if number != after - 1:\n", "            if False:\n", "tests.test_follower -k test_what_is_used"),
-    Wrong("a page of a parent's", "cache.py", "around is not None and around._process == _process", "around is not None", of_each_store("test_a_child_of_a_page")),
+    Wrong("a page of a parent's", "_page.py", "around is not None and around._process == _process", "around is not None", of_each_store("test_a_child_of_a_page")),
     Wrong("nothing is ever purged", "cache.py", "if now - self._last_purge > PURGE_EVERY:", "if False:", of_each_store("test_notes_are_purged")),
-    Wrong("an audit that leaves the cache warm", "cache.py", "        self.cache.clear()\n", "", of_each_store("test_audit")),
-    Wrong("a page that is older than it may be", "cache.py", "_us(begun - max_age)", "_us(begun - max_age - 60.0)", of_each_store("test_hits_and_changes")),
+    Wrong("an audit that leaves the cache warm", "_page.py", "        self.cache.clear()\n", "", of_each_store("test_audit")),
+    Wrong("a page that is older than it may be", "cache.py", "int(oldest * 1e6) if oldest > 0 else 0", "max(0, int((oldest - 60.0) * 1e6))", of_each_store("test_hits_and_changes")),
     Wrong("a failed step goes on", "cache.py", "            self._is_to_be_cold = True  # until", "            self._is_to_be_cold = False  # until", of_each_store("test_a_step_that_fails_midway")),
-    Wrong("an error that was shown is forgotten", "cache.py", "self._has_shown |= not isinstance(found, SnapshotLost)", "pass", of_each_store("test_an_error_shown")),
-    Wrong("a caught failure goes on", "cache.py", "        if self._failed is not None:\n", "        if False:\n", of_each_store("test_errors")),
+    Wrong("an error that was shown is forgotten", "_page.py", "                        self._has_shown = True  # its error", "                        pass  # its error", of_each_store("test_an_error_shown")),
+    Wrong("a caught failure goes on", "_page.py", "        if self._failed is not None:\n", "        if False:\n", of_each_store("test_errors")),
     Wrong("keys of callers stay", "_forms.py", "                left += self._callers.get(it, ())\n", "", of_each_store("test_what_a_key_asks -k test_clearing")),
-    Wrong("the tables of a query stay", "cache.py", "        if touched - tables:\n", "        if False:\n", of_each_store("test_tables_of_a_query")),
-    Wrong("a cold begin under the same number", "cache.py", "_State((), self._state.era + 1)", "_State((), self._state.era)", of_each_store("test_cold_leaves_nothing_behind")),
-    Wrong("a cold step's pin before its number", "cache.py", "            self._state = _State((), self._state.era + 1)\n        self._versions.touch(self._places.all_of(step.tags), step.number)\n"
+    Wrong("the tables of a query stay", "_page.py", "        if touched - tables:\n", "        if False:\n", of_each_store("test_tables_of_a_query")),
+    Wrong("a cold begin under the same number", "cache.py", "State((), self._state.era + 1)", "State((), self._state.era)", of_each_store("test_cold_leaves_nothing_behind")),
+    Wrong("a cold step's pin before its number", "cache.py", "            self._state = State((), self._state.era + 1)\n        self._versions.touch(self._places.all_of(step.tags), step.number)\n"
           "        stamp = self._versions.pin(_us(step.moment))\n", "            pass\n        self._versions.touch(self._places.all_of(step.tags), step.number)\n"
-          "        stamp = self._versions.pin(_us(step.moment))\n        self._state = _State((), self._state.era + 1) if step.cold else self._state\n",
+          "        stamp = self._versions.pin(_us(step.moment))\n        self._state = State((), self._state.era + 1) if step.cold else self._state\n",
           of_each_store("test_a_page_that_begins_within_a_cold_step")),
     Wrong("a page of a number that is no more", "cache.py", "if txn is not None and self._state.era == state.era:", "if txn is not None:", of_each_store("test_a_page_is_not_begun_under")),
-    Wrong("a mark in the place of a value is shown", "cache.py", "        if data == _values.TOO_LONG:\n", "        if False:\n", of_each_store("test_values_that_are_too_long")),
-    Wrong("a value that is too long is of the newest snapshot", "cache.py", "self._direct = db_of(self._snapshot_now())",
-          "self._direct = db_of(self.cache._follower.snapshot(self.cache._follower.numbers[-1]))", of_each_store("test_values_that_are_too_long")),
-    Wrong("a long value is cut", "_versions.py", "number = self._told_once_more(txn)", "number = DONE", of_each_store("test_long_values")),
-    Wrong("a call that runs out of asks is not made again", "cache.py", "if self._tries < MAX_TRIES and (", "if False and (", of_each_store("test_as_many_calls")),
-    Wrong("the call that ran out of asks is not made by itself", "cache.py", "            if self._ahead is not None:\n", "            if False:\n", of_each_store("test_as_many_calls")),
+    Wrong("a mark in the place of a value is shown", "_page.py", "        if data == TOO_LONG:\n", "        if False:\n", of_each_store("test_values_that_are_too_long")),
+    Wrong("a value that is too long is of the newest snapshot", "_page.py", "self._direct = self._snapshot_now()",
+          "self._direct = self.cache._follower.snapshot(self.cache._follower.numbers[-1])", of_each_store("test_values_that_are_too_long")),
+    Wrong("two threads' answers in one room", "_versions.py", "            room = self._free.pop()\n        except IndexError:\n            room = _Room()\n        number = _CALL",
+          "            room = self._free[-1]\n        except IndexError:\n            room = _Room()\n        number = _CALL", "tests.test_versions -k test_a_hit_is_read"),
+    Wrong("a lock that is held in mid-hit", "_versions.py", "        number = _CALL(", "        with _TURN:\n            number = _CALL(",
+          "tests.test_versions -k test_a_thread_that_stops", (("_AS_KEY = struct", "_TURN = threading.Lock()\n_AS_KEY = struct"),)),
+    Wrong("a room of a call that failed is used again", "_versions.py", "        number = _CALL(", "        self._free.append(room)\n        number = _CALL(",
+          "tests.test_versions -k test_a_room_of"),
+    Wrong("calls side by side without the interpreter's lock", "_calls.py", "            with lock:\n                return call(*words)", "            return call(*words)",
+          "tests.test_versions -k test_without"),
+    Wrong("a long value is cut", "_versions.py", "number = self._told_once_more(txn, room)", "number = DONE", of_each_store("test_long_values")),
+    Wrong("a call that runs out of asks is not made again", "_page.py", "if self._tries < MAX_TRIES and (", "if False and (", of_each_store("test_as_many_calls")),
+    Wrong("the call that ran out of asks is not made by itself", "_page.py", "            if self._ahead is not None:\n", "            if False:\n", of_each_store("test_as_many_calls")),
     Wrong("a budget of bytes that nobody keeps", "cache.py", "self._versions.trim(self._max_bytes)", "pass", of_each_store("test_a_budget")),
     Wrong("a child that goes on with its parent's", "cache.py", "os.register_at_fork(after_in_child=_after_fork_in_child)", "", of_each_store("test_after_a_fork")),
+    *[Wrong(*it) for it in (*BY_HAND, *FAST)],
 ]
 
 
@@ -168,14 +206,28 @@ def fails(wrong: Wrong, room: str) -> str:
         with open(path, "w", encoding="utf-8") as file:
             file.write(body)
         try:
-            ran = subprocess.run([sys.executable, "-m", "unittest", "-q", *wrong.test.split()], cwd=room, stdout=subprocess.PIPE, stderr=subprocess.STDOUT, text=True, timeout=180)
+            env = {**os.environ, "TXC_LIBRARY": built(path, room)} if path.endswith(".c") else None
+            ran = subprocess.run([sys.executable, "-m", "unittest", "-q", "-f", *wrong.test.split()], cwd=room, env=env, stdout=subprocess.PIPE, stderr=subprocess.STDOUT, text=True, timeout=400)
         except subprocess.TimeoutExpired:
             print(f"{wrong.name}: its test did not end", flush=True)
             return ""  # that is seen too
-        return "" if "\nFAILED (" in ran.stdout else f"its test passes: {ran.stdout[-300:]}"
+        if "_FailedTest" in ran.stdout or "\nImportError" in ran.stdout:
+            return f"its test was not loaded: {ran.stdout[-300:]}"
+        # what the extension does wrong may end the process
+        return "" if "\nFAILED (" in ran.stdout or ran.returncode < 0 else f"its test passes: {ran.stdout[-300:]}"
     finally:
         with open(path, "w", encoding="utf-8") as file:
             file.write(right)
+
+
+def built(source: str, room: str) -> str:
+    """Compiles the extension. Returns its folder, in which the library lies too."""
+    folder = f"{room}/built"
+    os.makedirs(folder, exist_ok=True)
+    if not os.path.exists(f"{folder}/libtxc_c.so"):
+        os.symlink(os.path.abspath(f"{os.environ['TXC_LIBRARY']}/libtxc_c.so"), f"{folder}/libtxc_c.so")
+    subprocess.run([it for it in extension.words_of(folder, source=source) if it != "-Werror"], check=True)
+    return folder
 
 
 def main() -> None:

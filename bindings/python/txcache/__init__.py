@@ -5,6 +5,6 @@
 """
 
 from .cache import CacheInfo, Page, Receipt, TxCache
-from .errors import AuditError, NotInstalled, NotSeen, SnapshotLost, SnapshotRefused, TxCacheError
+from .errors import AuditError, NotInstalled, NotSeen, OutsideSnapshot, SnapshotLost, SnapshotRefused, TxCacheError
 
-__all__ = ["AuditError", "CacheInfo", "NotInstalled", "NotSeen", "Page", "Receipt", "SnapshotLost", "SnapshotRefused", "TxCache", "TxCacheError"]
+__all__ = ["AuditError", "CacheInfo", "NotInstalled", "NotSeen", "OutsideSnapshot", "Page", "Receipt", "SnapshotLost", "SnapshotRefused", "TxCache", "TxCacheError"]

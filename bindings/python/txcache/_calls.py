@@ -1,6 +1,9 @@
 """The library's calls of a site, with their types."""
 
 import ctypes as c
+import functools
+import sys
+import threading
 from types import SimpleNamespace
 
 from . import _library
@@ -12,7 +15,8 @@ CONFLICT = 18
 
 
 class Settings(c.Structure):
-    _fields_ = [("size", c.c_size_t), ("events", c.c_size_t), ("capacity", c.c_size_t), ("recent", c.c_size_t), ("renew_after", c.c_uint64)]
+    _fields_ = [("size", c.c_size_t), ("events", c.c_size_t), ("capacity", c.c_size_t), ("recent", c.c_size_t), ("renew_after", c.c_uint64),
+                ("bytes", c.c_size_t)]
 
 
 class Row(c.Structure):
@@ -32,9 +36,10 @@ class Kept(c.Structure):
 
 
 LONG = "keep", "site_close", "site_trim"
+HAS_ONE_AT_A_TIME = sys.implementation.name == "cpython" and getattr(sys, "_is_gil_enabled", lambda: True)()
 
 
-def declared():
+def declared(long_ones=LONG):
     """Returns the calls by their names. All but the long ones keep the interpreter's lock: to let go of it costs more than most calls take."""
     short, long = _library.load(c.PyDLL), _library.load(c.CDLL)
     size, u8, u32, u64 = c.c_size_t, c.c_uint8, c.c_uint32, c.c_uint64
@@ -51,7 +56,7 @@ def declared():
     }
     calls = SimpleNamespace()
     for name, kinds in parameters.items():
-        function = getattr(long if name in LONG else short, f"txc_{name}")
+        function = getattr(long if name in long_ones else short, f"txc_{name}")
         function.argtypes, function.restype = [c.POINTER(_Handle), *kinds], u32
         setattr(calls, name, function)
     return calls
@@ -62,3 +67,20 @@ def undeclared(name):
     function = _library.load(c.PyDLL)[f"txc_{name}"]
     function.restype = c.c_uint32
     return function
+
+
+def one_at_a_time(calls, has_lock=HAS_ONE_AT_A_TIME):
+    """Returns calls that keep the interpreter's lock, so that none begins before another has ended. Where the interpreter has no such lock they share one."""
+    if has_lock:
+        return calls
+    lock = threading.Lock()
+
+    def with_lock(call):
+        @functools.wraps(call, assigned=("__name__",), updated=())
+        def locked(*words):
+            with lock:
+                return call(*words)
+
+        return locked
+
+    return {name: with_lock(it) for name, it in calls.items()}

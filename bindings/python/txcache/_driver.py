@@ -5,6 +5,8 @@ import importlib.util
 import threading
 from typing import Any, List, Optional, Sequence, Tuple
 
+from ._cursor import Result, Statement, run
+
 DRIVERS = "psycopg", "psycopg2"
 _BYTEA = 17
 _IDLE = 0  # of libpq's statuses of a transaction
@@ -22,10 +24,19 @@ class Link:
         name = driver or next(iter(drivers()), None)
         if name is None:
             raise ImportError("there is no driver of PostgreSQL: install psycopg, or psycopg2")
-        self.driver = importlib.import_module(name)
-        self.lock = threading.RLock()
-        self._connection = self.driver.connect(dsn)
+        self._take(importlib.import_module(name).connect(dsn), name)
+
+    @classmethod
+    def over(cls, connection: Any, driver: str) -> "Link":
+        """Returns a link over a connection that a driver has opened."""
+        link = cls.__new__(cls)
+        link._take(connection, driver)
+        return link
+
+    def _take(self, connection: Any, name: str) -> None:
+        self.driver, self.lock, self._connection = importlib.import_module(name), threading.RLock(), connection
         self._connection.autocommit = True
+        self._has_sets = name == "psycopg"  # psycopg2 keeps the rows of the last statement alone
         if name == "psycopg":
             self._connection.prepare_threshold = None  # nothing is prepared, so a pooler may lend each transaction another connection
         else:
@@ -37,6 +48,11 @@ class Link:
         """Returns the rows of a statement."""
         return self.named(text, args)[1]
 
+    def run(self, statement: Statement) -> Result:
+        """Returns all that the statement of a function gives, over a cursor as that wants it."""
+        with self.lock:
+            return run(self._connection, statement)
+
     def named(self, text: str, args: Sequence[Any] = ()) -> Tuple[List[str], List[Tuple[Any, ...]]]:
         """Returns the names of the columns of a statement, and its rows."""
         with self.lock, self._connection.cursor() as cursor:
@@ -44,6 +60,14 @@ class Link:
             if cursor.description is None:
                 return [], []
             return [it[0] for it in cursor.description], cursor.fetchall()
+
+    def last(self, text: str) -> List[Tuple[Any, ...]]:
+        """Returns the rows of the last of some statements, which go to the server at once."""
+        with self.lock, self._connection.cursor() as cursor:
+            cursor.execute(text)
+            while self._has_sets and cursor.nextset():
+                pass
+            return cursor.fetchall()
 
     @property
     def is_idle(self) -> bool:

@@ -14,7 +14,7 @@ AIR_EVERY = 0.1  # seconds: more often the store is not asked whether it wants a
 
 
 class Step(NamedTuple):
-    """What a look found: the snapshot's number, when it was not yet taken, and the tags that it is the first to see changed. Where `cold` says
+    """What a look found: the snapshot's number, a moment of which it has all commits, and the tags that it is the first to see changed. Where `cold` says
     why, nothing is known of what changed, and all that is cached must go."""
 
     number: int
@@ -41,7 +41,7 @@ class Follower:
         self._held: List[_Held] = []
         self._lock, self._looks = threading.Lock(), threading.Lock()
         self._mark: Any = None
-        self._number, self._aired = 0, float("-inf")
+        self._number, self._aired, self._shown = 0, float("-inf"), float("-inf")
         self._uses: Dict[int, int] = {}
         self.oldest: Optional[int] = None  # the number from which on all snapshots are open
 
@@ -74,7 +74,9 @@ class Follower:
                 LOG.log(logging.INFO if self._mark is None else logging.WARNING, "the cache begins cold: %s", found.reason)
                 self.let_go()
             self._mark = found.mark
-            return self._taken(found.snapshot, moment, found.tags, found.reason)
+            # of one server, what a later snapshot shows is no older
+            self._shown = moment - found.delay if found.tags is None else max(self._shown, moment - found.delay)
+            return self._taken(found.snapshot, moment, found.tags, found.reason)._replace(moment=self._shown)
 
     def _taken(self, snapshot: Optional[Snapshot], moment: float, tags: Optional[FrozenSet[str]], reason: str) -> Step:
         with self._lock:
@@ -83,7 +85,7 @@ class Follower:
             number = self._number
             before = next((it for it in self._held if it.number == number), None)
             over = before.snapshot if before else None
-            if before and snapshot and moment - before.taken <= self.hold / 2:
+            if before and snapshot and not before.snapshot.is_lost and moment - before.taken <= self.hold / 2:
                 over = snapshot  # the one before is young, and connections have joined it
             elif snapshot:
                 self._held = [it for it in self._held if it is not before] + [_Held(number, snapshot, moment)]
@@ -97,7 +99,8 @@ class Follower:
     def _is_half_old(self) -> bool:
         """Returns True if the newest snapshot is to be replaced, though nothing may have changed."""
         with self._lock:
-            return self._clock() - self._held[-1].taken > self.hold / 2 if self._held else True
+            last = self._held[-1] if self._held else None
+            return last is None or last.snapshot.is_lost or self._clock() - last.taken > self.hold / 2
 
     def _first_of_all_open(self) -> Optional[int]:
         numbers = [it.number for it in self._held]

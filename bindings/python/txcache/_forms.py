@@ -10,9 +10,9 @@ LAST_LEVEL = 63
 
 
 class Forms:
-    """The levels, the numbers in keys, and the tables of queries by their texts, as of one time."""
+    """The levels, the numbers in keys, and the tables of queries by their texts, or by the functions whose cursors ask them, as of one time."""
 
-    def __init__(self, levels: Mapping[Hashable, int], numbers: Mapping[Hashable, int], tables: Mapping[str, FrozenSet[str]]):
+    def __init__(self, levels: Mapping[Hashable, int], numbers: Mapping[Hashable, int], tables: Mapping[Hashable, FrozenSet[str]]):
         self._levels, self._numbers, self._tables = levels, numbers, tables
 
     def level(self, function: Hashable) -> int:
@@ -21,7 +21,7 @@ class Forms:
     def number(self, function: Hashable) -> int:
         return self._numbers.get(function, 0)
 
-    def tables(self, query: str) -> FrozenSet[str]:
+    def tables(self, query: Hashable) -> FrozenSet[str]:
         return self._tables.get(query, frozenset())
 
 
@@ -31,13 +31,13 @@ class Growth:
     def __init__(self) -> None:
         self.forms = Forms({}, {}, {})
         self._callers: Dict[Any, Set[Any]] = {}
-        self._users: Dict[str, Set[Any]] = {}
+        self._users: Dict[Hashable, Set[Any]] = {}
         self._lock = threading.Lock()
 
     def has_called(self, caller: Any, function: Any) -> None:
         self._note(self._callers, function, caller)
 
-    def has_asked(self, function: Any, query: str) -> None:
+    def has_asked(self, function: Any, query: Hashable) -> None:
         self._note(self._users, query, function)
 
     def _note(self, known: Dict[Any, Set[Any]], at: Any, it: Any) -> None:
@@ -54,7 +54,7 @@ class Growth:
             if now.level(function) < level:
                 self.forms = Forms({**now._levels, function: level}, self._renewed({function}), now._tables)
 
-    def add_tables(self, query: str, tables: FrozenSet[str]) -> None:
+    def add_tables(self, query: Hashable, tables: FrozenSet[str]) -> None:
         """Has a query ask of these tables too before it runs."""
         with self._lock:
             now = self.forms

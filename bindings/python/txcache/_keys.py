@@ -5,6 +5,7 @@ import decimal
 import enum
 import hashlib
 import inspect
+import operator
 import struct
 import uuid
 from typing import Any, Callable, Dict, List, Mapping, Optional, Sequence, Tuple
@@ -63,6 +64,11 @@ _ENCODERS: Dict[type, Callable[[Any], bytes]] = {
 }
 
 
+def are_of_one_type(one: Sequence[Any], other: Sequence[Any]) -> bool:
+    """Returns True if two equal tuples have the same types, place by place."""
+    return all(map(operator.is_, map(type, one), map(type, other)))
+
+
 class Arguments:
     """The arguments of a function after its first, `db`. By position, by name and by default they are one."""
 
@@ -75,13 +81,10 @@ class Arguments:
         self._names = [it.name for it in parameters[1:]]
         self._is_simple = all(it.kind in (inspect.Parameter.POSITIONAL_ONLY, inspect.Parameter.POSITIONAL_OR_KEYWORD) for it in parameters[1:])
 
-    def mark(self, args: Sequence[Any], named: Mapping[str, Any]) -> Optional[Tuple[Any, ...]]:
-        """Returns what tells a call from all others of its function, for a dictionary: its arguments with their types. None where equal arguments of
-        one type need not be one, or something else is to be done with them first."""
-        if not self._is_plain(args, named):
-            return None
-        kinds = tuple(map(type, args))
-        return (kinds, args) if _AS_THEY_ARE.issuperset(kinds) else None
+    def stand_for_themselves(self, args: Sequence[Any], named: Mapping[str, Any]) -> bool:
+        """Returns True if equal arguments of the same types are one call's. Else equal ones of one type need not be one, or something else is to be done
+        with them first."""
+        return self._is_plain(args, named) and _AS_THEY_ARE.issuperset(map(type, args))
 
     def _is_plain(self, args: Sequence[Any], named: Mapping[str, Any]) -> bool:
         """Returns True if each argument is given by its position, and stands for itself."""

@@ -9,7 +9,11 @@ import enum
 import re
 import uuid
 from dataclasses import dataclass
-from typing import Any, Callable, Dict, FrozenSet, Iterable, List, Mapping, NamedTuple, Optional, Sequence, Tuple, Union
+from typing import TYPE_CHECKING, Any, Callable, Dict, FrozenSet, Iterable, List, Mapping, NamedTuple, Optional, Sequence, Tuple, Union
+
+if TYPE_CHECKING:
+    from ._cursor import Cursor
+    from ._hand import Hand
 
 Columns = Tuple[str, ...]
 Row = Dict[str, Any]
@@ -196,10 +200,10 @@ class Layout:
 
 
 class Db:
-    """Reads of a service's database, all in one snapshot. `run` gives the rows of a `Read`."""
+    """Reads of a service's database, all in one snapshot. `run` gives the rows of a `Read`, and `hand` runs the statements of cursors."""
 
-    def __init__(self, layout: Layout, run: Callable[[Read], List[Row]]):
-        self._layout, self._run = layout, run
+    def __init__(self, layout: Layout, run: Callable[[Read], List[Row]], hand: "Optional[Hand]" = None):
+        self._layout, self._run, self.hand = layout, run, hand
 
     def row(self, table: str, /, **columns: Any) -> Optional[Row]:
         """Returns the row whose columns have these values, or None. Fails with ValueError if there are more."""
@@ -223,6 +227,15 @@ class Db:
         found = None if tags is None else self._layout.tags(tags)
         return self._run(Read(query, tuple(args), None) if found is None else Read(query, tuple(args), tuple(found), tuple(found.values())))
 
+    def cursor(self, **words: Any) -> "Cursor":
+        """Returns a DB-API cursor that reads in the snapshot until the function has returned. `words` are those of the driver's own `cursor()`. What it
+        reads is found as of `sql`, and remembered by the function, unless `reads` has named it."""
+        return self.hand.cursor(words=words)
+
+    def reads(self, *tags: Union[str, Sequence[Any]]) -> None:
+        """Names all that cursors read from now on, and nothing checks it: a table, or (table, column, value). It comes before the first query of a cursor."""
+        self.hand.reads(self._layout.tags(tags))
+
 
 def dicts(names: Sequence[str], rows: Iterable[Sequence[Any]]) -> List[Row]:
     """Returns rows by the names of their columns. Fails with ValueError if two columns have one name."""
@@ -233,13 +246,13 @@ def dicts(names: Sequence[str], rows: Iterable[Sequence[Any]]) -> List[Row]:
 
 
 # Texts, names and comments: a semicolon in one of them ends no statement.
-_QUOTED = re.compile(r"""\be'(?:[^'\\]|''|\\.)*'|'(?:[^']|'')*'|"(?:[^"]|"")*"|\$(\w*)\$.*?\$\1\$|--[^\n]*|/\*.*?\*/""", re.I | re.S)
+QUOTED = re.compile(r"""\be'(?:[^'\\]|''|\\.)*'|'(?:[^']|'')*'|"(?:[^"]|"")*"|\$(\w*)\$.*?\$\1\$|--[^\n]*|/\*.*?\*/""", re.I | re.S)
 _ENDS = re.compile(r"\s*(begin|start|commit|end|rollback|abort|savepoint|release|prepare|discard)\b", re.I)
 
 
 def refuse_all_but_one_query(query: str) -> None:
     """Fails with ValueError if a text is several statements, or one that begins or ends a transaction: what it then read would be of no snapshot."""
-    plain = _QUOTED.sub(" ", query)
+    plain = QUOTED.sub(" ", query)
     if re.search(r";\s*\S", plain):
         raise ValueError(f"{query[:64]!r} is more than one statement")
     found = _ENDS.match(plain)
@@ -263,4 +276,4 @@ def refuse_time_and_chance(query: str) -> None:
     found = _CLOCK.search(query)
     if found:
         name = next(filter(None, found.groups()))
-        raise ValueError(f"the query names {name!r}: give what depends on the time or on chance as an argument, or give the tags")
+        raise ValueError(f"the query names {name!r}: give what depends on the time or on chance as an argument, or give the tags, of a cursor by db.reads(..)")

@@ -20,21 +20,39 @@ _ROW_TRIGGER = 29  # of pg_trigger.tgtype: after each row that is inserted, upda
 # The catalog rows of the tables and of their partitions, with whatever else changes what a query of them gives; and whether policies
 # hide rows of them. TRUNCATE and what rewrites a table change its relfilenode.
 _SHAPE = """
-DECLARE them oid[];
+DECLARE them oid[]; tree text;
 BEGIN
-    WITH RECURSIVE t(oid) AS (SELECT unnest(tables) UNION SELECT inhrelid FROM pg_inherits JOIN t ON inhparent = t.oid)
-    SELECT array_agg(oid) INTO them FROM t;
-    RETURN (SELECT concat_ws(' ',
-        (SELECT sum(hashtextextended(concat(oid, ' ', relfilenode, ' ', xmin), 0)) FROM pg_class WHERE oid = ANY (them)),
+    WITH RECURSIVE t(oid, made) AS (SELECT unnest(tables), NULL::xid UNION SELECT i.inhrelid, i.xmin FROM pg_inherits i JOIN t ON i.inhparent = t.oid)
+    SELECT array_agg(DISTINCT oid), concat(count(made), ',', sum(made::text::bigint)) INTO them, tree FROM t;
+    RETURN (SELECT concat_ws(' ', tree,
+        (SELECT concat(sum(hashtextextended(concat(oid, ' ', relfilenode, ' ', xmin), 0)), ' ', count(*) FILTER (WHERE relrowsecurity AND row_security_active(oid)))
+            FROM pg_class WHERE oid = ANY (them)),
         (SELECT sum(hashtextextended(concat(oid, ' ', tgenabled, ' ', xmin), 0)) FROM pg_trigger WHERE tgrelid = ANY (them)),
-        (SELECT sum(hashtextextended(concat(attrelid, ' ', attnum, ' ', xmin), 0)) FROM pg_attribute WHERE attrelid = ANY (them) AND attnum > 0),
+        (SELECT sum(hashtextextended(xmin::text, attrelid::bigint * 65536 + attnum)) FROM pg_attribute WHERE attrelid = ANY (them) AND attnum > 0),
         (SELECT concat(count(*), ',', sum(hashtextextended(concat(oid, ' ', xmin), 0))) FROM pg_policy WHERE polrelid = ANY (them)),
-        (SELECT count(*) FROM pg_class WHERE oid = ANY (them) AND relrowsecurity AND row_security_active(oid)),
-        (SELECT concat(count(*), ',', sum(xmin::text::bigint)) FROM pg_inherits WHERE inhparent = ANY (them)),
         (SELECT concat(count(*), ',', sum(xmin::text::bigint)) FROM pg_proc WHERE oid >= 16384),
         (SELECT concat(count(*), ',', sum(r.xmin::text::bigint)) FROM pg_rewrite r JOIN pg_class c ON c.oid = r.ev_class
             WHERE r.oid >= 16384 AND c.relpersistence <> 't'),
         (SELECT concat(count(*), ',', sum(xmin::text::bigint)) FROM pg_enum WHERE oid >= 16384)));
+END
+"""
+
+# What a look asks for, in one statement whose plans the server keeps: the snapshot's numbers, the server's, the number that was purged last, the shape of the
+# tables; and the tags of rows that the snapshot sees and one did not that had seen all below `beyond` but those `running`. The server's own processes have
+# other numbers once it has begun anew after one of its processes died; its start time is then as it was.
+_LOOK = """
+BEGIN
+    SELECT pg_current_snapshot()::text, concat(s.system, ' ', (SELECT oid FROM pg_database WHERE datname = current_database()), ' ',
+            extract(epoch FROM pg_postmaster_start_time()), ' ', c.system_identifier, ' ',
+            (SELECT min(pid) FROM pg_stat_get_activity(NULL) WHERE datid IS NULL AND usesysid IS NULL)),
+        s.upto::text, txcache.shape(tables) INTO snapshot, server, purged, form
+    FROM txcache.state s, pg_control_system() c;
+    IF beyond IS NOT NULL THEN
+        tags := ARRAY(SELECT DISTINCT n.relation || ':' || k FROM
+            (SELECT relation, keys FROM txcache.notes WHERE xact >= beyond UNION ALL
+             SELECT relation, keys FROM txcache.notes WHERE xact = ANY (running)) AS n, unnest(''::text || n.keys) AS k
+            WHERE n.relation = ANY (relations) LIMIT most);
+    END IF;
 END
 """
 
@@ -79,19 +97,26 @@ INSERT INTO txcache.state SELECT system_identifier, pg_snapshot_xmin(pg_current_
     WHERE NOT EXISTS (SELECT FROM txcache.state);
 """
 
+# Plans that are kept go by the indexes: a catalog, or the notes, may be short when the plan is made. What has no index then seems dear, and would be compiled.
+_PLANS = "SET plan_cache_mode = force_generic_plan SET enable_seqscan = off SET jit = off"
+_LOOK_OF = "txcache.look(oid[], xid8, xid8[], text[], integer)"
+
 _FUNCTIONS = f"""
-CREATE OR REPLACE FUNCTION txcache.shape(tables oid[]) RETURNS text LANGUAGE plpgsql STABLE {SAFE_PATH} SET plan_cache_mode = force_generic_plan
+CREATE OR REPLACE FUNCTION txcache.shape(tables oid[]) RETURNS text LANGUAGE plpgsql STABLE {SAFE_PATH} {_PLANS}
     AS $txcache${_SHAPE}$txcache$;
+CREATE OR REPLACE FUNCTION txcache.look(tables oid[], beyond xid8, running xid8[], relations text[], most integer,
+        OUT snapshot text, OUT server text, OUT purged text, OUT form text, OUT tags text[]) LANGUAGE plpgsql STABLE {SAFE_PATH} {_PLANS}
+    AS $txcache${_LOOK}$txcache$;
 CREATE OR REPLACE FUNCTION txcache.purge(age double precision) RETURNS bigint LANGUAGE plpgsql SECURITY DEFINER {SAFE_PATH}
     AS $txcache${_PURGE}$txcache$;
-REVOKE ALL ON FUNCTION txcache.shape(oid[]), txcache.purge(double precision) FROM PUBLIC;
+REVOKE ALL ON FUNCTION txcache.shape(oid[]), {_LOOK_OF}, txcache.purge(double precision) FROM PUBLIC;
 COMMENT ON SCHEMA txcache IS {literal(COMMENT)};
 """
 
-_READER = """
-GRANT USAGE ON SCHEMA txcache TO {role};
-GRANT SELECT ON txcache.notes, txcache.state TO {role};
-GRANT EXECUTE ON FUNCTION txcache.shape(oid[]), txcache.purge(double precision) TO {role};
+_READER = f"""
+GRANT USAGE ON SCHEMA txcache TO {{role}};
+GRANT SELECT ON txcache.notes, txcache.state TO {{role}};
+GRANT EXECUTE ON FUNCTION txcache.shape(oid[]), {_LOOK_OF}, txcache.purge(double precision) TO {{role}};
 """
 
 _RELATIONS = """
@@ -295,8 +320,12 @@ _WITH_TRIGGERS = "r", "p"  # kinds of relations: ordinary and partitioned tables
 _KIND_NAMES = {"v": "a view", "m": "a materialized view", "f": "a foreign table", "S": "a sequence", "c": "a composite type", "i": "an index"}
 
 
-_MAY_READ = """SELECT has_schema_privilege(%s, 'txcache', 'USAGE'), has_table_privilege(%s, 'txcache.notes', 'SELECT'), has_table_privilege(%s, 'txcache.state', 'SELECT'),
-    has_function_privilege(%s, 'txcache.shape(oid[])', 'EXECUTE'), has_function_privilege(%s, 'txcache.purge(double precision)', 'EXECUTE')"""
+_MAY_READ = f"""SELECT has_schema_privilege(%s, 'txcache', 'USAGE'), has_table_privilege(%s, 'txcache.notes', 'SELECT'), has_table_privilege(%s, 'txcache.state', 'SELECT'),
+    has_function_privilege(%s, 'txcache.shape(oid[])', 'EXECUTE'), has_function_privilege(%s, '{_LOOK_OF}', 'EXECUTE'),
+    has_function_privilege(%s, 'txcache.purge(double precision)', 'EXECUTE')"""
+
+
+_TEXTS = {"shape": _SHAPE, "look": _LOOK, "purge": _PURGE}
 
 
 def _comment(link: Link) -> Optional[str]:
@@ -306,27 +335,25 @@ def _comment(link: Link) -> Optional[str]:
 
 def _functions(link: Link) -> Dict[str, str]:
     return dict(link.ask("SELECT p.proname::text, p.prosrc FROM pg_proc p JOIN pg_namespace n ON n.oid = p.pronamespace "
-                         "WHERE n.nspname = 'txcache' AND p.proname IN ('shape', 'purge')"))
+                         "WHERE n.nspname = 'txcache' AND p.proname IN ('shape', 'look', 'purge')"))
 
 
 def faults_of_schema(link: Link) -> List[str]:
     """Returns why the schema `txcache` can't be read from."""
-    (is_standby,), = link.ask("SELECT pg_is_in_recovery()")
-    lines = ["the server is a standby"] if is_standby else []
     comment = _comment(link)
     if comment != COMMENT:
-        return [*lines, f"the schema txcache is {'not there' if comment is None else repr(comment)}, and not {COMMENT!r}"]
-    if _functions(link) != {"shape": _SHAPE, "purge": _PURGE}:
-        return [*lines, f"the functions of the schema txcache are not those of version {VERSION}"]
+        return [f"the schema txcache is {'not there' if comment is None else repr(comment)}, and not {COMMENT!r}"]
+    if _functions(link) != _TEXTS:
+        return [f"the functions of the schema txcache are not those of version {VERSION}"]
     if not link.ask("SELECT has_schema_privilege('txcache', 'USAGE')")[0][0]:
-        return [*lines, "this role may not use the schema txcache: install --reader ROLE"]
+        return ["this role may not use the schema txcache: install --reader ROLE"]
     (may_read, may_call), = link.ask("SELECT has_table_privilege('txcache.notes', 'SELECT') AND has_table_privilege('txcache.state', 'SELECT'), "
-                                     "has_function_privilege('txcache.shape(oid[])', 'EXECUTE')")
+                                     f"has_function_privilege('txcache.shape(oid[])', 'EXECUTE') AND has_function_privilege('{_LOOK_OF}', 'EXECUTE')")
     if not (may_read and may_call):
-        return [*lines, "this role may not read the notes: install --reader ROLE"]
+        return ["this role may not read the notes: install --reader ROLE"]
     if link.ask("SELECT system FROM txcache.state") != link.ask("SELECT system_identifier FROM pg_control_system()"):
-        lines.append("the notes are those of another server, as of a restored dump")
-    return lines
+        return ["the notes are those of another server, as of a restored dump"]
+    return []
 
 
 class Installer:
@@ -344,9 +371,9 @@ class Installer:
 
     def schema(self, reader: Optional[str]) -> None:
         """Writes what stands once in a database. What stands already is left alone: tables that snapshots read would be waited for."""
-        stands = _comment(self._link) == COMMENT and _functions(self._link) == {"shape": _SHAPE, "purge": _PURGE}
+        stands = _comment(self._link) == COMMENT and _functions(self._link) == _TEXTS
         self._transaction(("" if stands else _TABLES + _FUNCTIONS) + _STATE)
-        if reader and not all(self._link.ask(_MAY_READ, (reader,) * 5)[0]):
+        if reader and not all(self._link.ask(_MAY_READ, (reader,) * 6)[0]):
             self._transaction(_READER.format(role=quote(reader)))
 
     def table(self, found: Found, lookups: FrozenSet[Columns], standing: Iterable[Standing]) -> bool:

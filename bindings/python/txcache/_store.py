@@ -1,8 +1,12 @@
 """What a cache follows: the snapshots of a database, and what changed between one and the next."""
 
-from typing import Any, FrozenSet, List, NamedTuple, Optional, Protocol, Sequence, Tuple
+from typing import TYPE_CHECKING, Any, FrozenSet, List, NamedTuple, Optional, Protocol, Sequence, Tuple
 
 from ._layout import Db, Layout, Read, Row, refuse_time_and_chance
+
+if TYPE_CHECKING:
+    from ._cursor import Result, Statement
+    from ._hand import Hand
 
 MAX_TAGS = 20_000  # tags of one step: a step of more begins cold
 PURGE_AGE = 600.0  # seconds: notes that an older purge saw the end of are deleted
@@ -12,6 +16,7 @@ class Snapshot(Protocol):
     """An open read-only transaction: all that is read through it is of one moment."""
 
     layout: Layout
+    is_lost: bool  # True once a read has found that its transaction has ended: then the next look takes its place
 
     def rows(self, read: Read) -> List[Row]:
         """Returns the rows of a query."""
@@ -19,22 +24,29 @@ class Snapshot(Protocol):
     def rows_and_tables(self, query: str, args: Sequence[Any]) -> Tuple[List[Row], FrozenSet[str]]:
         """Returns the rows of a query, and the tables that it read, by their tags."""
 
+    def by_hand(self, statement: "Statement", is_named: bool) -> "Tuple[Result, FrozenSet[str]]":
+        """Returns what a statement gives; and the tables that it read, by their tags, unless those were named."""
+
     def close(self) -> None:
         """Lets it go."""
 
 
 class Look(NamedTuple):
     """A new snapshot, where it stands among the database's commits, and the tags of what changed since the last; None and why where that
-    is not known, and all that is cached must go. No snapshot where nothing has changed since, and none was wanted."""
+    is not known, and all that is cached must go. No snapshot where nothing has changed since, and none was wanted. `delay` is how many seconds
+    before it was taken it may stand, as on a server that follows another."""
 
     snapshot: Optional[Snapshot]
     mark: Any
     tags: Optional[FrozenSet[str]]
     reason: str = ""
+    delay: float = 0.0
 
 
 class Store(Protocol):
-    """A database beside which a service caches."""
+    """A database beside which a service caches. `cursor_kind` makes its cursors."""
+
+    cursor_kind: Any
 
     def prepare(self, connections: int, hold: float) -> None:
         """Has at most so many connections read, and snapshots that stay open for so many seconds."""
@@ -61,7 +73,7 @@ class Store(Protocol):
         """Closes all connections."""
 
 
-def db_of(snapshot: Snapshot) -> Db:
+def db_of(snapshot: Snapshot, hand: "Optional[Hand]" = None) -> Db:
     """Returns the reads of a snapshot with no cache."""
 
     def run(read: Read) -> List[Row]:
@@ -70,4 +82,4 @@ def db_of(snapshot: Snapshot) -> Db:
         refuse_time_and_chance(read.query)
         return snapshot.rows_and_tables(read.query, read.args)[0]
 
-    return Db(snapshot.layout, run)
+    return Db(snapshot.layout, run, hand)

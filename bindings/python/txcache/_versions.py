@@ -1,11 +1,13 @@
 """The site of a cache: its database is a table of versions, a row a place, and its transactions are the pages. All that the cache asks of the
-library is here. Threads share it: each call takes the lock for itself alone."""
+library is here. Threads share it, and no lock of ours is held: a call keeps the interpreter's own, so that it is alone, and gets its answer in a room that
+nobody else has meanwhile. (A lock would be held by a thread that waits for the interpreter's, behind all others, and for long where the machine is busy.)"""
 
 import ctypes as c
 import struct
 import threading
 import time
-from typing import Any, Callable, Dict, Iterable, NamedTuple, Optional, Sequence, Tuple
+from types import SimpleNamespace
+from typing import Any, Callable, Dict, Iterable, List, NamedTuple, Optional, Sequence, Tuple
 
 from . import _calls
 from ._calls import ANSWERED, COMPUTE, DONE, MISS, NO_MEMORY, NO_ROOM
@@ -18,15 +20,15 @@ MAX_PLACES = 65_536
 UNCHANGING_PLACE = MAX_PLACES  # of no tag
 _TABLES = 16  # the version of a place is a row of one of so many tables, since an event names at most 16 rows of each
 _MOST_ROWS, _LEAST_ROWS = 15 * _TABLES, 8  # of an event
-_NAP = 5e-5  # seconds
-_LONG, _SHORT = 0.004, 0.001  # seconds for which the lock is held: beyond, the next event is of half as many rows; below, of twice as many
+_LONG, _SHORT = 0.004, 0.001  # seconds that an event takes: beyond, the next is of half as many rows; below, of twice as many
 _EVER = 2**64 - 1  # a pin is never renewed: the present of the table of versions may be the middle of a step
-_TXC = _calls.declared()
-_CALL, _COMMIT, _MEMBER_AT, _READ_STAMP, _QUERY_ROWS, _PUT = map(_calls.undeclared, ("call", "commit", "member_at", "read_stamp", "query_rows", "put"))
+_QUICK = "call", "commit", "member_at", "read_stamp", "query_rows", "put"
+_TXC = SimpleNamespace(**_calls.one_at_a_time({**vars(_calls.declared(long_ones=())), **{f"quick_{name}": _calls.undeclared(name) for name in _QUICK}}))
+_CALL, _COMMIT, _MEMBER_AT, _READ_STAMP, _QUERY_ROWS, _PUT = (getattr(_TXC, f"quick_{name}") for name in _QUICK)
 _AS_KEY = struct.Struct("=BB2x16s").pack  # as the library has a key of four arguments
 _FIRST, _NO_GROUP = c.c_size_t(0), c.c_uint32(0)
 _FIRST_ROOM = 4096  # bytes of the buffer for values, which becomes as long as the longest that was a hit
-_TRIMMED = 256  # entries, about, that are dropped while the lock is held once
+_TRIMMED = 256  # entries, about, that are dropped at once
 
 
 class Refused(TxCacheError):
@@ -53,12 +55,12 @@ class Totals(NamedTuple):
 
 
 class CallKey:
-    """A call, as it is asked for. `at` is where the library reads it."""
+    """A call, as it is asked for; of one whose arguments stand for themselves these. `at` is where the library reads it."""
 
-    __slots__ = "digest", "level", "at"
+    __slots__ = "digest", "level", "args", "at"
 
-    def __init__(self, level: int, digest: bytes):
-        self.digest, self.level = digest, level
+    def __init__(self, level: int, digest: bytes, args: Optional[Tuple[Any, ...]]):
+        self.digest, self.level, self.args = digest, level, args
         self.at = c.byref(_Key.from_buffer_copy(_AS_KEY(level, 4, digest)))
 
 
@@ -69,66 +71,65 @@ def _do(call: Callable[..., int], *words) -> None:
 
 
 def _error(call: Callable[..., int], number: int) -> Exception:
-    name = getattr(call, "__name__", "the library")
+    return refusal(getattr(call, "__name__", "the library"), number)
+
+
+def refusal(name: str, number: int) -> Exception:
+    """Returns what is raised where a call of the library returned this number."""
     return MemoryError(name) if number == NO_MEMORY else Refused(name, number)
 
 
-class Turn:
-    """The library's lock, for single calls of it, by `with`. A thread that finds it held lets others run and looks again. If it queued, a thread that lost
-    the interpreter's lock in mid-call would hand both on at each call from then on, and eight threads would answer a fifth of what one does."""
+class _Room:
+    """Where the library writes what it answers to one call. `byref` once, since it takes as long as a short call."""
 
-    __slots__ = "acquire", "release"
+    __slots__ = "buffer", "length", "size", "stamp", "moment", "receipt", "query", "size_at", "stamp_at", "moment_at", "receipt_at", "query_at"
 
-    def __init__(self, lock: Any):
-        self.acquire, self.release = lock.acquire, lock.release
-
-    def __enter__(self) -> None:
-        while not self.acquire(False):
-            time.sleep(_NAP)
-
-    def __exit__(self, *words: Any) -> None:
-        self.release()
+    def __init__(self) -> None:
+        self.buffer, self.length = c.create_string_buffer(_FIRST_ROOM), c.c_size_t(_FIRST_ROOM)
+        self.size, self.stamp, self.moment, self.receipt, self.query = c.c_size_t(), c.c_uint32(), c.c_uint64(), _calls.Receipt(), _calls.Query(0, 1, 0, 0)
+        self.size_at, self.stamp_at, self.moment_at, self.receipt_at, self.query_at = map(c.byref, (self.size, self.stamp, self.moment, self.receipt, self.query))
 
 
 class Versions:
     """A site with a node of `capacity` entries. `longest` bounds the bytes of a value."""
 
     longest = MAX_VALUE_LEN
+    hit: Optional[Callable[..., Optional[bytes]]] = None  # the value of an outermost call whose key is known, if it is cached
 
     def __init__(self, capacity: int, recent: int = 4096):
-        self._site, self._turn, self._rows = _Handle(None, False), Turn(threading.Lock()), 4 * _TABLES
-        # the library writes these, under the lock; `byref` once, since it takes as long as a short call
-        self._buffer, self._size, self._stamp, self._moment, self._receipt, self._query = (
-            c.create_string_buffer(_FIRST_ROOM), c.c_size_t(), c.c_uint32(), c.c_uint64(), _calls.Receipt(), _calls.Query(0, 1, 0, 0))
-        self._at, self._size_at, self._stamp_at, self._moment_at, self._receipt_at, self._query_at = map(
-            c.byref, (self._site, self._size, self._stamp, self._moment, self._receipt, self._query))
-        self._room = c.c_size_t(_FIRST_ROOM)
+        self._site, self._rows = _Handle(None, False), 4 * _TABLES
+        self._at = c.byref(self._site)
+        self._free: List[_Room] = []  # a room is taken from here for a call, and put back after it; one whose call failed is dropped
         _do(_TXC.site_open, self._site, _calls.Settings(c.sizeof(_calls.Settings), 0, capacity, recent, _EVER))
 
     def close(self) -> None:
-        with self._turn:
-            _TXC.site_close(self._site)
+        self.trim(0)  # in steps
+        _TXC.site_close(self._site)
+
+    def _room(self) -> _Room:
+        try:
+            return self._free.pop()
+        except IndexError:
+            return _Room()
 
     # ---- steps
 
     def touch(self, places: Sequence[int], version: int) -> None:
-        """Gives these places a version. A long step lets go of the lock now and then; no page reads its middle, since none reads the present. How long an
-        event takes depends on how many results it closes, so that its rows become fewer or more."""
+        """Gives these places a version. Threads go on between its events; no page reads its middle, since none reads the present. How long an event takes
+        depends on how many results it closes, so that its rows become fewer or more."""
         body, at = str(version).encode(), 0
         while at < len(places):
             some = places[at:at + self._rows]
-            with self._turn:
-                begun = time.perf_counter()
-                self._put(some, body)
-                took = time.perf_counter() - begun
+            took = self._put(some, body)
             at += len(some)
             if took > _LONG:
                 self._rows = max(_LEAST_ROWS, self._rows // 2)
             elif took < _SHORT and len(some) == self._rows:
                 self._rows = min(_MOST_ROWS, self._rows * 2)
 
-    def _put(self, places: Sequence[int], body: bytes) -> None:
-        site, txn, table, row = self._at, c.c_uint64(), c.c_uint8(), c.c_uint32()
+    def _put(self, places: Sequence[int], body: bytes) -> float:
+        """Returns the seconds of the event itself, which no other thread interrupts."""
+        site, txn, stamp, table, row = self._at, c.c_uint64(), c.c_uint32(), c.c_uint8(), c.c_uint32()
         words = _NO_GROUP, c.c_char_p(body), c.c_size_t(len(body))
         _do(_TXC.begin_write, site, txn)
         try:
@@ -137,7 +138,9 @@ class Versions:
                 number = _PUT(site, txn, table, row, *words)
                 if number:
                     raise _error(_TXC.put, number)
-            _do(_TXC.commit_write, site, txn, self._stamp_at)
+            begun = time.thread_time()
+            _do(_TXC.commit_write, site, txn, stamp)
+            return time.thread_time() - begun
         except BaseException:
             _TXC.abort(site, txn)
             raise
@@ -145,127 +148,128 @@ class Versions:
     def pin(self, moment: int) -> int:
         """Pins the newest state, as of this moment. Returns its stamp."""
         stamp = c.c_uint32()
-        with self._turn:
-            _do(_TXC.pin, self._site, moment, stamp)
+        _do(_TXC.pin, self._site, moment, stamp)
         return stamp.value
 
     def keep(self, before: int) -> int:
         """Lets go what no page can read any more once the pins before a moment are retired. Returns the stamp below which nothing is read."""
         kept = _calls.Kept()
-        with self._turn:
-            _do(_TXC.keep, self._site, before, 0, kept)
+        _do(_TXC.keep, self._site, before, 0, kept)
         return kept.horizon
 
     def totals(self) -> Totals:
         """Returns what is cached in all."""
         totals = _Totals()
-        with self._turn:
-            _do(_TXC.site_totals, self._site, totals)
+        _do(_TXC.site_totals, self._site, totals)
         return Totals(totals.entries, totals.bytes, totals.trimmed)
 
     def trim(self, most: int) -> None:
-        """Drops the results that were used longest ago, until the values of the others have at most `most` bytes in all. It lets go of the lock now and
-        then."""
+        """Drops the results that were used longest ago, until the values of the others have at most `most` bytes in all. Threads go on between its
+        steps."""
         dropped, found = c.c_size_t(), self.totals()
         step = max(1, found.bytes * _TRIMMED // max(1, found.entries))
         for left in [*range(found.bytes - step, most, -step), most] if found.bytes > most else ():
-            with self._turn:
-                _do(_TXC.site_trim, self._site, left, dropped)
+            _do(_TXC.site_trim, self._site, left, dropped)
 
     # ---- pages
 
     def begin(self, now: int, staleness: int, at_least: int) -> Optional[c.c_uint64]:
         """Begins a page at the pins of these bounds. Returns its number; None if there is no such pin, and then no page is begun."""
-        txn = c.c_uint64()
-        with self._turn:
-            _do(_TXC.begin, self._at, now, staleness, at_least, txn)
-            number = _MEMBER_AT(self._at, txn, _FIRST, self._stamp_at, self._moment_at)
-            if number == DONE:
-                return txn
-            _TXC.abort(self._at, txn)
+        txn, room = c.c_uint64(), self._room()
+        _do(_TXC.begin, self._at, now, staleness, at_least, txn)
+        number = _MEMBER_AT(self._at, txn, _FIRST, room.stamp_at, room.moment_at)
+        self._free.append(room)
+        if number == DONE:
+            return txn
+        _TXC.abort(self._at, txn)
         if number != MISS:
             raise _error(_TXC.member_at, number)
         return None
 
     def member(self, txn: c.c_uint64, at: int) -> Optional[Member]:
         """Returns a member, counted from the newest; None past the last."""
-        with self._turn:
-            number = _TXC.member_at(self._at, txn, at, self._stamp_at, self._moment_at)
-            if number == DONE:
-                return Member(self._stamp.value, self._moment.value)
+        room = self._room()
+        number, found = _TXC.member_at(self._at, txn, at, room.stamp_at, room.moment_at), Member(room.stamp.value, room.moment.value)
+        self._free.append(room)
+        if number == DONE:
+            return found
         if number != MISS:
             raise _error(_TXC.member_at, number)
         return None
 
     def read_stamp(self, txn: c.c_uint64) -> Optional[int]:
         """Returns the stamp at which the page's next query runs; None where it would pin the present."""
-        with self._turn:
-            number = _READ_STAMP(self._at, txn, self._stamp_at)
-            if number == DONE:
-                return self._stamp.value
+        room = self._room()
+        number, stamp = _READ_STAMP(self._at, txn, room.stamp_at), room.stamp.value
+        self._free.append(room)
+        if number == DONE:
+            return stamp
         if number != MISS:
             raise _error(_TXC.read_stamp, number)
         return None
 
     @staticmethod
-    def key(level: int, digest: bytes) -> CallKey:
+    def key(level: int, digest: bytes, args: Optional[Tuple[Any, ...]] = None) -> CallKey:
         """Returns the call of a function's level and a digest."""
-        return CallKey(level, digest)
+        return CallKey(level, digest, args)
 
     def call(self, txn: c.c_uint64, key: CallKey) -> Optional[bytes]:
         """Returns the value of a call; None where its function is to be computed."""
-        turn = self._turn  # by hand, since it is most of what a hit does
-        while not turn.acquire(False):
-            time.sleep(_NAP)
-        try:
-            number = _CALL(self._at, txn, key.at, self._buffer, self._room, self._size_at)
-            if number == NO_ROOM:
-                number = self._told_once_more(txn)
-            if number == DONE or number == ANSWERED:
-                return self._buffer[:self._size.value]
-        finally:
-            turn.release()
+        try:  # by hand, since it is most of what a hit does
+            room = self._free.pop()
+        except IndexError:
+            room = _Room()
+        number = _CALL(self._at, txn, key.at, room.buffer, room.length, room.size_at)
+        if number == NO_ROOM:
+            number = self._told_once_more(txn, room)
+        if number == DONE or number == ANSWERED:
+            data = room.buffer[:room.size.value]
+            self._free.append(room)
+            return data
+        self._free.append(room)
         if number == COMPUTE:
             return None
         raise _error(_TXC.call, number)
 
-    def _told_once_more(self, txn: c.c_uint64) -> int:
+    def _told_once_more(self, txn: c.c_uint64, room: _Room) -> int:
         """Has the value that was too long for the buffer be told again, with a longer one."""
-        self._room.value = min(MAX_VALUE_LEN, 2 * self._size.value)
-        self._buffer = c.create_string_buffer(self._room.value)
-        return _TXC.answer(self._at, txn, self._buffer, self._room, self._size)
+        room.length.value = min(MAX_VALUE_LEN, 2 * room.size.value)
+        room.buffer = c.create_string_buffer(room.length.value)
+        return _TXC.answer(self._at, txn, room.buffer, room.length, room.size)
 
     def ask(self, txn: c.c_uint64, place: int) -> None:
         """Asks for the version of a place: what the function that the page computes gives depends on it from then on."""
-        query = self._query
-        with self._turn:
-            query.table, query.first = place % _TABLES, place // _TABLES
-            number = _QUERY_ROWS(self._at, txn, self._query_at, self._size_at)
+        room = self._room()
+        query = room.query
+        query.table, query.first = place % _TABLES, place // _TABLES
+        number = _QUERY_ROWS(self._at, txn, room.query_at, room.size_at)
+        self._free.append(room)
         if number != ANSWERED:
             raise _error(_TXC.query_rows, number)
 
     def finish(self, txn: c.c_uint64, data: bytes) -> None:
         """Says what the function that the page computes gives. It is not told once more: there is no room."""
-        with self._turn:
-            number = _TXC.finish(self._at, txn, data, len(data), None, 0, self._size_at)
+        room = self._room()
+        number = _TXC.finish(self._at, txn, data, len(data), None, 0, room.size_at)
+        self._free.append(room)
         if number not in (DONE, ANSWERED, NO_ROOM):
             raise _error(_TXC.finish, number)
 
     def give_up(self, txn: c.c_uint64) -> None:
         """Gives up the open call, with the calls around it, if there is one."""
-        with self._turn:
-            _TXC.give_up(self._site, txn)
+        _TXC.give_up(self._site, txn)
 
     def commit(self, txn: c.c_uint64) -> Tuple[int, Optional[Member]]:
         """Ends a page. Returns how many answers it had, and the pin at which all are right."""
-        receipt = self._receipt
-        with self._turn:
-            _do(_COMMIT, self._at, txn, self._receipt_at)
-            return receipt.answers, Member(receipt.stamp, receipt.moment) if receipt.has_pin else None
+        room = self._room()
+        _do(_COMMIT, self._at, txn, room.receipt_at)
+        receipt = room.receipt
+        found = receipt.answers, Member(receipt.stamp, receipt.moment) if receipt.has_pin else None
+        self._free.append(room)
+        return found
 
     def abort(self, txn: c.c_uint64) -> None:
-        with self._turn:
-            _TXC.abort(self._site, txn)
+        _TXC.abort(self._site, txn)
 
 
 class Places:

@@ -23,6 +23,10 @@ class SnapshotRefused(SnapshotLost):
     """No snapshot was taken, since another transaction holds a lock on a table, as an ALTER TABLE does, or waits for one."""
 
 
+class OutsideSnapshot(TxCacheError, RuntimeError):
+    """What was asked would leave the snapshot of a cacheable function, as a write or a commit does; or the function has returned, or none runs."""
+
+
 class NotSeen(TxCacheError):
     """A new snapshot does not see the transaction of a token: it has not committed, or wrote into another database."""
 

@@ -20,7 +20,8 @@ from . import _library
 LAST_FUNCTION = 63
 MAX_ARGS = 4
 LAST_TABLE = 15
-LAST_STAMP = 1_048_576
+LAST_STAMP = 4_294_967_294
+MAX_CAPACITY = 1_048_576  # entries of a node
 MAX_VALUE_LEN = 1_048_576
 MAX_ASKS = 4096  # of the functions of an outermost call, all together
 FIRST_ROOM = 1024  # a longer value is asked for twice

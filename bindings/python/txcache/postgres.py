@@ -11,6 +11,8 @@ import threading
 from dataclasses import dataclass, field
 from typing import Any, Dict, FrozenSet, Iterable, Iterator, List, Mapping, Optional, Sequence, Tuple, Union
 
+from . import _standby
+from ._cursor import OWN, Cursor, Result, Source, Statement
 from ._driver import Link
 from ._layout import Layout, Name, Read, Row, dicts, literal, lookups_of
 from ._postgres_schema import Catalog, Installer, array, faults_of_schema
@@ -23,19 +25,7 @@ INSTALL_TIMEOUT = 5.0  # seconds for which `install` waits for the lock of a tab
 IDLE_TIMEOUT = 30.0  # seconds after which the server ends a snapshot of which nothing was asked
 _TOKEN = re.compile(r"([0-9a-f]{16})-([0-9a-f]{1,16})")
 
-# A snapshot: its numbers, the server's, the number that was purged last, the shape of the tables; and the tags of rows that it sees and the last did not.
-# The server's own processes have other numbers once it has begun anew after one of its processes died; its start time is then as it was.
-_LOOK = """
-SELECT pg_current_snapshot()::text, concat(s.system, ' ', (SELECT oid FROM pg_database WHERE datname = current_database()), ' ',
-        extract(epoch FROM pg_postmaster_start_time()), ' ', c.system_identifier, ' ',
-        (SELECT min(pid) FROM pg_stat_get_activity(NULL) WHERE datid IS NULL AND usesysid IS NULL)),
-    s.upto::text, txcache.shape({oids}), {tags}
-FROM txcache.state s, pg_control_system() c
-"""
-_TAGS = """ARRAY(SELECT DISTINCT n.relation || ':' || k FROM
-    (SELECT relation, keys FROM txcache.notes WHERE xact >= '{xmax}'::xid8 UNION ALL
-     SELECT relation, keys FROM txcache.notes WHERE xact = ANY ('{{{running}}}'::xid8[])) AS n, unnest(''::text || n.keys) AS k
-    WHERE n.relation = ANY (ARRAY[{relations}]::text[]) LIMIT {most})"""
+_LOOK = "SELECT * FROM txcache.look({oids}, {beyond}, '{{{running}}}', ARRAY[{relations}]::text[], {most})"
 _LOCKED = "SELECT relation::bigint FROM pg_locks WHERE pid = pg_backend_pid() AND locktype = 'relation' AND relation <> 'pg_catalog.pg_locks'::regclass"
 _RELATIONS = """
 WITH RECURSIVE up(oid, root) AS (SELECT it, it FROM unnest({oids}) AS it UNION ALL SELECT up.oid, i.inhparent FROM up JOIN pg_inherits i ON i.inhrelid = up.root)
@@ -43,6 +33,7 @@ SELECT up.oid::bigint, up.root::bigint, c.relkind::text, n.nspname, c.relname, c
 """
 _INDEXES = "i", "I", "t"  # and what lies beside a table's rows: the table itself is locked too, as are those of a view
 _LOCK_NOT_AVAILABLE = "55P03"
+_ROLLED_BACK = "40"
 _OF_SERVER = "08", "57", "53", "40"  # classes of errors: of the connection, of a server that ends, of its resources, of a transaction that is to be tried again
 MAX_SPARE = 2  # connections that are kept for the next snapshots
 _KIND_NAMES = {"r": "table", "p": "table", "m": "materialized view", "f": "foreign table", "S": "sequence", "c": "type"}
@@ -58,6 +49,7 @@ class Mark:
     running: FrozenSet[int]
     upto: int
     shape: str
+    seen: Optional[FrozenSet[int]] = None  # of a standby, in the place of `running`: the numbers from `xmin` on whose notes it has
 
     @staticmethod
     def of(text: str, server: str, upto: str, shape: str) -> "Mark":
@@ -66,12 +58,16 @@ class Mark:
 
     def sees(self, xact: int) -> bool:
         """Returns True if the transaction was over when the snapshot was taken."""
+        if self.seen is not None:
+            return xact < self.xmin or xact in self.seen
         return xact < self.xmax and xact not in self.running
 
 
 class PostgresStore:
     """The database of a connection string. `tables` names of each table the columns by which rows are looked up; a tuple is several together, and none
     follows the whole table. Each open snapshot has a connection, beside those that read."""
+
+    cursor_kind = Cursor
 
     def __init__(self, dsn: str, tables: Mapping[str, Sequence[Union[str, Tuple[str, ...]]]], *, lock_timeout: float = LOCK_TIMEOUT,
                  idle_timeout: float = IDLE_TIMEOUT, driver: Optional[str] = None):
@@ -91,6 +87,7 @@ class PostgresStore:
         """Of a child after a fork: returns all that its parent has open, which it may neither use nor close, and has none of its own."""
         inherited = vars(self).get("_spare"), vars(self).get("readers")
         self._tables: Optional[_Tables] = None
+        self._replay = _standby.Replay()
         self._spare: List[Link] = []
         self._lock = threading.Lock()
         self.readers = Readers(self, self._connections)
@@ -111,6 +108,7 @@ class PostgresStore:
         """Writes the triggers and lets the role `reader` read the notes. It takes each table's lock for a moment, and may be run again.
         Returns a line for each table; fails with NotInstalled, whose lines say which tables it could not write and why."""
         with contextlib.closing(self.connect()) as link:
+            _standby.refuse(link, "install")
             faults = self._catalog_of(link).missing
             if faults:
                 raise NotInstalled(faults)
@@ -139,6 +137,7 @@ class PostgresStore:
     def purge(self, age: float = PURGE_AGE) -> int:
         """Deletes the notes of transactions that were over when a purge of `age` seconds ago or more looked. Returns how many."""
         with contextlib.closing(self.connect()) as link:
+            _standby.refuse(link, "purge")
             link.ask("BEGIN ISOLATION LEVEL READ COMMITTED")
             (deleted,), = link.ask("SELECT txcache.purge(%s::double precision)", (age,))
             link.ask("COMMIT")
@@ -147,6 +146,7 @@ class PostgresStore:
     def uninstall(self) -> List[str]:
         """Drops the triggers of these tables, and the schema where no other table has one. Returns a line for each table."""
         with contextlib.closing(self.connect()) as link:
+            _standby.refuse(link, "uninstall")
             catalog, installer = self._catalog_of(link), Installer(link, INSTALL_TIMEOUT)
             standing = catalog.triggers()
             lines = catalog.missing + [f"{it}: {'uninstalled' if installer.uninstall_table(standing[it]) else 'no trigger stood'}" for it in catalog.found]
@@ -208,10 +208,10 @@ class PostgresStore:
             link.close()
             raise
 
-    def _begin(self, link: Link, names: Iterable[Name]) -> None:
-        """Begins a transaction and locks its tables. Neither takes the snapshot: what follows does, and then no TRUNCATE can come between."""
+    def _begin(self, names: Iterable[Name]) -> str:
+        """Returns what begins a transaction and locks its tables. Neither takes the snapshot: what follows does, and then no TRUNCATE can come between."""
         lock = f"LOCK TABLE {', '.join(it.quoted for it in names)} IN ACCESS SHARE MODE" if names else ""
-        link.ask(f"BEGIN ISOLATION LEVEL REPEATABLE READ READ ONLY; {self.settings}{lock}")
+        return f"BEGIN ISOLATION LEVEL REPEATABLE READ READ ONLY; {self.settings}{lock}"
 
     def _first(self, link: Link, reason: str) -> Look:
         """Takes a snapshot of which nothing is known from before."""
@@ -219,7 +219,8 @@ class PostgresStore:
         faults = self._faults(link, before)
         if faults:
             raise NotInstalled(faults)
-        self._begin(link, [it.name for it in before.found.values()])
+        delay = self._replay.delay(link)
+        link.ask(self._begin([it.name for it in before.found.values()]))
         catalog = self._catalog_of(link)
         faults = self._faults(link, catalog)
         if faults:
@@ -227,9 +228,11 @@ class PostgresStore:
         if catalog.found != before.found:
             raise SnapshotRefused("a table was changed while its snapshot was taken")
         oids = {it.oid: it.name.tag for it in catalog.found.values()}
-        mark, _ = self._marked(link, oids, "NULL::text[]")
+        mark, _ = _marked(link.ask(_look(oids, None)))
+        if delay is not None:
+            mark, _ = _standby.followed(link, mark, None, oids.values(), MAX_TAGS + 1)
         self._tables = _Tables(catalog.layout(), oids, [it.name for it in catalog.found.values()])
-        return Look(PostgresSnapshot(self, link, self._tables), mark, None, reason)
+        return Look(PostgresSnapshot(self, link, self._tables), mark, None, reason, delay or 0.0)
 
     def _next(self, link: Link, last: Mark) -> Union[Look, str]:
         """Takes the snapshot after the last; or returns why all must begin anew."""
@@ -237,37 +240,34 @@ class PostgresStore:
         if tables is None:
             return "the store was closed"
         try:
-            self._begin(link, tables.names)
-            relations = ", ".join(literal(it) for it in tables.oids.values())
-            mark, tags = self._marked(link, tables.oids, _TAGS.format(xmax=last.xmax, running=",".join(map(str, last.running)), relations=relations,
-                                                                      most=MAX_TAGS + 1))
+            delay = self._replay.delay(link) if last.seen is not None else None
+            if last.seen is not None and delay is None:
+                return _standby.PROMOTED
+            mark, tags = _marked(link.last(f"{self._begin(tables.names)}; {_look(tables.oids, last if delay is None else None)}"))
+            if delay is not None:
+                mark, tags = _standby.followed(link, mark, last, tables.oids.values(), MAX_TAGS + 1)
         except link.driver.Error as error:
             if type(self._meaning(link, error)) is not NotInstalled:
                 raise
             return str(error).strip().splitlines()[0]
         reason = _why_cold(last, mark, tags)
-        return reason or Look(PostgresSnapshot(self, link, tables), mark, frozenset(tags))
-
-    @staticmethod
-    def _marked(link: Link, oids: Iterable[int], tags: str) -> Tuple[Mark, List[str]]:
-        (*words, found), = link.ask(_LOOK.format(oids=array(oids), tags=tags))
-        return Mark.of(*words), found or []
+        return reason or Look(PostgresSnapshot(self, link, tables), mark, frozenset(tags), delay=delay or 0.0)
 
     @staticmethod
     def _meaning(link: Link, error: Exception) -> Exception:
         """Returns the error of ours for one of the driver's."""
-        state = getattr(error, "sqlstate", None) or getattr(error, "pgcode", None)
+        state = _state_of(error)
         said = (str(error).strip().splitlines() or [type(error).__name__])[0]
         if state == _LOCK_NOT_AVAILABLE:
             return SnapshotRefused(f"the lock of a table was waited for: {said}")
-        if link.is_broken(error) or state is None or state[:2] in _OF_SERVER:
+        if link.is_broken(error) or not state or state[:2] in _OF_SERVER:
             return SnapshotLost(f"the server did not answer: {said}")
         return NotInstalled([said])
 
-    def connected(self) -> Link:
+    def connected(self, source: Source = OWN) -> Link:
         """Returns a new connection. Fails with SnapshotLost if there is none."""
         try:
-            return self.connect()
+            return source.connect(self)
         except ImportError:
             raise
         except Exception as error:
@@ -301,6 +301,21 @@ class PostgresStore:
         self.readers.close()
 
 
+def _state_of(error: Exception) -> str:
+    return getattr(error, "sqlstate", None) or getattr(error, "pgcode", None) or ""
+
+
+def _look(oids: Mapping[int, str], last: Optional[Mark]) -> str:
+    """Returns what takes a snapshot of tables, and says what changed since the last, if there was one."""
+    beyond, running = (f"'{last.xmax}'", ",".join(map(str, last.running))) if last else ("NULL", "")
+    return _LOOK.format(oids=array(oids), beyond=beyond, running=running, relations=", ".join(map(literal, oids.values())), most=MAX_TAGS + 1)
+
+
+def _marked(rows: Sequence[Sequence[Any]]) -> Tuple[Mark, List[str]]:
+    (*words, found), = rows
+    return Mark.of(*words), found or []
+
+
 def _digest(system: str, base: str) -> str:
     return hashlib.blake2b(f"{system} {base}".encode(), digest_size=8).hexdigest()
 
@@ -315,7 +330,7 @@ def _why_cold(last: Mark, mark: Mark, tags: Sequence[str]) -> str:
         return "notes were purged that the last snapshot had not seen"
     if len(tags) > MAX_TAGS:
         return f"more than {MAX_TAGS} tags changed"
-    return ""
+    return _standby.why_cold(last, mark) if last.seen is not None else ""
 
 
 @dataclass(frozen=True)
@@ -332,7 +347,7 @@ class PostgresSnapshot:
     """A transaction that holds a snapshot, and the locks of its tables. Queries run on connections that join it."""
 
     def __init__(self, store: PostgresStore, link: Link, tables: _Tables):
-        self.layout, self.tables, self.is_open = tables.layout, tables, True
+        self.layout, self.tables, self.is_open, self.is_lost = tables.layout, tables, True, False
         self._store, self._link, self._name = store, link, None
         self._lock = threading.Lock()
 
@@ -341,6 +356,9 @@ class PostgresSnapshot:
 
     def rows_and_tables(self, query: str, args: Sequence[Any]) -> Tuple[List[Row], FrozenSet[str]]:
         return self._store.readers.rows_and_tables(self, query, args)
+
+    def by_hand(self, statement: Statement, is_named: bool) -> Tuple[Result, FrozenSet[str]]:
+        return self._store.readers.by_hand(self, statement, is_named)
 
     def name(self) -> str:
         """Returns the name by which another connection joins it."""
@@ -361,6 +379,7 @@ class PostgresSnapshot:
             (found,), = self._link.ask(text)
             return found
         except self._link.driver.Error as error:
+            self.is_lost = True
             raise SnapshotLost(f"the snapshot's connection was lost: {error}") from error
 
     def close(self) -> None:
@@ -376,15 +395,15 @@ class _Reader:
     """A connection that joins snapshots. While it `is_clean` its transaction has asked nothing; else, if it `has_locks`, it holds all that
     the snapshot's own does."""
 
-    def __init__(self, link: Link):
-        self.link, self.snapshot, self.has_locks, self.is_clean = link, None, False, True
+    def __init__(self, link: Link, source: Source):
+        self.link, self.source, self.snapshot, self.has_locks, self.is_clean = link, source, None, False, True
 
     def join(self, snapshot: PostgresSnapshot, settings: str, has_locks: bool) -> None:
         if self.snapshot is snapshot and self.has_locks == has_locks and (has_locks or self.is_clean):
             return
         self.leave()
         lock = f"LOCK TABLE {', '.join(it.quoted for it in snapshot.tables.names)} IN ACCESS SHARE MODE" if has_locks and snapshot.tables.names else ""
-        self.link.ask(f"BEGIN ISOLATION LEVEL REPEATABLE READ READ ONLY; SET TRANSACTION SNAPSHOT {literal(snapshot.name())}; {settings}{lock}")
+        self.link.ask(f"BEGIN ISOLATION LEVEL REPEATABLE READ READ ONLY; SET TRANSACTION SNAPSHOT {literal(snapshot.name())}; {settings}{self.source.settings}{lock}")
         self.snapshot, self.has_locks, self.is_clean = snapshot, has_locks, True
         if has_locks:
             snapshot.check()  # from its locks to ours there was no moment with none
@@ -421,6 +440,17 @@ class Readers:
             snapshot.check()
         return dicts(names, rows), tables
 
+    def by_hand(self, snapshot: PostgresSnapshot, statement: Statement, is_named: bool) -> Tuple[Result, FrozenSet[str]]:
+        """Returns what a statement gives, over a connection of its source; and the tables that the server locked for it, unless those were named."""
+        with self._lent(snapshot, is_named, statement.source) as reader:
+            reader.is_clean = False
+            result = reader.link.run(statement)
+            tables: FrozenSet[str] = frozenset()
+            if not is_named:
+                tables = self._tables_of(reader.link, snapshot.tables, [it for it, in reader.link.ask(_LOCKED)])
+                snapshot.check()
+        return result, tables
+
     @staticmethod
     def _tables_of(link: Link, tables: _Tables, oids: Sequence[int]) -> FrozenSet[str]:
         unknown = [it for it in oids if it not in tables.relations]
@@ -434,13 +464,13 @@ class Readers:
         seen = [tables.relations[it] for it in oids]
         for it in seen:
             if isinstance(it, str):
-                raise ValueError(f"the query reads {it}, on which no triggers stand: tell the store of it, or give the tags")
+                raise ValueError(f"the query reads {it}, on which no triggers stand: tell the store of it, or give the tags, of a cursor by db.reads(..)")
         return frozenset().union(*seen)
 
     @contextlib.contextmanager
-    def _lent(self, snapshot: PostgresSnapshot, has_locks: bool) -> Iterator[_Reader]:
+    def _lent(self, snapshot: PostgresSnapshot, has_locks: bool, source: Source = OWN) -> Iterator[_Reader]:
         """Lends a connection that has joined a snapshot."""
-        reader = self._joined(snapshot, has_locks)
+        reader = self._joined(snapshot, has_locks, source)
         is_kept = False
         try:
             yield reader
@@ -451,14 +481,18 @@ class Readers:
                 raise SnapshotLost("the snapshot was let go")
         except reader.link.driver.Error as error:
             if reader.link.is_broken(error):
+                with contextlib.suppress(SnapshotLost):
+                    snapshot.check()  # it may be lost too, and then it is not begun anew in it
                 raise SnapshotLost(f"a reading connection was lost: {error}") from error
+            if _state_of(error)[:2] == _ROLLED_BACK:  # a standby that has waited for too long replays a lock, or what a vacuum removed
+                raise SnapshotLost(f"the server ended the query's transaction: {error}") from error
             raise
         finally:
             self._give_back(reader, is_kept)
 
-    def _joined(self, snapshot: PostgresSnapshot, has_locks: bool) -> _Reader:
+    def _joined(self, snapshot: PostgresSnapshot, has_locks: bool, source: Source) -> _Reader:
         while True:
-            reader, is_new = self._take(snapshot)
+            reader, is_new = self._take(snapshot, source)
             try:
                 reader.join(snapshot, self._store.settings, has_locks)
                 return reader
@@ -466,24 +500,31 @@ class Readers:
                 is_broken = reader.link.is_broken(error)
                 self._give_back(reader, False)
                 if is_new or not is_broken:
+                    snapshot.is_lost = True
                     raise SnapshotLost(f"the snapshot could not be joined: {error}") from error
                 # one that was kept may have ended long ago
             except BaseException:
                 self._give_back(reader, False)
                 raise
 
-    def _take(self, snapshot: PostgresSnapshot) -> Tuple[_Reader, bool]:
-        """Returns a free connection, one that has joined the snapshot if there is such, or a new one; and whether it is new."""
+    def _take(self, snapshot: PostgresSnapshot, source: Source) -> Tuple[_Reader, bool]:
+        """Returns a free connection of a source, one that has joined the snapshot if there is such, or a new one; and whether it is new. If there may be no more
+        beside those of other sources, one of these is closed."""
         with self._changed:
             while not self._free and self._count >= self.limit:
                 self._changed.wait()
-            if self._free:
-                found = next((it for it in self._free if it.snapshot is snapshot), self._free[-1])
-                self._free.remove(found)
+            fit = [it for it in self._free if it.source is source]
+            found = next((it for it in fit if it.snapshot is snapshot), None) or next(reversed(fit), None)
+            other = None if found or self._count < self.limit else self._free[0]
+            if found or other:
+                self._free.remove(found or other)
+            if found:
                 return found, False
-            self._count += 1
+            self._count += not other
         try:
-            return _Reader(self._store.connected()), True
+            if other:
+                other.link.close()
+            return _Reader(self._store.connected(source), source), True
         except BaseException:
             self._forget()
             raise

@@ -31,7 +31,7 @@ from . import _calls
 from ._calls import ALREADY_OPEN, ANSWERED, BAD_ARGUMENT, CLOSED, COMPUTE, CONFLICT, DONE, MID_CALL, MISS, NO_MEMORY, NO_ROOM, NOT_OPEN, REFUSED
 from .node import FIRST_ROOM, Key, Refused, Totals, _Handle, _number, _Totals
 
-LAST_SITE_STAMP = 4_294_967_294
+MAX_EVENTS = 1_048_576  # that a site stores
 MAX_BODY_LEN = 65_536
 MAX_OPEN = 65_536
 
@@ -355,16 +355,19 @@ class _Write(_Transaction):
 
 
 class Site:
-    """A database, its pins, and a node of so many entries, which keeps the tags of the last `recent` events; 0 is the most that there may be. It has
+    """A database, its pins, and a node of so many entries, which keeps the tags of the last `recent` events; 0 is 65,536 entries, and 4,096 events. It has
     room for `events` commits and pins, which it stores; or, where that is None, no bound on them, and none is stored: `keep` lets go what no transaction
-    can read any more. A forked child can use no site of its parent."""
+    can read any more. A forked child can use no site of its parent.
 
-    def __init__(self, events=None, capacity=0, recent=0, renew_after=20_000):
+    With `max_bytes` the values of the node's results have at most so many bytes in all, after each call. Before it keeps a value it drops the results that
+    were used longest ago, until there is room. A value of more bytes is answered and not kept."""
+
+    def __init__(self, events=None, capacity=0, recent=0, renew_after=20_000, max_bytes=None):
         self._handle, self._lock, self._born = _Handle(None, False), threading.RLock(), _forks
         self._forgotten, self._buffers = collections.deque(), []
-        if events == 0:
+        if events == 0 or max_bytes == 0:
             _refuse(BAD_ARGUMENT)
-        words = (_number(it, _U64) for it in (events or 0, capacity, recent, renew_after))
+        words = (_number(it, _U64) for it in (events or 0, capacity, recent, renew_after, max_bytes or 0))
         self._do(_TXC.site_open, _calls.Settings(c.sizeof(_calls.Settings), *words))
 
     def __enter__(self):
@@ -415,7 +418,7 @@ class Site:
 
     def trim(self, most):
         """Keeps the longest prefix of the node's results, the most recently used first, whose values have at most `most` bytes in all, whatever is open.
-        Returns how many it dropped. Call it after each `keep`, and the results take no more than a budget of bytes and what was inserted since."""
+        Returns how many it dropped. A site that was made with `max_bytes` does so itself."""
         dropped = c.c_size_t()
         self._do(_TXC.site_trim, _number(most, _U64), dropped)
         return dropped.value

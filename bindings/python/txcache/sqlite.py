@@ -15,6 +15,7 @@ import threading
 import time
 from typing import Any, Dict, FrozenSet, Iterable, Iterator, List, Mapping, NamedTuple, Optional, Sequence, Set, Tuple, Union
 
+from ._cursor import Result, Source, SqliteCursor, Statement, run
 from ._layout import NULL, Columns, Kind, Layout, Name, Read, Relation, Row, dicts, literal, lookups_of, prefix_of, quote
 from ._store import MAX_TAGS, PURGE_AGE, Look
 from .errors import NotInstalled, SnapshotLost
@@ -49,13 +50,21 @@ class Mark(NamedTuple):
     version: Tuple[int, int]
 
 
+class _Link(sqlite3.Connection):
+    """A connection, and the sources of statements that have prepared it."""
+
+    sources: FrozenSet[Source] = frozenset()
+
+
 class SqliteStore:
     """The file of a path. `tables` names of each table the columns by which rows are looked up; a tuple is several together, and none follows the whole
-    table."""
+    table. `detect_types` is that of `sqlite3.connect`."""
 
-    def __init__(self, path: Union[str, "os.PathLike[str]"], tables: Mapping[str, Sequence[Union[str, Tuple[str, ...]]]], *, max_log: int = MAX_LOG):
-        self.path, self.max_log = os.fspath(path), max_log
-        self._log = self.path + "-wal"
+    cursor_kind = SqliteCursor
+
+    def __init__(self, path: Union[str, "os.PathLike[str]"], tables: Mapping[str, Sequence[Union[str, Tuple[str, ...]]]], *, max_log: int = MAX_LOG,
+                 detect_types: int = 0):
+        self.path, self.max_log, self._detect_types = os.fspath(path), max_log, detect_types
         self._names = {it: Name.parse(it) for it in tables}
         if any(it.schema for it in self._names.values()):
             raise ValueError("a table of a SQLite file has no schema before its name")
@@ -259,7 +268,7 @@ class SqliteStore:
     def wants_air(self) -> bool:
         """Returns True if the log has grown over `max_log` bytes."""
         try:
-            return os.stat(self._log).st_size > self.max_log
+            return os.stat(self.path + "-wal").st_size > self.max_log
         except OSError:
             return False
 
@@ -283,7 +292,7 @@ class SqliteStore:
 
     def _connect(self, is_writing: bool = False) -> sqlite3.Connection:
         os.stat(self.path)  # a missing file would be made
-        link = sqlite3.connect(self.path, isolation_level=None, check_same_thread=False, timeout=BUSY_TIMEOUT)
+        link = sqlite3.connect(self.path, isolation_level=None, check_same_thread=False, timeout=BUSY_TIMEOUT, detect_types=self._detect_types, factory=_Link)
         if not is_writing:
             link.execute("PRAGMA query_only = 1")
         return link
@@ -309,6 +318,10 @@ class SqliteSnapshot:
         self.layout, self.is_open, self._read_by = layout, True, read_by
         self._store, self._link, self._file, self._lock = store, link, file, threading.RLock()
 
+    @property
+    def is_lost(self) -> bool:
+        return not self.is_open
+
     def rows(self, read: Read) -> List[Row]:
         return self._rows(read.query, read.args)
 
@@ -316,25 +329,46 @@ class SqliteSnapshot:
         with self._lock:
             if not self.is_open:
                 raise SnapshotLost("the snapshot was let go")
-            try:
+            with self._still_within():
                 cursor = self._link.execute(query, tuple(args))
-                found = dicts([it[0] for it in cursor.description or ()], cursor.fetchall())
-            finally:
-                if self.is_open and not self._link.in_transaction:
-                    self.close()
-                    raise SnapshotLost("a query ended the snapshot's transaction")
-            return found
+                return dicts([it[0] for it in cursor.description or ()], cursor.fetchall())
+
+    @contextlib.contextmanager
+    def _still_within(self) -> Iterator[None]:
+        """Fails with SnapshotLost if what runs in it has ended the transaction."""
+        try:
+            yield
+        finally:
+            if self.is_open and not self._link.in_transaction:
+                self.close()
+                raise SnapshotLost("a query ended the snapshot's transaction")
 
     def rows_and_tables(self, query: str, args: Sequence[Any]) -> Tuple[List[Row], FrozenSet[str]]:
         with self._lock:
             if not self.is_open:
                 raise SnapshotLost("the snapshot was let go")
-            tables = self._read_by.get(query)
-            if tables is None:
-                tables = self._read_by[query] = self._tables_of(query, args)
+            tables = self._tables(query, args)
             return self._rows(query, args), tables
 
-    def _tables_of(self, query: str, args: Sequence[Any]) -> FrozenSet[str]:
+    def by_hand(self, statement: Statement, is_named: bool) -> Tuple[Result, FrozenSet[str]]:
+        with self._lock:
+            if not self.is_open:
+                raise SnapshotLost("the snapshot was let go")
+            if statement.source not in self._link.sources:
+                statement.source.prepare(self._link)
+                self._link.sources |= {statement.source}
+            tables = frozenset() if is_named else self._tables(statement.query, statement.args or ())
+            with self._still_within():
+                return run(self._link, statement), tables
+
+    def _tables(self, query: str, args: Any) -> FrozenSet[str]:
+        """Returns the tables that a query reads, as it was found to before, if it was."""
+        tables = self._read_by.get(query)
+        if tables is None:
+            tables = self._read_by[query] = self._tables_of(query, args)
+        return tables
+
+    def _tables_of(self, query: str, args: Any) -> FrozenSet[str]:
         """Returns the tables that a query reads, as SQLite's own compiler says."""
         seen = self._compiled(query, args)
         if any(table in _CATALOGS for table, _ in seen):
@@ -343,10 +377,10 @@ class SqliteSnapshot:
         views = {it.lower() for it, in self._link.execute("SELECT name FROM sqlite_master WHERE type = 'view'")}
         for table, base in seen:
             if base != "main" or table.lower() not in told and table.lower() not in views and table not in _PURE_TABLES:
-                raise ValueError(f"the query reads {table}, on which no triggers stand: tell the store of it, or give the tags")
+                raise ValueError(f"the query reads {table}, on which no triggers stand: tell the store of it, or give the tags, of a cursor by db.reads(..)")
         return frozenset(told[table.lower()] for table, _ in seen if table.lower() in told)
 
-    def _compiled(self, query: str, args: Sequence[Any]) -> Set[Tuple[str, str]]:
+    def _compiled(self, query: str, args: Any) -> Set[Tuple[str, str]]:
         """Returns the tables that the compiler asks to read, each with its database."""
         seen = set()
 
@@ -357,7 +391,7 @@ class SqliteSnapshot:
 
         self._link.set_authorizer(asked)
         try:
-            self._link.execute("EXPLAIN " + query, tuple(args)).fetchall()
+            self._link.execute("EXPLAIN " + query, args if isinstance(args, Mapping) else tuple(args)).fetchall()
         finally:
             self._link.set_authorizer(_UNWATCHED)
         return seen

@@ -92,6 +92,7 @@ pub struct SiteSettings {
     pub capacity: usize,
     pub recent: usize,
     pub renew_after: u64,
+    pub bytes: usize,
 }
 
 #[repr(C)]
@@ -102,7 +103,7 @@ pub struct Kept {
     pub swept: usize,
 }
 
-pub const ABI: u32 = 2;
+pub const ABI: u32 = 3;
 
 pub const DONE: u32 = 0;
 pub const MISS: u32 = 1;

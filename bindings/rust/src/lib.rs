@@ -26,10 +26,12 @@ pub const LAST_FUNCTION: u8 = 63;
 pub const MAX_ARGS: usize = 4;
 /// The greatest number of a table.
 pub const LAST_TABLE: u8 = 15;
-/// The greatest stamp of a node, and the most events that a site stores.
-pub const LAST_STAMP: u32 = 1_048_576;
-/// The greatest stamp of a site.
-pub const LAST_SITE_STAMP: u32 = 4_294_967_294;
+/// The greatest stamp.
+pub const LAST_STAMP: u32 = 4_294_967_294;
+/// The most events that a site stores.
+pub const MAX_EVENTS: usize = 1_048_576;
+/// The most entries of a node.
+pub const MAX_CAPACITY: usize = 1_048_576;
 /// The most bytes of a value.
 pub const MAX_VALUE_LEN: usize = 1_048_576;
 /// The most asks of the functions of an outermost call, all together.

@@ -202,10 +202,31 @@ pub struct Site {
 }
 
 impl Site {
-    /// Makes a database, and a node of so many entries that keeps the tags of the last `recent` events; 0 is the most that there may
-    /// be. With no bound on its events, which are its commits and pins, they are not stored, and [`Site::keep`] lets go what no
+    /// Makes a database, and a node of so many entries that keeps the tags of the last `recent` events; 0 is 65,536 entries, and 4,096
+    /// events. With no bound on its events, which are its commits and pins, they are not stored, and [`Site::keep`] lets go what no
     /// transaction can read any more; else it has room for so many. A pin that is older than `renew_after` milliseconds is renewed.
     pub fn new(events: Option<usize>, capacity: usize, recent: usize, renew_after: u64) -> Result<Site, Error> {
+        Site::made(events, capacity, recent, renew_after, 0)
+    }
+
+    /// The same with a budget: the values of the node's results have at most `bytes` bytes in all, after each call. Before it keeps a
+    /// value it drops the results that were used longest ago, until there is room. A value of more bytes is answered and not kept.
+    /// Fails if the budget is 0.
+    pub fn with_budget(
+        events: Option<usize>,
+        capacity: usize,
+        recent: usize,
+        renew_after: u64,
+        bytes: usize,
+    ) -> Result<Site, Error> {
+        if bytes == 0 {
+            return Err(Error::BadArgument);
+        }
+        Site::made(events, capacity, recent, renew_after, bytes)
+    }
+
+    // With 0 bytes there is no budget.
+    fn made(events: Option<usize>, capacity: usize, recent: usize, renew_after: u64, bytes: usize) -> Result<Site, Error> {
         assert_eq!(unsafe { ffi::txc_abi() }, ffi::ABI, "libtxc_c.a is of another header");
         if events == Some(0) {
             return Err(Error::BadArgument);
@@ -216,6 +237,7 @@ impl Site {
             capacity,
             recent,
             renew_after,
+            bytes,
         };
         let mut handle = ffi::Handle {
             slot: std::ptr::null_mut(),
@@ -285,8 +307,7 @@ impl Site {
     }
 
     /// Keeps the longest prefix of the node's results, the most recently used first, whose values have at most `most` bytes in all,
-    /// whatever is open. Returns how many it dropped. Call it after each [`Site::keep`], and the results take no more than a budget of
-    /// bytes and what was inserted since.
+    /// whatever is open. Returns how many it dropped. A site that was made by [`Site::with_budget`] does so itself.
     pub fn trim(&self, most: usize) -> Result<usize, Error> {
         let mut dropped = 0;
         done(unsafe { ffi::txc_site_trim(&mut self.lock().0, most, &mut dropped) })?;

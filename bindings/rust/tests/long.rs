@@ -1,4 +1,4 @@
-//! Values of up to 1 MiB, functions that ask often, and trims, at a node and at a site.
+//! Values of up to 1 MiB, functions that ask often, trims and budgets, at a node and at a site.
 use txcache_node::site::{Asking, Error, Query, Site, Transaction, Write};
 use txcache_node::{Inserted, Key, MAX_ASKS, MAX_VALUE_LEN, Node, Reach, Tag, Totals};
 
@@ -154,5 +154,33 @@ fn trims_of_a_site() {
         assert_eq!(page.cached(key(1, 1), never).unwrap(), bytes(1, PAGE));
         assert_eq!(page.cached(key(0, 1), |asking| asks(asking, 1, 1, PAGE)).unwrap(), bytes(1, PAGE));
         assert_eq!(page.commit().unwrap().answers, 3);
+    }
+}
+
+/// A site makes room for a value within its budget, and keeps no value that exceeds it.
+#[test]
+fn a_budget_of_a_site() {
+    for events in [None, Some(10_000)] {
+        assert_eq!(Site::with_budget(events, 0, 0, 20_000, 0).err(), Some(Error::BadArgument));
+        let site = Site::with_budget(events, 0, 0, 20_000, 3 * PAGE).unwrap();
+        let mut write = site.write().unwrap();
+        write.put(1, 1, 7, b"110").unwrap();
+        write.commit().unwrap();
+        let mut page = site.read(1000, 30_000).unwrap();
+        for number in 0..3 {
+            page.cached(key(0, number), |asking| asks(asking, 1, number, PAGE)).unwrap();
+        }
+        assert_eq!(site.totals(), totals(3, 3 * PAGE, 0));
+        assert_eq!(page.cached(key(0, 0), never).unwrap(), bytes(0, PAGE));
+        assert_eq!(page.cached(key(0, 3), |asking| asks(asking, 1, 3, 1)).unwrap(), bytes(3, 1));
+        assert_eq!(site.totals(), totals(3, 2 * PAGE + 1, 1)); // 1 was used longest ago
+        assert_eq!(page.cached(key(0, 4), |asking| asks(asking, 1, 4, 3 * PAGE + 1)).unwrap(), bytes(4, 3 * PAGE + 1));
+        assert_eq!(site.totals(), totals(3, 2 * PAGE + 1, 1));
+        for number in [0, 2, 3] {
+            page.cached(key(0, number), never).unwrap();
+        }
+        assert_eq!(page.cached(key(0, 5), |asking| asks(asking, 1, 5, 3 * PAGE)).unwrap(), bytes(5, 3 * PAGE));
+        assert_eq!(site.totals(), totals(1, 3 * PAGE, 4));
+        assert_eq!(page.commit().unwrap().answers, 10);
     }
 }

@@ -1,6 +1,6 @@
 //! The wrapper's calls, each once, and its refusals.
 use std::sync::{Arc, Mutex};
-use txcache_node::{Error, Hit, Inserted, Key, Node, Reach, Tag, LAST_STAMP, MAX_VALUE_LEN};
+use txcache_node::{Error, Hit, Inserted, Key, Node, Reach, Tag, LAST_STAMP, MAX_CAPACITY, MAX_VALUE_LEN};
 
 fn key(n: u32) -> Key {
     Key::new(1, &[n]).unwrap()
@@ -60,4 +60,14 @@ fn threads_share_one_by_a_lock() {
         })
         .collect();
     assert!(threads.into_iter().all(|it| it.join().unwrap() == 1000));
+}
+
+#[test]
+fn late_stamps_and_a_wide_node() {
+    assert_eq!(Node::new(MAX_CAPACITY + 1, 4).err(), Some(Error::BadArgument));
+    let mut node = Node::new(MAX_CAPACITY, 4).unwrap();
+    node.insert(&key(1), Reach::still(LAST_STAMP - 1, LAST_STAMP), &[], b"late").unwrap();
+    assert_eq!(node.lookup(&key(1), LAST_STAMP, LAST_STAMP).unwrap().unwrap().value, b"late");
+    assert!(node.lookup(&key(1), 0, LAST_STAMP - 2).unwrap().is_none());
+    assert_eq!(node.sweep(LAST_STAMP), Ok(0));
 }

@@ -1,6 +1,6 @@
 //! Transactions of a site, and what they refuse; with events that are stored, and with none.
 use txcache_node::site::{Asking, Error, Kept, MAX_BODY_LEN, Query, Site};
-use txcache_node::{Key, LAST_SITE_STAMP, LAST_STAMP, MAX_VALUE_LEN};
+use txcache_node::{Key, LAST_STAMP, MAX_EVENTS, MAX_VALUE_LEN};
 
 fn highest(asking: &mut dyn Asking) -> Result<Vec<u8>, Error> {
     let rows = asking.rows(Query::group(1, 7))?;
@@ -140,14 +140,14 @@ fn what_a_function_reads_is_read() {
 
 #[test]
 fn what_cannot_begin() {
-    for events in [Some(0), Some(LAST_STAMP as usize + 1)] {
+    for events in [Some(0), Some(MAX_EVENTS + 1)] {
         assert!(matches!(Site::new(events, 100, 64, 0), Err(Error::BadArgument)));
     }
     for site in sites() {
         assert_eq!(site.write_at(u32::MAX).err(), Some(Error::BadArgument));
         assert_eq!(site.read_since(0, 0, u32::MAX).err(), Some(Error::BadArgument));
-        assert_eq!(site.write_at(LAST_SITE_STAMP).err(), Some(Error::Refused));
-        drop(site.read_since(0, 0, LAST_SITE_STAMP).unwrap());
+        assert_eq!(site.write_at(LAST_STAMP).err(), Some(Error::Refused));
+        drop(site.read_since(0, 0, LAST_STAMP).unwrap());
         bid(&site, 1, b"120");
         assert_eq!(site.keep(0, 0).unwrap().horizon, 2);
         let below = site.write_at(1).and_then(|mut write| write.rows(Query::all(1)));

@@ -1,9 +1,9 @@
 -- How a site is made, as it crosses.
 use Rattle.std.specs.Prelude.{◌==◌, ◌&&◌, ℕ, Bool, nat_le, if◌then◌else◌, Option, Some, None}
-use Rattle.txc_node.specs.declared.node.TheConstants.{MAX_CAPACITY, MAX_RECENT}
+use Rattle.txc_node.specs.declared.node.TheConstants.{MAX_CAPACITY, MAX_RECENT, MOST_CAPACITY}
 use Rattle.txc_stream.specs.declared.row.TheConstants.{MAX_CAPACITY as MAX_EVENTS}
 use Rattle.txc_shared.specs.declared.settings.NodeSettings.{NodeSettings}
-use Rattle.txc_c.specs.declared.site_settings.TheConstants.{EVENTS_END, CAPACITY_END, RECENT_END, RENEW_AFTER_END, SIZE_END}
+use Rattle.txc_c.specs.declared.site_settings.TheConstants.{BYTES_END, EVENTS_END, CAPACITY_END, RECENT_END, RENEW_AFTER_END, SIZE_END}
 use Rattle.txc_c.specs.declared.site_settings.TxcSiteSettings.{TxcSiteSettings}
 
 -- what a field says that ends there: 0 if it does not lie whole in the size
@@ -33,11 +33,18 @@ room_for_events events = if events == 0 then None else Some events
 abbrev pub room_of : TxcSiteSettings → Option ℕ
 room_of s = room_for_events (stored_events_of s)
 
+-- how many bytes the values of the node may have in all, if it has a budget
+abbrev pub budget_in : ℕ → Option ℕ
+budget_in bytes = if bytes == 0 then None else Some bytes
+
+abbrev pub budget_of : TxcSiteSettings → Option ℕ
+budget_of s = budget_in (said s.size BYTES_END s.bytes)
+
 -- the node of a site
 abbrev pub site_node_of : TxcSiteSettings → NodeSettings
 site_node_of s = record { number = 0; capacity = capacity_of s; recent = recent_of s }
 
 -- the size is that of a struct that the library knows, and each field is within its limit
 abbrev pub are_settings : TxcSiteSettings → Bool
-are_settings s = (nat_le SIZE_END s.size && nat_le s.size RENEW_AFTER_END)
-    && (nat_le (stored_events_of s) MAX_EVENTS && (nat_le (capacity_of s) MAX_CAPACITY && nat_le (recent_of s) MAX_RECENT))
+are_settings s = (nat_le SIZE_END s.size && nat_le s.size BYTES_END)
+    && (nat_le (stored_events_of s) MAX_EVENTS && (nat_le (capacity_of s) MOST_CAPACITY && nat_le (recent_of s) MAX_RECENT))

@@ -7,7 +7,7 @@ use Rattle.txc_caller.specs.Ports.{HasEventRoom, IsNewDatabase}
 use Rattle.txc_caller.specs.Reading.{CallerValue}
 use Rattle.txc_crossing.specs.declared.numbers.TheConstants.{NO_MEMORY, NOT_OPEN, REFUSED}
 use Rattle.txc_c.specs.Opened.{IsOpenOf}
-use Rattle.txc_c.specs.Settings.{site_node_of, renew_after_of, room_of}
+use Rattle.txc_c.specs.Settings.{budget_of, site_node_of, renew_after_of, room_of}
 use Rattle.txc_c.specs.declared.opened.Open.{Open}
 use Rattle.txc_c.specs.declared.opened.Opened.{Opened}
 use Rattle.txc_c.specs.declared.opened.TheConstants.{MAX_OPEN, MOST_BEGUN}
@@ -56,6 +56,7 @@ pub record IsNewSite (settings : TxcSiteSettings) (s : SiteValue) : Type 0 where
   pub database : IsNewDatabase s.caller.ports.database
   pub cushion : s.caller.ports.cushion.entries ≡ []
   pub node : s.caller.ports.node.cache ≡ start_of (site_node_of settings) 0
+  pub budget : s.caller.ports.budget ≡ budget_of settings
   pub renew_after : s.caller.renew_after ≡ renew_after_of settings
   pub none : s.opened.slots ≡ []
   pub first_place : s.opened.vacant_key ≡ 0

@@ -1,6 +1,7 @@
 -- What a trim of a site's node comes to, and what is told of the node.
 use Rattle.std.specs.Prelude.{◌≡◌, ℕ, Result, Ok, Err}
 use Rattle.txc_shared.specs.declared.error.NodeError.{NodeError}
+use Rattle.txc_caller.specs.Budgets.{IsInBudget}
 use Rattle.txc_caller.specs.Ports.{totals_of, CallerTrimTransition}
 use Rattle.txc_caller.specs.Reading.{CallerValue}
 use Rattle.txc_caller.specs.declared.nodes.NodeTotals.{NodeTotals}
@@ -39,6 +40,9 @@ TrimComesTo most was is old number new =
 abbrev pub crossing_node_totals : NodeTotals → TxcTotals
 crossing_node_totals totals = crossing_totals totals.entries totals.bytes totals.trimmed
 
--- the entries of the node, the bytes of their values in all, and the entries that its trims have dropped
-abbrev pub TotalsTold : TxcTotals → SiteValue → ℕ → Type 0
-TotalsTold totals s number = (number ≡ DONE) × (totals ≡ crossing_node_totals (totals_of s.caller.ports.node))
+-- the entries of the node, the bytes of their values in all, which are within its budget, and the entries that its trims have
+-- dropped
+pub record TotalsTold (totals : TxcTotals) (s : SiteValue) (number : ℕ) : Type 0 where
+  pub number_is : number ≡ DONE
+  pub told : totals ≡ crossing_node_totals (totals_of s.caller.ports.node)
+  pub within : IsInBudget s.caller.ports.budget totals.bytes

@@ -2,7 +2,7 @@
 ghost use Rattle.std.specs.Prelude.{◌≡◌, ◌≢◌, ◌≤◌, [], Some, None, length, IfOk, IfSome};
 ghost use Rattle.txc_tags.specs.declared.key.TheConstants.{LAST_FUNCTION};
 ghost use Rattle.txc_node.specs.declared.value.TheConstants.{MOST_VALUE_LEN};
-ghost use Rattle.txc_node.specs.declared.node.TheConstants.{MAX_CAPACITY, MAX_RECENT};
+ghost use Rattle.txc_node.specs.declared.node.TheConstants.{MAX_RECENT, MOST_CAPACITY};
 ghost use Rattle.txc_node.specs.declared.op.Op.TheVariants as steps;
 ghost use Rattle.txc_node.specs.declared.reply.Reply.TheVariants as replies;
 ghost use Rattle.txc_node.specs.Counts.{counts_of, AreCountsOf};
@@ -123,7 +123,7 @@ impl CountedNode {
         capacity: usize,
         recent: usize,
     ) -> Result<CountedNode, AllocError>
-        requires capacity { (1 ≤ capacity) × (capacity ≤ MAX_CAPACITY) }
+        requires capacity { (1 ≤ capacity) × (capacity ≤ MOST_CAPACITY) }
         requires recent { (1 ≤ recent) × (recent ≤ MAX_RECENT) }
         ensures { IfOk result (λ n. IsOpened capacity recent n) }
     {

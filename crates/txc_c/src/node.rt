@@ -16,10 +16,9 @@ use crate::totals::TxcTotals;
 use std::alloc::{AllocError, Global};
 use txc_crossing::{
     ALREADY_OPEN, BAD_ARGUMENT, BAD_REACH, CLOSED, DONE, NO_MEMORY, TxcCounts, TxcKey, TxcReach,
-    TxcStored, TxcTag, VALUE_TOO_LONG, are_sizes, are_tags, is_insertion, tags_of,
+    TxcStored, TxcTag, VALUE_TOO_LONG, are_sizes, are_tags, is_insertion, stamp_of, tags_of,
 };
 use txc_node::{Entry, MOST_VALUE_LEN};
-use txc_stamp::Stamp;
 use txc_tags::LAST_FUNCTION;
 
 /// Makes a node for at most `capacity` entries, that keeps the tags of the last `recent` events.
@@ -83,7 +82,7 @@ fn lookup(
     let Some(key) = key.key() else {
         return BAD_ARGUMENT;
     };
-    let (Ok(lo), Ok(hi)) = (Stamp::new(lo), Stamp::new(hi)) else {
+    let (Some(lo), Some(hi)) = (stamp_of(lo), stamp_of(hi)) else {
         return BAD_ARGUMENT;
     };
     node.lookup(&key, lo, hi, reach, value, len)
@@ -130,7 +129,7 @@ fn entry_of(
     let Some(key) = key.key() else {
         return Err(AllocError);
     };
-    let (Ok(lo), Ok(known)) = (Stamp::new(reach.lo), Stamp::new(reach.known)) else {
+    let (Some(lo), Some(known)) = (stamp_of(reach.lo), stamp_of(reach.known)) else {
         return Err(AllocError);
     };
     if !are_tags(tags) {
@@ -227,7 +226,7 @@ fn event(
     ensures no_memory { result ≡ NO_MEMORY → event_asked stamp tags.now ≢ None }
     ensures refused { result ≡ NO_MEMORY → (node.new ≡ node.old) × (closed.new ≡ closed.old) }
 {
-    let Ok(stamp) = Stamp::new(stamp) else {
+    let Some(stamp) = stamp_of(stamp) else {
         return BAD_ARGUMENT;
     };
     if !are_tags(tags) {
@@ -283,9 +282,9 @@ pub extern "C" fn txc_node_sweep(
     let Some(mut node) = handle.take(alloc) else {
         return CLOSED;
     };
-    let number = match Stamp::new(horizon) {
-        Ok(horizon) => node.sweep(horizon, swept),
-        Err(_) => BAD_ARGUMENT,
+    let number = match stamp_of(horizon) {
+        Some(horizon) => node.sweep(horizon, swept),
+        None => BAD_ARGUMENT,
     };
     handle.put(node);
     number

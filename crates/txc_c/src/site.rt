@@ -44,6 +44,7 @@ impl Site {
             alloc,
             settings.room(),
             settings.node(),
+            settings.budget(),
             settings.renew_after(),
         )?;
         Ok(Site {

@@ -1,8 +1,8 @@
 //! How a site is made, as it crosses.
 ghost use Rattle.std.specs.Prelude.{◌≡◌};
-ghost use Rattle.txc_c.specs.Settings.{are_settings, capacity_of, stored_events_of, site_node_of, or_default, recent_of, renew_after_of, room_for_events, room_of, said};
+ghost use Rattle.txc_c.specs.Settings.{are_settings, budget_in, budget_of, capacity_of, stored_events_of, site_node_of, or_default, recent_of, renew_after_of, room_for_events, room_of, said};
 
-use txc_node::{MAX_CAPACITY, MAX_RECENT};
+use txc_node::{MAX_CAPACITY, MAX_RECENT, MOST_CAPACITY};
 use txc_shared::NodeSettings;
 use txc_stream::MAX_CAPACITY as MAX_EVENTS;
 
@@ -17,6 +17,8 @@ pub(crate) const RECENT_END: usize = 32;
 
 pub(crate) const RENEW_AFTER_END: usize = 40;
 
+pub(crate) const BYTES_END: usize = 48;
+
 /// How a site is made. What lies beyond its size is 0, and a field that is 0 has its default.
 #[repr(C)]
 #[derive(Clone, Copy)]
@@ -26,6 +28,7 @@ pub struct TxcSiteSettings {
     pub capacity: usize,
     pub recent: usize,
     pub renew_after: u64,
+    pub bytes: usize,
 }
 
 // The value, or its default.
@@ -40,6 +43,13 @@ fn room_in(events: usize) -> Option<usize>
     ensures { result ≡ room_for_events events }
 {
     if events == 0 { None } else { Some(events) }
+}
+
+// How many bytes the values of a node may have in all, if it has a budget.
+fn budget_in(bytes: usize) -> Option<usize>
+    ensures { result ≡ budget_in bytes }
+{
+    if bytes == 0 { None } else { Some(bytes) }
 }
 
 impl TxcSiteSettings {
@@ -86,6 +96,13 @@ impl TxcSiteSettings {
         }
     }
 
+    /// Returns how many bytes the values of the node may have in all, if it has a budget.
+    pub(crate) fn budget(&self) -> Option<usize>
+        ensures { result ≡ budget_of self.now }
+    {
+        budget_in(self.said(BYTES_END, self.bytes))
+    }
+
     /// Returns after how many milliseconds a pin is renewed.
     pub(crate) fn renew_after(&self) -> u64
         ensures { result ≡ renew_after_of self.now }
@@ -101,9 +118,9 @@ impl TxcSiteSettings {
     pub(crate) fn are_settings(&self) -> bool
         ensures { result ≡ are_settings self.now }
     {
-        let is_known = SIZE_END <= self.size && self.size <= RENEW_AFTER_END;
+        let is_known = SIZE_END <= self.size && self.size <= BYTES_END;
         is_known
             && (self.events() <= MAX_EVENTS
-                && (self.capacity() <= MAX_CAPACITY && self.recent() <= MAX_RECENT))
+                && (self.capacity() <= MOST_CAPACITY && self.recent() <= MAX_RECENT))
     }
 }

@@ -129,7 +129,7 @@ module _ (c d : CoreValue) (p q : CallerPorts) (objects : Objects) where
     between = q;
     added = added;
     same = h.0.same;
-    step = subst (λ (n : Option Need). IsNeedStep n q.node new.node) h.1 h.0.step;
+    step = subst (λ (n : Option Need). IsNeedStep q.budget n q.node new.node) h.1 h.0.step;
     taken_is = h.0.taken_is ∙ more ∙ ap (λ (x : Pinned). c.taken ++ x.stamp ∷ []) one;
     refused = if_weaker _ (λ (e : TxnError). (e ≡ Memory) ⊎ IsNeedRefused (need_to_come c) pinned.stamp q.database e) failed because h.0.refused;
   }
@@ -260,8 +260,8 @@ module _ (c d : CoreValue) (turn : HandTurn) (seen : FrontValue) (p q : CallerPo
   Makes request reply =
       CoreAsks c request → pins_to_come (Some (Asks request)) ≡ 0 → HasGoneOnByHand c reply d turn → TurnLeads c p (Some (Asks request)) q d.taken (turn_error turn)
 
-  for_need : (need : Option Need) → c.call.need ≡ need → IsNeedStep need p.node q.node → IsNeedStep c.call.need p.node q.node
-  for_need need is h = subst (λ (n : Option Need). IsNeedStep n p.node q.node) (sym is) h
+  for_need : (need : Option Need) → c.call.need ≡ need → IsNeedStep p.budget need p.node q.node → IsNeedStep p.budget c.call.need p.node q.node
+  for_need need is h = subst (λ (n : Option Need). IsNeedStep p.budget n p.node q.node) (sym is) h
 
   made_in : (x : Exchange) → CallerExchangeTransition seen p q x → Makes (request_of x) (reply_of x)
   made_in (exchanges.Pin now at_least pinned) leads asking last gone = absurd (cc last)
@@ -323,13 +323,13 @@ need_refused : (need : Option Need) (ask : Ask) (stamp : ℕ) (d : DatabaseValue
 need_refused need ask stamp d e asked r = subst (λ (a : Ask). IsAskedQueryRefused d stamp a e) (sym (asked r.0 r.1)) r.2
 
 -- the step of the node is for what was asked
-need_step : (computed : List Call) (ask : Ask) (frames : List Frame) (need : Need) → NeedsNext computed ask frames need → (was is : NodeValue) → IsNeedStep (Some need) was is
-    → (is ≡ was) ⊎ IsNodeStepFor computed ask was is
-need_step computed (asks.Query query) frames need h was is step = inl (subst (λ (n : Need). IsNeedStep (Some n) was is) h.1 step)
-need_step computed (asks.Call k) frames need h was is step = inr (subst (λ (n : Need). IsNeedStep (Some n) was is) h.1 step)
-need_step computed (asks.Done bytes) frames need h was is step = done_step need h.2 step
+need_step : (computed : List Call) (ask : Ask) (frames : List Frame) (need : Need) → NeedsNext computed ask frames need → (budget : Option ℕ) (was is : NodeValue) → IsNeedStep budget (Some need) was is
+    → (is ≡ was) ⊎ IsNodeStepFor budget computed ask was is
+need_step computed (asks.Query query) frames need h budget was is step = inl (subst (λ (n : Need). IsNeedStep budget (Some n) was is) h.1 step)
+need_step computed (asks.Call k) frames need h budget was is step = inr (subst (λ (n : Need). IsNeedStep budget (Some n) was is) h.1 step)
+need_step computed (asks.Done bytes) frames need h budget was is step = done_step need h.2 step
   where
-    done_step : (n : Need) → IsValueNeed h.0 frames bytes n → IsNeedStep (Some n) was is → (is ≡ was) ⊎ IsNodeStepFor computed (asks.Done bytes) was is
+    done_step : (n : Need) → IsValueNeed h.0 frames bytes n → IsNeedStep budget (Some n) was is → (is ≡ was) ⊎ IsNodeStepFor budget computed (asks.Done bytes) was is
     done_step (needs.Insert e) v s = inr (e, calls_of frames, h.1 ∙ ap (λ (k : Call). k ∷ calls_of frames) (sym v.0), v.1, s)
     done_step (needs.Lookup k) v s = absurd (no_value_lookup frames v.0 k v.3)
     done_step (needs.Query q) v s = inl s
@@ -361,11 +361,11 @@ module _ (next : Next) (old mid : TxnValue) (ask : Ask) (same : mid.core ≡ rec
 
   -- what comes last is for what was asked
   module _ (asked : (query : Query) → need_to_come mid.core ≡ Some (needs.Query query) → ask ≡ asks.Query query)
-      (steps : (was is : NodeValue) → IsNeedStep (need_to_come mid.core) was is → (is ≡ was) ⊎ IsNodeStepFor (computed_calls old.core.call) ask was is) where
+      (steps : (budget : Option ℕ) (was is : NodeValue) → IsNeedStep budget (need_to_come mid.core) was is → (is ≡ was) ⊎ IsNodeStepFor budget (computed_calls old.core.call) ask was is) where
     -- the last request was made, and no pin before it
     last_acts : need_to_come mid.core ≡ mid.core.call.need → LastLeads mid.core p new taken failed → ActLeads next.limits p old ask new taken failed
     last_acts free h = inl (record {
-      ports = record { same = h.same; step = steps p.node new.node (subst (λ (n : Option Need). IsNeedStep n p.node new.node) (sym free) h.step) };
+      ports = record { same = h.same; step = steps p.budget p.node new.node (subst (λ (n : Option Need). IsNeedStep p.budget n p.node new.node) (sym free) h.step) };
       taken_is = h.taken_is ∙ taken_same;
       refused = if_weaker _ (IsRefusedUnpinned next.limits p old ask) failed because h.refused;
     })
@@ -407,7 +407,7 @@ module _ (next : Next) (old mid : TxnValue) (ask : Ask) (same : mid.core ≡ rec
               pinned = h.pinned;
               between = a.between;
               pins = record { given = h.given; gives = gives; added = a.added };
-              ports = record { same = a.same; step = steps a.between.node new.node a.step };
+              ports = record { same = a.same; step = steps a.between.budget a.between.node new.node a.step };
               taken_is = a.taken_is ∙ ap (λ (ts : List ℕ). ts ++ h.pinned.stamp ∷ []) taken_same;
               refused = if_weaker _ (IsRefusedPinned a.between h.pinned ask) failed (because a.between) a.refused;
             }))
@@ -448,10 +448,10 @@ module _ (next : Next) (old mid : TxnValue) (ask : Ask) (turn : HandTurn) (asked
       let same : n.0 ≡ needs.Query query = cc one in
       query_next (computed_calls old.core.call) ask mid.core.call.frames query (subst (NeedsNext (computed_calls old.core.call) ask mid.core.call.frames) same n.2)
 
-  node_steps : IsUnended turn → (was is : NodeValue) → IsNeedStep (need_to_come mid.core) was is → (is ≡ was) ⊎ IsNodeStepFor (computed_calls old.core.call) ask was is
-  node_steps on was is h =
+  node_steps : IsUnended turn → (budget : Option ℕ) (was is : NodeValue) → IsNeedStep budget (need_to_come mid.core) was is → (is ≡ was) ⊎ IsNodeStepFor budget (computed_calls old.core.call) ask was is
+  node_steps on budget was is h =
       let n = stands_next next old mid ask turn asked runs on in
-      need_step (computed_calls old.core.call) ask mid.core.call.frames n.0 n.2 was is (subst (λ (o : Option Need). IsNeedStep o was is) (need_same on ∙ n.1) h)
+      need_step (computed_calls old.core.call) ask mid.core.call.frames n.0 n.2 budget was is (subst (λ (o : Option Need). IsNeedStep budget o was is) (need_same on ∙ n.1) h)
 
   -- where the present is due, the transaction has no stamp to read at
   unread : choice_of mid.core.bounds.now mid.core.renew_after mid.core.pins ≡ Present → read_stamp old.core ≡ None
@@ -530,9 +530,9 @@ module _ (next : Next) (old mid : TxnValue) (key : Call) (turn : PortTurn) (begu
   no_query : need_to_come mid.core ≡ Some (needs.Lookup key) → (query : Query) → need_to_come mid.core ≡ Some (needs.Query query) → asks.Call key ≡ asks.Query query
   no_query coming query is = let no : Some (needs.Lookup key) ≡ Some (needs.Query query) = sym coming ∙ is in absurd (cc no)
 
-  looks_up : need_to_come mid.core ≡ Some (needs.Lookup key) → (was is : NodeValue) → IsNeedStep (need_to_come mid.core) was is
-      → (is ≡ was) ⊎ IsNodeStepFor (computed_calls old.core.call) (asks.Call key) was is
-  looks_up coming was is h = inr (subst (λ (o : Option Need). IsNeedStep o was is) coming h)
+  looks_up : need_to_come mid.core ≡ Some (needs.Lookup key) → (budget : Option ℕ) (was is : NodeValue) → IsNeedStep budget (need_to_come mid.core) was is
+      → (is ≡ was) ⊎ IsNodeStepFor budget (computed_calls old.core.call) (asks.Call key) was is
+  looks_up coming budget was is h = inr (subst (λ (o : Option Need). IsNeedStep budget o was is) coming h)
 
   -- it begins with the pin
   pin_first : (t : PortTurn) → AsksPin t → PinsFirst old.core (asks.Call key) → need_to_come mid.core ≡ Some (needs.Lookup key) → TurnLeads mid.core p (Some t) new taken failed

@@ -1,5 +1,5 @@
 -- What comes of a transaction's requests at the plain ports.
-use Rattle.std.proofs.Common.{◌≡◌, ◌∙◌, ◌⊎◌, ◌+◌, ◌≤◌, inl, inr, ℕ, Result, Ok, Err, Option, Some, None, refl, subst, sym, true, ap}
+use Rattle.std.proofs.Common.{◌≡◌, ◌∙◌, ◌⊎◌, ◌+◌, ◌-◌, ◌≤◌, inl, inr, ℕ, length, Result, Ok, Err, Option, Some, None, refl, subst, sym, true, ap}
 use Rattle.std.specs.Prelude.{IfErr, IfOk, IfSome, IsOk, OnErr, OnOk}
 use Rattle.std.specs.Option.{option_map}
 use Rattle.std.proofs.lemmas.List.{length_push}
@@ -39,6 +39,7 @@ use Rattle.txc_ports.specs.declared.reply.PortReply.{PortReply}
 use Rattle.txc_ports.specs.declared.reply.PortReply.TheVariants as replies
 use Rattle.txc_caller.proofs.Some.{for_none, for_this}
 use Rattle.txc_caller.proofs.Letting.{grown_by, grown_same}
+use Rattle.txc_caller.specs.Budgets.{node_bytes, HasComeWithin, HasMadeRoomFor, IsInBudget}
 use Rattle.txc_caller.specs.Ports.{CallerPorts, AreCallerPorts, CallerAddTransition, CallerFindTransition, HasAskedPorts, HasGrownDatabase, CallerInsertTransition, KeepsNode, CallerLookupTransition, CallerPinTransition, CallerSweepTransition, CallerTrimTransition, CallerUnpinTransition}
 
 -- ---- the node
@@ -77,7 +78,7 @@ step_breaks n errors.HistoryFull refused = tt
 step_breaks n errors.PassesFull refused = tt
 step_breaks n errors.Memory refused = tt
 
-lookup_breaks : (n : NodeValue) (lo hi : ℕ) (e : NodeError) → IsLookupRefused n lo hi e → MayBreak n e
+pub lookup_breaks : (n : NodeValue) (lo hi : ℕ) (e : NodeError) → IsLookupRefused n lo hi e → MayBreak n e
 lookup_breaks n lo hi errors.Broken (inl was) = inl was
 lookup_breaks n lo hi errors.Broken (inr may) = inr may.0.in_row
 lookup_breaks n lo hi errors.EmptyRange refused = tt
@@ -122,22 +123,47 @@ node_looked_up old new key lo hi (Some hit) leads = node_after old new (Lookup k
 node_looked_up old new key lo hi None (inl leads) = node_after old new (Lookup key lo hi) leads.0
 node_looked_up old new key lo hi None (inr refused) = node_left old new refused.0 (lookup_breaks old lo hi refused.0 refused.1) refused.2
 
-pub node_inserted : (old new : NodeValue) (seen : FrontValue) (entry : Entry) (kept : Option Kept) → CallerInsertTransition seen entry old new kept → KeepsNode old new
-node_inserted old new seen entry (Some kept) has = record {
-  row = has.longer.events;
-  same = changes_so old (after_call (seeing old new.seen) 0 (Insert entry)) new has.after refl;
-  whole = λ none. ap (λ (n : NodeValue). n.broken) has.after;
+pub node_then : (old mid new : NodeValue) → KeepsNode old mid → KeepsNode mid new → KeepsNode old new
+node_then old mid new a b = record {
+  row = b.row ∙ a.row;
+  same = b.same ∙ ap (λ (n : NodeValue). record n { records = new.records; cache = new.cache; seen = new.seen; broken = new.broken }) a.same;
+  whole = λ none. b.whole (λ has. none (subst HasRow (ap (λ (n : NodeValue). n.name) a.same) has)) ∙ a.whole none;
 }
-node_inserted old new seen entry None refused = node_left old new refused.0 (step_breaks old refused.0 refused.1) refused.2
+
+come_keeps : (most : ℕ) (old new : NodeValue) → HasComeWithin most old new → KeepsNode old new
+come_keeps most old new (inl h) = node_same old new h.1
+come_keeps most old new (inr h) = node_after old new (Trim most) h.1
+
+pub room_keeps : (budget : Option ℕ) (len : ℕ) (old new : NodeValue) → HasMadeRoomFor budget len old new → KeepsNode old new
+room_keeps (Some most) len old new h = come_keeps (most - len) old new h
+room_keeps None len old new h = node_same old new h
+
+may_room_keeps : (budget : Option ℕ) (len : ℕ) (old new : NodeValue) → (new ≡ old) ⊎ HasMadeRoomFor budget len old new → KeepsNode old new
+may_room_keeps budget len old new (inl same) = node_same old new same
+may_room_keeps budget len old new (inr room) = room_keeps budget len old new room
+
+pub node_inserted : (budget : Option ℕ) (old new : NodeValue) (seen : FrontValue) (entry : Entry) (kept : Option Kept) → CallerInsertTransition budget seen entry old new kept
+    → KeepsNode old new
+node_inserted budget old new seen entry (Some kept) has = node_then old has.mid new (room_keeps budget (length entry.value) old has.mid has.room) (record {
+  row = has.taken.longer.events;
+  same = changes_so has.mid (after_call (seeing has.mid new.seen) 0 (Insert entry)) new has.taken.after refl;
+  whole = λ none. ap (λ (n : NodeValue). n.broken) has.taken.after;
+})
+node_inserted budget old new seen entry None (inl declined) = node_same old new declined.same
+node_inserted budget old new seen entry None (inr refused) =
+    node_then old refused.mid new (may_room_keeps budget (length entry.value) old refused.mid refused.room)
+    (node_left refused.mid new refused.refused.0 (step_breaks refused.mid refused.refused.0 refused.refused.1) refused.refused.2)
 
 -- the ports with the node after such a step
-pub ports_with_node : (p : CallerPorts) (node : NodeValue) → AreCallerPorts p → KeepsNode p.node node → AreCallerPorts (record p { node = node })
-ports_with_node p node are keeps = record {
+pub ports_with_node : (p : CallerPorts) (node : NodeValue) → AreCallerPorts p → KeepsNode p.node node → IsInBudget p.budget (node_bytes node)
+    → AreCallerPorts (record p { node = node })
+ports_with_node p node are keeps within = record {
   cushion = are.cushion;
   node = keeps.row ∙ are.node;
   pass = ap (λ (n : NodeValue). n.passes) keeps.same ∙ are.pass;
   unstored = λ has. are.unstored (subst HasRow (ap (λ (n : NodeValue). n.name) keeps.same) has);
   whole = keeps.whole are.unstored ∙ are.whole;
+  within = within;
 }
 
 -- a lookup, by what it returns
@@ -272,7 +298,7 @@ module _ (next : Next) (seen : FrontValue) (old new : CallerPorts) where
   }
 
   pub asked_insert : (node : ℕ) (entry : Entry) (kept : Option Kept) → new ≡ record old { node = new.node }
-      → CallerInsertTransition seen entry old.node new.node kept → HasAskedPorts next seen (requests.Insert node entry) old new (replies.Insert kept)
+      → CallerInsertTransition old.budget seen entry old.node new.node kept → HasAskedPorts next seen (requests.Insert node entry) old new (replies.Insert kept)
   asked_insert node entry kept same h = record {
     answer = tt;
     row = for_none (λ (f : FrontValue). f.events ≡ old.database.events);

@@ -21,4 +21,5 @@ ports_with_database p d same are = record {
   pass = are.pass;
   unstored = are.unstored;
   whole = are.whole;
+  within = are.within;
 }

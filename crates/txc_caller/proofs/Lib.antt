@@ -5,6 +5,7 @@ pub mod GivingBack
 pub mod Pins
 pub mod Reading
 pub mod Asked
+pub mod Budgets
 pub mod Begun
 pub mod Committing
 pub mod Lent

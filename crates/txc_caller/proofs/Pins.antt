@@ -96,4 +96,5 @@ has_pinned moment args old is d pinned could after at added k its addable more g
       database = after;
       entries = unused_entries pinned old.cushion added k moment more given its;
       node = refl;
+      budget = refl;
     })

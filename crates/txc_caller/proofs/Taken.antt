@@ -12,7 +12,9 @@ use Rattle.txc_shared.specs.declared.advanced.Advanced.{Advanced}
 use Rattle.txc_shared.specs.declared.advanced.Advanced.TheVariants as advances
 use Rattle.txc_shared.specs.declared.error.NodeError.{NodeError}
 use Rattle.txc_shared.specs.declared.error.NodeError.TheVariants as errors
+use Rattle.txc_caller.specs.Budgets.{node_bytes}
 use Rattle.txc_caller.specs.Ports.{GoesOnByEvents, HasNoEventFor, IsOfEvent, MayHaveTaken, StaysBehind}
+use Rattle.txc_caller.proofs.Budgets.{event_bytes, left_bytes}
 use Rattle.txc_caller.proofs.Asked.{changes_so, node_left, node_same, step_breaks}
 
 both : (rs ss : List Record) → AllByRecursion (λ r. IsOfEvent r.op) rs → AllByRecursion (λ r. IsOfEvent r.op) ss → AllByRecursion (λ r. IsOfEvent r.op) (rs ++ ss)
@@ -23,6 +25,7 @@ both (r ∷ rs) ss hr hs = (hr.0, both rs ss hr.1 hs)
 pub none_taken : (old new : NodeValue) → new ≡ old → GoesOnByEvents old new
 none_taken old new is = record {
   keeps = node_same old new is;
+  bytes = λ none. ap (λ (n : NodeValue). node_bytes n) is;
   more = [];
   records = ap (λ (n : NodeValue). n.records) is ∙ sym (append-nil old.records);
   events = tt;
@@ -36,6 +39,7 @@ taken_then old mid new a b = record {
     same = b.keeps.same ∙ ap (λ (n : NodeValue). record n { records = new.records; cache = new.cache; seen = new.seen; broken = new.broken }) a.keeps.same;
     whole = λ none. b.keeps.whole (λ has. none (subst HasRow (ap (λ (n : NodeValue). n.name) a.keeps.same) has)) ∙ a.keeps.whole none;
   };
+  bytes = λ none. b.bytes (λ has. none (subst HasRow (ap (λ (n : NodeValue). n.name) a.keeps.same) has)) ∙ a.bytes none;
   more = a.more ++ b.more;
   records = b.records ∙ (ap (λ (rs : List Record). rs ++ b.more) a.records ∙ append_assoc old.records a.more b.more);
   events = both a.more b.more a.events b.events;
@@ -49,6 +53,7 @@ advanced_so old new seen (advances.Taken stamp closed) row h = record {
     same = changes_so old _ new h.0 refl;
     whole = λ none. ap (λ (n : NodeValue). n.broken) h.0;
   };
+  bytes = λ none. ap (λ (n : NodeValue). node_bytes n) h.0 ∙ event_bytes old.cache _ _;
   more = _;
   records = ap (λ (n : NodeValue). n.records) h.0;
   events = (tt, tt);
@@ -59,6 +64,7 @@ advanced_so old new seen advances.Idle row h = record {
     same = changes_so old _ new h.0 refl;
     whole = λ none. ap (λ (n : NodeValue). n.broken) h.0;
   };
+  bytes = λ none. ap (λ (n : NodeValue). node_bytes n) h.0;
   more = [];
   records = ap (λ (n : NodeValue). n.records) h.0 ∙ sym (append-nil old.records);
   events = tt;
@@ -68,6 +74,7 @@ advanced_so old new seen advances.Idle row h = record {
 pub refused_so : (old new : NodeValue) (e : NodeError) → IsStepRefused old e → IsNodeLeft old new e → GoesOnByEvents old new
 refused_so old new e refused left = record {
   keeps = node_left old new e (step_breaks old e refused) left;
+  bytes = λ none. left_bytes old new e refused none left;
   more = [];
   records = records_left old new e left ∙ sym (append-nil old.records);
   events = tt;

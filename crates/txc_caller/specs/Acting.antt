@@ -41,18 +41,18 @@ step_error (Err (Txn error)) = Some error
 step_error step = None
 
 -- The step that an ask makes at the node: a call is looked up; what the innermost function gave is to be kept, under its call. Or
--- the node refuses the step. A query makes none.
-abbrev pub IsNodeStepFor : List Call → Ask → NodeValue → NodeValue → Type 0
-IsNodeStepFor computed (asks.Call k) old new =
+-- the node refuses the step, or the value is over its budget. A query makes none.
+abbrev pub IsNodeStepFor : Option ℕ → List Call → Ask → NodeValue → NodeValue → Type 0
+IsNodeStepFor budget computed (asks.Call k) old new =
     (lo : ℕ) × (hi : ℕ) × (hit : Option (Answered Shown)) × CallerLookupTransition k lo hi old new hit
-IsNodeStepFor computed (asks.Done bytes) old new = (entry : Entry) × (around : List Call) × (computed ≡ entry.key ∷ around)
-    × (entry.value ≡ bytes) × ((seen : FrontValue) × (kept : Option Kept) × CallerInsertTransition seen entry old new kept)
-IsNodeStepFor computed (asks.Query query) old new = new ≡ old
+IsNodeStepFor budget computed (asks.Done bytes) old new = (entry : Entry) × (around : List Call) × (computed ≡ entry.key ∷ around)
+    × (entry.value ≡ bytes) × ((seen : FrontValue) × (kept : Option Kept) × CallerInsertTransition budget seen entry old new kept)
+IsNodeStepFor budget computed (asks.Query query) old new = new ≡ old
 
 -- the node may have made such a step, and all else of the ports is as it was
 pub record IsNodeAsked (computed : List Call) (ask : Ask) (old new : CallerPorts) : Type 0 where
   pub same : new ≡ record old { node = new.node }
-  pub step : (new.node ≡ old.node) ⊎ IsNodeStepFor computed ask old.node new.node
+  pub step : (new.node ≡ old.node) ⊎ IsNodeStepFor old.budget computed ask old.node new.node
 
 -- ---- the pin of the present
 

@@ -1,3 +1,4 @@
+pub mod Budgets
 pub mod Ports
 pub mod Looking
 pub mod Telling

@@ -20,6 +20,7 @@ pub record HasPinnedNewest (moment : ℕ) (old : CallerPorts) (stamp : ℕ) (new
   pub entries : new.cushion.entries
       ≡ with_entry (record { pin = record { stamp = stamp; moment = moment }; users = 0 }) old.cushion.entries
   pub node : new.node ≡ old.node
+  pub budget : new.budget ≡ old.budget
 
 -- the database refused the pin
 pub record HasRefusedEvent (old : CallerPorts) (error : DbError) (new : CallerPorts) : Type 0 where

@@ -43,25 +43,29 @@ use Rattle.txc_ports.specs.declared.reply.PortReply.{PortReply}
 use Rattle.txc_ports.specs.Exchanges.{Exchange, IsExchange}
 use Rattle.txc_ports.specs.Exchanges as exchanges
 use Rattle.txc_caller.specs.declared.nodes.NodeTotals.{NodeTotals}
+use Rattle.txc_caller.specs.Budgets.{node_bytes, fits_alone, HasMadeRoomFor, IsInBudget}
 
 -- it is of the same row, and its history has only grown
 pub record HasGrownDatabase (old new : DatabaseValue) : Type 0 where
   pub events : new.events ≡ old.events
   pub longer : IsPrefix old.history new.history
 
--- the database, the pincushion and the node
+-- the database, the pincushion and the node; and how many bytes the node's values may have in all, if that has a budget
 pub record CallerPorts : Type 0 where
   pub database : DatabaseValue
   pub cushion : CushionValue
   pub node : NodeValue
+  pub budget : Option ℕ
 
--- all three are of one row of events; there is one pass through the node, which is whole and stores no records
+-- all three are of one row of events; there is one pass through the node, which is whole, stores no records and is within its
+-- budget
 pub record AreCallerPorts (p : CallerPorts) : Type 0 where
   pub cushion : p.cushion.events ≡ p.database.events
   pub node : p.node.seen.events ≡ p.database.events
   pub pass : p.node.passes ≡ 1
   pub unstored : ¬ (HasRow p.node.name)
   pub whole : p.node.broken ≡ false
+  pub within : IsInBudget p.budget (node_bytes p.node)
 
 -- the database has room for so many events; or, where no number is given, it stores none
 abbrev pub HasEventRoom : Option ℕ → Name → Type 0
@@ -132,6 +136,7 @@ pub record HasRetired (now age : ℕ) (old new : CallerPorts) : Type 0 where
   pub cushion : new.cushion ≡ after_retire old.cushion now age
   pub holds : AreLetGo (retired old.cushion now age) old.database new.database
   pub node : new.node ≡ old.node
+  pub budget : new.budget ≡ old.budget
 
 -- ---- the database
 
@@ -176,10 +181,29 @@ pub record HasTakenEntry (seen : FrontValue) (entry : Entry) (old new : NodeValu
 abbrev pub HasRefusedStep : NodeValue → NodeValue → Type 0
 HasRefusedStep old new = (e : NodeError) × IsStepRefused old e × IsNodeLeft old new e
 
--- the node takes the entry, as it is; or it refuses, and keeps nothing
-abbrev pub CallerInsertTransition : FrontValue → Entry → NodeValue → NodeValue → Option Kept → Type 0
-CallerInsertTransition seen entry old new (Some kept) = HasTakenEntry seen entry old new kept
-CallerInsertTransition seen entry old new None = HasRefusedStep old new
+-- the node has made room for the entry within its budget, and takes it, as it is
+pub record HasTakenWithin (budget : Option ℕ) (seen : FrontValue) (entry : Entry) (old new : NodeValue) (kept : Kept) : Type 0 where
+  pub fits : fits_alone budget (length entry.value) ≡ true
+  pub mid : NodeValue
+  pub room : HasMadeRoomFor budget (length entry.value) old mid
+  pub taken : HasTakenEntry seen entry mid new kept
+
+-- the value alone is over the budget, and the node is as it was
+pub record HasDeclined (budget : Option ℕ) (entry : Entry) (old new : NodeValue) : Type 0 where
+  pub over : fits_alone budget (length entry.value) ≡ false
+  pub same : new ≡ old
+
+-- the node refused to make room, or refused the entry once it had
+pub record HasRefusedWithin (budget : Option ℕ) (entry : Entry) (old new : NodeValue) : Type 0 where
+  pub fits : fits_alone budget (length entry.value) ≡ true
+  pub mid : NodeValue
+  pub room : (mid ≡ old) ⊎ HasMadeRoomFor budget (length entry.value) old mid
+  pub refused : HasRefusedStep mid new
+
+-- the node takes the entry; or it keeps nothing of it: the value is over the budget, or the node refuses
+abbrev pub CallerInsertTransition : Option ℕ → FrontValue → Entry → NodeValue → NodeValue → Option Kept → Type 0
+CallerInsertTransition budget seen entry old new (Some kept) = HasTakenWithin budget seen entry old new kept
+CallerInsertTransition budget seen entry old new None = HasDeclined budget entry old new ⊎ HasRefusedWithin budget entry old new
 
 -- the node drops the entries that end at the horizon or before it; or it refuses the step
 abbrev pub CallerSweepTransition : ℕ → NodeValue → NodeValue → Result ℕ NodeError → Type 0
@@ -212,9 +236,10 @@ abbrev pub IsOfEvent : Op → Type 0
 IsOfEvent (Event stamp tags) = Unit {0}
 IsOfEvent op = ⊥
 
--- its history goes on by such steps alone
+-- Its history goes on by such steps alone. If it stores no records, its values have as many bytes as before.
 pub record GoesOnByEvents (old new : NodeValue) : Type 0 where
   pub keeps : KeepsNode old new
+  pub bytes : ¬ (HasRow old.name) → node_bytes new ≡ node_bytes old
   pub more : List Record
   pub records : new.records ≡ old.records ++ more
   pub events : AllByRecursion (λ r. IsOfEvent r.op) more
@@ -266,7 +291,7 @@ CallerExchangeTransition seen old new (exchanges.Lookup node key lo hi hit) =
 CallerExchangeTransition seen old new (exchanges.Query query stamp found) =
     (new ≡ old) × CallerFindTransition query stamp old.database found
 CallerExchangeTransition seen old new (exchanges.Insert node entry kept) =
-    (new ≡ record old { node = new.node }) × CallerInsertTransition seen entry old.node new.node kept
+    (new ≡ record old { node = new.node }) × CallerInsertTransition old.budget seen entry old.node new.node kept
 
 -- The reply is one to the request, and right in the history that it shows, which is of the row; and so much comes of
 -- the request. The history only grows.

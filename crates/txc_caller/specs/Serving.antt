@@ -147,12 +147,12 @@ abbrev pub need_to_come : CoreValue → Option Need
 need_to_come c = coming_need (first_call c.pinning) c.call.need
 
 -- the step of the node that is for this need
-abbrev pub IsNeedStep : Option Need → NodeValue → NodeValue → Type 0
-IsNeedStep (Some (needs.Lookup k)) old new =
+abbrev pub IsNeedStep : Option ℕ → Option Need → NodeValue → NodeValue → Type 0
+IsNeedStep budget (Some (needs.Lookup k)) old new =
     (lo : ℕ) × (hi : ℕ) × (hit : Option (Shows Shown)) × CallerLookupTransition k lo hi old new hit
-IsNeedStep (Some (needs.Insert entry)) old new =
-    (seen : FrontValue) × (kept : Option Kept) × CallerInsertTransition seen entry old new kept
-IsNeedStep need old new = new ≡ old
+IsNeedStep budget (Some (needs.Insert entry)) old new =
+    (seen : FrontValue) × (kept : Option Kept) × CallerInsertTransition budget seen entry old new kept
+IsNeedStep budget need old new = new ≡ old
 
 -- the database refused the query that is needed, at this stamp
 abbrev pub IsNeedRefused : Option Need → ℕ → DatabaseValue → TxnError → Type 0
@@ -170,7 +170,7 @@ pub record StillLeads (c : CoreValue) (old : CallerPorts) (turn : HandTurn) (new
 -- the query.
 pub record LastLeads (c : CoreValue) (old new : CallerPorts) (taken : List ℕ) (failed : Option TxnError) : Type 0 where
   pub same : new ≡ record old { node = new.node }
-  pub step : IsNeedStep c.call.need old.node new.node
+  pub step : IsNeedStep old.budget c.call.need old.node new.node
   pub taken_is : taken ≡ c.taken
   pub refused : IfSome failed (λ error. (error ≡ Memory)
       ⊎ ((stamp : ℕ) × (read_stamp c ≡ Some stamp) × IsNeedRefused c.call.need stamp old.database error))
@@ -181,7 +181,7 @@ pub record AddedLeads (was : List ℕ) (need : Option Need) (old : CallerPorts) 
   pub between : CallerPorts
   pub added : between ≡ record old { cushion = after_add old.cushion pinned }
   pub same : new ≡ record between { node = new.node }
-  pub step : IsNeedStep need between.node new.node
+  pub step : IsNeedStep between.budget need between.node new.node
   pub taken_is : taken ≡ was ++ pinned.stamp ∷ []
   pub refused : IfSome failed (λ error. (error ≡ Memory) ⊎ IsNeedRefused need pinned.stamp between.database error)
 

@@ -7,7 +7,7 @@ ghost use Rattle.txc_db.specs.Refusals.{IsWant};
 ghost use Rattle.txc_registry.specs.Objects.{AllIdle, Objects};
 ghost use Rattle.txc_shared.specs.Nodes.{start_of};
 ghost use Rattle.txc_txn.specs.Core.{value_of, CoreHolds, IsCore, IsIdle};
-ghost use Rattle.txc_node.specs.declared.node.TheConstants.{MAX_CAPACITY, MAX_RECENT};
+ghost use Rattle.txc_node.specs.declared.node.TheConstants.{MAX_RECENT, MOST_CAPACITY};
 ghost use Rattle.txc_stream.specs.declared.row.TheConstants.{MAX_CAPACITY as MAX_ROW};
 ghost use Rattle.txc_caller.specs.Ports.{GoesOnByEvents, HasEventRoom, HasGrownDatabase, HasNoEventFor, IsNewDatabase, StaysBehind};
 ghost use Rattle.txc_caller.specs.Reading.{IsBegunReading, KeepsCaller};
@@ -106,24 +106,27 @@ pub(crate) fn begun(
 
 impl<A: App> Caller<A> {
     /// Returns a caller with an empty database that has room for so many events, or that stores none, for as many as there are
-    /// stamps; an empty pincushion; and an empty node.
+    /// stamps; an empty pincushion; and an empty node. With a budget the values of its node have at most so many bytes in all,
+    /// after each of its methods: an insertion makes room first, and a value that alone is over the budget is not kept.
     pub fn new(
         alloc: Global,
         room: Option<usize>,
         node: NodeSettings,
+        budget: Option<usize>,
         renew_after: u64,
     ) -> Result<Caller<A>, DbError>
         requires room { IfSome room (λ events. (1 ≤ events) × (events ≤ MAX_ROW)) }
-        requires node { (1 ≤ node.capacity) × (node.capacity ≤ MAX_CAPACITY) }
+        requires node { (1 ≤ node.capacity) × (node.capacity ≤ MOST_CAPACITY) }
         requires recent { (1 ≤ node.recent) × (node.recent ≤ MAX_RECENT) }
         ensures room { IfOk result (λ caller. HasEventRoom room caller.ports.database.events) }
         ensures new { IfOk result (λ caller. IsNewDatabase caller.ports.database) }
         ensures cushion { IfOk result (λ caller. caller.ports.cushion.entries ≡ []) }
         ensures node { IfOk result (λ caller. caller.ports.node.cache ≡ start_of node 0) }
+        ensures budget { IfOk result (λ caller. caller.ports.budget ≡ budget) }
         ensures renew_after { IfOk result (λ caller. caller.renew_after ≡ renew_after) }
         ensures refused { IfErr result IsWant }
     {
-        let Ok(plain) = Box::new(alloc, PlainPorts::new(alloc, room, node)?) else {
+        let Ok(plain) = Box::new(alloc, PlainPorts::new(alloc, room, node, budget)?) else {
             return Err(DbError::Memory);
         };
         Ok(Caller {

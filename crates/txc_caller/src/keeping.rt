@@ -3,6 +3,7 @@ ghost use Rattle.std.specs.Prelude.{◌≡◌, IfErr, IfOk, OnErr, OnOk, length}
 ghost use Rattle.txc_cushion.specs.Cushion.{retired};
 ghost use Rattle.txc_db.specs.DatabaseValue.{next_horizon};
 ghost use Rattle.txc_caller.specs.Ports.{totals_of, CallerSweepTransition, CallerTrimTransition, GoesOnByEvents, HasGrownDatabase, HasRetired, HasVacuumedPorts, IsKeepRefused};
+ghost use Rattle.txc_caller.specs.Budgets.{IsInBudget};
 ghost use Rattle.txc_caller.specs.Reading.{KeepsCaller};
 
 use crate::caller::Caller;
@@ -64,9 +65,10 @@ impl<A: App> Caller<A> {
     }
 
     /// Returns how many entries the node holds, how many bytes their values have in all, and how many of its entries trims
-    /// have dropped. It changes nothing.
+    /// have dropped. The bytes are within its budget. It changes nothing.
     pub fn totals(&mut self) -> NodeTotals
         ensures answer { result ≡ totals_of self.old.ports.node }
+        ensures within { IsInBudget self.old.ports.budget result.bytes }
         ensures same { self.new ≡ self.old }
     {
         self.ports.totals()

@@ -1,7 +1,9 @@
 //! Steps at the node, for one thread.
-ghost use Rattle.std.specs.Prelude.{◌≡◌, false};
+ghost use Rattle.std.specs.Prelude.{◌≡◌, true, false, IfErr, OnOk};
 ghost use Rattle.txc_app.specs.Claims.{IsTrueIn};
 ghost use Rattle.txc_shared.specs.Nodes.{next_stamp, HasTags};
+ghost use Rattle.txc_shared.specs.Refusals.{IsNodeLeft, IsStepRefused};
+ghost use Rattle.txc_caller.specs.Budgets.{fits_alone, HasMadeRoomFor};
 ghost use Rattle.txc_caller.specs.Ports.{kept_as, totals_of, CallerInsertTransition, GoesOnByEvents};
 
 use std::alloc::Global;
@@ -9,7 +11,7 @@ use txc_app::App;
 use txc_db::HistoryFront;
 use txc_node::Entry;
 use txc_ports::Kept;
-use txc_shared::{Advanced, Insertion, StoredNode};
+use txc_shared::{Advanced, Insertion, NodeError, StoredNode};
 use txc_tags::TagSet;
 
 /// What a node holds in all, and how many of its entries trims have dropped.
@@ -48,18 +50,68 @@ fn kept_as(insertion: Insertion) -> Kept
     }
 }
 
-/// Gives the node an entry to keep, which is true in what the front shows. A node that refuses keeps nothing.
+// Returns whether a value of so many bytes alone is within the budget.
+fn fits_alone(budget: Option<usize>, len: usize) -> bool
+    ensures { result ≡ fits_alone budget len }
+{
+    match budget {
+        Some(most) => len <= most,
+        None => true,
+    }
+}
+
+// Makes room for a value of so many bytes: trims the node if its own values are not within what the budget leaves beside
+// that one.
+fn make_room<A: App>(
+    alloc: Global,
+    node: &mut StoredNode<A>,
+    budget: Option<usize>,
+    len: usize,
+) -> Result<(), NodeError>
+    requires pass { node.old.passes ≡ 1 }
+    requires fits { fits_alone budget len ≡ true }
+    ensures made { OnOk result (HasMadeRoomFor budget len node.old node.new) }
+    ensures pass { OnOk result (node.new.passes ≡ node.old.passes) }
+    ensures row { OnOk result (node.new.seen.events ≡ node.old.seen.events) }
+    ensures left { IfErr result (IsNodeLeft node.old node.new) }
+    ensures refused { IfErr result (IsStepRefused node.old) }
+{
+    let Some(most) = budget else {
+        return Ok(());
+    };
+    let rest = most - len;
+    if node.bytes() <= rest {
+        return Ok(());
+    }
+    let _dropped = node.trim(alloc, 0, rest)?;
+    Ok(())
+}
+
+/// Gives the node an entry to keep, which is true in what the front shows. The node makes room for it within the budget. A
+/// node that refuses keeps nothing, and no node keeps a value that alone is over the budget.
 pub(crate) fn insert<A: App>(
     alloc: Global,
     node: &mut StoredNode<A>,
+    budget: Option<usize>,
     entry: Entry,
     seen: &HistoryFront,
 ) -> Option<Kept>
     requires pass { node.old.passes ≡ 1 }
     requires row { seen.now.events ≡ node.old.seen.events }
     requires is_true { IsTrueIn A.next seen.now.history entry }
-    ensures { CallerInsertTransition seen.now entry node.old node.new result }
+    ensures { CallerInsertTransition budget seen.now entry node.old node.new result }
 {
+    let len = entry.value.bytes().len();
+    if !fits_alone(budget, len) {
+        return None;
+    }
+    match make_room(alloc, node, budget, len) {
+        Ok(()) => (),
+        Err(refusal) => {
+            let _refusal = refusal;
+            return None;
+        }
+    }
     match node.insert(alloc, 0, entry, seen) {
         Ok(insertion) => Some(kept_as(insertion)),
         Err(_) => None,

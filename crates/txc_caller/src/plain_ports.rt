@@ -3,7 +3,7 @@ ghost use Rattle.std.specs.Prelude.{◌≡◌, ◌≤◌, [], true, false, IfErr
 ghost use Rattle.txc_cushion.specs.Cushion.{empty_cushion};
 ghost use Rattle.txc_db.specs.DatabaseValue.{front_of};
 ghost use Rattle.txc_db.specs.Refusals.{IsWant};
-ghost use Rattle.txc_node.specs.declared.node.TheConstants.{MAX_CAPACITY, MAX_RECENT};
+ghost use Rattle.txc_node.specs.declared.node.TheConstants.{MAX_RECENT, MOST_CAPACITY};
 ghost use Rattle.txc_stream.specs.Names.{HasRow};
 ghost use Rattle.txc_stream.specs.declared.row.TheConstants.{MAX_CAPACITY as MAX_ROW};
 ghost use Rattle.txc_shared.specs.Nodes.{start_of};
@@ -24,12 +24,14 @@ use txc_stamp::Stamp;
 use txc_stream::Pen;
 use txc_validity::Found;
 
-/// A database, its pincushion, and one node that takes its events. None has a lock.
+/// A database, its pincushion, and one node that takes its events. None has a lock. The node's values are within the budget, if
+/// there is one.
 #[derive(Drop)]
 pub struct PlainPorts<A: App> {
     pub(crate) database: DbCore,
     pub(crate) cushion: CushionCore,
     pub(crate) node: StoredNode<A>,
+    pub(crate) budget: Option<usize>,
 }
 
 impl<A: App> Model for PlainPorts<A> {
@@ -38,9 +40,14 @@ impl<A: App> Model for PlainPorts<A> {
 
     ghost Value = { CallerPorts };
 
-    ghost view = { λ p. record { database = p.database; cushion = p.cushion; node = p.node } };
+    ghost view = { λ p. record { database = p.database; cushion = p.cushion; node = p.node; budget = p.budget } };
 
-    ghost invariant = { λ p. AreCallerPorts (record { database = p.database; cushion = p.cushion; node = p.node }) };
+    ghost invariant = { λ p. AreCallerPorts (record {
+      database = p.database;
+      cushion = p.cushion;
+      node = p.node;
+      budget = p.budget;
+    }) };
 }
 
 // An empty database with room for so many events, or that stores none. As many versions may match as can be allowed.
@@ -116,7 +123,7 @@ fn around<A: App>(
     settings: NodeSettings,
     seen: HistoryFront,
 ) -> Result<(CushionCore, StoredNode<A>), AllocError>
-    requires node { (1 ≤ settings.capacity) × (settings.capacity ≤ MAX_CAPACITY) }
+    requires node { (1 ≤ settings.capacity) × (settings.capacity ≤ MOST_CAPACITY) }
     requires recent { (1 ≤ settings.recent) × (settings.recent ≤ MAX_RECENT) }
     ensures cushion { IfOk result (λ it. it.0 ≡ empty_cushion seen) }
     ensures row { IfOk result (λ it. it.1.seen.events ≡ seen.events) }
@@ -167,19 +174,21 @@ impl<A: App> PlainPorts<A> {
     }
 
     /// An empty database with room for so many events, or that stores none where no number is given; an empty pincushion and
-    /// an empty node.
+    /// an empty node, whose values are to stay within the budget.
     pub(crate) fn new(
         alloc: Global,
         room: Option<usize>,
         settings: NodeSettings,
+        budget: Option<usize>,
     ) -> Result<PlainPorts<A>, DbError>
         requires room { IfSome room (λ events. (1 ≤ events) × (events ≤ MAX_ROW)) }
-        requires node { (1 ≤ settings.capacity) × (settings.capacity ≤ MAX_CAPACITY) }
+        requires node { (1 ≤ settings.capacity) × (settings.capacity ≤ MOST_CAPACITY) }
         requires recent { (1 ≤ settings.recent) × (settings.recent ≤ MAX_RECENT) }
         ensures room { IfOk result (λ ports. HasEventRoom room ports.database.events) }
         ensures new { IfOk result (λ ports. IsNewDatabase ports.database) }
         ensures cushion { IfOk result (λ ports. ports.cushion.entries ≡ []) }
         ensures node { IfOk result (λ ports. ports.node.cache ≡ start_of settings 0) }
+        ensures budget { IfOk result (λ ports. ports.budget ≡ budget) }
         ensures refused { IfErr result IsWant }
     {
         let database = empty_database(alloc, room)?;
@@ -192,6 +201,7 @@ impl<A: App> PlainPorts<A> {
                 database,
                 cushion,
                 node,
+                budget,
             }),
             Err(_) => {
                 drop(database);
@@ -222,7 +232,7 @@ impl<A: App> CallPorts<A> for PlainPorts<A> {
                 PortReply::Query(find(alloc, &mut self.database, &query, stamp))
             }
             PortRequest::Insert { entry, .. } => {
-                PortReply::Insert(nodes::insert(alloc, &mut self.node, entry, seen))
+                PortReply::Insert(nodes::insert(alloc, &mut self.node, self.budget, entry, seen))
             }
         }
     }

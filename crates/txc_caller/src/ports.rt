@@ -10,6 +10,7 @@ ghost use Rattle.txc_validity.specs.Answers.{IsAnswer};
 ghost use Rattle.txc_cushion.specs.Cushion.{after_fresh};
 ghost use Rattle.txc_txn.specs.Core.{value_of};
 ghost use Rattle.txc_caller.specs.Reading.{IsBegunCore};
+ghost use Rattle.txc_caller.specs.Budgets.{IsInBudget};
 ghost use Rattle.txc_caller.specs.Ports.{AreGivenBack, totals_of, CallerSweepTransition, CallerTrimTransition, GoesOnByEvents, HasGrownDatabase, HasNoEventFor, HasRetired, HasVacuumedPorts, IsKeepRefused, IsLetGo, MayHaveTaken, StaysBehind};
 
 use crate::call_ports::CallPorts;
@@ -258,6 +259,7 @@ impl<A: App> Ports<A> {
     /// Returns what the node holds in all, and how many of its entries trims have dropped.
     pub(crate) fn totals(&mut self) -> NodeTotals
         ensures answer { result ≡ totals_of self.old.node }
+        ensures within { IsInBudget self.old.budget result.bytes }
         ensures same { self.new ≡ self.old }
     {
         let plain = self.slot.take(self.alloc);

@@ -2,7 +2,7 @@
 use Rattle.std.specs.Prelude.{◌≡◌, ℕ, Bool, true, false, ◌&&◌, ◌==◌, nat_le, if◌then◌else◌, List, ◌++◌, take, drop, length, map, Option, Some, None}
 use Rattle.std.specs.List.{list_all}
 use Rattle.txc_stamp.specs.Interval.{Interval}
-use Rattle.txc_stamp.specs.declared.stamp.TheConstants.{LAST_STAMP}
+use Rattle.txc_stamp.specs.declared.stamp.TheConstants.{MOST_STAMP}
 use Rattle.txc_tags.specs.declared.key.TheConstants.{LAST_FUNCTION, MAX_ARGS}
 use Rattle.txc_tags.specs.declared.tag.Rows.{Rows}
 use Rattle.txc_tags.specs.declared.tag.Rows.TheVariants.{All, Id, Group}
@@ -12,7 +12,7 @@ use Rattle.txc_tags.specs.Keys.{Call}
 use Rattle.txc_tags.specs.Tags.{set_of}
 use Rattle.txc_node.specs.declared.counts.FunctionCounts.{FunctionCounts}
 use Rattle.txc_node.specs.declared.entry.Entry.{Entry}
-use Rattle.txc_node.specs.declared.node.TheConstants.{MAX_CAPACITY, MAX_RECENT}
+use Rattle.txc_node.specs.declared.node.TheConstants.{MAX_RECENT, MOST_CAPACITY}
 use Rattle.txc_node.specs.declared.op.Op.{Op}
 use Rattle.txc_node.specs.declared.op.Op.TheVariants.{Insert, Lookup, Event, Sweep}
 use Rattle.txc_crossing.specs.declared.crossing.TxcKey.{TxcKey}
@@ -49,12 +49,12 @@ interval_of reach = record { lo = reach.lo; known = reach.known; still = reach.i
 
 -- a caller may name such a stamp
 abbrev pub is_stamp : ℕ → Bool
-is_stamp number = nat_le number LAST_STAMP
+is_stamp number = nat_le number MOST_STAMP
 
 -- a node may be made for so many entries, and for the tags of so many events
 abbrev pub are_sizes : ℕ → ℕ → Bool
 are_sizes capacity recent =
-    (nat_le 1 capacity && nat_le capacity MAX_CAPACITY) && (nat_le 1 recent && nat_le recent MAX_RECENT)
+    (nat_le 1 capacity && nat_le capacity MOST_CAPACITY) && (nat_le 1 recent && nat_le recent MAX_RECENT)
 
 -- ---- the step that the arguments of a call ask for; none where one of them is none of its kind
 

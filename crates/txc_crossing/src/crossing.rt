@@ -1,5 +1,5 @@
 //! What crosses: keys, tags, reaches and counts as structs of numbers.
-ghost use Rattle.std.specs.Prelude.{◌≡◌, length, map, true, false, if◌then◌else◌, Some, None, IfOk};
+ghost use Rattle.std.specs.Prelude.{◌≡◌, length, map, true, false, if◌then◌else◌, is_some, Some, None, IfOk, IfSome};
 ghost use Rattle.std.specs.List.{list_all};
 ghost use Rattle.txc_tags.specs.Tags.{set_of};
 ghost use Rattle.txc_crossing.specs.Crossing.{are_sizes, named_call, interval_of, is_call, tag_of, is_tag, is_stamp, is_insertion, crossing_reach, crossing_counts, written_in, TellsStored};
@@ -7,8 +7,8 @@ ghost use Rattle.txc_crossing.specs.Numbers.{bytes_number};
 
 use crate::numbers::NO_ROOM;
 use std::alloc::{AllocError, Global};
-use txc_node::{Entry, FunctionCounts, MAX_CAPACITY, MAX_RECENT};
-use txc_stamp::{LAST_STAMP, Reach};
+use txc_node::{Entry, FunctionCounts, MAX_RECENT, MOST_CAPACITY};
+use txc_stamp::{MOST_STAMP, Reach, Stamp};
 use txc_tags::{Key, LAST_FUNCTION, LAST_TABLE, MAX_ARGS, Table, Tag, TagSet};
 
 /// A key: a function, and the first `count` of the arguments.
@@ -133,7 +133,18 @@ pub fn are_tags(tags: &[TxcTag]) -> bool
 fn is_stamp(number: u32) -> bool
     ensures { result ≡ is_stamp number }
 {
-    number <= LAST_STAMP
+    number <= MOST_STAMP
+}
+
+/// Returns the stamp that a caller names; none if the number is above the greatest one.
+pub fn stamp_of(number: u32) -> Option<Stamp>
+    ensures there { is_some result ≡ is_stamp number }
+    ensures stamp { IfSome result (λ stamp. stamp ≡ number) }
+{
+    if !is_stamp(number) {
+        return None;
+    }
+    Some(Stamp::after(number as usize))
 }
 
 /// Whether each argument of an insertion is of its kind.
@@ -210,7 +221,7 @@ impl TxcCounts {
 pub fn are_sizes(capacity: usize, recent: usize) -> bool
     ensures { result ≡ are_sizes capacity recent }
 {
-    1 <= capacity && capacity <= MAX_CAPACITY && 1 <= recent && recent <= MAX_RECENT
+    1 <= capacity && capacity <= MOST_CAPACITY && 1 <= recent && recent <= MAX_RECENT
 }
 
 /// Writes the bytes, where there is room for them, and how many they are.

@@ -5,8 +5,8 @@ mod crossing;
 mod numbers;
 
 pub use crossing::{
-    TxcCounts, TxcKey, TxcReach, TxcStored, TxcTag, are_sizes, are_tags, is_insertion, tags_of,
-    tell,
+    TxcCounts, TxcKey, TxcReach, TxcStored, TxcTag, are_sizes, are_tags, is_insertion, stamp_of,
+    tags_of, tell,
 };
 pub use numbers::{
     ALREADY_OPEN, ANSWERED, BAD_ARGUMENT, BAD_REACH, CLOSED, COMPUTE, CONFLICT, DONE, EMPTY_RANGE,

@@ -1,15 +1,18 @@
 -- What a keeper did with one node more.
-use Rattle.std.proofs.Common.{◌≡◌, ◌∙◌, ℕ, ◌+◌, ◌<◌, List, [], ◌∷◌, ◌++◌, Option, map, length, get_or, take, sym, ap, subst, rules}
+use Rattle.std.proofs.Common.{◌≡◌, ◌≢◌, ◌∙◌, ℕ, ◌+◌, ◌<◌, ◌≤◌, List, [], ◌∷◌, ◌++◌, Option, map, length, length-append, get_or, take, refl, sym, ap, subst, rules, arith}
 use Rattle.std.proofs.lemmas.List.{append_assoc, map-append, take_more}
 use Rattle.std.proofs.lemmas.List.Elements.{All-append}
 use Rattle.std.specs.Prelude.{All, Result}
 use Rattle.txc_stream.specs.Names.{Name}
-use Rattle.txc_shared.specs.declared.advanced.Advanced.TheVariants as advances
+use Rattle.txc_shared.specs.declared.advanced.Ended.{Ended}
+use Rattle.txc_shared.specs.declared.advanced.Ended.TheVariants.{Idle, Paused, Refused}
 use Rattle.txc_shared.specs.declared.error.NodeError.{NodeError}
 use Rattle.txc_shared.specs.declared.settings.NodeSettings.{NodeSettings}
-use Rattle.txc_shared.specs.Passes.{PassValue, HasGrown, HasTaken}
-use Rattle.txc_keeper.specs.Keeping.{HasKeptNode, HasTakenEach, HasTrimmed, HaveKept}
-use Rattle.txc_keeper.specs.Stations.{StationValue, HasNotRefused, IsSamePass}
+use Rattle.txc_shared.specs.Passes.{PassValue, HasGrown, HasTakenEach}
+use Rattle.txc_shared.specs.Together.{HasStopped, HasTakenMany}
+use Rattle.txc_shared.proofs.Together.{grown_self, taken_then}
+use Rattle.txc_keeper.specs.Keeping.{HasKeptNode, HasTrimmed, HaveKept}
+use Rattle.txc_keeper.specs.Stations.{StationValue, IsSamePass}
 use Rattle.txc_keeper.specs.declared.keeper.KeptNode.{KeptNode}
 
 -- a pass that has grown is the same pass
@@ -31,10 +34,47 @@ pub trimmed_at : (histories : ℕ → Name) (old after new : StationValue) (trim
     → HasTrimmed histories after after.budget trimmed new → HasTrimmed histories after old.budget trimmed new
 trimmed_at histories old after new trimmed same h = subst (λ (budget : Option ℕ). HasTrimmed histories after budget trimmed new) same.budget h
 
--- one event more was taken
-pub one_taken_more : (row : Name) (old last new : StationValue) (stamps : List ℕ) (stamp closed : ℕ) → HasTakenEach row old stamps last
-    → HasTaken row last.pass new.pass (advances.Taken stamp closed) → HasNotRefused last new → HasTakenEach row old (stamp ∷ stamps) new
-one_taken_more row old last new stamps stamp closed before taken answered = (last, closed, before, taken, answered)
+-- a node took as many as it may together
+pub paused_round : (row : Name) (histories : ℕ → Name) (most : ℕ) (old : PassValue) (taken : ℕ) (ended : Ended) (new : PassValue) → ended ≡ Paused
+    → HasTakenMany row histories most old taken ended new
+    → (stamps : List ℕ) × HasTakenEach row old stamps new × (taken ≡ length stamps) × (taken ≡ most)
+paused_round row histories most old taken ended new is many =
+    let end : (new ≡ many.last) × (taken ≡ most) = subst (λ (e : Ended). HasStopped row histories most many.last taken e new) is many.end in
+    (many.stamps, subst (HasTakenEach row old many.stamps) (sym end.0) many.took, many.counted, end.1)
+
+-- how a round ended, if it did not pause, is how all ended
+stopped_so : (row : Name) (histories : ℕ → Name) (most all : ℕ) (last : PassValue) (taken total : ℕ) (ended : Ended) (new : PassValue) → ended ≢ Paused
+    → HasStopped row histories most last taken ended new → HasStopped row histories all last total ended new
+stopped_so row histories most all last taken total Idle new going end = end
+stopped_so row histories most all last taken total Paused new going end = absurd (going refl)
+stopped_so row histories most all last taken total (Refused error) new going end = end
+
+-- a round that did not pause, after others
+pub last_round : (row : Name) (histories : ℕ → Name) (most all : ℕ) (old mid new : PassValue) (stamps : List ℕ) (taken more : ℕ) (ended : Ended)
+    → HasTakenEach row old stamps mid → taken ≡ length stamps → taken + most ≤ all → ended ≢ Paused → HasTakenMany row histories most mid more ended new
+    → HasTakenMany row histories all old (taken + more) ended new
+last_round row histories most all old mid new stamps taken more ended before counted room going many = record {
+  stamps = many.stamps ++ stamps;
+  last = many.last;
+  took = taken_then row old mid many.last stamps many.stamps before many.took;
+  counted = let long = length-append many.stamps stamps in let own = many.counted in omega (arith, long, own, counted);
+  few = let own = many.few in omega (arith, own, room);
+  grown = many.grown;
+  end = stopped_so row histories most all many.last more (taken + more) ended new going many.end;
+}
+
+-- all rounds paused
+pub all_paused : (row : Name) (histories : ℕ → Name) (all : ℕ) (old new : PassValue) (stamps : List ℕ) (taken : ℕ)
+    → HasTakenEach row old stamps new → taken ≡ length stamps → taken ≡ all → HasTakenMany row histories all old taken Paused new
+all_paused row histories all old new stamps taken took counted is = record {
+  stamps = stamps;
+  last = new;
+  took = took;
+  counted = counted;
+  few = omega (arith, is);
+  grown = grown_self new;
+  end = (refl, is);
+}
 
 one_kept_more : (row : Name) (histories : ℕ → Name) (h : Option ℕ) (olds : List StationValue) (all : List KeptNode) (news : List StationValue)
     (old : StationValue) (kept : KeptNode) (new : StationValue) → HaveKept row histories h olds all news → HasKeptNode row histories h old kept new

@@ -1,45 +1,35 @@
 -- What a keeper did with the nodes of a site.
-use Rattle.std.specs.Prelude.{◌≡◌, ℕ, List, [], ◌∷◌, length, Option, Some, None, Ok, Err, IfErr, IfOk, Result}
+use Rattle.std.specs.Prelude.{◌≡◌, ℕ, List, [], ◌∷◌, Option, Some, None, Ok, Err, IfErr, IfOk, Result}
 use Rattle.txc_stream.specs.Names.{Name}
 use Rattle.txc_node.specs.declared.op.Op.TheVariants.{Sweep, Trim}
 use Rattle.txc_node.specs.declared.reply.Reply.TheVariants.{Swept, Trimmed}
-use Rattle.txc_shared.specs.declared.advanced.Advanced.TheVariants as advances
+use Rattle.txc_shared.specs.declared.advanced.Ended.{Ended}
+use Rattle.txc_shared.specs.declared.advanced.Ended.TheVariants.{Refused}
 use Rattle.txc_shared.specs.declared.error.NodeError.{NodeError}
-use Rattle.txc_shared.specs.Passes.{HasMade, HasTaken}
+use Rattle.txc_shared.specs.Passes.{HasMade}
 use Rattle.txc_keeper.specs.Room.{IsRoomLeft}
-use Rattle.txc_shared.specs.Refusals.{IsStepRefused, IsTakingRefused}
+use Rattle.txc_shared.specs.Refusals.{IsTidyRefused}
+use Rattle.txc_shared.specs.Together.{HasTakenMany}
+use Rattle.txc_ledger.specs.Counted.{counted_again}
 use Rattle.txc_keeper.specs.Stations.{StationValue, HasNotRefused, HasBeenRefused, IsSamePass}
-use Rattle.txc_keeper.specs.declared.keeper.Ended.{Ended}
-use Rattle.txc_keeper.specs.declared.keeper.Ended.TheVariants.{Idle, Paused, Refused}
 use Rattle.txc_keeper.specs.declared.keeper.KeptNode.{KeptNode}
 use Rattle.txc_keeper.specs.declared.keeper.TheConstants.{MAX_TAKEN}
 
--- at the station, the node took one event after the other, of these stamps, the latest first
-abbrev pub HasTakenEach : Name → StationValue → List ℕ → StationValue → Type 0
-HasTakenEach row old [] new = new ≡ old
-HasTakenEach row old (stamp ∷ earlier) new = (before : StationValue) × (closed : ℕ) × HasTakenEach row old earlier before
-    × HasTaken row before.pass new.pass (advances.Taken stamp closed) × HasNotRefused before new
+-- how often the node has refused, once its taking of events ended so
+abbrev pub refusals_after : ℕ → Ended → ℕ
+refusals_after refusals (Refused error) = counted_again refusals
+refusals_after refusals ended = refusals
 
--- after so many events there was none that the node had not taken, or it had taken as many as it may at once, or it
--- refused the next one
-abbrev pub HasStoppedTaking : Name → (ℕ → Name) → StationValue → ℕ → Ended → StationValue → Type 0
-HasStoppedTaking row histories old taken Idle new = HasTaken row old.pass new.pass advances.Idle × HasNotRefused old new
-HasStoppedTaking row histories old taken Paused new = (new ≡ old) × (taken ≡ MAX_TAKEN)
-HasStoppedTaking row histories old taken (Refused error) new = HasBeenRefused histories IsTakingRefused old error new
-
--- so many events were taken, and it ended so
-pub record HasTakenEvents (row : Name) (histories : ℕ → Name) (old : StationValue) (taken : ℕ) (ended : Ended) (new : StationValue) : Type 0 where
-  pub stamps : List ℕ
-  pub last : StationValue
-  pub took : HasTakenEach row old stamps last
-  pub counted : taken ≡ length stamps
-  pub end : HasStoppedTaking row histories last taken ended new
+-- the node took so many events for the station's pass, at most so many, and ended so; a refusal is counted
+pub record HasTakenEvents (row : Name) (histories : ℕ → Name) (most : ℕ) (old : StationValue) (taken : ℕ) (ended : Ended) (new : StationValue) : Type 0 where
+  pub took : HasTakenMany row histories most old.pass taken ended new.pass
+  pub refusals : new.refusals ≡ refusals_after old.refusals ended
 
 -- the node was swept, and dropped so many entries; or refused the sweep; without a horizon it was not swept
 abbrev pub HasSwept : (ℕ → Name) → StationValue → Option ℕ → Option (Result ℕ NodeError) → StationValue → Type 0
 HasSwept histories old (Some horizon) (Some result) new =
     IfOk result (λ count. HasMade old.pass new.pass (Sweep horizon) (Swept count) × HasNotRefused old new)
-    × IfErr result (λ error. HasBeenRefused histories IsStepRefused old error new)
+    × IfErr result (λ error. HasBeenRefused histories IsTidyRefused old error new)
 HasSwept histories old None None new = new ≡ old
 HasSwept histories old horizon swept new = ⊥
 
@@ -48,7 +38,7 @@ HasSwept histories old horizon swept new = ⊥
 abbrev pub HasTrimmed : (ℕ → Name) → StationValue → Option ℕ → Option (Result ℕ NodeError) → StationValue → Type 0
 HasTrimmed histories old (Some most) (Some result) new =
     IfOk result (λ count. HasMade old.pass new.pass (Trim most) (Trimmed count) × HasNotRefused old new)
-    × IfErr result (λ error. HasBeenRefused histories IsStepRefused old error new)
+    × IfErr result (λ error. HasBeenRefused histories IsTidyRefused old error new)
 HasTrimmed histories old None None new = new ≡ old
 HasTrimmed histories old budget trimmed new = ⊥
 
@@ -57,7 +47,7 @@ HasTrimmed histories old budget trimmed new = ⊥
 pub record HasKeptNode (row : Name) (histories : ℕ → Name) (horizon : Option ℕ) (old : StationValue) (kept : KeptNode) (new : StationValue) : Type 0 where
   pub between : StationValue
   pub after : StationValue
-  pub advanced : HasTakenEvents row histories old kept.taken kept.ended between
+  pub advanced : HasTakenEvents row histories MAX_TAKEN old kept.taken kept.ended between
   pub swept : HasSwept histories between horizon kept.swept after
   pub trimmed : HasTrimmed histories after old.budget kept.trimmed new
   pub same : IsSamePass old new

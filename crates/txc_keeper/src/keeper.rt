@@ -19,22 +19,14 @@ use std::sync::Wait;
 use txc_app::App;
 use txc_db::{DbError, HistoryFront, Naming, Pinned};
 use txc_ledger::{Horizon, Ledger};
-use txc_shared::{Advanced, NodeError, SharedNode};
+use txc_shared::{Ended, MAX_TOGETHER, NodeError, SharedNode};
 use txc_stamp::Stamp;
 
-/// The most events that a node takes in one call of [`Keeper::keep`].
-pub const MAX_TAKEN: usize = 4096;
+/// Maximum number of locked calls in which a node takes events during one call of [`Keeper::keep`].
+const MOST_ROUNDS: usize = 64;
 
-/// How the taking of events by a node ended.
-#[derive(Clone, Copy, Debug, PartialEq, Eq)]
-pub enum Ended {
-    /// It has taken all events that it has seen.
-    Idle,
-    /// It has taken [`MAX_TAKEN`] events.
-    Paused,
-    /// It refused the next one.
-    Refused(NodeError),
-}
+/// The most events that a node takes in one call of [`Keeper::keep`].
+pub const MAX_TAKEN: usize = MOST_ROUNDS * MAX_TOGETHER;
 
 /// What was done with a node.
 #[derive(Drop)]
@@ -75,23 +67,23 @@ pub struct Keeper<'a, A: App, J: Naming> {
     stations: Vec<Station<'a, A, J>>,
 }
 
-/// Lets the node take events, [`MAX_TAKEN`] at most.
+/// Lets the node take up to [`MAX_TAKEN`] events, in several locked calls, so that other threads get the lock in between.
 #[tactic(auto, using(crate::proofs::NodesKept::same_then))]
 fn advance<A: App, J: Naming>(
     rt: &impl Wait,
     alloc: Global,
     station: &mut Station<'_, A, J>,
 ) -> (usize, Ended)
-    ensures did { HasTakenEvents J.database_history J.node_histories station.old result.0 result.1 station.new }
+    ensures did { HasTakenEvents J.database_history J.node_histories MAX_TAKEN station.old result.0 result.1 station.new }
     ensures same { IsSamePass station.old station.new }
 {
     let mut taken = 0;
-    for _ in 0..MAX_TAKEN {
-        match station.advance(rt, alloc) {
-            Ok(Advanced::Taken { .. }) => taken += 1,
-            Ok(Advanced::Idle) => return (taken, Ended::Idle),
-            Err(error) => return (taken, Ended::Refused(error)),
-        }
+    for _ in 0..MOST_ROUNDS {
+        let (more, ended) = station.advance_many(rt, alloc);
+        taken += more;
+        let Ended::Paused = ended else {
+            return (taken, ended);
+        };
     }
     (taken, Ended::Paused)
 }

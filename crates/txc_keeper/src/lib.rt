@@ -14,6 +14,6 @@ mod station;
 
 pub use clock::{Clock, CountedClock, Moment, Signal, SystemClock};
 pub use error::SiteError;
-pub use keeper::{Ended, Keeper, Kept, KeptNode, MAX_TAKEN, retire};
+pub use keeper::{Keeper, Kept, KeptNode, MAX_TAKEN, retire};
 pub use keeping::{Keeping, Tended, keep_until_ended};
 pub use room::{events_left, records_left};

@@ -2,8 +2,9 @@
 ghost use Rattle.std.specs.Prelude.{◌≡◌, [], IfErr, IfOk};
 ghost use Rattle.txc_node.specs.declared.op.Op.TheVariants.{Sweep, Trim};
 ghost use Rattle.txc_node.specs.declared.reply.Reply.TheVariants.{Swept, Trimmed};
-ghost use Rattle.txc_shared.specs.Passes.{HasMade, HasTaken};
-ghost use Rattle.txc_shared.specs.Refusals.{IsNewPassRefused, IsStepRefused, IsTakingRefused, NodeMayRefuse};
+ghost use Rattle.txc_shared.specs.Passes.{HasMade};
+ghost use Rattle.txc_shared.specs.Refusals.{IsNewPassRefused, IsTidyRefused, NodeMayRefuse};
+ghost use Rattle.txc_keeper.specs.Keeping.{HasTakenEvents};
 ghost use Rattle.txc_keeper.specs.Stations.{HasNotRefused, HasBeenRefused, IsSamePass};
 
 use std::alloc::Global;
@@ -12,7 +13,7 @@ use std::sync::Wait;
 use txc_app::App;
 use txc_db::Naming;
 use txc_ledger::Horizon;
-use txc_shared::{Advanced, NodeError, NodePass, SharedNode};
+use txc_shared::{Ended, MAX_TOGETHER, NodeError, NodePass, SharedNode};
 
 /// A node, a pass through it, and the budget of a trim: the most bytes of the node's values, if there is a limit. It
 /// counts how often the node refused.
@@ -67,21 +68,17 @@ impl<'a, A: App, J: Naming> Station<'a, A, J> {
         self.budget
     }
 
-    /// Lets the node take the next event.
+    /// Lets the node take up to [`MAX_TOGETHER`] events in one locked call.
     #[tactic(auto, using(crate::proofs::NodesKept::same_settings, crate::proofs::NodesKept::same_pass))]
-    pub(crate) fn advance(&mut self, rt: &impl Wait, alloc: Global) -> Result<Advanced, NodeError>
+    pub(crate) fn advance_many(&mut self, rt: &impl Wait, alloc: Global) -> (usize, Ended)
         ensures same { IsSamePass self.old self.new }
-        ensures taken { IfOk result (λ advanced. HasTaken J.database_history self.old.pass self.new.pass advanced) }
-        ensures answered { IfOk result (λ advanced. HasNotRefused self.old self.new) }
-        ensures refused { IfErr result (λ error. HasBeenRefused J.node_histories IsTakingRefused self.old error self.new) }
+        ensures taken { HasTakenEvents J.database_history J.node_histories MAX_TOGETHER self.old result.0 result.1 self.new }
     {
-        match self.pass.advance(rt, alloc, self.node) {
-            Ok(advanced) => Ok(advanced),
-            Err(error) => {
-                self.refusals = self.refusals.wrapping_add(1);
-                Err(error)
-            }
+        let (taken, ended) = self.pass.advance_many(rt, alloc, self.node);
+        if let Ended::Refused(_) = ended {
+            self.refusals = self.refusals.wrapping_add(1);
         }
+        (taken, ended)
     }
 
     /// Drops what the node can't show any more from the horizon on.
@@ -96,7 +93,7 @@ impl<'a, A: App, J: Naming> Station<'a, A, J> {
         ensures made { IfOk result (λ count.
             HasMade self.old.pass self.new.pass (Sweep horizon.now) (Swept count)) }
         ensures answered { IfOk result (λ count. HasNotRefused self.old self.new) }
-        ensures refused { IfErr result (λ error. HasBeenRefused J.node_histories IsStepRefused self.old error self.new) }
+        ensures refused { IfErr result (λ error. HasBeenRefused J.node_histories IsTidyRefused self.old error self.new) }
     {
         match self.pass.sweep(rt, alloc, self.node, horizon.stamp()) {
             Ok(count) => Ok(count),
@@ -119,7 +116,7 @@ impl<'a, A: App, J: Naming> Station<'a, A, J> {
         ensures made { IfOk result (λ count.
             HasMade self.old.pass self.new.pass (Trim most) (Trimmed count)) }
         ensures answered { IfOk result (λ count. HasNotRefused self.old self.new) }
-        ensures refused { IfErr result (λ error. HasBeenRefused J.node_histories IsStepRefused self.old error self.new) }
+        ensures refused { IfErr result (λ error. HasBeenRefused J.node_histories IsTidyRefused self.old error self.new) }
     {
         match self.pass.trim(rt, alloc, self.node, most) {
             Ok(count) => Ok(count),

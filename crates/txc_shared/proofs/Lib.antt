@@ -9,3 +9,4 @@ pub mod Locking
 pub mod Crosses
 pub mod Worked
 pub mod Left
+pub mod Together

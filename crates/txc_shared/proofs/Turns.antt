@@ -16,7 +16,7 @@ turns_more [] (suc p) = refl
 turns_more (x ∷ xs) zero = refl
 turns_more (x ∷ xs) (suc p) = turns_more xs p
 
-one_record : (r : Record) (p : ℕ) → r.pass ≡ p → records_of p (r ∷ []) ≡ 1
+pub one_record : (r : Record) (p : ℕ) → r.pass ≡ p → records_of p (r ∷ []) ≡ 1
 one_record r p is = grind (arith, nat_tests)
 
 no_record : (r : Record) (p : ℕ) → r.pass ≢ p → records_of p (r ∷ []) ≡ 0

@@ -10,3 +10,4 @@ pub mod Locked
 pub mod Worked
 pub mod Leaving
 pub mod Codes
+pub mod Together

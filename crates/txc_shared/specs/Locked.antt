@@ -1,5 +1,5 @@
 -- Words for what is done under the lock, which only this crate's private functions promise.
-use Rattle.std.specs.Prelude.{◌≡◌, ℕ, ◌+◌, ◌^◌, ◌<◌, false, List, length}
+use Rattle.std.specs.Prelude.{◌≡◌, ℕ, ◌+◌, ◌^◌, ◌<◌, ◌≤◌, false, List, length}
 use mathlib.Core.List.{IsPrefix}
 use Rattle.txc_stream.specs.Names.{Name, HasRow}
 use Rattle.txc_db.specs.Seen.{taken_at_start}
@@ -64,7 +64,7 @@ pub record DoCountAlike {H : Type 0} (one : Reply H) (other : Reply Shown) : Typ
 -- no record can be appended: the history is full, or has as many records as are counted
 abbrev pub IsRoomRefused : Name → List Record → NodeError → Type 0
 IsRoomRefused name records HistoryFull = IsHistoryFull name records
-IsRoomRefused name records Memory = HasRecordRoom name records
+IsRoomRefused name records Memory = HasRecordRoom name records × (2 ^ 64 ≤ length records + 1)
 IsRoomRefused name records e = ⊥
 
 -- there is room for one record more, and it can be counted

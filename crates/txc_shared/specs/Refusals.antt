@@ -1,5 +1,5 @@
 -- Why calls of a node are refused, and what a refusal leaves.
-use Rattle.std.specs.Prelude.{◌≡◌, ◌≢◌, ◌⊎◌, ℕ, ◌<◌, ◌≤◌, true, false}
+use Rattle.std.specs.Prelude.{◌≡◌, ◌≢◌, ◌⊎◌, ℕ, ◌+◌, ◌^◌, ◌<◌, ◌≤◌, length, true, false}
 use mathlib.Core.List.{IsPrefix}
 use Rattle.txc_stream.specs.Names.{Name, HasRow}
 use Rattle.txc_shared.specs.declared.error.NodeError.{NodeError}
@@ -26,6 +26,15 @@ IsStepRefused n EmptyRange = ⊥
 IsStepRefused n HistoryFull = (n.broken ≡ false) × IsHistoryFull n.name n.records
 IsStepRefused n PassesFull = ⊥
 IsStepRefused n Memory = CanRecord n
+
+-- a record takes memory where it is stored, or where there are as many as are counted
+abbrev pub MayLackMemory : NodeValue → Type 0
+MayLackMemory n = HasRow n.name ⊎ (2 ^ 64 ≤ length n.records + 1)
+
+-- of a sweep or a trim: as of a step; but out of memory only for the record
+abbrev pub IsTidyRefused : NodeValue → NodeError → Type 0
+IsTidyRefused n Memory = CanRecord n × MayLackMemory n
+IsTidyRefused n e = IsStepRefused n e
 
 -- the tags of the next event may be unknown: it stands in no row
 pub record MayLackTags (n : NodeValue) : Type 0 where

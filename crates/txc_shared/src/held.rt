@@ -10,10 +10,11 @@ ghost use Rattle.txc_node.specs.Steps.{found_reply};
 ghost use Rattle.txc_app.specs.Claims.{IsTrueIn, entry_shown};
 ghost use Rattle.txc_shared.specs.Nodes.{NodeValue, IsHistoryFull, after_call, seeing, HasAdvanced};
 ghost use Rattle.txc_shared.specs.Passes.{PassValue, HasGrown, HasSeen, DoAgree, GrowsByOthers, HasMade, HasInserted, HasTaken, IsPassLeft};
-ghost use Rattle.txc_shared.specs.Refusals.{IsLookupRefused, IsStepRefused, IsTakingRefused, IsCountRefused, IsNodeLeft, IsRefusedThrough, IsNewPassRefused};
+ghost use Rattle.txc_shared.specs.Refusals.{IsLookupRefused, IsStepRefused, IsTidyRefused, IsTakingRefused, IsCountRefused, IsNodeLeft, IsRefusedThrough, IsNewPassRefused};
 ghost use Rattle.txc_shared.specs.Locked.{IsAhead, IsAdmitted, LiesUnderLock};
+ghost use Rattle.txc_shared.specs.Together.{HasTakenMany, StandTogether};
 
-use crate::advanced::Advanced;
+use crate::advanced::{Advanced, Ended, MAX_TOGETHER};
 use crate::error::NodeError;
 use crate::insertion::Insertion;
 use crate::laws::legal_histories;
@@ -270,6 +271,7 @@ impl<A: App, J: Naming> Held<A, J> {
         ensures refused { IfErr result (IsRefusedThrough IsTakingRefused self.old pass.old) }
         ensures longer { HasGrown pass.old pass.new }
         ensures taken { IfOk result (HasTaken J.database_history pass.old pass.new) }
+        ensures shown { OnOk result (pass.new.records ≡ self.new.records) }
         ensures left { IfErr result (IsPassLeft (J.node_histories pass.old.settings.number) pass.old pass.new) }
     {
         legal_histories();
@@ -297,6 +299,29 @@ impl<A: App, J: Naming> Held<A, J> {
         }
     }
 
+    /// Takes up to [`MAX_TOGETHER`] events, in order.
+    #[tactic(auto, using(crate::proofs::Together::grown_then))]
+    pub(crate) fn advance_many(
+        &mut self,
+        rt: &impl Wait,
+        alloc: Global,
+        pass: &mut NodePass<J>,
+    ) -> (usize, Ended)
+        ensures longer { HasGrown pass.old pass.new }
+        ensures taken { HasTakenMany J.database_history J.node_histories MAX_TOGETHER pass.old result.0 result.1 pass.new }
+        ensures together { StandTogether pass.old.pass result.0 pass.old.records pass.new.records }
+    {
+        let mut taken = 0;
+        for _ in 0..MAX_TOGETHER {
+            match self.advance(rt, alloc, pass) {
+                Ok(Advanced::Taken { .. }) => taken += 1,
+                Ok(Advanced::Idle) => return (taken, Ended::Idle),
+                Err(error) => return (taken, Ended::Refused(error)),
+            }
+        }
+        (taken, Ended::Paused)
+    }
+
     /// Drops the entries whose span ends at the horizon or before it.
     pub(crate) fn sweep(
         &mut self,
@@ -307,7 +332,7 @@ impl<A: App, J: Naming> Held<A, J> {
         ensures named { self.old.name ≡ J.node_histories self.old.settings.number }
         ensures after { OnOk result (self.new ≡ after_call self.old pass.old.pass (Sweep horizon)) }
         ensures unchanged { IfErr result (IsNodeLeft self.old self.new) }
-        ensures refused { IfErr result (IsRefusedThrough IsStepRefused self.old pass.old) }
+        ensures refused { IfErr result (IsRefusedThrough IsTidyRefused self.old pass.old) }
         ensures longer { HasGrown pass.old pass.new }
         ensures made { IfOk result (λ count. HasMade pass.old pass.new (Sweep horizon) (Swept count)) }
         ensures left { IfErr result (IsPassLeft (J.node_histories pass.old.settings.number) pass.old pass.new) }
@@ -332,7 +357,7 @@ impl<A: App, J: Naming> Held<A, J> {
         ensures named { self.old.name ≡ J.node_histories self.old.settings.number }
         ensures after { OnOk result (self.new ≡ after_call self.old pass.old.pass (Trim most)) }
         ensures unchanged { IfErr result (IsNodeLeft self.old self.new) }
-        ensures refused { IfErr result (IsRefusedThrough IsStepRefused self.old pass.old) }
+        ensures refused { IfErr result (IsRefusedThrough IsTidyRefused self.old pass.old) }
         ensures longer { HasGrown pass.old pass.new }
         ensures made { IfOk result (λ count. HasMade pass.old pass.new (Trim most) (Trimmed count)) }
         ensures left { IfErr result (IsPassLeft (J.node_histories pass.old.settings.number) pass.old pass.new) }

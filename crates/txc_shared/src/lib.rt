@@ -19,7 +19,7 @@ mod settings;
 mod shared_node;
 mod stored_node;
 
-pub use advanced::Advanced;
+pub use advanced::{Advanced, Ended, MAX_TOGETHER};
 pub use error::NodeError;
 pub use insertion::Insertion;
 pub use left_node::LeftNode;

@@ -158,6 +158,7 @@ impl Log {
         ensures suits { IfOk result (Suits self.now.name) }
         ensures awaits { IfOk result
             (AwaitsReply (next_record pass self.now.records op (step_reply core.now op))) }
+        ensures refused { OnErr result (HasRow self.now.name) }
     {
         if self.front().is_stored() {
             Ok(Prepared::Stored(self.boxed(alloc, pass, op)?))

@@ -9,9 +9,10 @@ ghost use Rattle.txc_node.specs.Counts.{AreCountsOf};
 ghost use Rattle.txc_node.specs.Steps.{found_reply};
 ghost use Rattle.txc_app.specs.Claims.{IsTrueIn, entry_shown};
 ghost use Rattle.txc_shared.specs.Passes.{IsLegalOver, HasGrown, GrowsByOthers, HasMade, HasInserted, HasTaken, IsPassLeft};
-ghost use Rattle.txc_shared.specs.Refusals.{IsLookupRefused, IsStepRefused, IsTakingRefused, IsCountRefused, IsRefusedThrough, IsNewPassRefused, NodeMayRefuse};
+ghost use Rattle.txc_shared.specs.Refusals.{IsLookupRefused, IsStepRefused, IsTidyRefused, IsTakingRefused, IsCountRefused, IsRefusedThrough, IsNewPassRefused, NodeMayRefuse};
+ghost use Rattle.txc_shared.specs.Together.{HasTakenMany, StandTogether};
 
-use crate::advanced::Advanced;
+use crate::advanced::{Advanced, Ended, MAX_TOGETHER};
 use crate::error::NodeError;
 use crate::held::Held;
 use crate::history::History;
@@ -265,6 +266,25 @@ impl<J: Naming> NodePass<J> {
         advanced
     }
 
+    /// Takes up to [`MAX_TOGETHER`] events of the database's history, in order, under one lock, each with a record of its
+    /// own. Returns their number and the reason for which it stopped. If it returns an error for one of them, those before
+    /// it are taken and counted.
+    pub fn advance_many<A: App>(
+        &mut self,
+        rt: &impl Wait,
+        alloc: Global,
+        node: &SharedNode<A, J>,
+    ) -> (usize, Ended)
+        ensures longer { HasGrown self.old self.new }
+        ensures legal { IsLegalOver J.database_history self.new.history self.new.settings self.new.records }
+        ensures taken { HasTakenMany J.database_history J.node_histories MAX_TOGETHER self.old result.0 result.1 self.new }
+        ensures together { StandTogether self.old.pass result.0 self.old.records self.new.records }
+    {
+        let did = lock_soon(rt, &node.lock).advance_many(rt, alloc, self);
+        self.is_legal();
+        did
+    }
+
     /// Drops the entries whose span ends at the horizon or before it, and counts them.
     pub fn sweep<A: App>(
         &mut self,
@@ -278,7 +298,7 @@ impl<J: Naming> NodePass<J> {
         ensures made { IfOk result (λ count. HasMade self.old self.new (Sweep horizon) (Swept count)) }
         ensures left { IfErr result (IsPassLeft (J.node_histories self.old.settings.number) self.old self.new) }
         ensures refused { IfErr result
-            (NodeMayRefuse J.node_histories (λ n. IsRefusedThrough IsStepRefused n self.old)) }
+            (NodeMayRefuse J.node_histories (λ n. IsRefusedThrough IsTidyRefused n self.old)) }
     {
         let count = lock_soon(rt, &node.lock).sweep(alloc, self, horizon);
         self.is_legal();
@@ -299,7 +319,7 @@ impl<J: Naming> NodePass<J> {
         ensures made { IfOk result (λ count. HasMade self.old self.new (Trim most) (Trimmed count)) }
         ensures left { IfErr result (IsPassLeft (J.node_histories self.old.settings.number) self.old self.new) }
         ensures refused { IfErr result
-            (NodeMayRefuse J.node_histories (λ n. IsRefusedThrough IsStepRefused n self.old)) }
+            (NodeMayRefuse J.node_histories (λ n. IsRefusedThrough IsTidyRefused n self.old)) }
     {
         let count = lock_soon(rt, &node.lock).trim(alloc, self, most);
         self.is_legal();

@@ -10,7 +10,7 @@ ghost use Rattle.txc_app.specs.Claims.{IsTrueIn, entry_shown};
 ghost use Rattle.txc_shared.specs.Nodes.{NodeValue, start_of, after_call, seeing, next_stamp, IsLonger, HasTags, insertion_of, HasAdvanced, HasTakenAll};
 ghost use Rattle.txc_shared.specs.Histories.{records_of};
 ghost use Rattle.txc_shared.specs.Runs.{IsNode};
-ghost use Rattle.txc_shared.specs.Refusals.{CanRecord, IsStepRefused, IsTakingRefused, IsLookupRefused, IsPassRefused, IsNodeLeft};
+ghost use Rattle.txc_shared.specs.Refusals.{CanRecord, IsStepRefused, IsTidyRefused, IsTakingRefused, IsLookupRefused, IsPassRefused, IsNodeLeft};
 ghost use Rattle.txc_shared.specs.Locked.{IsRoomRefused, CanGrow};
 
 use crate::advanced::Advanced;
@@ -557,6 +557,7 @@ impl<A: App> StoredNode<A> {
         ensures only_if { OnOk result (CanRecord self.old) }
         ensures left { IfErr result (IsNodeLeft self.old self.new) }
         ensures refused { IfErr result (IsStepRefused self.old) }
+        ensures memory { IfErr result (IsTidyRefused self.old) }
     {
         nodes_go_on();
         self.check_whole()?;
@@ -583,6 +584,7 @@ impl<A: App> StoredNode<A> {
         ensures only_if { OnOk result (CanRecord self.old) }
         ensures left { IfErr result (IsNodeLeft self.old self.new) }
         ensures refused { IfErr result (IsStepRefused self.old) }
+        ensures memory { IfErr result (IsTidyRefused self.old) }
     {
         nodes_go_on();
         self.check_whole()?;

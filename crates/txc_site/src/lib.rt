@@ -29,7 +29,7 @@ pub use txc_cushion::Pin;
 pub use txc_db::{Answered, DbError, HistoryFront, Naming};
 pub use txc_definition::{Definition, Function, InTurn, Or, Straight};
 pub use txc_keeper::{
-    Clock, CountedClock, Ended, Keeper, Keeping, Kept, KeptNode, MAX_TAKEN, SiteError, SystemClock,
+    Clock, CountedClock, Keeper, Keeping, Kept, KeptNode, MAX_TAKEN, SiteError, SystemClock,
     Tended, events_left, records_left,
 };
 pub use txc_ledger::{Change, ChangeTxn, Horizon, RunError, WriteError, Written};
@@ -38,7 +38,7 @@ pub use txc_pages::{Begun, OneCall, Page, PageTxn, ReadError, Shown, laws};
 pub use txc_ports::{Bounds, Recorded, TxnError};
 pub use txc_rows::{Query, Row, RowError};
 pub use txc_rw::{Committed, Given, RwTxn};
-pub use txc_shared::NodeError;
+pub use txc_shared::{Ended, NodeError};
 pub use txc_stamp::Stamp;
 pub use txc_tags::{Key, KeyError, Table};
 pub use txc_txn::Receipt;

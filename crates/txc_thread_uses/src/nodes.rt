@@ -10,7 +10,7 @@ use txc_site::records_left;
 use txc_stamp::Stamp;
 use txc_tags::Key;
 
-/// An event that a node takes, and what it drops.
+/// Events that a node takes, and what it drops.
 fn take<J: Naming>(
     rt: &impl Wait,
     alloc: Global,
@@ -18,7 +18,8 @@ fn take<J: Naming>(
     pass: &mut NodePass<J>,
 ) -> Result<usize> {
     pass.advance(rt, alloc, node)?;
-    Ok(pass.sweep(rt, alloc, node, Stamp::ZERO)?)
+    let (taken, _ended) = pass.advance_many(rt, alloc, node);
+    Ok(pass.sweep(rt, alloc, node, Stamp::ZERO)?.max(taken))
 }
 
 /// What one pass finds, and the other inserts.

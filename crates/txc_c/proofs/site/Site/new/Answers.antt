@@ -26,6 +26,7 @@ returns-clause-made c = record {
   database = c.in_ok-caller.ensures.new;
   cushion = c.in_ok-caller.ensures.cushion;
   node = subst (λ (node : NodeSettings). c.in_ok-caller.caller.ports.node.cache ≡ start_of node 0) c.node.ensures c.in_ok-caller.ensures.node;
+  budget = c.in_ok-caller.ensures.budget ∙ c.budget.ensures;
   renew_after = c.in_ok-caller.ensures.renew_after ∙ c.renew_after.ensures;
   none = c.new-2.ensures.empty;
   first_place = c.new-2.ensures.first_key;

@@ -1,5 +1,5 @@
 -- `empty` makes a slot that owns nothing.
-use Rattle.std.proofs.Common.{◌≡◌, List, [], ◌∷◌, ◌++◌, refl, sym, subst, lit<}
+use Rattle.std.proofs.Common.{◌≡◌, None, List, [], ◌∷◌, ◌++◌, refl, sym, subst, lit<}
 use mathlib.Core.Bool.{false}
 use seplogic.Ra.Ura.{Ura}
 use mir.Val.{Val, vint, vstruct, vcons, vnil}
@@ -54,6 +54,7 @@ no_ports = record {
     seen = record { events = unstored 0; history = [] };
     broken = false;
   };
+  budget = None;
 }
 
 nothing_held : SiteValue

@@ -11,6 +11,6 @@ add-requires g c =
 
 pub returns-in-Ok-add-clause-pinned : goal.returns-in-Ok-add-clause-pinned
 returns-in-Ok-add-clause-pinned g c =
-    let old : CallerPorts = record { database = c.self.inside.database; cushion = c.self.inside.cushion; node = c.self.inside.node } in
+    let old : CallerPorts = record { database = c.self.inside.database; cushion = c.self.inside.cushion; node = c.self.inside.node; budget = c.self.inside.budget } in
     has_pinned c.args.moment c.args.self.now old c.self.view_is c.pin.new.self c.in-Ok.pinned (c.in-Ok.ensures.only_if refl) c.in-Ok.ensures.after c.in-Ok.ensures.answer
     c.add.new.self c.give_back.new.cushion c.in-Ok.ensures.moment (c.in-Ok-add.ensures.only_if refl) c.in-Ok-add.ensures.after c.give_back.ensures.after

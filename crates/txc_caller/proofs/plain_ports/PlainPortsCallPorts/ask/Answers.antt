@@ -9,6 +9,7 @@ use Rattle.txc_ports.specs.declared.request.PortRequest.TheVariants as requests
 use Rattle.txc_ports.specs.declared.reply.PortReply.TheVariants as replies
 use Rattle.txc_caller.specs.Ports.{CallerPorts, HasAskedPorts}
 use Rattle.txc_caller.proofs.Asked.{added_so, asked_add, asked_insert, asked_lookup, asked_pin, asked_query, asked_so, asked_unpin, found_so, hit_row, looked_up, pinned_grown, pinned_so, unpinned_so}
+use Rattle.txc_caller.proofs.Budgets.{inserted_ports, looked_ports}
 use Rattle.txc_caller.proofs.Letting.{let_go_grown, let_go_so}
 use Rattle.txc_caller.proofs.plain_ports.PlainPortsCallPorts.ask.Goals as goal
 
@@ -16,7 +17,7 @@ pub returns-in-Pin : goal.returns-in-Pin
 returns-in-Pin g c =
     let now = c.in-Pin.now in
     let at_least = c.in-Pin.at_least in
-    let old : CallerPorts = record { database = c.self.inside.database; cushion = c.self.inside.cushion; node = c.self.inside.node } in
+    let old : CallerPorts = record { database = c.self.inside.database; cushion = c.self.inside.cushion; node = c.self.inside.node; budget = c.self.inside.budget } in
     let new : CallerPorts = record old { database = c.pin.new.self } in
     let done = c.pin.ensures in
     asked_so g.A.App.next c.args.seen.now c.args.request (requests.Pin now at_least) c.args.self.now old new (replies.Pin c.pin.result) c.in-Pin.is c.self.view_is
@@ -31,7 +32,7 @@ add-added-requires g c =
 pub returns-in-AddPin : goal.returns-in-AddPin
 returns-in-AddPin g c =
     let pinned = c.in-AddPin.pinned in
-    let old : CallerPorts = record { database = c.self.inside.database; cushion = c.self.inside.cushion; node = c.self.inside.node } in
+    let old : CallerPorts = record { database = c.self.inside.database; cushion = c.self.inside.cushion; node = c.self.inside.node; budget = c.self.inside.budget } in
     let new : CallerPorts = record old { cushion = c.add-added.new.self } in
     let done = c.add-added.ensures in
     asked_so g.A.App.next c.args.seen.now c.args.request (requests.AddPin pinned) c.args.self.now old new (replies.AddPin pinned c.add-added.result) c.in-AddPin.is c.self.view_is
@@ -42,7 +43,7 @@ returns-in-AddPin g c =
 pub returns-in-Unpin : goal.returns-in-Unpin
 returns-in-Unpin g c =
     let stamp = c.in-Unpin.stamp in
-    let old : CallerPorts = record { database = c.self.inside.database; cushion = c.self.inside.cushion; node = c.self.inside.node } in
+    let old : CallerPorts = record { database = c.self.inside.database; cushion = c.self.inside.cushion; node = c.self.inside.node; budget = c.self.inside.budget } in
     let new : CallerPorts = record old { database = c.unpin.new.self } in
     let done = c.unpin.ensures in
     asked_so g.A.App.next c.args.seen.now c.args.request (requests.Unpin stamp) c.args.self.now old new (replies.Unpin c.unpin.result) c.in-Unpin.is c.self.view_is
@@ -54,7 +55,7 @@ pub returns-in-Lookup : goal.returns-in-Lookup
 returns-in-Lookup g c =
     let key = c.in-Lookup.key in
     let asked = requests.Lookup c.in-Lookup.node key c.in-Lookup.lo c.in-Lookup.hi in
-    let old : CallerPorts = record { database = c.self.inside.database; cushion = c.self.inside.cushion; node = c.self.inside.node } in
+    let old : CallerPorts = record { database = c.self.inside.database; cushion = c.self.inside.cushion; node = c.self.inside.node; budget = c.self.inside.budget } in
     let new : CallerPorts = record old { node = c.lookup.new.self } in
     let done = c.lookup.ensures in
     let found = result_unwrap_or c.lookup.result None in
@@ -68,7 +69,7 @@ returns-in-Lookup g c =
 pub returns-in-Query : goal.returns-in-Query
 returns-in-Query g c =
     let asked = requests.Query c.in-Query.query c.in-Query.stamp in
-    let old : CallerPorts = record { database = c.self.inside.database; cushion = c.self.inside.cushion; node = c.self.inside.node } in
+    let old : CallerPorts = record { database = c.self.inside.database; cushion = c.self.inside.cushion; node = c.self.inside.node; budget = c.self.inside.budget } in
     let new : CallerPorts = record old { database = c.find.new.database } in
     asked_so g.A.App.next c.args.seen.now c.args.request asked c.args.self.now old new (replies.Query c.find.result) c.in-Query.is c.self.view_is
     (asked_query g.A.App.next c.args.seen.now old new c.in-Query.query c.in-Query.stamp c.find.result (ap (λ (d : DatabaseValue). record old { database = d }) c.find.ensures.same) c.find.ensures.leads)
@@ -76,7 +77,20 @@ returns-in-Query g c =
 pub returns-in-Insert : goal.returns-in-Insert
 returns-in-Insert g c =
     let asked = requests.Insert c.in-Insert.node c.in-Insert.entry in
-    let old : CallerPorts = record { database = c.self.inside.database; cushion = c.self.inside.cushion; node = c.self.inside.node } in
+    let old : CallerPorts = record { database = c.self.inside.database; cushion = c.self.inside.cushion; node = c.self.inside.node; budget = c.self.inside.budget } in
     let new : CallerPorts = record old { node = c.insert.new.node } in
     asked_so g.A.App.next c.args.seen.now c.args.request asked c.args.self.now old new (replies.Insert c.insert.result) c.in-Insert.is c.self.view_is
     (asked_insert g.A.App.next c.args.seen.now old new c.in-Insert.node c.in-Insert.entry c.insert.result refl c.insert.ensures)
+
+pub invariant_of-self-in-Lookup : goal.invariant_of-self-in-Lookup
+invariant_of-self-in-Lookup g c =
+    let key = c.in-Lookup.key in
+    let old : CallerPorts = record { database = c.self.inside.database; cushion = c.self.inside.cushion; node = c.self.inside.node; budget = c.self.inside.budget } in
+    let done = c.lookup.ensures in
+    looked_ports old c.lookup.new.self key c.in-Lookup.lo c.in-Lookup.hi (result_unwrap_or c.lookup.result None) c.self.invariant
+    (looked_up key c.in-Lookup.lo c.in-Lookup.hi old.node c.lookup.new.self c.lookup.result done.after done.answer done.front done.left done.refused)
+
+pub invariant_of-self-in-Insert : goal.invariant_of-self-in-Insert
+invariant_of-self-in-Insert g c =
+    let old : CallerPorts = record { database = c.self.inside.database; cushion = c.self.inside.cushion; node = c.self.inside.node; budget = c.self.inside.budget } in
+    inserted_ports old c.insert.new.node c.args.seen.now c.in-Insert.entry c.insert.result c.self.invariant c.insert.ensures

@@ -6,7 +6,7 @@ use Rattle.txc_caller.proofs.ports.Ports.begin.Goals as goal
 pub returns-clause-begun : goal.returns-clause-begun
 returns-clause-begun g c =
     let inside = c.behind-plain.inside in
-    let old : CallerPorts = record { database = inside.database; cushion = inside.cushion; node = inside.node } in
+    let old : CallerPorts = record { database = inside.database; cushion = inside.cushion; node = inside.node; budget = inside.budget } in
     let is : old ≡ c.args.self.now = c.behind-plain.view_is ∙ (c.deref_mut.ensures.value ∙ (c.take-plain.ensures.ports ∙ c.self.view_is)) in
     let done = c.begun-core.ensures in
     begun_core c.begun-core.result c.args.renew_after c.args.bounds inside.cushion.events c.put.new.self.value.database.events inside.cushion c.args.self.now.cushion

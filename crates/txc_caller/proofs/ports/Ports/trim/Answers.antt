@@ -7,7 +7,7 @@ use Rattle.txc_caller.proofs.ports.Ports.trim.Goals as goal
 pub returns-clause-leads : goal.returns-clause-leads
 returns-clause-leads g c =
     let inside = c.behind-plain.inside in
-    let old : CallerPorts = record { database = inside.database; cushion = inside.cushion; node = inside.node } in
+    let old : CallerPorts = record { database = inside.database; cushion = inside.cushion; node = inside.node; budget = inside.budget } in
     let done = c.trim-trimmed.ensures in
     let is : old ≡ c.args.self.now = c.behind-plain.view_is ∙ (c.deref_mut.ensures.value ∙ (c.take-plain.ensures.ports ∙ c.self.view_is)) in
     let after : c.trim-trimmed.new.self ≡ c.put.new.self.value.node = sym (ap (λ (p : CallerPorts). p.node) c.put.ensures.1) in

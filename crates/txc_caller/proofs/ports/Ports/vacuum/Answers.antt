@@ -13,7 +13,7 @@ returns-then-not-take_events-clause-grown g c =
 pub returns-clause-grown : goal.returns-clause-grown
 returns-clause-grown g c =
     let inside = c.behind-plain.inside in
-    let old : CallerPorts = record { database = inside.database; cushion = inside.cushion; node = inside.node } in
+    let old : CallerPorts = record { database = inside.database; cushion = inside.cushion; node = inside.node; budget = inside.budget } in
     let is : old ≡ c.take_events.new.self = c.behind-plain.view_is ∙ (c.deref_mut.ensures.value ∙ (c.take-plain.ensures.ports ∙ c.self.view_is)) in
     let same : old.database ≡ c.args.self.now.database = ap (λ (p : CallerPorts). p.database) (is ∙ c.take_events.ensures.same) in
     let after : c.vacuum-horizon.new.self ≡ c.put.new.self.value.database = sym (ap (λ (p : CallerPorts). p.database) c.put.ensures.1) in

@@ -1,5 +1,5 @@
 -- `empty` makes a slot that owns nothing.
-use Rattle.std.proofs.Common.{List, [], ◌∷◌, ◌++◌, refl, sym, subst, lit<}
+use Rattle.std.proofs.Common.{None, List, [], ◌∷◌, ◌++◌, refl, sym, subst, lit<}
 use mathlib.Core.Bool.{false}
 use contract.Monad.{fact}
 use contract.BorrowLft.{◌⊑◌}
@@ -53,6 +53,7 @@ nothing_held = record {
     seen = record { events = unstored 0; history = [] };
     broken = false;
   };
+  budget = None;
 }
 
 pub empty_spec : {M : Type 1} → statement M

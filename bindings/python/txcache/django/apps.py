@@ -1,0 +1,7 @@
+"""Of INSTALLED_APPS: it brings `manage.py txcache`."""
+
+from django.apps import AppConfig
+
+
+class TxCacheConfig(AppConfig):
+    name, label, verbose_name = "txcache.django", "txcache", "TxCache"
