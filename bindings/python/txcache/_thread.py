@@ -14,7 +14,7 @@ LOG = logging.getLogger("txcache")
 
 
 class Bell:
-    """What the thread of a cache waits for beside the time: that something is to be trimmed, or that it is to end."""
+    """The signal that the thread of a cache waits for, beside the time: that something is to be trimmed, or that it is to end."""
 
     def __init__(self) -> None:
         self._event, self.has_ended = threading.Event(), False
@@ -56,7 +56,7 @@ def _beside_pages(cache: "TxCache", bell: Bell, is_due: bool, last: str) -> str:
         pass  # the follower has logged it
     except NotInstalled as error:
         if str(error) != last:
-            LOG.error("no page begins until the triggers stand: %s", error)
+            LOG.error("no page takes a snapshot until the triggers are intact: %s", error)
         return str(error)
     except Exception:
         if not bell.has_ended:
