@@ -1,7 +1,7 @@
 #!/usr/bin/env python3
 """Measures a node's lines by two programs, on the same scripts: processor time, instructions, and misses of a cache of 1 MB.
 
-usage: bench/node_beside.py OLD NEW [--rounds N] [--lines N] | bench/figures.py
+usage: bench/node_beside.py OLD NEW [--rounds N] [--lines N] | scripts/figures.py
 
 OLD and NEW are programs that bench/node_build.sh or scripts/unproved.py made, both in one way. It prints a table in markdown. Each row is a
 workload on a node of so many entries, which the lines that fill it are left out of; each cell has the old program's figure and the new

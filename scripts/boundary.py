@@ -297,26 +297,19 @@ def python_of_tests():
 
 
 def try_bindings(trial, folder, is_all):
-    """The tests and examples of the bindings, over the library of a folder. With --all Python's random ones go on for longer."""
+    """The tests and examples of the bindings, and the blocks of commands that pages show, over the library of a folder. With --all Python's random tests go on
+    for longer."""
     longer = {"TXC_HISTORIES": "500", "TXC_SECONDS": "60"} if is_all else {}
     where = {**longer, **os.environ, "TXC_LIBRARY": folder}
-    if shutil.which("cargo"):
-        with tempfile.TemporaryDirectory(prefix="cargo-") as target:
-            words = ["cargo", "--quiet", "test", "--offline", "--target-dir", target]
-            trial.ran("Rust: tests", words, cwd=f"{ROOT}/bindings/rust", env=where)
-            for example in ("page", "transaction", "threads"):
-                words = ["cargo", "--quiet", "run", "--offline", "--example", example, "--target-dir", target]
-                trial.ran(f"Rust: the example {example}", words, cwd=f"{ROOT}/bindings/rust", env=where)
-    else:
-        trial.skip("Rust, since there is no cargo")
     if os.path.exists(f"{folder}/libtxc_c.so"):
         python = python_of_tests()
         ran = trial.ran("Python: tests", [python, "-m", "unittest", "-q"], cwd=f"{ROOT}/bindings/python", env=where)
         print("".join(f"{it}\n" for it in sorted(set(re.findall(r"^skipped: .*$", ran.stdout, re.M)))), end="")
-        for example in ("example.py", "page.py", "threads.py"):
-            trial.ran(f"Python: {example}", [python, example], cwd=f"{ROOT}/bindings/python", env=where)
+        # Rust's tests, and the examples of all languages
+        ran = trial.ran("pages: blocks of commands", [python, f"{ROOT}/scripts/blocks.py", "--library", folder])
+        print("".join(f"{it}\n" for it in re.findall(r"^(?:skipped|passed): .*$", ran.stdout, re.M)), end="")
     else:
-        trial.skip("Python, since there is no libtxc_c.so")
+        trial.skip("Python, Rust and the blocks of pages, since there is no libtxc_c.so")
 
 
 def try_extension(trial, folder, room):
