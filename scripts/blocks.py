@@ -92,6 +92,7 @@ def blocks(text: str) -> Iterator[Block]:
         line = lines[at]
         said = KIND.fullmatch(line)
         begun, end = at, at
+        is_in_list = is_in_list and not said and not line.startswith("```")
         if said:
             kind = said[1]
         elif line.startswith("```"):

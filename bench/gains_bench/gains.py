@@ -83,9 +83,6 @@ class Counts(NamedTuple):
     def since(self, before):
         return Counts(*(now - then for now, then in zip(self, before)))
 
-    def hit_rate(self):
-        return self.hits / max(1, self.hits + self.misses)
-
 
 class Run:
     """The program at work, one line at a time."""
