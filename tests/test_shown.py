@@ -49,7 +49,7 @@ class Blocks(unittest.TestCase):
 
     def test_a_block_that_nothing_says_how_to_run(self):
         found = list(blocks.faults("page", PAGE))
-        self.assertEqual((len(found), "page:19: no comment says how" in found[0]), (1, True))
+        self.assertEqual((len(found), "page:18: no comment says how" in found[0]), (1, True))
 
     def test_what_is_printed_comes_of_a_command(self):
         self.assertIn("no block `run`", list(blocks.faults("page", "<!-- prints -->\n    a\n"))[0])
