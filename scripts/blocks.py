@@ -56,8 +56,8 @@ LONG = {
     "python3 -m unittest": "several minutes; scripts/boundary.py runs it over the same library",
     "python3 tests/wrong_bodies.py": "runs tests of the package some 150 times",
 }
-# The examples of the bindings, each of which a block runs.
-EXAMPLES = ("bindings/c/*.c", "bindings/python/[!b]*.py", "bindings/rust/examples/*.rs")
+# The examples of the bindings, each of which a block runs; build_wheel.py and beside.rs are none.
+EXAMPLES = ("bindings/c/*.c", "bindings/python/[!b]*.py", "bindings/rust/examples/[!b]*.rs")
 KIND = re.compile(r"<!-- (run|prints|text|(?:file|edit|sql|part): .+?) -->\s*")
 # A session may take so long, also beside proofs; alone it takes less than one.
 SECONDS = 900
@@ -120,17 +120,16 @@ def why_passed_over(line: str) -> Optional[str]:
     return next((why for begin, why in LONG.items() if command(line).startswith(begin)), None)
 
 
-def faults(page: str, text: str) -> Iterator[str]:
+def faults(text: str) -> Iterator[str]:
     """Yields what is wrong with the blocks of a page, before any is run."""
     has_run = False
     for it in blocks(text):
-        first = it.lines[0] if it.lines else ""
         if not it.kind:
-            yield f"{page}:{it.line}: no comment says how the block is run that begins with `{first}`: {KIND.pattern}"
+            yield f"has a block at line {it.line} with no comment that says how it is run (scripts/blocks.py): {it.lines[0] if it.lines else ''}"
         if it.kind == "prints" and not has_run:
-            yield f"{page}:{it.line}: a block `prints`, and no block `run` stands above it"
+            yield f"has a block `prints` at line {it.line}, and no block `run` above it"
         if it.kind == "part" and (missing := missing_lines(it)):
-            yield f"{page}:{it.line}: shows a line that {it.word} does not have: {missing[0]}"
+            yield f"shows a line that {it.word} does not have: {missing[0]}"
         has_run = has_run or it.kind == "run"
 
 
@@ -264,8 +263,8 @@ def judged(page: str, text: str, output: str, status: int) -> Optional[str]:
 def run(page: str, library: str) -> Optional[str]:
     """Runs the session of a page, and returns what went wrong, if anything did."""
     text = (ROOT / page).read_text(encoding="utf-8")
-    if found := list(faults(page, text)):
-        return "\n".join(found)
+    if found := list(faults(text)):
+        return "\n".join(f"{page} {it}" for it in found)
     with tempfile.TemporaryDirectory(prefix="blocks-", dir="/tmp") as room:
         script = script_of(text)
         for program, what in NEEDS.items():
@@ -288,17 +287,20 @@ def run(page: str, library: str) -> Optional[str]:
         return judged(page, text, output, ran.returncode)
 
 
-def check() -> List[str]:
-    """Returns what is wrong with the blocks of all pages, and with LONG, before any is run."""
+def check() -> Iterator["tuple[str, str]"]:
+    """Yields each file in which something is wrong with the blocks of all pages or with LONG, and what, before any is run."""
     texts = {page: (ROOT / page).read_text(encoding="utf-8") for page in PAGES}
-    found = [fault for page, text in texts.items() for fault in faults(page, text)]
+    for page, text in texts.items():
+        for said in faults(text):
+            yield page, said
     commands = [command(line) for text in texts.values() for it in blocks(text) if it.kind == "run" for line in it.lines]
-    found += [f"scripts/blocks.py: LONG has `{it}`, which no block shows" for it in LONG if not any(line.startswith(it) for line in commands)]
+    for it in LONG:
+        if not any(line.startswith(it) for line in commands):
+            yield "scripts/blocks.py", f"has `{it}` in LONG, which no block shows"
     for path in [path for place in EXAMPLES for path in sorted(ROOT.glob(place))]:
         name = path.stem if path.suffix == ".rs" else path.name
         if not any(re.search(rf"(?<![\w.]){re.escape(name)}\b", line) for line in commands):
-            found.append(f"{path.relative_to(ROOT)} is an example, and no block of a page runs it")
-    return found
+            yield path.relative_to(ROOT).as_posix(), "is an example that no block of a page runs"
 
 
 def main() -> int:
@@ -312,7 +314,7 @@ def main() -> int:
         edit(given.edit, sys.stdin.read().split("\n"))
         return 0
     if given.check:
-        found = check()
+        found = [f"{file} {said}" for file, said in check()]
         print("".join(f"{it}\n" for it in found), end="")
         return int(bool(found))
     library = given.library or next((it for it in (f"{ROOT}/bindings/out", f"{ROOT}/bindings/out/unproved") if os.path.exists(f"{it}/libtxc_c.so")), None)

@@ -406,8 +406,8 @@ def quoted_figures():
 
 def run_as_shown():
     """Each block of commands that a page shows says how it is run (scripts/blocks.py)."""
-    for said in blocks.check():
-        yield ROOT / said.partition(":")[0].partition(" ")[0], said.partition(":")[2] or said
+    for file, said in blocks.check():
+        yield ROOT / file, said
 
 
 def first():

@@ -48,15 +48,15 @@ class Blocks(unittest.TestCase):
         self.assertEqual(found[2].lines, ["print(1)"])
 
     def test_a_block_that_nothing_says_how_to_run(self):
-        found = list(blocks.faults("page", PAGE))
-        self.assertEqual((len(found), "page:18: no comment says how" in found[0]), (1, True))
+        found = list(blocks.faults(PAGE))
+        self.assertEqual((len(found), "at line 18 with no comment" in found[0]), (1, True))
 
     def test_what_is_printed_comes_of_a_command(self):
-        self.assertIn("no block `run`", list(blocks.faults("page", "<!-- prints -->\n    a\n"))[0])
+        self.assertIn("no block `run`", list(blocks.faults("<!-- prints -->\n    a\n"))[0])
 
     def test_a_part_is_of_its_file(self):
-        self.assertEqual(list(blocks.faults("page", "<!-- part: tests/test_shown.py -->\n    import blocks\n")), [])
-        self.assertIn("does not have: import nothing", list(blocks.faults("page", "<!-- part: tests/test_shown.py -->\n    import nothing\n"))[0])
+        self.assertEqual(list(blocks.faults("<!-- part: tests/test_shown.py -->\n    import blocks\n")), [])
+        self.assertIn("does not have: import nothing", list(blocks.faults("<!-- part: tests/test_shown.py -->\n    import nothing\n"))[0])
 
     def test_long_commands_are_passed_over(self):
         self.assertNotIn("make demo", blocks.script_of(PAGE))
