@@ -16,7 +16,7 @@ import tempfile
 
 import node_count
 
-KINDS = {"hits": "hits", "evictions": "insertions with eviction", "events": "events, and what they closed anew", "mixed": "mixed"}
+KINDS = {"hits": "hits", "evictions": "insertions with eviction", "events": "events, and what they invalidated", "mixed": "mixed"}
 CAPACITIES = [10, 1_024, 65_536]
 COUNTED = 20_000
 
