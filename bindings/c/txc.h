@@ -369,7 +369,8 @@ uint32_t txc_remove(txc_site *site, txc_txn txn, uint8_t table, uint32_t id);
 
 /* Commits the changes, and writes the newest stamp that they leave. What is not TXC_DONE has committed nothing, and the transaction
  * stays open with its changes; of TXC_CONFLICT it can only be aborted.
- * TXC_DONE, TXC_NOT_OPEN, TXC_MID_CALL, TXC_CONFLICT, TXC_NO_MEMORY, or TXC_REFUSED where there is no room for an event. */
+ * TXC_DONE, TXC_NOT_OPEN, TXC_MID_CALL, TXC_CONFLICT, TXC_NO_MEMORY, or TXC_REFUSED where there is no room for an event, or where
+ * the store of the rows has no memory for its own work: that commit may be made again. */
 uint32_t txc_commit_write(txc_site *site, txc_txn txn, uint32_t *stamp);
 
 /* Pins the newest state, with this moment, for transactions that begin later, and writes its stamp. Such a pin is an event. No
