@@ -24,13 +24,13 @@ static uint32_t below(uint32_t most) {
 
 static uint32_t id_of(uint32_t number) { return number % IDS == IDS - 1 ? UINT32_MAX : number % IDS * 7919; }
 
-/* Makes the call at both sites; both must return the same number, which is the value. */
-#define BOTH(call) both_are((uint32_t[PAIR]){at_both(0, call), at_both(1, call)}, #call, __LINE__)
-#define at_both(number, call) (at = number, call)
+static size_t at;          /* the site that is told */
+static uint32_t got[PAIR]; /* what each returned */
 
-static size_t at; /* the site that is told */
+/* Makes the call at one site and then at the other; both must return the same number, which is the value. */
+#define BOTH(call) (at = 0, got[0] = (call), at = 1, got[1] = (call), both_are(#call, __LINE__))
 
-static uint32_t both_are(const uint32_t got[PAIR], const char *what, int line) {
+static uint32_t both_are(const char *what, int line) {
     check(got[0] == got[1], what, __FILE__, line);
     return got[0];
 }
@@ -52,10 +52,12 @@ static void ask(uint32_t writer, txc_query query) {
     CHECK((number == TXC_ANSWERED || number == TXC_REFUSED) && counts[0] == counts[1]);
     answers++;
     refused_reads += number == TXC_REFUSED;
-    for (size_t row = 0; number == TXC_ANSWERED && row <= counts[0]; row++) {
-        uint32_t got = BOTH(txc_row_at(&sites[at], writers[at][writer], row, &found[at], bodies[at], MOST_LEN, &lens[at]));
-        CHECK(got == (row < counts[0] ? TXC_DONE : TXC_MISS));
-        if (got == TXC_DONE) {
+    if (number == TXC_REFUSED)
+        return;
+    for (size_t row = 0; row <= counts[0]; row++) {
+        number = BOTH(txc_row_at(&sites[at], writers[at][writer], row, &found[at], bodies[at], MOST_LEN, &lens[at]));
+        CHECK(number == (row < counts[0] ? TXC_DONE : TXC_MISS));
+        if (number == TXC_DONE) {
             CHECK(found[0].table == found[1].table && found[0].id == found[1].id && found[0].group == found[1].group);
             CHECK(lens[0] == lens[1] && !memcmp(bodies[0], bodies[1], lens[0]));
             rows_found++;
