@@ -12,11 +12,12 @@ from .node import _Handle, _Key, _Totals
 DONE, MISS, NO_ROOM, CLOSED, ALREADY_OPEN, BAD_ARGUMENT, NO_MEMORY = 0, 1, 3, 4, 5, 6, 11
 COMPUTE, ANSWERED, NOT_OPEN, MID_CALL, REFUSED = range(12, 17)
 CONFLICT = 18
+STORE_SQL, STORE_PLAIN = 0, 1  # where a site keeps its rows
 
 
 class Settings(c.Structure):
     _fields_ = [("size", c.c_size_t), ("events", c.c_size_t), ("capacity", c.c_size_t), ("recent", c.c_size_t), ("renew_after", c.c_uint64),
-                ("bytes", c.c_size_t)]
+                ("bytes", c.c_size_t), ("store", c.c_size_t)]
 
 
 class Row(c.Structure):

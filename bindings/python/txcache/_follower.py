@@ -53,7 +53,7 @@ class Follower:
             moment = self._clock()
             if moment - self._aired > AIR_EVERY:
                 self._aired = moment
-                if self.store.wants_air():
+                if self.store.wants_air(bool(self._uses)):
                     self.let_go()
                     self.store.air()
                     moment = self._clock()

@@ -45,6 +45,7 @@ _SAID = {
     REFUSED: "the call, or what was asked, was refused; or none can begin now, or there is no such state",
     CONFLICT: "what was read has changed",
 }
+_STORES = {"sql": _calls.STORE_SQL, "plain": _calls.STORE_PLAIN}
 _TXC = _calls.declared()
 _forks = 0  # how many times this process has come out of a fork
 
@@ -360,14 +361,19 @@ class Site:
     can read any more. A forked child can use no site of its parent.
 
     With `max_bytes` the values of the node's results have at most so many bytes in all, after each call. Before it keeps a value it drops the results that
-    were used longest ago, until there is room. A value of more bytes is answered and not kept."""
+    were used longest ago, until there is room. A value of more bytes is answered and not kept.
 
-    def __init__(self, events=None, capacity=0, recent=0, renew_after=20_000, max_bytes=None):
+    `store` is where the current rows are: "sql" is a table of SQLite in memory, and "plain" are ordered maps, in which a change takes a small part of
+    the time. Both return the same."""
+
+    def __init__(self, events=None, capacity=0, recent=0, renew_after=20_000, max_bytes=None, store="sql"):
         self._handle, self._lock, self._born = _Handle(None, False), threading.RLock(), _forks
         self._forgotten, self._buffers = collections.deque(), []
         if events == 0 or max_bytes == 0:
             _refuse(BAD_ARGUMENT)
-        words = (_number(it, _U64) for it in (events or 0, capacity, recent, renew_after, max_bytes or 0))
+        if store not in _STORES:
+            raise ValueError(f"store is {store!r}, and is one of {', '.join(map(repr, _STORES))}")
+        words = (_number(it, _U64) for it in (events or 0, capacity, recent, renew_after, max_bytes or 0, _STORES[store]))
         self._do(_TXC.site_open, _calls.Settings(c.sizeof(_calls.Settings), *words))
 
     def __enter__(self):

@@ -21,7 +21,8 @@ from ._store import MAX_TAGS, PURGE_AGE, Look
 from .errors import NotInstalled, SnapshotLost
 
 VERSION = 1
-MAX_LOG = 8 << 20  # bytes of the write-ahead log, from which on no snapshot stays open: while one is, the log can't begin anew
+MAX_LOG = 8 << 20  # bytes that the write-ahead log grows by before no snapshot stays open: while one is, the log can't begin anew
+AIR_AGAIN = 10.0  # seconds after which a log that could not begin anew is tried again, if no page computes
 _NOTES = 1000  # that are read at once
 BUSY_TIMEOUT = 5.0  # seconds for which `install` and `purge` wait for a writer
 BOOLEANS = "0", "1"
@@ -85,14 +86,14 @@ class SqliteStore:
         self._file: Optional[Tuple[int, int]] = None
         self._layout: Optional[Layout] = None
         self._read_by: Dict[str, FrozenSet[str]] = {}
+        self._aired, self._left = 0.0, 0  # when the log was copied last, and how long it was after that
         return inherited
 
     # ---- the triggers
 
     def install(self, reader: Optional[str] = None) -> List[str]:
         """Writes the triggers into the file, and has it keep a write-ahead log. It may be run again. Returns a line for each table."""
-        if reader is not None:
-            raise ValueError("a SQLite file has no roles")
+        _refuse_roles(reader)
         with contextlib.closing(self._connect(is_writing=True)) as link:
             link.execute("PRAGMA journal_mode = WAL")
             with _writing(link):
@@ -117,8 +118,9 @@ class SqliteStore:
             link.execute(text)
         return f"{given}: installed"
 
-    def check(self) -> List[str]:
+    def check(self, reader: Optional[str] = None) -> List[str]:
         """Returns a line for each fault: none if the triggers stand."""
+        _refuse_roles(reader)
         with contextlib.closing(self._connect()) as link:
             link.execute("BEGIN")
             return self._faults(link)
@@ -265,18 +267,26 @@ class SqliteStore:
                 pass
             link.close()
 
-    def wants_air(self) -> bool:
-        """Returns True if the log has grown over `max_log` bytes."""
-        try:
-            return os.stat(self.path + "-wal").st_size > self.max_log
-        except OSError:
-            return False
+    def wants_air(self, is_used: bool) -> bool:
+        """Returns True if the log has grown by more than `max_log` bytes since it was copied; if no page computes, by half of that, or if it is so long still
+        and was copied some time ago."""
+        size, limit = self._log_size(), self.max_log if is_used else self.max_log // 2
+        self._left = min(self._left, size)
+        return size - self._left > limit or not is_used and size > limit and time.monotonic() > self._aired + AIR_AGAIN
 
     def air(self) -> None:
-        """Copies the log into the file, so that it begins anew. Where a reader or writer is in the way it does what it can."""
+        """Copies the log into the file, so that it begins anew. If a reader or writer of another process is in the way it does what it can, and the log goes
+        on."""
         with contextlib.suppress(sqlite3.Error), contextlib.closing(self._connect(is_writing=True)) as link:
             link.execute("PRAGMA busy_timeout = 200")
             link.execute("PRAGMA wal_checkpoint(TRUNCATE)").fetchall()
+        self._aired, self._left = time.monotonic(), self._log_size()
+
+    def _log_size(self) -> int:
+        try:
+            return os.stat(self.path + "-wal").st_size
+        except OSError:
+            return 0
 
     def close(self) -> None:
         """Closes the connections that no open snapshot has."""
@@ -296,6 +306,11 @@ class SqliteStore:
         if not is_writing:
             link.execute("PRAGMA query_only = 1")
         return link
+
+
+def _refuse_roles(reader: Optional[str]) -> None:
+    if reader is not None:
+        raise ValueError("a SQLite file has no roles")
 
 
 def _why_cold(last: Optional[Mark], mark: Mark) -> str:
