@@ -297,12 +297,12 @@ def commands():
 
 
 def toolchain():
-    """The logic that README names is that of this machine's toolchain, where there is one."""
-    named = re.search(r"logic (\w+)", README.read_text())
-    if shutil.which("rt") and named:
-        said = subprocess.run(["rt", "version"], stdout=subprocess.PIPE, text=True).stdout
-        if f"logic {named[1]}" not in said:
-            yield README, f"names the logic {named[1]}, and `rt version` prints `{said.strip()}`"
+    """The logic that README and PROMISE name is that of this machine's toolchain, if it has one."""
+    said = subprocess.run(["rt", "version"], stdout=subprocess.PIPE, text=True).stdout.strip() if shutil.which("rt") else None
+    for document in (README, ROOT / "docs/PROMISE.md"):
+        named = re.search(r"logic (\w{16})", document.read_text())
+        if said and named and f"logic {named[1]}" not in said:
+            yield document, f"names the logic {named[1]}, and `rt version` prints `{said}`"
 
 
 def version():
