@@ -169,7 +169,7 @@ static Key *known_key(Site *self, PyObject *known, PyObject *args)
     PyObject *found = PyDict_GetItemWithError(known, args);
     if (found == NULL) {
         if (PyErr_ExceptionMatches(PyExc_TypeError))
-            PyErr_Clear(); /* an argument without a hash is no plain data: whoever encodes it says so */
+            PyErr_Clear(); /* an argument without a hash is no plain data: its encoding says so */
         return NULL;
     }
     if ((PyObject *)Py_TYPE(found) != self->key_type) {

@@ -51,7 +51,7 @@ class Hand:
             raise
 
     def _ask(self, tags: Mapping[str, str]) -> None:
-        """Names what is read, where somebody is to know it."""
+        """Names what is read, if reads are recorded."""
 
     def _run(self, statement: Statement) -> Result:
         raise NotImplementedError
@@ -82,7 +82,7 @@ class Hand:
 
 
 class HandOfSnapshot(Hand):
-    """With no cache: in one snapshot, and nobody is to know what is read."""
+    """With no cache: in one snapshot, and reads are not recorded."""
 
     __slots__ = ("_snapshot",)
 

@@ -1,6 +1,6 @@
 """A hot standby: what a snapshot of it has seen, and how old that is.
 
-A snapshot of a standby lists no transaction as in progress, so that its numbers alone do not say which ones it sees. What says it is the numbers of the
+A snapshot of a standby lists no transaction as in progress, so that its numbers alone do not say which ones it sees. It is told by the numbers of the
 transactions whose notes it has, from its xmin on: all below are over.
 """
 

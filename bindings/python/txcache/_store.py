@@ -33,7 +33,7 @@ class Snapshot(Protocol):
 
 class Look(NamedTuple):
     """A new snapshot, where it stands among the database's commits, and the tags of what changed since the last; None and why where that
-    is not known, and all that is cached must go. No snapshot where nothing has changed since, and none was wanted. `delay` is how many seconds
+    is not known, and all that is cached must go. No snapshot where nothing has changed since, and none was asked for. `delay` is how many seconds
     before it was taken it may stand, as on a server that follows another."""
 
     snapshot: Optional[Snapshot]
@@ -61,7 +61,7 @@ class Store(Protocol):
         """Takes a snapshot, and says what changed since the mark of the last. Fails with SnapshotRefused, SnapshotLost or NotInstalled."""
 
     def wants_air(self, is_used: bool) -> bool:
-        """Returns True if all snapshots must be let go, and `air` called. Where pages compute in some, which they then lose, it is less easily so."""
+        """Returns True if all snapshots must be closed, and `air` called. Where pages compute in some, which they then lose, it is less easily so."""
 
     def air(self) -> None:
         """Does what no snapshot may be open for."""

@@ -302,7 +302,7 @@ class _Transaction:
 
 
 class _Page(_Transaction):
-    """A transaction that only reads. Its receipt is there once the block has ended."""
+    """A transaction that only reads. Its receipt exists once the block has ended."""
 
     receipt = None
 
@@ -384,7 +384,7 @@ class Site:
             self.close()
 
     def __del__(self):
-        # nobody else has it, so that the lock is free
+        # no other thread has it, so that the lock is free
         if hasattr(self, "_buffers") and self._is_ours():
             _TXC.site_close(self._handle)
 
@@ -451,7 +451,7 @@ class Site:
         return txn.value if number == DONE else None
 
     def abort(self, number):
-        """Aborts an open transaction, as one that was forgotten: whoever has it is refused from then on."""
+        """Aborts an open transaction, as one that was forgotten: each later use of it fails."""
         self._do(_TXC.abort, _number(number, _U64))
 
     def _do(self, ask, *words):

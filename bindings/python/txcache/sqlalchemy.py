@@ -6,7 +6,7 @@
     def bids(db, item):
         return session(db).query(Bid).filter_by(item_id=item).all()
 
-What they read is found and remembered as what `db.cursor()` reads, or named by `db.reads(..)`. Rows that a function returns are detached: what it is to show
+Their reads are found and remembered as those of `db.cursor()`, or named by `db.reads(..)`. Rows that a function returns are detached: what it is to show
 of their relationships it loads itself, by `joinedload` or its like.
 """
 

@@ -1,7 +1,7 @@
 //! Transactions whose functions you compute, over a database, its pins and a node.
 //!
 //! Threads share a [`Site`], and each begins transactions of its own. A transaction's functions are computed outside of the site's
-//! lock, which is held for single calls of the library alone: so nobody waits for another's function.
+//! lock, which is held for single calls of the library alone: so no thread waits for another's function.
 //!
 //! ```
 //! use txcache_node::site::{Asking, Error, Query, Site};
@@ -51,9 +51,9 @@ pub enum Error {
     GivenUp,
     /// The transaction is open no more: it was aborted by its number.
     NotOpen,
-    /// What was read has changed, and nothing is committed.
+    /// Some row that was read has changed, and nothing is committed.
     Conflict,
-    /// Memory was refused.
+    /// An allocation failed.
     NoMemory,
 }
 
@@ -115,7 +115,7 @@ pub struct Row {
     pub body: Vec<u8>,
 }
 
-/// What is asked of a state. Its answer is the rows that match, by id.
+/// A query of a state. Its answer is the rows that match, by id.
 #[derive(Clone, Copy)]
 pub struct Query(ffi::Query);
 
@@ -157,7 +157,7 @@ pub struct Receipt {
     pub pin: Option<(u32, u64)>,
 }
 
-/// What a keep did: how many pins it retired, the horizon that it left, below which nothing is read any more, and how many
+/// The effect of a keep: how many pins it retired, the horizon that it left, below which nothing is read any more, and how many
 /// results the node dropped.
 #[derive(Clone, Copy, Debug, PartialEq, Eq)]
 pub struct Kept {
@@ -166,9 +166,9 @@ pub struct Kept {
     pub swept: usize,
 }
 
-/// What a function asks: rows, and values of other calls.
+/// The queries and calls of a function: rows, and values of other calls.
 ///
-/// What it asks next, or gives, is to be determined by its number, its arguments and what it was answered so far. If something in a
+/// Its next query or call, or its result, must be determined by its number, its arguments and what it was answered so far. If something in a
 /// call fails, the whole call is given up, and each of its functions that asks on, or gives a value, has [`Error::GivenUp`].
 pub trait Asking {
     /// Returns the rows of a query.
@@ -317,7 +317,7 @@ impl Site {
     }
 
     /// The same over the state of that stamp, such as a receipt's: it is committed only if no later event changed what it has read.
-    /// This state does not stay. Where nobody can read it any more, this is refused, or what is asked is, or the commit.
+    /// This state does not stay. If it is no longer readable, this fails, or a query does, or the commit.
     pub fn write_at(&self, stamp: u32) -> Result<Write, Error> {
         let mut txn = 0;
         done(unsafe { ffi::txc_begin_write_at(&mut self.lock().0, stamp, &mut txn) })?;
@@ -376,7 +376,7 @@ impl Site {
         (number == ffi::DONE).then_some(txn)
     }
 
-    /// Aborts an open transaction, as one that was forgotten. Whoever has it is told [`Error::NotOpen`] from then on.
+    /// Aborts an open transaction, as one that was forgotten. A later use of it returns [`Error::NotOpen`] from then on.
     pub fn abort(&self, txn: u64) -> Result<(), Error> {
         done(unsafe { ffi::txc_abort(&mut self.lock().0, txn) })
     }
@@ -515,7 +515,7 @@ impl Drop for GiveUp<'_> {
 struct Function<'a>(&'a mut Open);
 
 impl Function<'_> {
-    // What it asked, unless its call was given up. If the library has ended the call, it is given up.
+    // The queries and calls that it made, unless its call was given up. If the library has ended the call, it is given up.
     fn asked<T>(&mut self, ask: impl FnOnce(&mut Open) -> Result<T, Error>) -> Result<T, Error> {
         if self.0.is_given_up {
             return Err(Error::GivenUp);

@@ -38,7 +38,7 @@ PARTS = [*((part, (product,)) for product in PRODUCTS for part in (stock, orders
 
 
 class Shown(NamedTuple):
-    """A page: its parts in the order of `PARTS`, and which were hits. `moment` and `age` are there if the cache knows them."""
+    """A page: its parts in the order of `PARTS`, and which were hits. `moment` and `age` are set if the cache knows them."""
 
     values: List[Any]
     hits: List[bool]
@@ -83,7 +83,7 @@ class Database:
 
     @contextlib.contextmanager
     def cursor(self) -> Iterator[Any]:
-        """Lends a cursor over a connection that nobody else uses meanwhile."""
+        """Lends a cursor over a connection that no other thread uses meanwhile."""
         try:
             link = self._spare.get(block=False)
         except queue.Empty:
