@@ -236,9 +236,8 @@ def skip(what: str, why: str) -> None:
 
 def like(shown: List[str], printed: List[str]) -> bool:
     """Returns whether what is shown is what was printed, where `..` stands for any text."""
-    pattern = "\n".join(".*" if it.strip() == ".." else ".*".join(map(re.escape, it.rstrip().split(".."))) for it in shown)
-    pattern = pattern.replace("\n.*\n", "\n(?:.*\n)*?")
-    return re.fullmatch(pattern, "\n".join(it.rstrip() for it in printed)) is not None
+    pattern = "".join(r"(?:.*\n)*?" if it.strip() == ".." else ".*".join(map(re.escape, it.rstrip().split(".."))) + r"\n" for it in shown)
+    return re.fullmatch(pattern, "".join(f"{it.rstrip()}\n" for it in printed)) is not None
 
 
 def judged(page: str, text: str, output: str, status: int) -> Optional[str]:

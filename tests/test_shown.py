@@ -66,6 +66,7 @@ class Blocks(unittest.TestCase):
         self.assertTrue(blocks.like(["a .. c"], ["a b c"]))
         self.assertTrue(blocks.like(["a", "..", "c"], ["a", "b", "b", "c"]))
         self.assertTrue(blocks.like(["a", "..", "c"], ["a", "c"]))
+        self.assertTrue(blocks.like([".."], ["a", "b"]))
         self.assertFalse(blocks.like(["a"], ["a", "b"]))
         self.assertFalse(blocks.like(["a (1)"], ["a (2)"]))
 
