@@ -36,6 +36,7 @@ class Load:
             total += own + ended if int(name) == self.top else own if int(words[1]) == self.top else 0
         return total / TICK
 
+
 def follow(where: str, seconds: float, refresh: float, hold: float) -> Dict[str, float]:
     """Reads pages of hits, 100 a second at most, and counts them."""
     from txcache import SnapshotLost
