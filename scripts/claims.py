@@ -49,7 +49,7 @@ def made() -> list[Path]:
 
 def documents() -> list[Path]:
     """All of which links are checked."""
-    return [*committed(), *sorted((ROOT / "bindings").glob("*/README.md")), *made()]
+    return [*committed(), *sorted((ROOT / "bindings").glob("**/README.md")), *made()]
 
 
 @lru_cache(None)
