@@ -56,8 +56,8 @@ LONG = {
     "python3 -m unittest": "several minutes; scripts/boundary.py runs it over the same library",
     "python3 tests/wrong_bodies.py": "runs tests of the package some 150 times",
 }
-# The examples of the bindings, each of which a block runs; build_wheel.py and beside.rs are none.
-EXAMPLES = ("bindings/c/*.c", "bindings/python/[!b]*.py", "bindings/rust/examples/[!b]*.rs")
+# The examples that a block of a page has to run, as scripts/boundary.py runs those in C. build_wheel.py and beside.rs are none.
+EXAMPLES = ("bindings/python/[!b]*.py", "bindings/rust/examples/[!b]*.rs")
 KIND = re.compile(r"<!-- (run|prints|text|(?:file|edit|sql|part): .+?) -->\s*")
 # A session may take so long, also beside proofs; alone it takes less than one.
 SECONDS = 900
