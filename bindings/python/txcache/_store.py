@@ -60,8 +60,8 @@ class Store(Protocol):
     def look(self, last: Any, is_wanted: bool = True) -> Look:
         """Takes a snapshot, and says what changed since the mark of the last. Fails with SnapshotRefused, SnapshotLost or NotInstalled."""
 
-    def wants_air(self, is_used: bool) -> bool:
-        """Returns True if all snapshots must be let go, and `air` called. Where pages compute in some, which they then lose, it is less easily so."""
+    def wants_air(self, is_read: bool) -> bool:
+        """Returns True if all snapshots must be let go, and `air` called. It waits for longer if a page is open, which may lose one."""
 
     def air(self) -> None:
         """Does what no snapshot may be open for."""

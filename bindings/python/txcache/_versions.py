@@ -173,6 +173,12 @@ class Versions:
         for left in [*range(found.bytes - step, most, -step), most] if found.bytes > most else ():
             _do(_TXC.site_trim, self._site, left, dropped)
 
+    def is_read(self) -> bool:
+        """Returns True if a page is open."""
+        count = c.c_size_t()
+        _do(_TXC.open_transactions, self._site, count)
+        return count.value > 0
+
     # ---- pages
 
     def begin(self, now: int, staleness: int, at_least: int) -> Optional[c.c_uint64]:

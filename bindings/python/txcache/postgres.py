@@ -293,7 +293,7 @@ class PostgresStore:
                 return
         link.close()
 
-    def wants_air(self, is_used: bool) -> bool:
+    def wants_air(self, is_read: bool) -> bool:
         return False
 
     def air(self) -> None:

@@ -22,7 +22,7 @@ from .errors import NotInstalled, SnapshotLost
 
 VERSION = 1
 MAX_LOG = 8 << 20  # bytes that the write-ahead log grows by before no snapshot stays open: while one is, the log can't begin anew
-AIR_AGAIN = 10.0  # seconds after which a log that could not begin anew is tried again, if no page computes
+AIR_AGAIN = 10.0  # seconds after which a log that could not begin anew is tried again, if no page is open
 _NOTES = 1000  # that are read at once
 BUSY_TIMEOUT = 5.0  # seconds for which `install` and `purge` wait for a writer
 BOOLEANS = "0", "1"
@@ -267,12 +267,12 @@ class SqliteStore:
                 pass
             link.close()
 
-    def wants_air(self, is_used: bool) -> bool:
-        """Returns True if the log has grown by more than `max_log` bytes since it was copied; if no page computes, by half of that, or if it is so long still
+    def wants_air(self, is_read: bool) -> bool:
+        """Returns True if the log has grown by more than `max_log` bytes since it was copied; if no page is open, by half of that, or if it is so long still
         and was copied some time ago."""
-        size, limit = self._log_size(), self.max_log if is_used else self.max_log // 2
+        size, limit = self._log_size(), self.max_log if is_read else self.max_log // 2
         self._left = min(self._left, size)
-        return size - self._left > limit or not is_used and size > limit and time.monotonic() > self._aired + AIR_AGAIN
+        return size - self._left > limit or not is_read and size > limit and time.monotonic() > self._aired + AIR_AGAIN
 
     def air(self) -> None:
         """Copies the log into the file, so that it begins anew. If a reader or writer of another process is in the way it does what it can, and the log goes
