@@ -39,7 +39,7 @@ ROWS = 1000
 
 
 class Skipped(Exception):
-    """What a bar is compared with is not there."""
+    """The other side of a bar does not exist on this machine."""
 
 
 class Bar(NamedTuple):

@@ -1,4 +1,4 @@
-"""What a cache keeps open, lets go and follows, and what it does in a child."""
+"""Snapshots that a cache keeps open, closes and follows; and its children after a fork."""
 
 import contextlib
 import gc

@@ -42,7 +42,7 @@ class TxCache:
 
     `capacity` bounds its entries, `max_bytes` the bytes of their values, and `places` the rows of its table of versions, one for each tag that has changed. A thread looks at the database every `refresh` seconds while pages are read; with `thread=False` a page looks as
     it begins. No snapshot is open for longer than `hold` seconds. `connections` bounds those that read. `audit` is the share of pages that are
-    computed once more, uncached, and compared: a difference goes to `on_audit_error`, or is raised."""
+    computed again, uncached, and compared: a difference goes to `on_audit_error`, or is raised."""
 
     def __init__(self, store: Store, capacity: int = 65_536, max_bytes: Optional[int] = None, refresh: float = 0.5, hold: float = 10.0, connections: int = 4,
                  audit: float = 0.0, *, places: int = PLACES, thread: bool = True, on_audit_error: Optional[Callable[[AuditError], None]] = None,
@@ -125,7 +125,7 @@ class TxCache:
             self._state = self._state._replace(era=self._state.era + 1)
 
     def close(self) -> None:
-        """Ends the thread, the connections and the library's site. The next page opens all anew."""
+        """Ends the thread, the connections and the library's site. The next page opens all again."""
         with self._opening:
             if self._versions is None:
                 return
@@ -283,7 +283,7 @@ class TxCache:
         return number
 
     def _finish(self, txn: Any, function: Function, data: bytes) -> None:
-        """Says what a function gives. In the place of a value that is too long for the library there is a mark, and the function is computed again
+        """Says what a function gives. A value that is too long for the library is replaced by a mark, and the function is computed again
         for each page: in any state in which the mark holds it gives the same."""
         if len(data) > self._versions.longest:
             if not function.is_too_long:
@@ -330,7 +330,7 @@ class TxCache:
                 LOG.debug("no notes were purged: %s", error)
 
     def _leave_to_the_parent(self) -> None:
-        """Of a child after a fork: begins cold, and touches nothing of its parent's."""
+        """Begins cold, in a child after a fork, and touches nothing of its parent's."""
         _INHERITED.append((self._versions, self._follower, self._works, self._stepping, self.store.forget()))
         self._growth = Growth()
         self._reset()

@@ -1,6 +1,6 @@
 """A SQLite file in WAL mode, beside which a service caches.
 
-Triggers of the file's own write a note of each changed row, whoever writes. There is one writer at a time, so the numbers of notes are in the
+Triggers of the file's own write a note of each changed row, from any connection. There is one writer at a time, so the numbers of notes are in the
 order of the commits. A snapshot is a connection with a read transaction open.
 """
 
@@ -77,7 +77,7 @@ class SqliteStore:
         """A snapshot is one connection, whose threads take turns: there is nothing to bound."""
 
     def forget(self) -> Any:
-        """Of a child after a fork: returns all that its parent has open, which it may neither use nor close, and has none of its own."""
+        """Begins with nothing open, in a child after a fork. Returns all that its parent has open, which it may neither use nor close."""
         inherited = vars(self).get("_probe"), vars(self).get("_spare")
         self._lock = threading.RLock()
         self._probe: Optional[sqlite3.Connection] = None
@@ -126,7 +126,7 @@ class SqliteStore:
             return self._faults(link)
 
     def purge(self, age: float = PURGE_AGE) -> int:
-        """Deletes the notes that were there when a purge of `age` seconds ago or more looked. Returns how many."""
+        """Deletes the notes that existed when a purge of `age` seconds ago or more looked. Returns how many."""
         with contextlib.closing(self._connect(is_writing=True)) as link, _writing(link):
             below, = link.execute("SELECT max(below) FROM txcache_purges WHERE made <= ?", (time.time() - age,)).fetchone()
             upto, = link.execute("SELECT upto FROM txcache_state").fetchone()
@@ -193,7 +193,7 @@ class SqliteStore:
     # ---- snapshots
 
     def look(self, last: Optional[Mark] = None, is_wanted: bool = True) -> Look:
-        """Takes a snapshot, and says what changed since the mark of the last; none where the file has not changed and none is wanted."""
+        """Takes a snapshot, and says what changed since the mark of the last; none if the file has not changed and none is asked for."""
         with self._lock:
             try:
                 return self._looked(last, is_wanted)
@@ -275,8 +275,8 @@ class SqliteStore:
         return size - self._left > limit or not is_read and size > limit and time.monotonic() > self._aired + AIR_AGAIN
 
     def air(self) -> None:
-        """Copies the log into the file, so that it begins anew. If a reader or writer of another process is in the way it does what it can, and the log goes
-        on."""
+        """Copies the log into the file, so that it begins again at its head. If a reader or writer of another process is in the way it does what it can, and the log
+        grows."""
         with contextlib.suppress(sqlite3.Error), contextlib.closing(self._connect(is_writing=True)) as link:
             link.execute("PRAGMA busy_timeout = 200")
             link.execute("PRAGMA wal_checkpoint(TRUNCATE)").fetchall()
