@@ -10,7 +10,9 @@ In docs/out/, which git does not keep:
 In files that git keeps:
 
   PROMISE.md, promise/ from the crates' src/ and specs/, and docs/promise.in.md (scripts/promise.py)
-  ../README.md         what a page buys and costs, from FIGURES.md, and how long commands take, from docs/gate.tsv
+  pictures/            by scripts/pictures.py, which also puts each one into the pages that name it
+  FIGURES.md           its tables, from bench/results/ (scripts/figures.py)
+  ../README.md         how long the gate takes, from docs/gate.tsv; the same in CONTRIBUTING.md and SCRIPTS.md of other commands
   ../CONTRIBUTING.md   the tables of scripts/ and bench/, from the first sentence of each file
   ARCHITECTURE.md      the tables of crates, from crates.txt and the first sentence of each crate; the table of proofs that other crates use
   GATE.md              the table of what the gate takes, from docs/gate.tsv
@@ -26,7 +28,7 @@ usage: docs.py [--check]      --check writes docs/out/ alone, and ends with 1 if
 import re, shutil, sys
 from pathlib import Path
 
-import claims, cpu, lines, pages, promise, run, sources, wrong_bodies
+import claims, cpu, figures, lines, pages, pictures, promise, run, sources, wrong_bodies
 from sources import ROOT, crates
 
 LISTS = """# All wrong bodies, by crate
@@ -46,7 +48,6 @@ SESSION = "### A world, line by line"
 # Of more commands in a row than this, only the first and the last are shown.
 MOST_SHOWN = 12
 PROOFS = "| Module | Says | Used by |\n|---|---|---|\n"
-BUYS = "| Pages may be so old | Plain cache: hits | Torn | Cost | This cache: hits | Torn | Cost |\n|---|---|---|---|---|---|---|\n"
 TAKES = "| Crate | Proof | By the clock | Began at minute | Peak, GB | Built | Wrong bodies |\n|---|---|---|---|---|---|---|\n"
 
 
@@ -121,7 +122,7 @@ def check_session(text):
 
 def scripts(text):
     check_session(text)
-    return lines.written(text)
+    return minutes(lines.written(text))
 
 
 def examples():
@@ -215,7 +216,7 @@ def contributing(text):
         files = sorted(it for it in (ROOT / folder).iterdir() if it.suffix in (".py", ".sh", ".c"))
         rows = "".join(f"| `{it.name}` | {first_sentence(it)} |\n" for it in files)
         text = fill(text, folder, f"| File of `{folder}/` | Does |\n|---|---|\n{rows}")
-    return text
+    return minutes(text)
 
 
 def gate(text):
@@ -244,39 +245,27 @@ def gate(text):
     return start + TAKES + rows + re.sub(r"^(?:\|.*\n)*", "", after)
 
 
-def table_of(text, head):
-    """The rows of the table with this head, each as its cells."""
-    rows = text.partition(f"\n{head}\n")[2].split("\n")[1:]
-    return [[it.strip() for it in row.strip("|").split("|")] for row in rows[:next(n for n, it in enumerate(rows) if not it.startswith("|"))]]
-
-
-def readme(text):
-    """Fills what a page buys and costs, from FIGURES, and how long the gate, the program and the tests take, from gate.tsv."""
-    shown = (ROOT / "docs/FIGURES.md").read_text()
-    pages = {row[0]: row for row in table_of(shown, "| Pages, and how old they may be | Hits | Torn | 1 query | 10 queries | 60 queries |")}
-    cost = lambda row: int(row[4].replace(",", ""))
-    none = cost(pages["no cache"])
-    rows = ""
-    for age in ("1 s", "5 s", "30 s"):
-        both = [pages[f"{name}, {age}"] for name in ("a plain cache", "the cache")]
-        rows += f"| {age} | {' | '.join(f'{it[1]} | {it[2]} | {cost(it) / none:.2f}' for it in both)} |\n"
-    start, _, after = text.partition(BUYS)
-    threads = {tuple(row[:2]): row for row in table_of(shown, "| Pages of | Shop | Threads: 1 | 2 | 4 | Processes: 1 | 2 | 4 |")}
-    speeds = [[threads[kind, "8 items"][at] for at in (2, 4)] for kind in ("two hits", "two calls, and a bid after each page")]
-    speed = "A site reads {} pages of two hits a second on one thread, and {} on four. With a bid after each page it makes {} and {}.".format(*sum(speeds, []))
-    text = start + BUYS + rows + re.sub(r"\A(?:\|.*\n)*\n.*\n", f"\n{speed}\n", after)
+def minutes(text):
+    """Fills how long the gate, the program and the tests take, from gate.tsv."""
     taken = cpu.read(ROOT / "docs/gate.tsv")
     tests = sum(it.cpu for it in taken if it.kind == "tests")
+    clock = next(it.clock for it in taken if it.kind == "all")
     text = re.sub(r"the proved program: \d+ minutes of one core", f"the proved program: {run.minutes()} minutes of one core", text)
     text = re.sub(r"unproved: \d+ minutes of one core", f"unproved: {tests / 60:.0f} minutes of one core", text)
-    return re.sub(r"the gate: \d+ minutes", f"the gate: {next(it.clock for it in taken if it.kind == 'all') / 60:.0f} minutes", text)
+    return re.sub(r"the gate: \d+ minutes", f"the gate: {clock / 60:.0f} minutes", text)
 
 
 def written() -> dict[Path, str]:
     """Each file of git that is made by script, or has parts that are, beside its text."""
     made = {"docs/SCRIPTS.md": scripts, "docs/CALLING.md": calling, "docs/EMBEDDING.md": calling, "docs/ARCHITECTURE.md": architecture,
-            "docs/GATE.md": gate, "README.md": readme, "CONTRIBUTING.md": contributing}
+            "docs/GATE.md": gate, "README.md": minutes, "CONTRIBUTING.md": contributing}
     return {**{ROOT / name: make((ROOT / name).read_text()) for name, make in made.items()}, **promise.written()}
+
+
+def all_written() -> dict[Path, str]:
+    """The same with the tables of FIGURES, and with the pictures, each also in the pages that name it."""
+    texts = {figures.FIGURES: figures.fill(figures.FIGURES.read_text()), ROOT / "docs/CONCEPTS.md": (ROOT / "docs/CONCEPTS.md").read_text(), **written()}
+    return {**{path: pictures.fill(text, path) for path, text in texts.items()}, **pictures.written()}
 
 
 def make_pages():
@@ -293,13 +282,14 @@ def main():
         print(*faults, sep="\n", file=sys.stderr)
         sys.exit(2)
     make_pages()
-    texts = written()
+    texts = all_written()
     for path, text in texts.items():
         if not is_check:
+            path.parent.mkdir(exist_ok=True)
             path.write_text(text)
         elif not path.is_file() or path.read_text() != text:
             sys.exit(f"{path.relative_to(ROOT)} is not what scripts/docs.py writes: run `make docs`")
-    for path in sorted({*promise.FOLDER.glob("*.md")} - set(texts)):
+    for path in sorted({*promise.FOLDER.glob("*.md"), *pictures.FOLDER.glob("*")} - set(texts)):
         if is_check:
             sys.exit(f"{path.relative_to(ROOT)} is made no more: run `make docs`")
         path.unlink()

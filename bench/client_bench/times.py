@@ -21,7 +21,7 @@ node is large, times of both look-ups at the plain node wait for memory, which i
 times may be below 0.
 
 With --figures it prints the one table of docs/FIGURES.md, below a line with the day, the machine and the command: pipe it to
-bench/figures.py.
+scripts/figures.py.
 """
 
 import argparse
