@@ -53,7 +53,7 @@ C = {
     "a touched tag, of a commit of six": Operation("six", 20, 6),
     "a commit of one put": Operation("put", 60),
     "a commit of a new row at a random id": Operation("new", 60),
-    "a query by id": Operation("query", 500),
+    "a query by id, of a transaction of six": Operation("query", 100, 6),
     f"a vacuum after {DEAD:,} puts": Operation("vacuum", 1, 1, f"dirty {DEAD}"),
 }
 RATTLE = {
@@ -197,9 +197,10 @@ def bars(stores: list[Store], sizes: list[int], found: dict[tuple[str, int], lis
     for line in ("rows", "random"):
         order = {"rows": "by id", "random": "at random"}[line]
         met.append(judged(f"bytes of a row, {greatest:,} that came {order}", live_bytes(stores[1], f"{line} {greatest}") / greatest, ROW_BYTES))
+    middle = sizes[len(sizes) // 2]
     with stores[0].program(least) as it:
-        print(f"over SQLite: {it.run(f'step {STEPS}') / 1e6:.2f} ms of the longest step at {least:,} rows; "
-              f"{live_bytes(stores[0], f'rows {sizes[-2]}') / sizes[-2]:,.0f} bytes of a row, {sizes[-2]:,} that came by id")
+        print(f"over SQLite: {it.run(f'step {STEPS}') / 1e6:.2f} ms of the longest step at {least:,} rows, "
+              f"{live_bytes(stores[0], f'rows {middle}') / middle:,.0f} bytes of a row of {middle:,}")
     return all(met)
 
 

@@ -11,8 +11,8 @@
 #include <string.h>
 #include <time.h>
 
-/* The tables, the changes of one commit of many, and the tags of one step. */
-enum { TABLES = 16, MANY = 240, STEP = 500, BODY = 8 };
+/* The tables, the changes of one commit of some and of many, and the tags of one step. */
+enum { TABLES = 16, SIX = 6, MANY = 240, STEP = 500, BODY = 8 };
 
 static txc_site site = TXC_SITE_CLOSED;
 static txc_txn txn;
@@ -107,20 +107,26 @@ static uint32_t fill(uint32_t count) {
     return change(put_next, count, MANY);
 }
 
-/* Queries by id of rows that are there, each copied out. */
+/* A query by id of a row that is there, which is copied out. */
+static uint32_t ask(void) {
+    uint32_t place = drawn(asked++) % rows;
+    uint8_t body[BODY];
+    txc_row row;
+    size_t found, len;
+    must(txc_query_rows(&site, txn, &(txc_query){(uint8_t)(place % TABLES), TXC_ID, place / TABLES * 2, 0}, &found), TXC_ANSWERED);
+    must(txc_row_at(&site, txn, 0, &row, body, BODY, &len), TXC_DONE);
+    return (uint32_t)found;
+}
+
+/* So many transactions of six queries each. */
 static uint32_t query(uint32_t count) {
     uint32_t found = 0;
-    must(txc_begin_write(&site, &txn), TXC_DONE);
     for (uint32_t at = 0; at < count; at++) {
-        uint32_t place = drawn(asked++) % rows;
-        uint8_t body[BODY];
-        txc_row row;
-        size_t many, len;
-        must(txc_query_rows(&site, txn, &(txc_query){(uint8_t)(place % TABLES), TXC_ID, place / TABLES * 2, 0}, &many), TXC_ANSWERED);
-        must(txc_row_at(&site, txn, 0, &row, body, BODY, &len), TXC_DONE);
-        found += (uint32_t)many;
+        must(txc_begin_write(&site, &txn), TXC_DONE);
+        for (int each = 0; each < SIX; each++)
+            found += ask();
+        must(txc_abort(&site, txn), TXC_DONE);
     }
-    must(txc_abort(&site, txn), TXC_DONE);
     return found;
 }
 
@@ -159,7 +165,7 @@ static uint64_t obey(const char *name, uint32_t count) {
     if (!strcmp(name, "put")) /* commits of one put of a changed row */
         return change(put_changed, count, 1);
     if (!strcmp(name, "six")) /* and of six of them */
-        return change(put_changed, 6 * count, 6);
+        return change(put_changed, SIX * count, SIX);
     if (!strcmp(name, "new")) /* commits of one new row */
         return change(put_new, count, 1);
     if (!strcmp(name, "dirty")) /* puts of changed rows, in commits of many */
