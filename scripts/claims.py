@@ -18,7 +18,7 @@ from sources import ROOT
 
 README = ROOT / "README.md"
 # Those that are written by hand.
-BY_HAND = ["README.md", "CONTRIBUTING.md", *(f"docs/{it}.md" for it in ("ARCHITECTURE", "SCRIPTS", "DECISIONS", "GATE", "CALLING", "EMBEDDING", "BINDINGS", "FIGURES"))]
+BY_HAND = ["README.md", "CONTRIBUTING.md", *(f"docs/{it}.md" for it in ("ARCHITECTURE", "SCRIPTS", "DECISIONS", "GATE", "EMBEDDING", "BINDINGS", "FIGURES"))]
 # How many words CHANGELOG may have of a landing.
 MOST_WORDS_OF_A_LANDING = 80
 # How many words a sentence may have: of a document that is written by hand, and of a source's comment.
@@ -343,7 +343,7 @@ def words_of_sources():
 def names():
     """Each file, each function of a type and each name of several words that a document has in backticks is there."""
     types, places = words_of_types(), [f"/{it.as_posix()}" for it in files()]
-    for name in ("../CONTRIBUTING", "ARCHITECTURE", "BINDINGS", "CALLING", "DECISIONS", "EMBEDDING", "FIGURES", "GATE", "WRONG_BODIES"):
+    for name in ("../CONTRIBUTING", "ARCHITECTURE", "BINDINGS", "DECISIONS", "EMBEDDING", "FIGURES", "GATE", "WRONG_BODIES"):
         document = (ROOT / f"docs/{name}.md").resolve()
         for said in re.findall(r"`([^`\n]+)`", prose(document)):
             of_type = re.fullmatch(r"([A-Z]\w*)::\{?(\w+(?:, \w+)*)\}?", said)
@@ -356,15 +356,6 @@ def names():
                 yield document, f"names `{said}`, which is not there"
             elif re.fullmatch(r"[A-Z][a-z]+[A-Z]\w*|[a-z]+(_[a-z0-9]+)+", said) and said not in words_of_sources():
                 yield document, f"names `{said}`, which is not there"
-
-
-def calls():
-    """Each call that a table of CALLING has is one of the libraries."""
-    document = ROOT / "docs/CALLING.md"
-    there = {call.name for crate in sources.documented() for call in sources.public_api(crate)[1]}
-    for name in re.findall(r"^\| `(\w+)` \|", prose(document), re.M):
-        if name not in there:
-            yield document, f"has the call `{name}`, which is not there"
 
 
 def decided():
@@ -440,7 +431,7 @@ def faults():
     """What the documents claim that is not so, each as a line of text."""
     found = []
     checks = (links, paths, counted, landings, long_sentences, plain_words, layered, promised, help_shown, settings, sessions, quoted, commands, toolchain, version, names,
-              calls, decided, measured, quoted_figures, run_as_shown, first, meanings)
+              decided, measured, quoted_figures, run_as_shown, first, meanings)
     for check in checks:
         found += [f"{document.relative_to(ROOT)} {said}" for document, said in check()]
     return found

@@ -18,7 +18,6 @@ In files that git keeps:
   GATE.md              the table of what the gate takes, from docs/gate.tsv
   SCRIPTS.md           how its lines are written, from the tables by which they are read (scripts/lines.py); the session of a world has to
                        be that of its script
-  CALLING.md           its code, from the tests
   EMBEDDING.md         its code, from tests/txc_tests/src/first.rt.in, the shop and the auction
 
 usage: docs.py [--check]      --check writes docs/out/ alone, and ends with 1 if a file is not what would be written, or if what
@@ -134,7 +133,7 @@ def examples():
     return text + "".join(f"- `{it.name}`\n" for it in sorted(folder.glob("worlds/*.txw")))
 
 
-def calling(text):
+def quoting(text):
     """Fills each block that is headed by a file with what the file has before its tests, its imports too; or with those of its
     definitions that the head names."""
 
@@ -257,7 +256,7 @@ def minutes(text):
 
 def written() -> dict[Path, str]:
     """Each file of git that is made by script, or has parts that are, beside its text."""
-    made = {"docs/SCRIPTS.md": scripts, "docs/CALLING.md": calling, "docs/EMBEDDING.md": calling, "docs/ARCHITECTURE.md": architecture,
+    made = {"docs/SCRIPTS.md": scripts, "docs/EMBEDDING.md": quoting, "docs/ARCHITECTURE.md": architecture,
             "docs/GATE.md": gate, "README.md": minutes, "CONTRIBUTING.md": contributing}
     return {**{ROOT / name: make((ROOT / name).read_text()) for name, make in made.items()}, **promise.written()}
 

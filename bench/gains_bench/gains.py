@@ -41,7 +41,7 @@ SECOND = 1_000
 
 
 class Setting(NamedTuple):
-    """How pages are made, and how often the node is kept, in milliseconds."""
+    """The way in which pages are made, and the milliseconds between two keeps of the node."""
 
     mode: str
     staleness: int
@@ -149,7 +149,7 @@ def warmed(run, setting):
 
 
 def timed(program, setting, queries, pages):
-    """What the pages came to, and the processor time of each."""
+    """Returns the counts of the pages, and the processor time of each."""
     run = warmed(Run([program, *setting.words(queries)]), setting)
     before, start = run.counts(), run.spent()
     run.obey(pages)

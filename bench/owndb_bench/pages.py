@@ -1,4 +1,4 @@
-"""What a page takes: of hits, for the first time, and by queries; beside Redis, memcached and a dictionary; and pages a second of threads and processes."""
+"""The time of a page: of hits, for the first time, and by queries; beside Redis, memcached and a dictionary; and pages a second of threads and processes."""
 
 import contextlib
 import os

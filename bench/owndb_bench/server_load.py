@@ -1,4 +1,4 @@
-"""What a cache costs the server: what a commit pays, what following takes, connections of many processes, and what open snapshots keep.
+"""The cost of a cache for the server: of a commit, of following, of the connections of many processes, and of open snapshots.
 
 usage: python3 -m owndb_bench.server_load follow WHERE SECONDS REFRESH HOLD    a process that reads pages of hits, and prints its counts as JSON
 """

@@ -170,7 +170,7 @@ def cache_of(way: str, where: str, places: Dict[str, str]) -> Cache:
 
 
 def read(way: str, where: str, seconds: float, seed: int, places: Dict[str, str]) -> Dict[str, float]:
-    """What one reading process counts: its pages, the torn ones, hits and misses, and its processor time."""
+    """The counts of one reading process: its pages, the torn ones, hits and misses, and its processor time."""
     from txcache import SnapshotLost
 
     cache, rand, ended, counts = cache_of(way, where, places), random.Random(seed), time.monotonic() + seconds, {"pages": 0, "torn": 0, "lost": 0}

@@ -35,7 +35,7 @@ WHEEL = f"Wheel-Version: 1.0\nGenerator: {NAME}\nRoot-Is-Purelib: false\nTag: "
 
 
 class UnsupportedOperation(Exception):
-    """Of PEP 517: this backend does not build that."""
+    """Fails, as PEP 517 has it: this backend builds no source distribution."""
 
 
 def build_wheel(wheel_directory, config_settings=None, metadata_directory=None):

@@ -203,6 +203,6 @@ int main(void) {
     unsigned played = kinds;
     weigh(TXC_STORE_SQL, SQL_BYTES, SIZE_MAX);
     weigh(TXC_STORE_PLAIN, 0, PLAIN_BYTES);
-    printf("%u kinds of work done %d times, and rows of %u stores weighed, %u in more memory than they may\n", played, MANY, kinds - played, wrong);
+    printf("%u kinds of work done %d times, and rows of %u stores weighed, %u wrong\n", played, MANY, kinds - played, wrong);
     return wrong != 0;
 }

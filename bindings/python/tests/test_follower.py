@@ -42,8 +42,8 @@ class Told:
         mark = len(self.marks)
         return Look(self.snapshots[-1], mark, None, found) if isinstance(found, str) else Look(self.snapshots[-1], mark, frozenset(found))
 
-    def wants_air(self, is_used):
-        return is_used in self.needs_air
+    def wants_air(self, is_read):
+        return is_read in self.needs_air
 
     def air(self):
         self.aired += 1
@@ -60,7 +60,8 @@ class Looks(unittest.TestCase):
 
     def follower(self, *looks, hold=10.0, every=0.0):
         self.store = Told(*looks)
-        return Follower(self.store, hold, lambda: self.now, every)
+        self.is_read = False
+        return Follower(self.store, hold, lambda: self.now, every, lambda: self.is_read)
 
     def open(self):
         return [it.is_open for it in self.store.snapshots]
@@ -180,18 +181,16 @@ class Looks(unittest.TestCase):
         it.look()
         self.assertEqual((self.store.aired, it.numbers, self.open()), (1, [1], [False, False, True]))
 
-    def test_air_waits_for_what_computes(self):
+    def test_air_waits_for_pages(self):
         it = self.follower("the first snapshot", set(), set(), set())
         it.look()
-        it.use(1)
-        self.store.needs_air, self.now = (False,), 0.2
+        self.store.needs_air, self.now, self.is_read = (False,), 0.2, True
         it.look()
         self.assertEqual((self.store.aired, self.open()), (0, [True, False]))
         self.store.needs_air, self.now = (False, True), 0.4
         it.look()
         self.assertEqual((self.store.aired, self.open()), (1, [False, False, True]))
-        it.leave(1)
-        self.store.needs_air, self.now = (False,), 0.6
+        self.store.needs_air, self.now, self.is_read = (False,), 0.6, False
         it.look()
         self.assertEqual((self.store.aired, it.numbers), (2, [1]))
 

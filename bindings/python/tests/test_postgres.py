@@ -200,7 +200,7 @@ class Partitions(Case):
 
 
 class Shape(Case):
-    """What changes, and what does not, the fingerprint of the tables."""
+    """Statements that change the fingerprint of the tables, and others that do not."""
 
     def test_the_fingerprint(self):
         self.follow(tables_text=ITEMS + "; CREATE VIEW seen AS SELECT id FROM items; CREATE TYPE mood AS ENUM ('x');"
@@ -659,7 +659,7 @@ class Faults(Case):
         self.assertEqual(len(self.db().rows("items")), 2)
 
     def test_a_killed_holder_and_a_truncate_behind_it(self):
-        """What a reader reads after the snapshot's own connection is gone does not count: the table may be another by then."""
+        """A read after the snapshot's own connection is gone does not count: the table may be another by then."""
         self.follow()
         self.ask("INSERT INTO items (id) VALUES (1)")
         self.look()

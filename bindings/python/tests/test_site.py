@@ -6,7 +6,7 @@ import unittest
 from unittest import mock
 
 from txcache.node import LAST_STAMP, MAX_ASKS, MAX_CAPACITY, MAX_VALUE_LEN, Refused, Totals
-from txcache.site import MAX_EVENTS, Conflict, Kept, Query, Site, cacheable
+from txcache.site import _TXC, MAX_EVENTS, Conflict, Kept, Query, Site, _refuse, cacheable
 
 
 @cacheable(0)
@@ -180,6 +180,20 @@ class Transactions(unittest.TestCase):
             self.assertRaises(Refused, lambda: self.site.read(0, 0, at_least=stamp))
         with self.site.read(0, 0, at_least=LAST_STAMP):
             pass
+
+    def test_each_failure_says_what_failed(self):
+        with self.site.write() as write:
+            for number in range(256):
+                write.put(2, number, 0, b"")
+            self.assertRaisesRegex(Refused, "the transaction has 256 changes, and keeps no more", write.put, 2, 256, 0, b"")
+        self.assertRaisesRegex(Refused, "the stamp 9 can't be read: it is below the oldest that can, or beyond the newest", self.site.write, 9)
+        self.assertRaisesRegex(Refused, "4294967296 is not from 0 to 4,294,967,295", self.site.write, 2**32)
+        with self.site.write() as write:
+            self.assertRaisesRegex(Refused, "a body is longer than 65,536 bytes", write.put, 1, 1, 7, bytes(65_537))
+        with self.site.read(1000, 30_000) as page:
+            self.assertRaisesRegex(Refused, "the call failed: its functions made too many .*4,096 in all", page, cacheable(2)(lambda call: bytes(MAX_VALUE_LEN + 1)))
+        self.assertRaisesRegex(Refused, "events and max_bytes are at least 1, or None", Site, 0)
+        self.assertRaisesRegex(Refused, "txc_keep returned 99", _refuse, 99, _TXC.keep)
 
     def test_below_the_horizon_nothing_is_read(self):
         self.assertEqual(self.bid(1, b"120"), 2)

@@ -323,7 +323,7 @@ class Reading(Case):
         self.fail("the log grows no more")
 
     def wants(self):
-        """Returns whether the store wants air: while a page computes in a snapshot, and while none does."""
+        """Returns whether the store wants air: while a page is open, and while none is."""
         return self.s.wants_air(True), self.s.wants_air(False)
 
     def test_the_log_is_copied_where_no_snapshot_is_open(self):
@@ -340,7 +340,7 @@ class Reading(Case):
         self.assertEqual(self.wants(), (False, True))
 
     def test_a_log_that_cannot_begin_anew_is_let_grow(self):
-        """Else each look would end the snapshots in which pages compute, for nothing."""
+        """Else each look would end the snapshots of pages, for nothing."""
         self.s.max_log = 400_000
         self.fill_the_log(410_000)
         self.s.air()  # with a snapshot open, as of another process

@@ -181,7 +181,7 @@ class Threads(Case):
         self.assertEqual(len(ended), 1)
 
     def test_a_page_that_begins_within_a_cold_step(self):
-        """What is cached from before seems to hold at the pin of a cold step, of which no tags are known: no page may have both."""
+        """A result that is cached from before seems to hold at the pin of a cold step, of which no tags are known: no page may have both."""
         cache = self.open(refresh=1000.0)
         self.page((self.balance, 0))
         self.write("UPDATE accounts SET balance = 93 WHERE id = 0", "UPDATE accounts SET balance = 107 WHERE id = 1")

@@ -33,7 +33,7 @@ _process = os.getpid()
 
 
 def note_fork() -> None:
-    """Of a child after a fork: the pages that stand open are its parent's."""
+    """Notes, in a child after a fork, that the pages which are open are its parent's."""
     global _process
     _process = os.getpid()
 
@@ -51,7 +51,7 @@ class Receipt:
 
 
 class Page:
-    """The reads of a block of `TxCache.read`. Its receipt exists once the block has ended."""
+    """The reads of a block of `TxCache.read`. It has a receipt once the block has ended."""
 
     # most pages change few of these, and so each begins with its class's
     _frames: Sequence[Frame] = ()  # the functions that stand open

@@ -39,7 +39,7 @@ END
 
 # The question of a look, in one statement whose plans the server keeps: the snapshot's numbers, the server's, the number that was purged last, the shape of the
 # tables; and the tags of rows that the snapshot sees and one did not that had seen all below `beyond` but those `running`. The server's own processes have
-# other numbers once it has restarted after one of its processes died; its start time is then as it was.
+# other numbers once it has started again after one of its processes died; its start time is then as it was.
 _LOOK = """
 BEGIN
     SELECT pg_current_snapshot()::text, concat(s.system, ' ', (SELECT oid FROM pg_database WHERE datname = current_database()), ' ',
@@ -97,7 +97,8 @@ INSERT INTO txcache.state SELECT system_identifier, pg_snapshot_xmin(pg_current_
     WHERE NOT EXISTS (SELECT FROM txcache.state);
 """
 
-# Plans that are kept go by the indexes: a catalog, or the notes, may be short when the plan is made. A query without an index then seems expensive, and would be compiled.
+# Plans that are kept go by the indexes: a catalog, or the notes, may be short when the plan is made. A scan without an index then seems
+# expensive, and would be compiled.
 _PLANS = "SET plan_cache_mode = force_generic_plan SET enable_seqscan = off SET jit = off"
 _LOOK_OF = "txcache.look(oid[], xid8, xid8[], text[], integer)"
 
@@ -192,7 +193,7 @@ END
 
 
 def noted(text: str, name: Name) -> Optional[FrozenSet[Columns]]:
-    """Returns the lookups that a trigger function notes, if this version wrote it for this table, and it has not changed since."""
+    """Returns the lookups that a trigger function notes, if this version wrote it for this table, and it was not changed since."""
     head = re.match(r"-- (.*)\n", text)
     try:
         version, _, lookups = json.loads(head[1]) if head else (None, None, None)
@@ -408,7 +409,7 @@ class Installer:
             raise
 
     def schema(self, reader: Optional[str]) -> None:
-        """Makes the objects that a database has once. Existing ones are left alone: tables that snapshots read would be waited for."""
+        """Makes the objects that a database has once. Objects that exist are left alone: tables that snapshots read would be waited for."""
         stands = _comment(self._link) == COMMENT and _functions(self._link) == _TEXTS
         self._transaction(("" if stands else _TABLES + _FUNCTIONS) + _STATE)
         if reader and not all(self._link.ask(_MAY_READ.format(role=literal(reader)))[0]):

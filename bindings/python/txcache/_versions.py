@@ -1,6 +1,6 @@
 """The site of a cache: its database is a table of versions, a row a place, and its transactions are the pages. Its rows are in the library's plain store,
 since no query but by id is made of them. All that the cache asks of the library is here. Threads share it, and no lock of ours is held: a call keeps the interpreter's own, so that it is alone, and gets its answer in a room that
-no other thread has meanwhile. (A lock would be held by a thread that waits for the interpreter's, behind all others, and for long where the machine is busy.)"""
+no other call has meanwhile. (A lock would be held by a thread that waits for the interpreter's, behind all others, and for long where the machine is busy.)"""
 
 import ctypes as c
 import struct
@@ -47,7 +47,7 @@ class Member(NamedTuple):
 
 
 class Totals(NamedTuple):
-    """How many results there are, how many bytes their values have in all, and how many were dropped for the budget."""
+    """The number of results, the bytes of their values in all, and the number of results that were dropped for the budget."""
 
     entries: int
     bytes: int
@@ -115,7 +115,7 @@ class Versions:
     # ---- steps
 
     def touch(self, places: Sequence[int], version: int) -> None:
-        """Gives these places a version. Threads run between its events; no page reads its middle, since none reads the present. How long an event takes
+        """Gives these places a version. Other threads run between its events; no page reads its middle, since none reads the present. How long an event takes
         depends on how many results it closes, so that its rows become fewer or more."""
         body = str(version).encode()
         for layer in _layers(places):
@@ -166,12 +166,18 @@ class Versions:
         return Totals(totals.entries, totals.bytes, totals.trimmed)
 
     def trim(self, most: int) -> None:
-        """Drops the results that were used longest ago, until the values of the others have at most `most` bytes in all. Threads run between its steps.
-        """
+        """Drops the results that were used longest ago, until the values of the others have at most `most` bytes in all. Other threads run between its
+        steps."""
         dropped, found = c.c_size_t(), self.totals()
         step = max(1, found.bytes * _TRIMMED // max(1, found.entries))
         for left in [*range(found.bytes - step, most, -step), most] if found.bytes > most else ():
             _do(_TXC.site_trim, self._site, left, dropped)
+
+    def is_read(self) -> bool:
+        """Returns True if a page is open."""
+        count = c.c_size_t()
+        _do(_TXC.open_transactions, self._site, count)
+        return count.value > 0
 
     # ---- pages
 
@@ -250,7 +256,7 @@ class Versions:
             raise _error(_TXC.query_rows, number)
 
     def finish(self, txn: c.c_uint64, data: bytes) -> None:
-        """Says what the function that the page computes gives. It is not told again: there is no room."""
+        """Says what the function that the page computes gives. The library does not return it: there is no room."""
         room = self._room()
         number = _TXC.finish(self._at, txn, data, len(data), None, 0, room.size_at)
         self._free.append(room)

@@ -152,9 +152,10 @@ class TxCache:
             with self._opening:
                 if self._versions is None:
                     self.store.prepare(self._connections, self.hold)
-                    self._follower = Follower(self.store, self.hold, every=self.refresh + LOOK_TIME)
+                    versions = self._make_versions(self._capacity)
+                    self._follower = Follower(self.store, self.hold, every=self.refresh + LOOK_TIME, is_read=versions.is_read)
                     self._bell = Bell()
-                    self._versions = self._make_versions(self._capacity)
+                    self._versions = versions
                     if self._has_thread:
                         threading.Thread(target=keep_looking, args=(weakref.ref(self), self._bell, self.refresh), name="txcache", daemon=True).start()
 
@@ -329,7 +330,7 @@ class TxCache:
                 LOG.debug("no notes were purged: %s", error)
 
     def _leave_to_the_parent(self) -> None:
-        """Of a child after a fork: begins cold, and touches nothing of its parent's."""
+        """Begins cold, in a child after a fork, and touches nothing of its parent's."""
         _INHERITED.append((self._versions, self._follower, self._works, self._stepping, self.store.forget()))
         self._growth = Growth()
         self._reset()

@@ -84,7 +84,7 @@ class PostgresStore:
         self.readers.limit = connections
 
     def forget(self) -> Any:
-        """Of a child after a fork: returns all that its parent has open, which it may neither use nor close, and has none of its own."""
+        """Begins with nothing open, in a child after a fork. Returns all that its parent has open, which it may neither use nor close."""
         inherited = vars(self).get("_spare"), vars(self).get("readers")
         self._tables: Optional[_Tables] = None
         self._replay = _standby.Replay()
@@ -242,7 +242,7 @@ class PostgresStore:
         return Look(PostgresSnapshot(self, link, self._tables), mark, None, reason, delay or 0.0)
 
     def _next(self, link: Link, last: Mark) -> Union[Look, str]:
-        """Takes the snapshot after the last; or returns why all must begin cold."""
+        """Takes the snapshot after the last; or returns why the cache must begin cold."""
         tables = self._tables
         if tables is None:
             return "the store was closed"
@@ -293,7 +293,7 @@ class PostgresStore:
                 return
         link.close()
 
-    def wants_air(self, is_used: bool) -> bool:
+    def wants_air(self, is_read: bool) -> bool:
         return False
 
     def air(self) -> None:
@@ -375,7 +375,7 @@ class PostgresSnapshot:
             return self._name
 
     def check(self) -> None:
-        """Fails with SnapshotLost if the transaction has ended. The reads of another connection in its snapshot count if it has not."""
+        """Fails with SnapshotLost if the transaction has ended. Rows that another connection read before in its snapshot count if it has not."""
         with self._lock:
             self._ask("SELECT 1")
 

@@ -1,6 +1,6 @@
 """A SQLite file in WAL mode, beside which a service caches.
 
-Triggers of the file's own write a note of each changed row, by any program. There is one writer at a time, so the numbers of notes are in the
+Triggers of the file's own write a note of each changed row, from any connection. There is one writer at a time, so the numbers of notes are in the
 order of the commits. A snapshot is a connection with a read transaction open.
 """
 
@@ -22,7 +22,7 @@ from .errors import NotInstalled, SnapshotLost
 
 VERSION = 1
 MAX_LOG = 8 << 20  # bytes that the write-ahead log grows by before no snapshot stays open: while one is, the log can't begin anew
-AIR_AGAIN = 10.0  # seconds after which a log that could not begin anew is tried again, if no page computes
+AIR_AGAIN = 10.0  # seconds after which a log that could not begin anew is tried again, if no page is open
 _NOTES = 1000  # that are read at once
 BUSY_TIMEOUT = 5.0  # seconds for which `install` and `purge` wait for a writer
 BOOLEANS = "0", "1"
@@ -77,7 +77,7 @@ class SqliteStore:
         """A snapshot is one connection, whose threads take turns: there is nothing to bound."""
 
     def forget(self) -> Any:
-        """Of a child after a fork: returns all that its parent has open, which it may neither use nor close, and has none of its own."""
+        """Begins with nothing open, in a child after a fork. Returns all that its parent has open, which it may neither use nor close."""
         inherited = vars(self).get("_probe"), vars(self).get("_spare")
         self._lock = threading.RLock()
         self._probe: Optional[sqlite3.Connection] = None
@@ -267,15 +267,15 @@ class SqliteStore:
                 pass
             link.close()
 
-    def wants_air(self, is_used: bool) -> bool:
-        """Returns True if the log has grown by more than `max_log` bytes since it was copied; if no page computes, by half of that, or if it is so long still
+    def wants_air(self, is_read: bool) -> bool:
+        """Returns True if the log has grown by more than `max_log` bytes since it was copied; if no page is open, by half of that, or if it is so long still
         and was copied some time ago."""
-        size, limit = self._log_size(), self.max_log if is_used else self.max_log // 2
+        size, limit = self._log_size(), self.max_log if is_read else self.max_log // 2
         self._left = min(self._left, size)
-        return size - self._left > limit or not is_used and size > limit and time.monotonic() > self._aired + AIR_AGAIN
+        return size - self._left > limit or not is_read and size > limit and time.monotonic() > self._aired + AIR_AGAIN
 
     def air(self) -> None:
-        """Copies the log into the file, so that it restarts. If a reader or writer of another process is in the way it does what it can, and the log
+        """Copies the log into the file, so that it begins again at its head. If a reader or writer of another process is in the way it does what it can, and the log
         grows."""
         with contextlib.suppress(sqlite3.Error), contextlib.closing(self._connect(is_writing=True)) as link:
             link.execute("PRAGMA busy_timeout = 200")

@@ -50,7 +50,7 @@ class Pages:
 
 
 class _Response:
-    """How a response begins, which is kept back until its page has ended."""
+    """The beginning of a response, which is kept back until its page has ended."""
 
     def __init__(self, start_response: Callable[..., Any]):
         self._start_response = start_response
