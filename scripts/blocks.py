@@ -14,7 +14,7 @@ Above a block, of indented lines or between fences, stands a comment `<!-- KIND 
   file: NAME  is stored as this file, in the folder in which the session is
   edit: NAME  each of its lines replaces the line of that file that is most like it
   sql: DSN    goes to psql
-  part: PATH  lines that all stand in this file of the repository, which a test runs
+  part: PATH  lines that all stand in this file of the repository, which a test runs, but for comments behind them
   text        a drawing, a form or an excerpt: it is not run
 
 A session begins in a copy of the repository without crates/, with the library in bindings/out and in bindings/out/unproved. It has
@@ -136,8 +136,8 @@ def faults(text: str) -> Iterator[str]:
 def missing_lines(block: Block) -> List[str]:
     """Returns the lines of a part that its file does not have."""
     path = ROOT / block.word
-    there = {line.strip() for line in path.read_text(encoding="utf-8").split("\n")} if path.is_file() else set()
-    return [it.strip() for it in block.lines if it.strip() and it.strip() not in there]
+    there = {command(line).strip() for line in path.read_text(encoding="utf-8").split("\n")} if path.is_file() else set()
+    return [it.strip() for it in block.lines if command(it).strip() and command(it).strip() not in there]
 
 
 # A session of bash.
@@ -259,6 +259,15 @@ def judged(page: str, text: str, output: str, status: int) -> Optional[str]:
     return None if "end" in parts else f"{page}: the session did not come to its end\n{output[-2000:]}"
 
 
+def has_processes(group: int) -> bool:
+    """Returns whether a group of processes has one yet."""
+    try:
+        os.killpg(group, 0)
+    except ProcessLookupError:
+        return False
+    return True
+
+
 def run(page: str, library: str) -> Optional[str]:
     """Runs the session of a page, and returns what went wrong, if anything did."""
     text = (ROOT / page).read_text(encoding="utf-8")
@@ -271,18 +280,20 @@ def run(page: str, library: str) -> Optional[str]:
                 skip(what, f"there is no {program}")
         with open(f"{room}/session", "w", encoding="utf-8") as file:
             file.write(script)
-        ran = subprocess.Popen(["bash", f"{room}/session"], cwd=copy(room, library), env=environment(room, script), stdin=subprocess.DEVNULL, stdout=subprocess.PIPE,
-                               stderr=subprocess.STDOUT, text=True, errors="replace", start_new_session=True)
-        try:
-            output = ran.communicate(timeout=SECONDS)[0]
-        except subprocess.TimeoutExpired:
-            os.killpg(ran.pid, signal.SIGKILL)
-            output = ran.communicate()[0]
-        finally:
+        # into a file, since what the session leaves running would keep a pipe open
+        with open(f"{room}/printed", "w+", encoding="utf-8", errors="replace") as printed:
+            ran = subprocess.Popen(["bash", f"{room}/session"], cwd=copy(room, library), env=environment(room, script), stdin=subprocess.DEVNULL, stdout=printed,
+                                   stderr=subprocess.STDOUT, start_new_session=True)
             try:
-                os.killpg(ran.pid, signal.SIGKILL)
-            except ProcessLookupError:
+                ran.wait(SECONDS)
+            except subprocess.TimeoutExpired:
                 pass
+            finally:
+                if has_processes(ran.pid):
+                    os.killpg(ran.pid, signal.SIGKILL)
+                ran.wait()
+            printed.seek(0)
+            output = printed.read()
         return judged(page, text, output, ran.returncode)
 
 
