@@ -6,6 +6,7 @@ In docs/out/, which git does not keep:
   crates/              a page of each crate, from its src/ and specs/ (scripts/pages.py)
   WRONG_BODIES.md      the lists of all wrong bodies, by crate
   EXAMPLES.md          examples/, with the replies beside the lines
+  PROOFS.md            the proofs that other crates use
 
 In files that git keeps:
 
@@ -14,7 +15,7 @@ In files that git keeps:
   FIGURES.md           its tables, from bench/results/ (scripts/figures.py)
   ../README.md         how long the gate takes, from docs/gate.tsv; the same in CONTRIBUTING.md and SCRIPTS.md of other commands
   ../CONTRIBUTING.md   the tables of scripts/ and bench/, from the first sentence of each file
-  ARCHITECTURE.md      the tables of crates, from crates.txt and the first sentence of each crate; the table of proofs that other crates use
+  ARCHITECTURE.md      the tables of crates, from crates.txt and the first sentence of each crate
   GATE.md              the table of what the gate takes, from docs/gate.tsv
   SCRIPTS.md           how its lines are written, from the tables by which they are read (scripts/lines.py); the session of a world has to
                        be that of its script
@@ -46,7 +47,16 @@ one with its replies. Those of mode world end in `.txw`; where a file beside one
 SESSION = "### A world, line by line"
 # Of more commands in a row than this, only the first and the last are shown.
 MOST_SHOWN = 12
-PROOFS = "| Module | Says | Used by |\n|---|---|---|\n"
+PROOFS = """# Proofs that other crates use
+
+<!-- Made by `make docs` from the sources of the crates and the tests. -->
+
+A change of one of these modules proves the crates again that use it. Left out are `proofs/Offered.antt`, and `TheSendSync`, which the prover
+makes for each type that may go to threads.
+
+| Module | Is about | Used by |
+|---|---|---|
+"""
 TAKES = "| Crate | Proof | By the clock | Began at minute | Peak, GB | Built | Wrong bodies |\n|---|---|---|---|---|---|---|\n"
 
 
@@ -189,12 +199,15 @@ def crate_tables() -> str:
 
 
 def architecture(text):
-    text = fill(text, "crates", crate_tables())
-    start, _, after = text.partition(PROOFS)
+    return fill(text, "crates", crate_tables())
+
+
+def proofs() -> str:
+    """The table of the proofs that other crates use."""
     rows = ""
     for (crate, module), users in sorted(used_proofs().items()):
-        rows += f"| `{crate}`: `proofs/{module.replace('.', '/')}.antt` | {says(crate, module)} | {', '.join(f'`{it}`' for it in sorted(users))} |\n"
-    return start + PROOFS + rows + re.sub(r"^(?:\|.*\n)*", "", after)
+        rows += f"| `{crate}`: `proofs/{module.replace('.', '/')}.antt` | {says(crate, module)} | {listed(sorted(users))} |\n"
+    return PROOFS + rows
 
 
 def first_sentence(file: Path) -> str:
@@ -270,7 +283,9 @@ def all_written() -> dict[Path, str]:
 def make_pages():
     """Makes docs/out/ anew."""
     shutil.rmtree(pages.OUT, ignore_errors=True)
-    for path, text in {**pages.written(), pages.OUT / "WRONG_BODIES.md": lists_of_wrong_bodies(), pages.OUT / "EXAMPLES.md": examples()}.items():
+    made = {**pages.written(), pages.OUT / "WRONG_BODIES.md": lists_of_wrong_bodies(), pages.OUT / "EXAMPLES.md": examples(),
+              pages.OUT / "PROOFS.md": proofs()}
+    for path, text in made.items():
         path.parent.mkdir(parents=True, exist_ok=True)
         path.write_text(text)
 

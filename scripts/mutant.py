@@ -30,6 +30,8 @@ from wrong_bodies import WrongBody
 ROOT = Path(__file__).resolve().parent.parent
 # How many names are shown in answer to one that does not exist.
 MOST_NEAREST = 5
+# How many characters are shown of one message of the verifier.
+MOST_OF_A_MESSAGE = 400
 
 
 def named(root: Path, name: str) -> WrongBody:
@@ -68,18 +70,42 @@ def minutes_of_libraries(root: Path, crate: str) -> float:
     return sum(it.cpu for it in cpu.read(root / "docs/gate.tsv") if it.crate in missing and it.kind in ("proof", "build")) / 60
 
 
-def messages(trial: Trial, said: str) -> list[str]:
-    """Returns what the verifier says of the functions of a wrong body, and of the goals in them."""
-    names = [re.compile(rf"fn {it.pattern}(?:<.*>)?: ") for it in trial.functions]
+def contract(body: WrongBody, trial: Trial) -> Iterator[str]:
+    """Yields the heads of the functions of a wrong body, with their clauses."""
+    lines = (ROOT / "crates" / body.crate / body.source).read_text(encoding="utf-8").split("\n")
+    for it in trial.functions:
+        yield from lines[it.first:it.body]
+
+
+def counterexample(message: str) -> str:
+    """Returns a message about a goal that may be false, with the values of arguments and results alone of all that it lists."""
+    values = re.findall(r"`c\.((?:args|[\w-]+)(?:\.\w+)*)` = `(true|false|\d+)`", message)
+    shown = ", ".join(f"{name.removeprefix('args.')} = {value}" for name, value in values)
+    return f"It is false, for example, for {shown}." if shown else message[:MOST_OF_A_MESSAGE]
+
+
+def messages(trial: Trial, said: str) -> Iterator[str]:
+    """Yields what the verifier says of the functions of a wrong body: the clause that is not proved, the goal, values at which it is false, and the verdict."""
     folders = [f"proofs/{it.proof_folder}/" for it in trial.functions]
-    found = edits.messages(said.split("\n"))
-    return [it for it in found if any(name.match(it) for name in names) or "error" in it and any(folder in it for folder in folders)]
+    names = [re.compile(rf"fn {it.pattern}(?:<.*>)?: ") for it in trial.functions]
+    files = {change.file for change in trial.body.changes}
+    for it in edits.messages(said.split("\n")):
+        is_of_goal = any(folder in it for folder in folders)
+        if "it is not proved that" in it and any(f"{file}:" in it for file in files):
+            yield it.removeprefix("note: ").partition("; the facts known")[0]
+        elif is_of_goal and "must prove: " in it:
+            yield f"The goal: {it.partition('must prove: ')[2].partition(' names you can use')[0]}"
+        elif is_of_goal and "may be false: " in it:
+            yield counterexample(it)
+        elif is_of_goal and "error" in it or any(name.match(it) for name in names):
+            yield it[:MOST_OF_A_MESSAGE]
 
 
 def run(given: argparse.Namespace) -> int:
     body = named(ROOT, given.name)
     trial = Trial(body, body.functions(ROOT))
-    print(f"{body.label}: the function {', '.join(it.end for it in trial.functions) or 'that a proof names'}", *shown(body), sep="\n", flush=True)
+    print(f"{body.label}: the function {', '.join(it.end for it in trial.functions) or 'that a proof names'}", *shown(body), sep="\n")
+    print("Its contract:", *(f"  {it}" for it in contract(body, trial)), sep="\n", flush=True)
     if given.kept:
         edits.look_for_libraries(ROOT, [body.crate])
     else:
@@ -92,7 +118,7 @@ def run(given: argparse.Namespace) -> int:
         said = edits.check(ROOT, [trial], seen)
     lines = said.split("\n")
     edits.judge(trial, lines)
-    print("".join(f"  {it}\n" for it in messages(trial, said) or [it for it in lines if it][-3:]), end="")
+    print("".join(f"  {it}\n" for it in list(messages(trial, said)) or [it for it in lines if it][-3:]), end="")
     if trial.verdict == "refused":
         print(f"{body.label} is rejected.")
         return 0

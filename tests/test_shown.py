@@ -167,6 +167,16 @@ class Mutants(unittest.TestCase):
         with self.assertRaisesRegex(edits.CannotTry, "nearest are txc_node/lookup_gives_a_still_valid_entry_an_open_end"):
             mutant.named(ROOT, "lookup_gives_a_stil_valid_entry_an_open_end")
 
+    def test_what_the_verifier_says(self):
+        body = mutant.named(ROOT, "lookup_gives_a_still_valid_entry_an_open_end")
+        trial = edits.Trial(body, body.functions(ROOT))
+        said = ("note: src/versions.rt:41:1: it is not proved that what the function ensures holds when it returns (`it`); the facts known there allow ..\n"
+                "note: `it` of proofs/versions/meets/Answers.antt must prove: c.result ≡ x\n  names you can use, by step:\n"
+                "note: `it` of proofs/versions/meets/Answers.antt may be false: the known facts allow `c.result` = `true`, `c.args.lo` = `1`, `c.well_formed.0` = `mir`\n"
+                "note: `it` of proofs/versions/other/Answers.antt must prove: c\n")
+        self.assertEqual(list(mutant.messages(trial, said)), ["src/versions.rt:41:1: it is not proved that what the function ensures holds when it returns (`it`)",
+                                                              "The goal: c.result ≡ x", "It is false, for example, for result = true, lo = 1."])
+
     def test_a_name_of_several_crates(self):
         names = [it.name for it in mutant.wrong_bodies.read(ROOT)]
         twice = next((it for it in names if names.count(it) > 1), None)
