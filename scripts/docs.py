@@ -12,6 +12,8 @@ In docs/out/, which git does not keep:
 In files that git keeps:
 
   PROMISE.md, promise/ from the crates' src/ and specs/, and docs/promise.in.md (scripts/promise.py)
+  pictures/            by scripts/pictures.py, which also puts each one into the pages that name it
+  FIGURES.md           its tables, from bench/results/ (scripts/figures.py)
   ../README.md         how long the gate takes, from docs/gate.tsv; the same in CONTRIBUTING.md and SCRIPTS.md of other commands
   ARCHITECTURE.md      the tables of crates, from crates.txt and the first sentence of each crate
   GATE.md              the table of what the gate takes, from docs/gate.tsv
@@ -26,7 +28,7 @@ usage: docs.py [--check]      --check writes docs/out/ alone, and ends with 1 if
 import re, shutil, sys
 from pathlib import Path
 
-import claims, cpu, lines, pages, promise, run, sources, wrong_bodies
+import claims, cpu, figures, lines, pages, pictures, promise, run, sources, wrong_bodies
 from sources import ROOT, crates
 
 LISTS = """# All wrong bodies, by crate
@@ -277,6 +279,12 @@ def written() -> dict[Path, str]:
     return {**{ROOT / name: make((ROOT / name).read_text()) for name, make in made.items()}, **promise.written()}
 
 
+def all_written() -> dict[Path, str]:
+    """The same with the tables of FIGURES, and with the pictures, each also in the pages that name it."""
+    texts = {figures.FIGURES: figures.fill(figures.FIGURES.read_text()), ROOT / "docs/CONCEPTS.md": (ROOT / "docs/CONCEPTS.md").read_text(), **written()}
+    return {**{path: pictures.fill(text, path) for path, text in texts.items()}, **pictures.written()}
+
+
 def make_pages():
     """Makes docs/out/ anew."""
     shutil.rmtree(pages.OUT, ignore_errors=True)
@@ -293,13 +301,14 @@ def main():
         print(*faults, sep="\n", file=sys.stderr)
         sys.exit(2)
     make_pages()
-    texts = written()
+    texts = all_written()
     for path, text in texts.items():
         if not is_check:
+            path.parent.mkdir(exist_ok=True)
             path.write_text(text)
         elif not path.is_file() or path.read_text() != text:
             sys.exit(f"{path.relative_to(ROOT)} is not what scripts/docs.py writes: run `make docs`")
-    for path in sorted({*promise.FOLDER.glob("*.md")} - set(texts)):
+    for path in sorted({*promise.FOLDER.glob("*.md"), *pictures.FOLDER.glob("*")} - set(texts)):
         if is_check:
             sys.exit(f"{path.relative_to(ROOT)} is made no more: run `make docs`")
         path.unlink()
