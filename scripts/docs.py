@@ -7,6 +7,7 @@ In docs/out/, which git does not keep:
   WRONG_BODIES.md      the lists of all wrong bodies, by crate
   EXAMPLES.md          examples/, with the replies beside the lines
   PROOFS.md            the proofs that other crates use
+  TOOLS.md             the files of scripts/ and bench/, each with its first sentence
 
 In files that git keeps:
 
@@ -14,7 +15,6 @@ In files that git keeps:
   pictures/            by scripts/pictures.py, which also puts each one into the pages that name it
   FIGURES.md           its tables, from bench/results/ (scripts/figures.py)
   ../README.md         how long the gate takes, from docs/gate.tsv; the same in CONTRIBUTING.md and SCRIPTS.md of other commands
-  ../CONTRIBUTING.md   the tables of scripts/ and bench/, from the first sentence of each file
   ARCHITECTURE.md      the tables of crates, from crates.txt and the first sentence of each crate
   GATE.md              the table of what the gate takes, from docs/gate.tsv
   SCRIPTS.md           how its lines are written, from the tables by which they are read (scripts/lines.py); the session of a world has to
@@ -47,6 +47,10 @@ one with its replies. Those of mode world end in `.txw`; where a file beside one
 SESSION = "### A world, line by line"
 # Of more commands in a row than this, only the first and the last are shown.
 MOST_SHOWN = 12
+TOOLS = """# Scripts and benchmarks
+
+<!-- Made by `make docs` from the first sentence of each file. -->
+"""
 PROOFS = """# Proofs that other crates use
 
 <!-- Made by `make docs` from the sources of the crates and the tests. -->
@@ -222,13 +226,14 @@ def first_sentence(file: Path) -> str:
     return said if len(said.split()) <= claims.MOST_WORDS_OF_A_SENTENCE else re.split(r"[:;] ", said)[0]
 
 
-def contributing(text):
-    """Fills the tables of scripts/ and bench/."""
+def tools() -> str:
+    """The tables of scripts/ and bench/."""
+    text = TOOLS
     for folder in ("scripts", "bench"):
         files = sorted(it for it in (ROOT / folder).iterdir() if it.suffix in (".py", ".sh", ".c"))
         rows = "".join(f"| `{it.name}` | {first_sentence(it)} |\n" for it in files)
-        text = fill(text, folder, f"| File of `{folder}/` | Does |\n|---|---|\n{rows}")
-    return minutes(text)
+        text += f"\n## {folder}/\n\n| File | Does |\n|---|---|\n{rows}"
+    return text
 
 
 def gate(text):
@@ -270,7 +275,7 @@ def minutes(text):
 def written() -> dict[Path, str]:
     """Each file of git that is made by script, or has parts that are, beside its text."""
     made = {"docs/SCRIPTS.md": scripts, "docs/EMBEDDING.md": quoting, "docs/ARCHITECTURE.md": architecture,
-            "docs/GATE.md": gate, "README.md": minutes, "CONTRIBUTING.md": contributing}
+            "docs/GATE.md": gate, "README.md": minutes, "CONTRIBUTING.md": minutes}
     return {**{ROOT / name: make((ROOT / name).read_text()) for name, make in made.items()}, **promise.written()}
 
 
@@ -284,7 +289,7 @@ def make_pages():
     """Makes docs/out/ anew."""
     shutil.rmtree(pages.OUT, ignore_errors=True)
     made = {**pages.written(), pages.OUT / "WRONG_BODIES.md": lists_of_wrong_bodies(), pages.OUT / "EXAMPLES.md": examples(),
-              pages.OUT / "PROOFS.md": proofs()}
+              pages.OUT / "PROOFS.md": proofs(), pages.OUT / "TOOLS.md": tools()}
     for path, text in made.items():
         path.parent.mkdir(parents=True, exist_ok=True)
         path.write_text(text)

@@ -1,6 +1,8 @@
-"""The site of a cache: its database is a table of versions, a row a place, and its transactions are the pages. Its rows are in the library's plain store,
-since no query but by id is made of them. All that the cache asks of the library is here. Threads share it, and no lock of ours is held: a call keeps the interpreter's own, so that it is alone, and gets its answer in a room that
-no other call has meanwhile. (A lock would be held by a thread that waits for the interpreter's, behind all others, and for long where the machine is busy.)"""
+"""The site of a cache: its database is a table of versions, a row a place, and its transactions are the pages. All that the cache asks of the library is
+here. Its rows are in the library's plain store, since they are written a hundred times as often as one is asked for, and by its id alone.
+
+Threads share it, and no lock of ours is held: a call keeps the interpreter's own, so that it is alone, and gets its answer in a room that no other call has
+meanwhile. (A lock would be held by a thread that waits for the interpreter's, behind all others, and for long where the machine is busy.)"""
 
 import ctypes as c
 import struct

@@ -40,9 +40,10 @@ _CACHES: "weakref.WeakSet[TxCache]" = weakref.WeakSet()
 class TxCache:
     """A cache beside a store. Nothing is opened before the first page.
 
-    `capacity` bounds its entries, `max_bytes` the bytes of their values, and `places` the rows of its table of versions, one for each tag that has changed. A thread looks at the database every `refresh` seconds while pages are read; with `thread=False` a page looks as
-    it begins. No snapshot is open for longer than `hold` seconds. `connections` bounds those that read. `audit` is the share of pages that are
-    computed again, uncached, and compared: a difference goes to `on_audit_error`, or is raised."""
+    `capacity` bounds its entries, `max_bytes` the bytes of their values, and `places` the rows of its table of versions, one for each tag that has changed.
+    A thread looks at the database every `refresh` seconds while pages are read; with `thread=False` a page looks as it begins.
+    No snapshot is open for longer than `hold` seconds. `connections` bounds those that read. `audit` is the share of pages that are computed again,
+    uncached, and compared: a difference goes to `on_audit_error`, or is raised."""
 
     def __init__(self, store: Store, capacity: int = 65_536, max_bytes: Optional[int] = None, refresh: float = 0.5, hold: float = 10.0, connections: int = 4,
                  audit: float = 0.0, *, places: int = PLACES, thread: bool = True, on_audit_error: Optional[Callable[[AuditError], None]] = None,
