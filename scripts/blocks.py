@@ -48,11 +48,6 @@ LONG = {
     "make try-library": "five minutes of one core; the session has the library that `make test` compiled by the same script",
     "make library": "hours, if nothing is proved yet; the session has a library",
     "make demo": "goes on until Ctrl-C; bindings/python/tests/test_shop.py runs the shop",
-    "make try SCRIPT": "compiles the program, four minutes of one core; scripts/claims.py compares what the page shows with examples/",
-    "make run": "proves the program; the gate runs it over examples/",
-    "make test": "is what runs these blocks",
-    "make prove": "is the gate",
-    "make mutant": "proves the crates below, five minutes or more; tests/test_mutant.py tries all of it but the prover",
     "python3 -m unittest": "several minutes; scripts/boundary.py runs it over the same library",
     "python3 tests/wrong_bodies.py": "runs tests of the package some 150 times",
 }
