@@ -268,6 +268,8 @@ def run(page: str, library: str) -> Optional[str]:
     text = (ROOT / page).read_text(encoding="utf-8")
     if found := list(faults(text)):
         return "\n".join(f"{page} {it}" for it in found)
+    if not any(it.kind in ("run", "sql") for it in blocks(text)):
+        return None
     with tempfile.TemporaryDirectory(prefix="blocks-", dir="/tmp") as room:
         script = script_of(text)
         for program, what in NEEDS.items():
