@@ -191,7 +191,15 @@ class Transactions(unittest.TestCase):
         with self.site.write() as write:
             self.assertRaisesRegex(Refused, "a body is longer than 65,536 bytes", write.put, 1, 1, 7, bytes(65_537))
         with self.site.read(1000, 30_000) as page:
-            self.assertRaisesRegex(Refused, "the call failed: its functions made too many .*4,096 in all", page, cacheable(2)(lambda call: bytes(MAX_VALUE_LEN + 1)))
+            self.assertRaisesRegex(Refused, "the function gives 1,048,577 bytes, of at most 1,048,576", page, cacheable(2)(lambda call: bytes(MAX_VALUE_LEN + 1)))
+            self.assertRaisesRegex(Refused, "the call has made 4,096 queries and calls", page, cacheable(2)(lambda call: [call.rows(Query.id(1, 1)) for _ in range(5000)]))
+            self.assertRaisesRegex(Refused, "a function called one whose number is not lower", page, cacheable(0)(lambda call: call(twice, 7)))
+        with Site(1, store=self.store) as site:
+            with site.write() as write:
+                write.put(1, 1, 7, b"")
+            self.assertRaisesRegex(Refused, "the 1 events that the site has room for are used up, or the present can't be pinned", site.pin, 0)
+            with self.assertRaisesRegex(Refused, "the 1 events that the site has room for are used up, or the commit failed"), site.write() as write:
+                write.put(1, 2, 7, b"")
         self.assertRaisesRegex(Refused, "events and max_bytes are at least 1, or None", Site, 0)
         self.assertRaisesRegex(Refused, "txc_keep returned 99", _refuse, 99, _TXC.keep)
 

@@ -34,7 +34,7 @@ from .node import FIRST_ROOM, MAX_ASKS, MAX_VALUE_LEN, Key, Refused, Totals, _Ha
 MAX_EVENTS = 1_048_576  # that a site stores
 MAX_BODY_LEN = 65_536
 MAX_CHANGES = 256  # of a transaction
-MAX_MATCHING = 1024  # versions of rows that a query finds
+MAX_MATCHING = 65_536  # versions of rows that a query finds
 MAX_OPEN = 65_536
 
 _U32, _U64 = 2**32 - 1, 2**64 - 1
@@ -46,18 +46,20 @@ _SAID = {
     MID_CALL: "a call is open",
     CONFLICT: "the commit conflicts with a later one, which changed rows that were read",
 }
-_TOO_MANY_OPEN = f"no transaction can begin: {MAX_OPEN:,} are open, or, of those that write, as many stamps are held"
-_CALL_FAILED = f"the call failed: its functions made too many queries and calls ({MAX_ASKS:,} in all), called one of no lower number, or gave more than {MAX_VALUE_LEN:,} bytes"
+_ASKED = f"the call has made {MAX_ASKS:,} queries and calls"
 _CHANGES_FULL = f"the transaction has {MAX_CHANGES} changes, and keeps no more"
-_NO_EVENT = f"there is no room for another event: the site stores those that it was made for, at most {MAX_EVENTS:,}"
-_FAILED = {
-    "txc_call": _CALL_FAILED, "txc_finish": _CALL_FAILED, "txc_put": _CHANGES_FULL, "txc_remove": _CHANGES_FULL, "txc_begin": _TOO_MANY_OPEN, "txc_begin_write": _TOO_MANY_OPEN,
-    "txc_begin_write_at": f"the stamp {{0}} can't be read: it is below the oldest that can, or beyond the newest; or {MAX_OPEN:,} transactions are open",
-    "txc_query_rows": f"the query failed: more than {MAX_MATCHING:,} versions match, the snapshot is gone, or the call had made {MAX_ASKS:,} queries and calls",
-    "txc_commit_write": f"the commit failed, and may be made again: {_NO_EVENT}; or its store had no memory",
-    "txc_pin": f"the present can't be pinned: 1,024 pins or {MAX_OPEN:,} stamps are held; or {_NO_EVENT}",
-    "txc_keep": f"the site can't be tidied: {_NO_EVENT}",
+_FAILED = {  # what REFUSED means, by the call of the library
+    "txc_call": f"the call failed: {_ASKED}, a function called one whose number is not lower, or memory was short",
+    "txc_finish": f"the call failed: {_ASKED}, or memory was short",
+    "txc_put": _CHANGES_FULL, "txc_remove": _CHANGES_FULL, "txc_begin": f"no transaction can begin: {MAX_OPEN:,} are open",
+    "txc_begin_write": f"no transaction can begin: {MAX_OPEN:,} are open, or as many stamps are held",
+    "txc_query_rows": f"the query failed: more than {MAX_MATCHING:,} versions match, or the stamp at which the transaction began can be read no more",
+    "txc_commit_write": "the commit failed since its store had no memory, and may be made again",
+    "txc_pin": f"the present can't be pinned: 1,024 pins or {MAX_OPEN:,} stamps are held",
+    "txc_keep": "the site can't be tidied: its database is broken, or its store of rows failed",
 }
+_EVENTS_FULL = "the {0:,} events that the site has room for are used up, or "  # before the cause, where a site stores its events
+_APPENDING = "txc_commit_write", "txc_pin"
 _STORES = {"sql": _calls.STORE_SQL, "plain": _calls.STORE_PLAIN}
 _TXC = _calls.declared()
 _forks = 0  # how many times this process has come out of a fork
@@ -79,14 +81,14 @@ class GivenUp(Refused):
     """A function asks, or gives a value, whose call was given up since something in it failed; or one that has ended asks."""
 
 
-def _refuse(number, ask, *words):
-    """Raises the exception for the number that a call of the library returned, with the words that it was given."""
+def _refuse(number, ask, cause=None):
+    """Raises the exception for the number that a call of the library returned. `cause` is what REFUSED means then, if that is known."""
     if number == NO_MEMORY:
         raise MemoryError
     if number == CONFLICT:
         raise Conflict(_SAID[number])
-    if number == REFUSED and ask.__name__ in _FAILED:
-        raise Refused(_FAILED[ask.__name__].format(*words))
+    if number == REFUSED and (cause or ask.__name__ in _FAILED):
+        raise Refused(cause or _FAILED[ask.__name__])
     raise Refused(_SAID.get(number, f"{ask.__name__} returned {number}"))
 
 
@@ -238,7 +240,7 @@ class _Transaction:
             given = bytes(function(asking, *args))
             number, value = self._told(_TXC.finish, given, len(given))
             if number not in (DONE, ANSWERED):
-                _refuse(number, _TXC.finish)
+                _refuse(number, _TXC.finish, f"the function gives {len(given):,} bytes, of at most {MAX_VALUE_LEN:,}" if len(given) > MAX_VALUE_LEN else None)
             return value
         except BaseException:
             self._give_up()
@@ -281,7 +283,7 @@ class _Transaction:
         """Refuses what was asked. Within a function, that has ended the open call, unless an argument was bad."""
         if self._depth and number != BAD_ARGUMENT:
             self._give_up()
-        _refuse(number, ask)
+        _refuse(number, ask, f"{_FAILED['txc_query_rows']}; or {_ASKED}, or memory was short" if self._depth and ask is _TXC.query_rows else None)
 
     def _give_up(self):
         """Gives the open call up, with the calls around it: none of their functions asks any more."""
@@ -302,7 +304,7 @@ class _Transaction:
         try:
             number = self._ask(ask, out)
             if number != DONE:
-                _refuse(number, ask)
+                _refuse(number, ask, self._site._cause(ask))
             self._number = 0
         except BaseException:
             self._abort()
@@ -360,7 +362,7 @@ class _Write(_Transaction):
     def _do(self, ask, *words):
         number = self._ask(ask, *words)
         if number != DONE:
-            _refuse(number, ask, *words)
+            _refuse(number, ask)
 
     def __exit__(self, kind, error, trace):
         if kind:
@@ -384,7 +386,7 @@ class Site:
 
     def __init__(self, events=None, capacity=0, recent=0, renew_after=20_000, max_bytes=None, store="sql"):
         self._handle, self._lock, self._born = _Handle(None, False), threading.RLock(), _forks
-        self._forgotten, self._buffers = collections.deque(), []
+        self._forgotten, self._buffers, self._events = collections.deque(), [], events
         if events == 0 or max_bytes == 0:
             raise Refused("events and max_bytes are at least 1, or None")
         if store not in _STORES:
@@ -474,7 +476,15 @@ class Site:
         with self._turn():
             number = ask(self._handle, *words)
         if number != DONE:
-            _refuse(number, ask, *words)
+            _refuse(number, ask, self._cause(ask, *words) if number == REFUSED else None)
+
+    def _cause(self, ask, *words):
+        """Returns why a call of the library was refused, if this site knows more than the call's name says."""
+        if ask is _TXC.begin_write_at and self.open_transactions() < MAX_OPEN:
+            return f"the stamp {words[0]} can't be read: it is below the oldest that can, or beyond the newest"
+        if ask.__name__ in _APPENDING and self._events is not None:
+            return _EVENTS_FULL.format(self._events) + _FAILED[ask.__name__]
+        return _FAILED["txc_begin"] if ask is _TXC.begin_write_at else None
 
     def _is_ours(self):
         return self._born == _forks
