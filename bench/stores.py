@@ -156,7 +156,7 @@ def seconds(store: Store, rows: int, operations: dict[str, Operation]) -> dict[s
 
 def table(stores: list[Store], sizes: list[int], operations: dict[str, Operation], room: str) -> dict[tuple[str, int], list[float]]:
     """Prints the table, and returns the instructions over the two stores, by name and size."""
-    print("| One of | Rows | SQLite: instructions | µs | Plain: instructions | µs | Instructions, of SQLite's |\n|---|---|---|---|---|---|---|")
+    print("| One of | Rows | SQLite: instructions | SQLite: µs | Plain: instructions | Plain: µs | Instructions, of SQLite's |\n|---|---|---|---|---|---|---|")
     found = {}
     for rows in sizes:
         counts = [instructions(it, rows, operations, room) for it in stores]
