@@ -273,7 +273,7 @@ uint32_t txc_node_count(txc_node *node, uint8_t function, txc_counts *counts);
  * and it refuses no arguments. Of your functions nothing else is assumed.
  *
  * Where a value or a body is longer than the buffer, TXC_NO_ROOM replaces TXC_DONE or TXC_ANSWERED: its length is
- * written and no byte of it, and it can be had again. Every call answers TXC_CLOSED where the handle has no site, and each call
+ * written and no byte of it, and it can be had again: by txc_answer, a row by txc_row_at. Every call answers TXC_CLOSED where the handle has no site, and each call
  * that takes a txc_txn answers TXC_NOT_OPEN where the site has none open of that number: it has ended, was never given, or is
  * another site's. Other arguments are judged first. No other number than those that a call names is returned, and a
  * refusal writes nothing but where that is said. */
