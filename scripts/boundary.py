@@ -34,6 +34,7 @@ import extension
 import library
 import run
 import unproved
+import with_tests
 import worlds
 
 ROOT = os.path.dirname(os.path.dirname(os.path.abspath(__file__)))
@@ -60,12 +61,6 @@ PROGRAMS = ("tests/play.c", "tests/play_site.c", "tests/odd.c", "tests/odd_site.
 STORES = ("over SQLite", "over ordered maps")
 # The least share of a site's acts that are between another's call and its end.
 BETWEEN = 1 / 3
-
-
-def seed():
-    """What the random scripts are made of."""
-    tree = subprocess.run(["git", "rev-parse", "HEAD^{tree}"], cwd=ROOT, capture_output=True, text=True, check=False).stdout.strip()
-    return os.environ.get("SEED") or tree or "1"
 
 
 class Trial:
@@ -279,7 +274,7 @@ def try_c(trial, room, compiler, archives, played, wanted, of_sites):
             continue
         for program in ("odd", "odd_site", "odd_many", "long", "threads_site", "flat"):
             trial.ran(f"{compiler}{name}", [f"{room}/{program}"])
-        trial.ran(f"{compiler}{name}", [f"{room}/stores", str(random.Random(seed()).randrange(2**32))])
+        trial.ran(f"{compiler}{name}", [f"{room}/stores", str(random.Random(with_tests.seed()).randrange(2**32))])
         for program in ("example", "page", "threads"):
             trial.ran(f"{compiler}: the example {program}{name}", [f"{room}/{program}"])
         ran = subprocess.run([f"{room}/play", f"{room}/list"], stdout=subprocess.PIPE, stderr=subprocess.PIPE, text=True, errors="replace")
@@ -353,7 +348,7 @@ def compilers(trial, is_all):
 
 def try_all(trial, given, room):
     """Tries the library and its bindings, with files of its own in the room."""
-    of, count = seed(), given.count or (ALL_SCRIPTS if given.all else SCRIPTS)
+    of, count = with_tests.seed(), given.count or (ALL_SCRIPTS if given.all else SCRIPTS)
     print(f"seed: {of}")
     archives = libraries(given, room)
     played = plays(room, count, of, given.rows)

@@ -30,7 +30,6 @@ import time
 from concurrent.futures import ThreadPoolExecutor, as_completed
 from typing import Callable
 
-import boundary
 import callers
 import processes
 import unproved
@@ -152,8 +151,9 @@ def main() -> None:
         if "--proved" in flags:
             prepare_proofs(room, [*wanted])
         else:
-            print(f"seed: {boundary.seed()}", flush=True)
-            with_tests.draw(room, boundary.seed())
+            seed = with_tests.seed()
+            print(f"seed: {seed}", flush=True)
+            with_tests.draw(room, seed)
             unproved.copy_of_kit(f"{room}/kit", OPTIMISES.format(kit=unproved.kit()))
         passed, failures = tried(room, wanted)
         failures += len(wrong)

@@ -5,6 +5,7 @@ import glob
 import os
 import re
 import shutil
+import subprocess
 import sys
 import zlib
 
@@ -76,6 +77,12 @@ def replace(file: str, old: str, new: str) -> None:
         sys.exit(f"{file} has no {old!r}")
     with open(file, "w", encoding="utf-8") as it:
         it.write(text.replace(old, new))
+
+
+def seed() -> str:
+    """Returns what random scripts are made of: SEED of the environment, or the hash of the committed tree."""
+    tree = subprocess.run(["git", "rev-parse", "HEAD^{tree}"], cwd=ROOT, capture_output=True, text=True, check=False).stdout.strip()
+    return os.environ.get("SEED") or tree or "1"
 
 
 def draw(room: str, seed: str) -> None:
