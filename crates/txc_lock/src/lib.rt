@@ -1,4 +1,4 @@
-//! How threads wait for a lock that others hold for less time than a sleep takes.
+//! Waiting for a lock that other threads hold for less time than a sleep takes.
 #![tactic(auto)]
 
 mod soon;

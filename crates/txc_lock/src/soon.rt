@@ -3,14 +3,14 @@ use std::hint::spin_loop;
 use std::sync::{Mutex, MutexGuard, Wait};
 use std::thread::yield_now;
 
-/// How often the lock is tried before other threads are let run between two tries.
+/// Number of tries before the thread yields the processor between two tries.
 const PAUSES: u32 = 20;
 
-/// How often the lock is tried before the thread sleeps.
+/// Number of tries before the thread sleeps.
 const TRIES: u32 = 2_020;
 
-// Pauses grow, since those who try slow down who holds the lock. Later another thread may need the processor, who
-// holds it perhaps.
+// Pauses grow, since each try slows down the thread that holds the lock. Later the thread yields: the holder
+// may need its processor.
 fn pause_after(tried: u32) {
     if tried < PAUSES {
         for _ in 0..tried {
@@ -21,8 +21,8 @@ fn pause_after(tried: u32) {
     }
 }
 
-/// Waits for the lock, as [`Mutex::lock`] does, and first tries it for a while: who sleeps at once has to be
-/// woken, and that takes longer than the lock is mostly held.
+/// Acquires the lock, as [`Mutex::lock`] does, but tries it for a while before it sleeps: waking a sleeping
+/// thread mostly takes longer than the lock is held.
 pub fn lock_soon<'a, T, R: Wait>(rt: &R, lock: &'a Mutex<T>) -> MutexGuard<'a, T> {
     for tried in 0..TRIES {
         if let Some(guard) = lock.try_lock() {

@@ -1,4 +1,4 @@
-//! What a node answers.
+//! Replies of a node.
 ghost use Rattle.std.specs.Prelude.{◌≡◌, IfOk};
 ghost use Rattle.txc_node.specs.Steps.{is_refusal, seen_reply};
 
@@ -9,13 +9,12 @@ use crate::refusal::Refusal;
 use std::alloc::{AllocError, Global};
 use std::fmt;
 
-/// What a step is answered. A node lends what a hit shows, so that it replies with a [`Hit`]; a record
-/// keeps a copy of it, a [`Shown`].
+/// Reply to a step. A node lends a hit, so its own replies have a [`Hit`]; a record has a copy, a [`Shown`].
 #[derive(Debug, Drop)]
 pub enum Reply<H> {
-    /// What an insertion did.
+    /// Result of an insertion.
     Inserted(Inserted),
-    /// What a lookup found.
+    /// The entry that a lookup found.
     Hit(H),
     /// A lookup found nothing.
     Miss,
@@ -25,12 +24,12 @@ pub enum Reply<H> {
     Swept(usize),
     /// How many entries a trim dropped.
     Trimmed(usize),
-    /// Why the step was refused.
+    /// The step failed with this error.
     Refused(Refusal),
 }
 
 impl<H> Reply<H> {
-    /// Whether the step was refused.
+    /// Returns `true` if the step failed.
     pub fn is_refusal(&self) -> bool
         ensures { result ≡ is_refusal self.now }
     {
@@ -42,7 +41,8 @@ impl<H> Reply<H> {
 }
 
 impl Reply<Hit<'_>> {
-    /// The reply with a copy of what its hit shows. Only a hit takes memory.
+    /// Returns the reply with a copy of its hit. Only a hit allocates; fails only if that memory cannot be
+    /// allocated.
     pub fn into_owned(self, alloc: Global) -> Result<Reply<Shown>, AllocError>
         ensures { IfOk result (λ r. r ≡ seen_reply self.entry) }
     {
@@ -61,7 +61,7 @@ impl Reply<Hit<'_>> {
     }
 }
 
-// The entry that was dropped, if one was, after the reach of the one that was stored.
+// The entry that was dropped, if one was, printed after the reach of the stored one.
 #[derive(Drop)]
 struct Evicted<'a>(&'a Option<Entry>);
 
