@@ -194,8 +194,7 @@ impl IndexedEntries {
     }
 
     /// Inserts a new entry at the front, in its new reach, and drops the last one if the capacity is exceeded.
-    /// Returns the entry that it replaced or dropped. Fails, and returns the entry, if there is no memory for
-    /// it.
+    /// Returns the entry that was dropped. Fails, and returns the new entry, if there is no memory for it.
     pub(crate) fn put(
         &mut self,
         found: &Option<Found>,
