@@ -6,16 +6,16 @@ use std::fmt;
 use thiserror::Error;
 use txc_stamp::Stamp;
 
-/// Why a pin was not added. Nothing changed.
+/// Errors of adding a pin. After an error nothing has changed.
 #[derive(Clone, Copy, Debug, PartialEq, Eq, Error)]
 pub enum AddError {
-    /// There are as many pins as there may be.
+    /// The pincushion has [`crate::MAX_PINS`] pins.
     #[error("the pincushion is full")]
     Full,
-    /// A pin of this stamp is there already.
+    /// This stamp has a pin already.
     #[error("stamp {0} is pinned already")]
     Known(Stamp),
-    /// A growth was refused.
+    /// Memory cannot be allocated.
     #[error("out of memory")]
     Memory,
 }
@@ -44,7 +44,7 @@ impl From<AllocError> for AddError {
     }
 }
 
-/// The first stamp given back that is not there, or that has no user left at its place. Nothing changed.
+/// The first returned stamp without a pin, or whose pin has no user left. Nothing has changed.
 #[derive(Clone, Copy, Debug, PartialEq, Eq, Error)]
 #[error("stamp {stamp} has no user to give back")]
 pub struct UnknownPin {

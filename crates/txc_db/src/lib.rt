@@ -1,4 +1,4 @@
-//! The database: one history of commits and pins, and the versions of the rows that say its kept states.
+//! The database: one history of commits and pins, and the versions of the rows that describe its kept states.
 #![tactic(auto)]
 
 mod answered;
