@@ -4,7 +4,7 @@ ghost use Rattle.txc_call.specs.Codes.{call_code};
 use std::fmt;
 use thiserror::Error;
 
-/// Why a call ended without a value. Every object that ran for it is idle then.
+/// Errors of a call. Every object that ran for it is idle afterwards.
 #[derive(Clone, Copy, Debug, PartialEq, Eq, Error)]
 pub enum CallError {
     /// There is no function of this number.
@@ -13,25 +13,25 @@ pub enum CallError {
     /// The first function called the second, which is not below it.
     #[error("function {0} may not call function {1}")]
     CallOrder(u8, u8),
-    /// An activation asked once more than it may.
+    /// An activation made one step more than it may.
     #[error("an activation asked too often")]
     AskLimit,
-    /// All activations of the call together asked once more than they may.
+    /// The activations of the call together made one step more than they may.
     #[error("the call asked too often")]
     Budget,
-    /// No permit was left.
+    /// No permit is left.
     #[error("no permit is left")]
     Busy,
-    /// An object was out of memory.
+    /// An object has no memory.
     #[error("a function is out of memory")]
     ObjectMemory,
-    /// A value has more bytes than a node may keep.
+    /// A value has more bytes than a node may store.
     #[error("the value is too long")]
     ValueTooLong,
-    /// The function takes no such arguments.
+    /// The function does not take these arguments.
     #[error("function {0} takes no such arguments")]
     BadArguments(u8),
-    /// A growth was refused.
+    /// Memory cannot be allocated.
     #[error("out of memory")]
     Memory,
 }

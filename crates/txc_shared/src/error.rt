@@ -5,22 +5,23 @@ use std::alloc::{AllocError, AllocFailed};
 use std::fmt;
 use thiserror::Error;
 
-/// Why a call of a node was refused. After it the node is as it was, but where a call found it `Broken`.
+/// Errors of a node. After an error the node is as it was, except that a call that finds it `Broken` leaves it
+/// broken.
 #[derive(Clone, Copy, Debug, PartialEq, Eq, Error)]
 pub enum NodeError {
-    /// Another record stood in the row after the node's own. From then on each call is refused so.
+    /// Another record is in the node's log after its own. Every later call fails so.
     #[error("the node is broken")]
     Broken,
-    /// A lookup's stamps end before they begin.
+    /// The stamps of a lookup end before they begin.
     #[error("the stamps end before they begin")]
     EmptyRange,
-    /// The history has as many records as its row has cells.
+    /// The history has as many records as its log has cells.
     #[error("the history is full")]
     HistoryFull,
     /// There are [`crate::MAX_PASSES`] passes.
     #[error("there are too many passes")]
     PassesFull,
-    /// A growth was refused.
+    /// Memory cannot be allocated.
     #[error("out of memory")]
     Memory,
 }
