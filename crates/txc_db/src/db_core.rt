@@ -11,6 +11,9 @@ ghost use Rattle.txc_db.specs.Refusals.{IsWant};
 ghost use Rattle.txc_db.specs.Calls.{IsLeft, IsHoldable, IsHoldRefused, IsUnpinRefused, IsVacuumRefused, IsPinnable, IsPinRefused, IsAnswerable, matching_of, IsQueryRefused};
 ghost use Rattle.txc_rows.specs.declared.store_error.TheConstants.{MAX_MATCHING, MOST_MATCHING};
 
+mod beginning;
+mod commit;
+
 use crate::error::DbError;
 use crate::event::Event;
 use crate::history::History;
@@ -37,14 +40,14 @@ use txc_validity::{Found, answer_at, validity_is_the_largest};
 /// refused by itself, may be answered by any call that needs memory or the store; every other refusal comes
 /// exactly where the clauses say.
 pub struct DbCore {
-    pub(crate) store: VersionRows,
+    store: VersionRows,
     // So many versions may match a query.
-    pub(crate) most: usize,
-    pub(crate) told: History,
-    pub(crate) horizon: Stamp,
+    most: usize,
+    told: History,
+    horizon: Stamp,
     // The earliest hold first, so that they rise.
-    pub(crate) holds: Vec<Stamp>,
-    pub(crate) broken: bool,
+    holds: Vec<Stamp>,
+    broken: bool,
 }
 
 // Not derived: a derived one is proved again in each crate above.
