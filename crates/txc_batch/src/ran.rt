@@ -4,6 +4,8 @@ ghost use Rattle.std.specs.List.Sorted.{IsStrictlyIncreasing};
 ghost use Rattle.txc_registry.specs.Objects.{numbers_of};
 ghost use Rattle.txc_work.specs.Batches.{job_numbers, result_numbers, IsResultOf, Meets, NamesOneOf};
 
+mod texts;
+
 use std::alloc::Global;
 use std::marker::Model;
 use std::sync::Wait;

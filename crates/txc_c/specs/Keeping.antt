@@ -4,8 +4,8 @@ use Rattle.txc_cushion.specs.Cushion.{retired}
 use Rattle.txc_cushion.specs.declared.error.AddError.{AddError}
 use Rattle.txc_cushion.specs.declared.error.AddError.TheVariants as adds
 use Rattle.txc_caller.specs.Pinning.{HasNotPinned, HasPinnedNewest}
-use Rattle.txc_caller.specs.declared.pinning.PinError.{PinError}
-use Rattle.txc_caller.specs.declared.pinning.PinError.TheVariants as pins
+use Rattle.txc_caller.specs.declared.pin_error.PinError.{PinError}
+use Rattle.txc_caller.specs.declared.pin_error.PinError.TheVariants as pins
 use Rattle.txc_db.specs.DatabaseValue.{next_horizon}
 use Rattle.txc_db.specs.declared.error.DbError.{DbError}
 use Rattle.txc_shared.specs.declared.error.NodeError.{NodeError}
@@ -14,7 +14,7 @@ use Rattle.txc_caller.specs.Ports.{CallerSweepTransition, GoesOnByEvents, HasRet
 use Rattle.txc_caller.specs.Reading.{CallerValue}
 use Rattle.txc_c.specs.Sites.{SiteValue}
 use Rattle.txc_c.specs.Turning.{database_number}
-use Rattle.txc_c.specs.declared.keeping.TxcKept.{TxcKept}
+use Rattle.txc_c.specs.declared.kept.TxcKept.{TxcKept}
 use Rattle.txc_crossing.specs.declared.numbers.TheConstants.{DONE, NO_MEMORY, REFUSED}
 
 -- the number of a refusal of the node

@@ -1,11 +1,12 @@
 //! The handle of a node: a pointer to one that stands on the heap.
-ghost use Rattle.std.specs.Prelude.{◌≡◌, Bool, true, false};
+ghost use Rattle.std.specs.Prelude.{◌≡◌, Bool, true, false, Some, None};
 ghost use Rattle.txc_c.specs.Counted.{Counted};
+ghost use Rattle.std.specs.Option.{option_map};
 
 use crate::counted::CountedNode;
 use std::alloc::Global;
 use std::marker::Model;
-use std::ptr;
+use std::{mem, ptr};
 use txc_parts::Parts;
 
 /// A pointer to a node, or to none.
@@ -70,8 +71,8 @@ impl Slot {
 /// The handle of a node, or of none.
 #[repr(C)]
 pub struct TxcNode {
-    pub(crate) slot: Slot,
-    pub(crate) is_open: bool,
+    slot: Slot,
+    is_open: bool,
     ghost full: { is_open ≡ slot.is_full },
 }
 
@@ -88,6 +89,8 @@ impl Drop for TxcNode {
 }
 
 impl TxcNode {
+    ghost use Rattle.txc_c.specs.Held.{held};
+
     /// Its slot, and whether that has a node.
     pub(crate) fn into_slot(self) -> (Slot, bool)
         ensures slot { result.0 ≡ self.slot }
@@ -96,6 +99,46 @@ impl TxcNode {
     {
         let TxcNode { slot, is_open } = self;
         (slot, is_open)
+    }
+
+    /// Whether it has a node.
+    pub(crate) fn is_open(&self) -> bool
+        ensures { result ≡ self.now.is_open }
+    {
+        self.is_open
+    }
+
+    pub(crate) fn closed(alloc: Global) -> TxcNode
+        ensures { held result ≡ None }
+    {
+        TxcNode {
+            slot: Slot::empty(alloc),
+            is_open: false,
+        }
+    }
+
+    /// Takes the node out, if there is one.
+    pub(crate) fn take(&mut self, alloc: Global) -> Option<Box<CountedNode, Global>>
+        ensures node { option_map (λ node. node.value) result ≡ held self.old }
+        ensures after { held self.new ≡ None }
+    {
+        let (slot, is_open) = mem::replace(self, TxcNode::closed(alloc)).into_slot();
+        if is_open {
+            Some(slot.into_parts().into_box())
+        } else {
+            None
+        }
+    }
+
+    /// Puts a node in where there is none.
+    pub(crate) fn put(&mut self, node: Box<CountedNode, Global>)
+        requires { held self.old ≡ None }
+        ensures { held self.new ≡ Some node.value }
+    {
+        *self = TxcNode {
+            slot: Slot::of_parts(Parts::of(node)),
+            is_open: true,
+        };
     }
 }
 

@@ -5,29 +5,23 @@
 //! where. The header is `bindings/c/txc.h`.
 #![tactic(auto)]
 
-mod asking;
-mod changing;
 mod counted;
 mod handle;
-mod keeping;
-mod listing;
+mod kept;
 mod node;
+mod numbers;
 mod opaque;
 mod opened;
 mod receipts;
 mod site;
 mod site_handle;
 mod site_settings;
-mod site_taking;
-mod taking;
 mod telling;
 mod totals;
-mod trimming;
-mod turning;
 mod txn;
 
 pub use handle::{TxcNode, handle_crosses};
-pub use keeping::TxcKept;
+pub use kept::TxcKept;
 pub use node::{
     txc_node_close, txc_node_count, txc_node_event, txc_node_insert, txc_node_lookup,
     txc_node_open, txc_node_sweep, txc_node_totals, txc_node_trim,

@@ -3,16 +3,21 @@ ghost use Rattle.std.specs.Prelude.{◌≡◌, ◌↔◌, ◌%◌, ◌<◌, IsSo
 ghost use Rattle.slab.specs.Slab.{HasRoomFor};
 ghost use Rattle.txc_caller.specs.Reading.{CallerValue};
 ghost use Rattle.txc_caller.specs.Telling.{told_answer, top_call};
-ghost use Rattle.txc_c.specs.Asking.{stamp_read_next, HasGivenCallUp};
+ghost use Rattle.txc_c.specs.Asking.{stamp_read_next, HasGivenCallUp, OpenChanges};
 ghost use Rattle.txc_c.specs.Opened.{calling_of, IsOpenOf, IsAskStep, OpenAsksNext, OpenStays};
 ghost use Rattle.txc_c.specs.Sites.{HasPutAtPlace};
 
+mod asking;
+
+use crate::numbers::change_number;
 use crate::opaque::Opaque;
 use slab::Slab;
 use std::alloc::Global;
 use txc_app::{Answer, Ask};
 use txc_caller::{Caller, CallerError, CallerTxn, CallerWrite, Step};
+use txc_crossing::NOT_OPEN;
 use txc_db::states_stay;
+use txc_rows::Change;
 use txc_stamp::Stamp;
 
 /// How many transactions are open at a site at most.
@@ -98,6 +103,20 @@ impl Open {
         match self {
             Open::Reading(txn) => txn.give_up(),
             Open::Writing(write) => write.give_up(),
+        }
+    }
+
+    /// Keeps a change until the transaction is committed, if it is one that writes.
+    pub(crate) fn change(&mut self, change: Change) -> u32
+        ensures changed { OpenChanges change self.old result self.new }
+        ensures of_caller { (c : CallerValue) → IsOpenOf c self.old → IsOpenOf c self.new }
+    {
+        match self {
+            Open::Writing(write) => match change {
+                Change::Put(row) => change_number(write.put(row)),
+                Change::Remove(table, id) => change_number(write.remove(table, id)),
+            },
+            Open::Reading(_) => NOT_OPEN,
         }
     }
 

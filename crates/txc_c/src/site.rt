@@ -4,6 +4,13 @@ ghost use Rattle.txc_db.specs.Refusals.{IsWant};
 ghost use Rattle.txc_c.specs.Settings.{are_settings};
 ghost use Rattle.txc_c.specs.Sites.{may_begin, open_at, IsNewSite};
 
+mod asking;
+mod changing;
+mod keeping;
+mod listing;
+mod trimming;
+mod turning;
+
 use crate::opaque::Opaque;
 use crate::opened::{MAX_OPEN, MOST_BEGUN, Open, Opened, place_of};
 use crate::site_settings::TxcSiteSettings;
@@ -16,11 +23,11 @@ use txc_db::DbError;
 /// A caller, and what is open at it.
 #[derive(Drop)]
 pub(crate) struct Site {
-    pub(crate) caller: Caller<Opaque>,
+    caller: Caller<Opaque>,
     // The transactions that are open. Each stands at the place that its number names.
-    pub(crate) opened: Slab<Opened>,
+    opened: Slab<Opened>,
     // How many transactions have begun.
-    pub(crate) begun: u64,
+    begun: u64,
 }
 
 impl Model for Site {

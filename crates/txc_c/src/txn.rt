@@ -14,7 +14,7 @@ ghost use Rattle.txc_c.specs.Telling.{buffer};
 ghost use Rattle.txc_c.specs.Trimming.{TotalsTold, TrimComesTo};
 ghost use Rattle.txc_c.specs.Turning.{AbortComesTo, BeginComesTo, BeginWriteAtComesTo, BeginWriteComesTo, CommitComesTo, CommitWriteComesTo};
 
-use crate::keeping::TxcKept;
+use crate::kept::TxcKept;
 use crate::receipts::{TxcQuery, TxcReceipt, TxcRow};
 use crate::site::Site;
 use crate::site_handle::TxcSite;

@@ -7,8 +7,8 @@ use Rattle.txc_db.specs.Calls.{IsLeft, IsPinnable, IsPinRefused}
 use Rattle.txc_db.specs.DatabaseValue.{after_pin, after_unpin, newest}
 use Rattle.txc_db.specs.declared.error.DbError.{DbError}
 use Rattle.txc_caller.specs.Ports.{CallerPorts}
-use Rattle.txc_caller.specs.declared.pinning.PinError.{PinError}
-use Rattle.txc_caller.specs.declared.pinning.PinError.TheVariants.{Database, Pincushion}
+use Rattle.txc_caller.specs.declared.pin_error.PinError.{PinError}
+use Rattle.txc_caller.specs.declared.pin_error.PinError.TheVariants.{Database, Pincushion}
 
 -- A pin of that moment is one event more, and the database holds its stamp, which is the newest. The pincushion has it, and no
 -- transaction uses it. The node is as it was.

@@ -1,5 +1,5 @@
 //! A caller that computes the functions of its calls itself.
-ghost use Rattle.std.specs.Prelude.{◌≡◌, ◌≤◌, [], IfErr, IfOk, IfSome, OnErr, OnOk, map, true, false};
+ghost use Rattle.std.specs.Prelude.{◌≡◌, ◌≤◌, [], IfErr, IfOk, IfSome, OnErr, OnOk, map, true, false, ◌↔◌, Err, IsOk, Ok};
 ghost use Rattle.txc_app.specs.Eval.{Next};
 ghost use Rattle.txc_cushion.specs.Cushion.{after_fresh, after_give_back, handed_out};
 ghost use Rattle.txc_cushion.specs.Refusals.{HaveUsers};
@@ -10,9 +10,15 @@ ghost use Rattle.txc_txn.specs.Core.{value_of, CoreHolds, IsCore, IsIdle};
 ghost use Rattle.txc_node.specs.declared.node.TheConstants.{MAX_RECENT, MOST_CAPACITY};
 ghost use Rattle.txc_stream.specs.declared.row.TheConstants.{MAX_CAPACITY as MAX_ROW};
 ghost use Rattle.txc_caller.specs.Ports.{GoesOnByEvents, HasEventRoom, HasGrownDatabase, HasNoEventFor, IsNewDatabase, StaysBehind};
-ghost use Rattle.txc_caller.specs.Reading.{IsBegunReading, KeepsCaller};
+ghost use Rattle.txc_caller.specs.Reading.{IsBegunReading, KeepsCaller, CallerValue};
+ghost use Rattle.txc_db.specs.Calls.{IsBase, IsHoldable, IsHoldRefused};
+ghost use Rattle.txc_db.specs.DatabaseValue.{after_hold, newest};
+ghost use Rattle.txc_db.specs.Steps.{IsBaseRefused};
+
+mod keeping;
 
 use crate::caller_txn::CallerTxn;
+use crate::caller_write::CallerWrite;
 use crate::lent_txn::LentTxn;
 use crate::plain_ports::{PlainPorts, give_back};
 use crate::ports::Ports;
@@ -23,6 +29,7 @@ use txc_cushion::{CushionCore, Pins};
 use txc_db::DbError;
 use txc_ports::Bounds;
 use txc_shared::NodeSettings;
+use txc_stamp::Stamp;
 use txc_txn::TxnCore;
 
 /// A database, its pincushion and one node, of a caller that computes the functions of its calls itself. Any number of its
@@ -105,6 +112,8 @@ pub(crate) fn begun(
 }
 
 impl<A: App> Caller<A> {
+    ghost use Rattle.txc_caller.specs.Writing.{IsBegunWrite, IsWriteOf};
+
     /// Returns a caller with an empty database that has room for so many events, or that stores none, for as many as there are
     /// stamps; an empty pincushion; and an empty node. With a budget the values of its node have at most so many bytes in all,
     /// after each of its methods: an insertion makes room first, and a value that alone is over the budget is not kept.
@@ -148,6 +157,37 @@ impl<A: App> Caller<A> {
         Ok(CallerTxn {
             txn: LentTxn::new(core),
         })
+    }
+
+    /// Begins a transaction that writes, and reads the newest state. The database holds that stamp until the transaction ends, so
+    /// that no vacuum between two of its acts has it refused.
+    pub fn begin_write(&mut self, alloc: Global) -> Result<CallerWrite<A>, DbError>
+        ensures begun { IfOk result (IsBegunWrite (newest self.old.ports.database) true) }
+        ensures of_caller { IfOk result (IsWriteOf A.next self.new) }
+        ensures held { OnOk result (self.new ≡ record self.old {
+          ports = record self.old.ports { database = after_hold self.old.ports.database };
+        }) }
+        ensures only_if { IsOk result → IsHoldable self.old.ports.database }
+        ensures refused { IfErr result (IsHoldRefused self.old.ports.database) }
+        ensures unchanged { OnErr result (self.new ≡ self.old) }
+        ensures caller { KeepsCaller self.old self.new }
+        ensures grown { HasGrownDatabase self.old.ports.database self.new.ports.database }
+    {
+        let base = self.ports.hold(alloc)?;
+        Ok(CallerWrite::over(alloc, base, true))
+    }
+
+    /// Begins a transaction that writes, and reads the state of that stamp, which a receipt named. The database does not hold it:
+    /// a commit is refused once a vacuum has passed it.
+    pub fn begin_write_at(&mut self, alloc: Global, base: Stamp) -> Result<CallerWrite<A>, DbError>
+        ensures begun { IfOk result (IsBegunWrite base false) }
+        ensures of_caller { IfOk result (IsWriteOf A.next self.new) }
+        ensures only_if { IsOk result ↔ IsBase self.old.ports.database base }
+        ensures refused { IfErr result (IsBaseRefused self.old.ports.database base) }
+        ensures same { self.new ≡ self.old }
+    {
+        self.ports.check_base(base)?;
+        Ok(CallerWrite::over(alloc, base, false))
     }
 
     /// Has the node take the events that it has not taken yet, and returns whether it took all: an allocation may fail. It has

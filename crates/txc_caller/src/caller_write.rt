@@ -1,13 +1,10 @@
 //! A caller's transaction that writes.
-ghost use Rattle.std.specs.Prelude.{◌≡◌, ◌⊎◌, ◌≤◌, ◌++◌, ◌∷◌, ◌↔◌, [], true, false, List, Err, IfErr, IfOk, IsOk, IsSome, IsTrue, MatchOption, None, Ok, OnErr, OnOk, Some};
+ghost use Rattle.std.specs.Prelude.{◌≡◌, ◌⊎◌, ◌≤◌, ◌++◌, ◌∷◌, ◌↔◌, [], false, List, Err, IfErr, IfOk, IsSome, IsTrue, MatchOption, None, Ok, OnErr, OnOk, Some};
 ghost use Rattle.txc_tags.specs.Keys.{Call};
 ghost use Rattle.txc_tags.specs.declared.key.TheConstants.{LAST_FUNCTION};
 ghost use Rattle.txc_rows.specs.States.{answer};
-ghost use Rattle.txc_db.specs.Calls.{IsBase, IsHoldable, IsHoldRefused};
-ghost use Rattle.txc_db.specs.DatabaseValue.{after_hold, newest};
 ghost use Rattle.txc_db.specs.History.{state_at};
 ghost use Rattle.txc_db.specs.Shared.{IsEventIn, IsQuietIn};
-ghost use Rattle.txc_db.specs.Steps.{IsBaseRefused};
 ghost use Rattle.txc_registry.specs.Objects.{numbers_of, AllIdle};
 ghost use Rattle.txc_rw.specs.Answers.{AreRightIn};
 ghost use Rattle.txc_rw.specs.Core.{tags_read, IsRwIdle};
@@ -27,7 +24,6 @@ use crate::writing::{act, read};
 use std::alloc::Global;
 use std::marker::{Model, PhantomData};
 use txc_app::{Answer, App, Ask, Bytes};
-use txc_db::DbError;
 use txc_ports::TxnError;
 use txc_rows::{Change, Query, Row};
 use txc_rw::{Given, RwCore};
@@ -70,48 +66,13 @@ impl<A: App> Model for CallerWrite<A> {
         (record { core = w.core; objects = w.told.objects; is_held = w.is_held }) };
 }
 
-impl<A: App> Caller<A> {
-    ghost use Rattle.txc_caller.specs.Writing.{IsBegunWrite};
-
-    /// Begins a transaction that writes, and reads the newest state. The database holds that stamp until the transaction ends, so
-    /// that no vacuum between two of its acts has it refused.
-    pub fn begin_write(&mut self, alloc: Global) -> Result<CallerWrite<A>, DbError>
-        ensures begun { IfOk result (IsBegunWrite (newest self.old.ports.database) true) }
-        ensures of_caller { IfOk result (IsWriteOf A.next self.new) }
-        ensures held { OnOk result (self.new ≡ record self.old {
-          ports = record self.old.ports { database = after_hold self.old.ports.database };
-        }) }
-        ensures only_if { IsOk result → IsHoldable self.old.ports.database }
-        ensures refused { IfErr result (IsHoldRefused self.old.ports.database) }
-        ensures unchanged { OnErr result (self.new ≡ self.old) }
-        ensures caller { KeepsCaller self.old self.new }
-        ensures grown { HasGrownDatabase self.old.ports.database self.new.ports.database }
-    {
-        let base = self.ports.hold(alloc)?;
-        Ok(CallerWrite::over(alloc, base, true))
-    }
-
-    /// Begins a transaction that writes, and reads the state of that stamp, which a receipt named. The database does not hold it:
-    /// a commit is refused once a vacuum has passed it.
-    pub fn begin_write_at(&mut self, alloc: Global, base: Stamp) -> Result<CallerWrite<A>, DbError>
-        ensures begun { IfOk result (IsBegunWrite base false) }
-        ensures of_caller { IfOk result (IsWriteOf A.next self.new) }
-        ensures only_if { IsOk result ↔ IsBase self.old.ports.database base }
-        ensures refused { IfErr result (IsBaseRefused self.old.ports.database base) }
-        ensures same { self.new ≡ self.old }
-    {
-        self.ports.check_base(base)?;
-        Ok(CallerWrite::over(alloc, base, false))
-    }
-}
-
 impl<A: App> CallerWrite<A> {
     ghost use Rattle.txc_app.specs.declared.ask.Ask.TheVariants as asks;
     ghost use Rattle.txc_call.specs.Running.{is_done};
     ghost use Rattle.txc_caller.specs.Writing.{ChangeLeaves, IsBegunWrite};
 
-    // Returns a transaction over the state of that stamp.
-    fn over(alloc: Global, base: Stamp, is_held: bool) -> CallerWrite<A>
+    /// Returns a transaction over the state of that stamp.
+    pub(crate) fn over(alloc: Global, base: Stamp, is_held: bool) -> CallerWrite<A>
         ensures { IsBegunWrite base is_held result }
     {
         CallerWrite {

@@ -8,9 +8,11 @@ ghost use Rattle.txc_stream.specs.Names.{HasRow};
 ghost use Rattle.txc_stream.specs.declared.row.TheConstants.{MAX_CAPACITY as MAX_ROW};
 ghost use Rattle.txc_shared.specs.Nodes.{start_of};
 ghost use Rattle.txc_caller.specs.Ports.{CallerFindTransition, AreLetGo, AreGivenBack, HasGrownDatabase, HasEventRoom, HasNoEventFor, GoesOnByEvents, IsLetGo, IsNewDatabase, StaysBehind};
+ghost use Rattle.txc_caller.specs.Pinning.{HasNotPinned, HasPinnedNewest};
 
 use crate::call_ports::CallPorts;
 use crate::nodes;
+use crate::pin_error::PinError;
 use std::alloc::{AllocError, Global};
 use std::marker::Model;
 use txc_app::App;
@@ -171,6 +173,28 @@ impl<A: App> PlainPorts<A> {
             }
         }
         self.database.tags_after(self.node.processed()).is_none()
+    }
+
+    /// Pins the newest state for no transaction. If the pincushion refuses the pin, its hold is taken away.
+    pub(crate) fn pin(&mut self, alloc: Global, moment: u64) -> Result<Stamp, PinError>
+        ensures pinned { IfOk result (λ stamp. HasPinnedNewest moment self.old stamp self.new) }
+        ensures refused { IfErr result (λ error. HasNotPinned moment self.old error self.new) }
+        ensures grown { HasGrownDatabase self.old.database self.new.database }
+    {
+        let pinned = match self.database.pin(alloc, moment, Stamp::ZERO) {
+            Ok(pinned) => pinned,
+            Err(error) => return Err(PinError::Database(error)),
+        };
+        match self.cushion.add(&pinned) {
+            Ok(()) => {
+                give_back(&mut self.cushion, &[pinned.stamp]);
+                Ok(pinned.stamp)
+            }
+            Err(error) => {
+                let_go(&mut self.database, Some(pinned.stamp));
+                Err(PinError::Pincushion(error))
+            }
+        }
     }
 
     /// An empty database with room for so many events, or that stores none where no number is given; an empty pincushion and

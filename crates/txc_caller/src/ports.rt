@@ -1,22 +1,23 @@
 //! The ports of a caller, whose types nothing above sees.
 ghost use Rattle.std.specs.Prelude.{◌≡◌, ◌≤◌, ◌∷◌, ◌↔◌, [], IfErr, IfOk, IsOk, OnErr, OnOk, length, true, false};
-ghost use Rattle.txc_cushion.specs.Cushion.{retired};
+ghost use Rattle.txc_cushion.specs.Cushion.{retired, after_fresh};
 ghost use Rattle.txc_db.specs.Calls.{matching_of, IsAnswerable, IsBase, IsCommitRefused, IsCommittable, IsHoldable, IsHoldRefused, IsLeft, IsQueryRefused};
 ghost use Rattle.txc_db.specs.DatabaseValue.{after_commit, after_hold, newest, next_horizon};
 ghost use Rattle.txc_db.specs.History.{state_at};
 ghost use Rattle.txc_db.specs.Steps.{IsBaseRefused};
 ghost use Rattle.txc_rows.specs.RowTags.{query_tag};
 ghost use Rattle.txc_validity.specs.Answers.{IsAnswer};
-ghost use Rattle.txc_cushion.specs.Cushion.{after_fresh};
 ghost use Rattle.txc_txn.specs.Core.{value_of};
 ghost use Rattle.txc_caller.specs.Reading.{IsBegunCore};
 ghost use Rattle.txc_caller.specs.Budgets.{IsInBudget};
-ghost use Rattle.txc_caller.specs.Ports.{AreGivenBack, totals_of, CallerSweepTransition, CallerTrimTransition, GoesOnByEvents, HasGrownDatabase, HasNoEventFor, HasRetired, HasVacuumedPorts, IsKeepRefused, IsLetGo, MayHaveTaken, StaysBehind};
+ghost use Rattle.txc_caller.specs.Ports.{AreGivenBack, totals_of, CallerSweepTransition, CallerTrimTransition, GoesOnByEvents, HasGrownDatabase, HasNoEventFor, HasRetired, HasVacuumedPorts, IsKeepRefused, MayHaveTaken, StaysBehind};
+ghost use Rattle.txc_caller.specs.Pinning.{HasNotPinned, HasPinnedNewest};
 
 use crate::call_ports::CallPorts;
 use crate::caller::begun;
 use crate::nodes::{self, NodeTotals};
-use crate::plain_ports::{PlainPorts, give_back, let_each_go};
+use crate::pin_error::PinError;
+use crate::plain_ports::{PlainPorts, give_back, let_each_go, let_go};
 use crate::ports_slot::PortsSlot;
 use std::alloc::{AllocError, Global};
 use std::marker::Model;
@@ -33,8 +34,8 @@ use txc_validity::Found;
 /// A database, its pincushion, and one node that takes its events, behind a pointer. A method takes them out, calls one of
 /// theirs, and puts them back.
 pub(crate) struct Ports<A: App> {
-    pub(crate) slot: PortsSlot<A>,
-    pub(crate) alloc: Global,
+    slot: PortsSlot<A>,
+    alloc: Global,
 }
 
 impl<A: App> Drop for Ports<A> {
@@ -190,6 +191,18 @@ impl<A: App> Ports<A> {
         let mut plain = self.slot.take(self.alloc);
         give_back(&mut plain.cushion, stamps);
         self.slot.put(plain);
+    }
+
+    /// Pins the newest state for no transaction.
+    pub(crate) fn pin(&mut self, alloc: Global, moment: u64) -> Result<Stamp, PinError>
+        ensures pinned { IfOk result (λ stamp. HasPinnedNewest moment self.old stamp self.new) }
+        ensures refused { IfErr result (λ error. HasNotPinned moment self.old error self.new) }
+        ensures grown { HasGrownDatabase self.old.database self.new.database }
+    {
+        let mut plain = self.slot.take(self.alloc);
+        let pinned = plain.pin(alloc, moment);
+        self.slot.put(plain);
+        pinned
     }
 
     /// Retires the pins that no transaction uses and that are more than `age` before `now`: takes them out, and their

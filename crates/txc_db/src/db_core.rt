@@ -11,6 +11,9 @@ ghost use Rattle.txc_db.specs.Refusals.{IsWant};
 ghost use Rattle.txc_db.specs.Calls.{IsLeft, IsHoldable, IsHoldRefused, IsUnpinRefused, IsVacuumRefused, IsPinnable, IsPinRefused, IsAnswerable, matching_of, IsQueryRefused};
 ghost use Rattle.txc_rows.specs.declared.store_error.TheConstants.{MAX_MATCHING, MOST_MATCHING};
 
+mod beginning;
+mod commit;
+
 use crate::error::DbError;
 use crate::event::Event;
 use crate::history::History;
@@ -36,14 +39,14 @@ use txc_validity::{Found, answer_at, validity_is_the_largest};
 /// A stamp is the number of events before a state. Any call that needs memory may fail with `Memory`, and any
 /// that uses the store of rows with `Store`; every other error comes exactly if the clauses state it.
 pub struct DbCore {
-    pub(crate) store: VersionRows,
+    store: VersionRows,
     // The most versions that may match a query.
-    pub(crate) most: usize,
-    pub(crate) told: History,
-    pub(crate) horizon: Stamp,
+    most: usize,
+    told: History,
+    horizon: Stamp,
     // In ascending order.
-    pub(crate) holds: Vec<Stamp>,
-    pub(crate) broken: bool,
+    holds: Vec<Stamp>,
+    broken: bool,
 }
 
 // Not derived, since a derived one would be proved again in each crate above.

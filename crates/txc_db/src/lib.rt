@@ -2,8 +2,6 @@
 #![tactic(auto)]
 
 mod answered;
-mod beginning;
-mod commit;
 mod database;
 mod db_core;
 mod error;

@@ -9,6 +9,8 @@ ghost use Rattle.txc_node.specs.Cache.{ends_no_earlier, shown_of, empty_cache, e
 ghost use Rattle.txc_node.specs.Hit.{seen};
 ghost use Rattle.txc_node.specs.Indexed.{IsFound, IsSearchOf, shown_as};
 
+mod texts;
+
 use crate::entry::Entry;
 use crate::hit::Hit;
 use crate::indexed::IndexedEntries;

@@ -11,7 +11,6 @@ mod reading;
 mod refusing;
 mod script;
 mod task;
-mod texts;
 
 pub use laws::{a_line_of_a_world_is_written_one_way, nothing_is_wrong_with_a_good_line};
 pub use printed::Printed;

@@ -1,4 +1,7 @@
 //! What a line of a world's script is answered.
+
+mod texts;
+
 use txc_node::Value;
 use txc_ports::TxnError;
 use txc_script::FunctionLine;

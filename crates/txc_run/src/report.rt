@@ -1,7 +1,6 @@
 //! Reports: counts of replies, in place of the replies.
-ghost use Rattle.std.specs.Prelude.{◌≡◌, ◌≤◌, ◌++◌, [], ◌∷◌, ℕ, List, All, IfOk, OnOk, IfSome, codes, string_bytes};
-ghost use Rattle.std.specs.Fmt.{decimal};
-ghost use Rattle.txc_node.specs.Steps.{function_of, seen_reply};
+ghost use Rattle.std.specs.Prelude.{◌≡◌, ◌≤◌, ◌++◌, [], ◌∷◌, List, All, IfOk, OnOk, IfSome, string_bytes, None};
+ghost use Rattle.txc_node.specs.Steps.{function_of, seen_reply, is_refusal};
 ghost use Rattle.txc_node.specs.Counts.{counts_of};
 ghost use Rattle.txc_node.specs.declared.op.Op.{Op};
 ghost use Rattle.txc_node.specs.declared.record.Record.{Record};
@@ -9,10 +8,11 @@ ghost use Rattle.txc_tags.specs.declared.key.TheConstants.{LAST_FUNCTION};
 ghost use Rattle.txc_script.specs.FunctionLines.{function_line};
 ghost use Rattle.txc_run.specs.Reports.{IsReportOf, functions_text, step_by, steps_report, total_line, with_name};
 
+use crate::taker::{Taker, out_of_memory};
 use indexmap::IndexSet;
 use std::alloc::{AllocError, Global};
 use txc_node::{Counts, FunctionCounts, Hit, Reply};
-use txc_script::FunctionLine;
+use txc_script::{FunctionLine, Unanswered};
 use txc_tags::LAST_FUNCTION;
 
 /// How many functions there are.
@@ -116,5 +116,30 @@ impl Report {
         )?;
         text.push_str(total.as_str())?;
         Ok(text)
+    }
+}
+
+impl Taker for Report {
+    ghost use Rattle.std.specs.Prelude.{[]};
+    ghost use Rattle.txc_run.specs.Counting.{Counts};
+
+    ghost takes = { Counts };
+
+    ghost text = { λ _. [] };
+
+    fn take<F: Drop>(
+        &mut self,
+        alloc: Global,
+        function: Option<u8>,
+        reply: &Reply<Hit<'_>>,
+        why: &mut Unanswered<F>,
+    ) -> Option<bool> {
+        if reply.is_refusal() {
+            return Some(true);
+        }
+        match self.count(function, reply) {
+            Ok(()) => Some(false),
+            Err(_) => out_of_memory(why),
+        }
     }
 }

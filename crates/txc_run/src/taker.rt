@@ -7,7 +7,6 @@ ghost use Rattle.txc_node.specs.declared.reply.Reply.{Reply};
 ghost use Rattle.txc_run.specs.Steps.{IsFor};
 
 use crate::output::push_reply;
-use crate::report::Report;
 use std::alloc::Global;
 use txc_node::{Hit, Reply};
 use txc_script::Unanswered;
@@ -41,7 +40,7 @@ pub trait Taker {
 /// Leaves that a growth was refused.
 #[cold]
 #[inline(never)]
-fn out_of_memory<F: Drop>(why: &mut Unanswered<F>) -> Option<bool>
+pub(crate) fn out_of_memory<F: Drop>(why: &mut Unanswered<F>) -> Option<bool>
     ensures none { result ≡ None }
     ensures memory { why.new ≡ Unanswered.Memory }
 {
@@ -67,31 +66,6 @@ impl Taker for Vec<u8> {
     ) -> Option<bool> {
         match push_reply(alloc, self, reply) {
             Ok(()) => Some(reply.is_refusal()),
-            Err(_) => out_of_memory(why),
-        }
-    }
-}
-
-impl Taker for Report {
-    ghost use Rattle.std.specs.Prelude.{[]};
-    ghost use Rattle.txc_run.specs.Counting.{Counts};
-
-    ghost takes = { Counts };
-
-    ghost text = { λ _. [] };
-
-    fn take<F: Drop>(
-        &mut self,
-        alloc: Global,
-        function: Option<u8>,
-        reply: &Reply<Hit<'_>>,
-        why: &mut Unanswered<F>,
-    ) -> Option<bool> {
-        if reply.is_refusal() {
-            return Some(true);
-        }
-        match self.count(function, reply) {
-            Ok(()) => Some(false),
             Err(_) => out_of_memory(why),
         }
     }

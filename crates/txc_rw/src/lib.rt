@@ -4,14 +4,11 @@
 //! It is committed where no event after the base has changed what it read.
 #![tactic(auto)]
 
-mod asking;
-mod by_hand;
 mod calling;
 mod finding;
 mod given;
 pub mod laws;
 mod reading;
-mod replies;
 mod rw_core;
 mod rw_txn;
 mod uncached;

@@ -1,6 +1,10 @@
 ghost use Rattle.txc_call.specs.declared.frames.TheConstants.{MAX_CALL_ASKS};
 ghost use Rattle.std.specs.Prelude.{◌≡◌, ◌<◌, ◌≤◌, ◌++◌, ◌∷◌, [], length, IfErr, IsOk, None, OnErr, OnOk};
 
+mod asking;
+mod by_hand;
+mod replies;
+
 use crate::given::Given;
 use crate::reading::Reading;
 use std::alloc::Global;
@@ -23,13 +27,13 @@ pub const MAX_CHANGES: usize = 256;
 /// registry of its functions is lent to each call, always the same one.
 #[derive(Drop)]
 pub struct RwCore {
-    pub(crate) base: Stamp,
-    pub(crate) tags: TagSet,
-    pub(crate) queried: Vec<Query>,
-    pub(crate) answers: Vec<Given>,
-    pub(crate) changes: Vec<Change>,
-    pub(crate) machine: CallMachine,
-    pub(crate) reading: Option<Reading>,
+    base: Stamp,
+    tags: TagSet,
+    queried: Vec<Query>,
+    answers: Vec<Given>,
+    changes: Vec<Change>,
+    machine: CallMachine,
+    reading: Option<Reading>,
 }
 
 impl Model for RwCore {

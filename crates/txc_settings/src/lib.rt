@@ -5,7 +5,6 @@ mod error;
 mod keys;
 mod limits;
 mod mode;
-mod read;
 mod script;
 mod settings;
 

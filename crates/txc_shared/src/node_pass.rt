@@ -6,6 +6,8 @@ ghost use Rattle.txc_node.specs.Counts.{AreCountsOf};
 ghost use Rattle.txc_shared.specs.Histories.{records_of};
 ghost use Rattle.txc_shared.specs.Passes.{PassValue, IsLegalOver, HasSeen};
 
+mod calls;
+
 use crate::laws::legal_histories;
 use crate::node_front::NodeFront;
 use crate::settings::NodeSettings;

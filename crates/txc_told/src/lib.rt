@@ -4,8 +4,6 @@
 //! same, since they say which answers each open function was given. A [`Told`] is those objects. It has no bytes.
 #![tactic(auto)]
 
-mod steps;
 mod told;
 
-pub use steps::{AsIdle, AsNew, AsRan, Ran};
-pub use told::{Reads, Told};
+pub use told::{AsIdle, AsNew, AsRan, Ran, Reads, Told};

@@ -2,7 +2,10 @@ ghost use Rattle.std.specs.Prelude.{◌≡◌};
 ghost use Rattle.txc_registry.specs.Objects.{Objects};
 ghost use base.Fml.{ftrue};
 
+mod steps;
+
 use std::marker::{Model, PhantomData};
+pub use steps::{AsIdle, AsNew, AsRan, Ran};
 
 /// How objects are read off a value.
 pub trait Reads<X> {

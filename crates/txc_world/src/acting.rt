@@ -16,8 +16,7 @@ ghost use Rattle.txc_world.specs.Ports.{whole_of, KeepsRow};
 ghost use Rattle.txc_world.specs.Observation.{did_in};
 
 use crate::actor::{Actor, OpenCall, OpenTxn};
-use crate::asking::told;
-use crate::did::Did;
+use crate::did::{Did, told};
 use crate::ports::Ports;
 use crate::reply::{Refusal, Reply};
 use crate::step::Act;

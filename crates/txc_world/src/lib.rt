@@ -8,19 +8,14 @@
 
 mod acting;
 mod actor;
-mod asking;
-mod counting;
 mod did;
-mod keeper;
 mod keeping;
-mod making;
 mod nodes;
 mod ports;
 mod reply;
 mod sessions;
 mod settings;
 mod step;
-mod truth;
 mod world;
 mod writing;
 

@@ -1,6 +1,10 @@
 //! The plain ports of a world.
-ghost use Rattle.std.specs.Prelude.{◌≡◌, ◌+◌, false, ◌≤◌, ◌<◌, length, IfOk, slice_get, Some, All};
+ghost use Rattle.std.specs.Prelude.{◌≡◌, ◌+◌, false, ◌<◌, length, IfOk, slice_get, Some, All};
 ghost use Rattle.txc_stream.specs.Names.{HasRow};
+
+mod asking;
+mod keeper;
+mod making;
 
 use std::alloc::{AllocError, Global};
 use std::marker::Model;
@@ -19,13 +23,13 @@ use txc_validity::Found;
 /// node, by the actor's number, and the keeper has the last one.
 #[derive(Drop)]
 pub(crate) struct Ports<A: App> {
-    pub(crate) database: DbCore,
-    pub(crate) cushion: CushionCore,
-    pub(crate) nodes: Vec<StoredNode<A>>,
-    pub(crate) spare: Vec<Pinned>,
-    pub(crate) actors: usize,
+    database: DbCore,
+    cushion: CushionCore,
+    nodes: Vec<StoredNode<A>>,
+    spare: Vec<Pinned>,
+    actors: usize,
     // The database's newest stamp.
-    pub(crate) newest: Stamp,
+    newest: Stamp,
 }
 
 impl<A: App> Model for Ports<A> {
@@ -54,9 +58,10 @@ impl<A: App> Model for Ports<A> {
 impl<A: App> Ports<A> {
     ghost use Rattle.txc_ports.specs.Answers.{IsFresh};
     ghost use Rattle.txc_world.specs.Asks.{AddTransition, FindTransition, FreshTransition, HoldTransition, PinTransition, UnpinTransition};
-    ghost use Rattle.txc_world.specs.Holdings.{GivesBack, KeepsPins};
+    ghost use Rattle.txc_world.specs.Holdings.{CountRight, GivesBack, KeepsPins};
     ghost use Rattle.txc_world.specs.Parts.{IsPartOf};
     ghost use Rattle.txc_world.specs.Ports.{whole_of, KeepsRow};
+    ghost use Rattle.txc_world.specs.Worlds.{IsTrueNode};
 
     /// The database and the pincushion; all else is dropped.
     pub(crate) fn into_parts(self) -> (DbCore, CushionCore)
@@ -181,6 +186,24 @@ impl<A: App> Ports<A> {
     {
         for pin in &pins.pins {
             let _ = self.give_back(&[pin.stamp]);
+        }
+    }
+
+    /// What the ports keep by themselves, and what their calls do, stamp by stamp. It does nothing when
+    /// it runs.
+    pub(crate) fn count_right(&self)
+        ensures { CountRight self.now }
+    {
+        self.database.is_sound();
+        self.cushion.is_cushion();
+    }
+
+    /// Each node is true. It goes over the nodes, and changes nothing.
+    pub(crate) fn are_true(&self)
+        ensures { All (IsTrueNode A.next (whole_of self.now)) self.now.nodes }
+    {
+        for at in 0..self.len() {
+            self.node(at).is_sound();
         }
     }
 }

@@ -16,8 +16,7 @@ ghost use Rattle.txc_world.specs.Writing.{with_rows, FindTransitionRw, HasAskedR
 
 use crate::acting::note;
 use crate::actor::{Actor, OpenCall, OpenRw};
-use crate::asking::answer_told;
-use crate::did::Did;
+use crate::did::{Did, answer_told};
 use crate::ports::Ports;
 use crate::reply::{Refusal, Reply};
 use crate::step::Act;

@@ -1,0 +1,10 @@
+//! What a keep did.
+
+/// What a keep did: pins that it retired, the horizon, and entries that the node dropped.
+#[repr(C)]
+#[derive(Clone, Copy)]
+pub struct TxcKept {
+    pub retired: usize,
+    pub horizon: u32,
+    pub swept: usize,
+}
