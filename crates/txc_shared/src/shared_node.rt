@@ -22,11 +22,11 @@ use txc_node::{MAX_CAPACITY, MAX_RECENT, Record};
 use txc_stamp::Stamp;
 use txc_stream::{EventRow, Pen};
 
-/// A node that threads share. Contracts see how it was made.
+/// A node that threads share. Contracts see its settings.
 ///
-/// A caller draws a pass, and makes its steps through it: each does the step of [`StoredNode`] of its name,
-/// for some beginning of the named history, and leaves the pass with what it has seen of that history. A node
-/// that a call finds `Broken` refuses each call so from then on.
+/// A caller makes a pass, and its steps through that: each does the step of [`StoredNode`] of the same name,
+/// for some prefix of the named history, and shows the pass what it has seen of that history. Once a call has
+/// found the node `Broken`, each later call fails so.
 pub struct SharedNode<A: App, J: Naming> {
     settings: NodeSettings,
     // Shows nothing.
@@ -34,7 +34,7 @@ pub struct SharedNode<A: App, J: Naming> {
     pub(crate) lock: Mutex<Held<A, J>>,
 }
 
-// Not derived: a derived one is proved again in each crate above.
+// Not derived, since a derived one would be proved again in each crate above.
 impl<A: App, J: Naming> Drop for SharedNode<A, J> {
     fn drop(self) {
         let SharedNode {
@@ -57,9 +57,9 @@ impl<A: App, J: Naming> Model for SharedNode<A, J> {
 }
 
 impl<A: App, J: Naming> SharedNode<A, J> {
-    /// An empty node, which will take the events of the database: all of them where they are stored, and else those
-    /// after the ones that are there. Its row is the one named at its number. Where memory is refused, the row is
-    /// dropped.
+    /// Makes an empty node that will take the events of the database: all of them if they are stored, otherwise
+    /// those after the present ones. Its log is the one of its number. Fails, and drops the log, if memory
+    /// cannot be allocated.
     pub fn new(
         rt: &impl Wait,
         alloc: Global,
@@ -76,8 +76,8 @@ impl<A: App, J: Naming> SharedNode<A, J> {
         SharedNode::of(rt, alloc, settings, history, database)
     }
 
-    /// An empty node, which will take the same events. Its history exists in the proofs alone, and its pen is that
-    /// of the one named at its number.
+    /// Makes an empty node that will take the same events. Its history is ghost, and its pen is that of the
+    /// history of its number. Fails only if memory cannot be allocated.
     pub fn unstored(
         rt: &impl Wait,
         alloc: Global,
@@ -94,7 +94,7 @@ impl<A: App, J: Naming> SharedNode<A, J> {
         SharedNode::of(rt, alloc, settings, History::unstored(pen), database)
     }
 
-    // A node of that history under its lock, which begins where a feed of the database does.
+    // Makes a node of that history under its lock, which begins where a feed of the database does.
     #[tactic(auto, using(crate::proofs::Passes::begun_with))]
     fn of(
         rt: &impl Wait,
@@ -123,7 +123,8 @@ impl<A: App, J: Naming> SharedNode<A, J> {
         })
     }
 
-    /// A pass of its own for a caller, which has seen no record. At most [`MAX_PASSES`] are given.
+    /// Makes a pass for a caller, which has seen no record. Fails if [`MAX_PASSES`] were made, or the node is
+    /// broken, or memory cannot be allocated.
     pub fn pass(&self, rt: &impl Wait) -> Result<NodePass<J>, NodeError>
         ensures settings { IfOk result (λ pass. pass.settings ≡ self.now) }
         ensures number { IfOk result (λ pass. pass.pass < MAX_PASSES) }
@@ -133,7 +134,7 @@ impl<A: App, J: Naming> SharedNode<A, J> {
         lock_soon(rt, &self.lock).pass(self.settings)
     }
 
-    /// What the node holds, once no thread has it any more. It takes no memory.
+    /// Returns the entries of the node, once no other thread has it. Does not allocate.
     pub fn leave(self) -> LeftNode<A>
         ensures number { result.number ≡ self.number }
         ensures seen { result.seen.events ≡ J.database_history }
@@ -150,8 +151,8 @@ impl<A: App, J: Naming> SharedNode<A, J> {
         }
     }
 
-    /// The row of its records, where they are stored, which anybody reads without the lock. Whoever appends to
-    /// it breaks the node; tests do.
+    /// Returns the log of its records, if they are stored, which any thread reads without the lock. A caller
+    /// that appends to it breaks the node; tests do so.
     pub fn row(&self) -> Option<&EventRow<Record>>
         ensures { MatchOption result
             (¬ (HasRow (J.node_histories self.now.number)))

@@ -1,4 +1,4 @@
-//! Read-only transactions, as a core that asks for one port request at a time.
+//! Read-only transactions, as a core that makes one port request at a time.
 #![tactic(auto)]
 
 pub mod laws;

@@ -20,17 +20,17 @@ use txc_pinset::{Choice, PinSet};
 use txc_ports::{Bounds, Recorded};
 use txc_stamp::Stamp;
 
-/// A read-only transaction that asks for one port request at a time, and goes on with the reply.
+/// A read-only transaction that makes one port request at a time, and continues with the reply.
 ///
-/// It has no lock, no thread and no clock. The registry of its functions is lent to each call, always the
-/// same one.
+/// It has no lock, no thread and no clock. Each call is lent the registry of its functions, always the same
+/// one.
 #[derive(Drop)]
 pub struct TxnCore {
     bounds: Bounds,
     renew_after: u64,
     nodes: usize,
     pins: PinSet,
-    // The stamps that it was handed or added, each of which has a user for it.
+    // The stamps that were issued to it or added by it, each of which has a user for it.
     taken: Vec<Stamp>,
     recorded: Vec<Recorded>,
     machine: CallMachine,
@@ -39,7 +39,7 @@ pub struct TxnCore {
     ghost room: { pins.has_present ≡ true → vec_len taken < vec_capacity taken },
 }
 
-// The stamps of the pins, with room for one more.
+// Returns the stamps of the pins, with room for one more.
 fn stamps_of(alloc: Global, pins: &[Pin]) -> Result<Vec<Stamp>, AllocError>
     ensures stamps { IfOk result (λ stamps. stamps.items ≡ map (λ p. p.stamp) pins.now) }
     ensures room { IfOk result (λ stamps. vec_len stamps < vec_capacity stamps) }
@@ -53,10 +53,9 @@ impl TxnCore {
     ghost use Rattle.txc_txn.specs.Core.{begun_core, value_of};
     ghost use Rattle.txc_txn.specs.Core.{CoreHolds, IsCore, IsIdle};
 
-    /// Begins with the pins that it was handed for its bounds. Its calls are kept by one of so many nodes,
-    /// and its newest pin is renewed where its moment is more than `renew_after` milliseconds before the
-    /// bounds' `now`. Out of memory, it hands the pins back, each of which is still to be given back to the
-    /// pincushion.
+    /// Begins with the pins that were issued for its bounds. `nodes` is the number of nodes. It renews its
+    /// newest pin if that one's time is more than `renew_after` milliseconds before the bounds' `now`. If
+    /// memory cannot be allocated, it returns the pins, which the caller must then return to the pincushion.
     pub fn begin(
         alloc: Global,
         nodes: usize,
@@ -101,28 +100,28 @@ impl TxnCore {
         self.pins.choose(self.bounds.now, self.renew_after)
     }
 
-    /// The members of the pin set, the newest first.
+    /// Returns the members of the pin set, the newest first.
     pub fn members(&self) -> &[Pin]
         ensures { result.now ≡ (value_of self.now).pins.members }
     {
         self.pins.members()
     }
 
-    /// Whether the present is there.
+    /// Returns `true` if the pin set has the present.
     pub fn has_present(&self) -> bool
         ensures { result ≡ (value_of self.now).pins.has_present }
     {
         self.pins.has_present()
     }
 
-    /// The calls that were answered, in order.
+    /// Returns the completed calls, in order.
     pub fn answers(&self) -> &[Recorded]
         ensures { result.now ≡ (value_of self.now).recorded }
     {
         &self.recorded
     }
 
-    /// What it has seen of the history.
+    /// Returns a front of the history that it has seen.
     pub fn seen(&self) -> &HistoryFront
         ensures { result.now ≡ (value_of self.now).seen }
     {

@@ -24,10 +24,12 @@ impl Drafts<DbCore, Event> for AsState {
 }
 
 impl DbCore {
-    /// Ends the history, with its holds, and begins one that the pen writes, with the newest state as its one event. The
-    /// rows stay where they are: it does what a vacuum up to the newest stamp does, and no work for each row.
+    /// Ends the history and its holds, and begins one that the pen writes, with the newest state as its single
+    /// event. The rows stay where they are: it does the work of a vacuum up to the newest stamp, and none for
+    /// each row.
     ///
-    /// The new history can be read from that event on. The store may refuse this where it has gone through many histories.
+    /// The new history can be read from that event on. Fails if the store has used half of its stamps or of its
+    /// places.
     pub fn begin_anew(&mut self, alloc: Global, pen: Pen<Event>) -> Result<(), DbError>
         requires { pen.list ≡ [] }
         ensures after { OnOk result (self.new ≡ begun_anew self.old (unstored pen.number)) }

@@ -1,5 +1,4 @@
-//! Commits: conflicts with what was read, net changes against the newest state, and the event that is
-//! appended.
+//! Commits: conflicts with what was read, net changes of the newest state, and the appended event.
 ghost use Rattle.std.specs.Prelude.{◌≡◌, ◌≢◌, ◌+◌, ◌<◌, ◌≤◌, ◌++◌, ◌∷◌, [], ℕ, true, false, length, Ok, Err, IfOk, OnOk, OnErr, IfErr, IfSome, IfNone, IsOk, ◌↔◌};
 ghost use Rattle.txc_stream.specs.Names.{HasRow};
 ghost use Rattle.txc_rows.specs.declared.query.Query.TheVariants.{ById};
@@ -29,7 +28,7 @@ use txc_stamp::Stamp;
 use txc_tags::{Table, TagSet};
 use txc_validity::rows_at;
 
-/// The number of the first event after the base whose tags match those read.
+/// Returns the number of the first event after the base whose tags match those read.
 fn first_conflict(told: &History, base: usize, read: &TagSet) -> Option<usize>
     requires { ¬ (HasRow told.now.events) → told.now.first ≤ base }
     ensures some { IfSome result (IsConflict told.now.history base read.now) }
@@ -44,7 +43,7 @@ fn first_conflict(told: &History, base: usize, read: &TagSet) -> Option<usize>
 }
 
 impl DbCore {
-    /// The rows of the newest state at a table and id: one or none.
+    /// Returns the rows of the newest state at a table and id: one or none.
     fn rows_now(&mut self, alloc: Global, table: Table, id: u32) -> Result<Vec<Row>, DbError>
         requires { self.old.broken ≡ false }
         ensures same { self.new ≡ self.old }
@@ -58,8 +57,8 @@ impl DbCore {
         Ok(rows_at(alloc, &versions, &query, newest)?)
     }
 
-    /// Takes the change into the net changes, where it makes another state, and the tags of the rows that
-    /// it finds.
+    /// Adds the change to the net changes if it makes another state, with the tags of the rows that it
+    /// replaces.
     fn add_change(&mut self, alloc: Global, net: &mut Net, change: &Change) -> Result<(), DbError>
         requires { self.old.broken ≡ false }
         ensures same { self.new ≡ self.old }
@@ -76,7 +75,7 @@ impl DbCore {
         Ok(())
     }
 
-    /// What the changes make of the newest state.
+    /// Returns the net changes of the newest state by these changes, with their tags.
     fn net_of(&mut self, alloc: Global, changes: &[Change]) -> Result<Net, DbError>
         requires { self.old.broken ≡ false }
         ensures same { self.new ≡ self.old }
@@ -134,7 +133,8 @@ impl DbCore {
         Ok(stamp)
     }
 
-    /// The newest stamp, where a commit may have that base: it is known, and the tags of the events after it are kept.
+    /// Returns the newest stamp if a commit may have that base. Fails if the base is beyond the newest stamp,
+    /// or if the tags of an event after it are dropped, or if the database is broken.
     pub fn check_base(&self, base: Stamp) -> Result<Stamp, DbError>
         ensures only_if { IsOk result ↔ IsBase self.now base }
         ensures answer { IfOk result (λ stamp. stamp ≡ newest self.now) }
@@ -153,8 +153,8 @@ impl DbCore {
         Ok(newest)
     }
 
-    /// Commits the changes, where no event after the base has tags that match those read. It answers the
-    /// newest stamp that it leaves. Changes that change nothing add no event.
+    /// Commits the changes if no event after the base has a tag that matches those read. Returns the newest
+    /// stamp after the commit. Changes that leave the state as it is add no event.
     pub fn commit(
         &mut self,
         alloc: Global,

@@ -1,10 +1,10 @@
-//! How it is written what an insertion did.
+//! Texts of the results of insertions.
 
 use crate::entry::Entry;
 use crate::node::Inserted;
 use std::fmt;
 
-// The entry that was dropped, if one was, after the reach of the one that was stored.
+// The entry that was dropped, if one was, printed after the reach of the stored one.
 #[derive(Drop)]
 struct Evicted<'a>(&'a Option<Entry>);
 

@@ -1,4 +1,4 @@
-//! What a core does until it asks.
+//! Running a call to its next query.
 ghost use Rattle.std.specs.Prelude.{◌≡◌, ◌≤◌, [], Err, IfErr, None, OnErr, OnOk, Some, IsNone, IsSome};
 ghost use Rattle.txc_rows.specs.States.{State};
 ghost use Rattle.txc_db.specs.History.{History};
@@ -28,7 +28,8 @@ impl RwCore {
     ghost use Rattle.txc_ports.specs.Turns.{IsAsk};
     ghost use Rattle.txc_rw.specs.Transitions.{standing_of, RwCallTransition, RwStandingTransition};
 
-    /// Asks the database a query at its base. Once it is asked, it takes no memory to count it as read.
+    /// Requests a query at the base. It allocates now, so that counting the answer as read does not. Fails only
+    /// if memory cannot be allocated.
     pub fn ask(&mut self, alloc: Global, query: &Query) -> Result<(), TxnError>
         requires { self.old.reading ≡ None }
         ensures after { OnOk result (self.new ≡ record self.old { reading = Some query.now }) }
@@ -45,7 +46,7 @@ impl RwCore {
         Ok(())
     }
 
-    // Keeps the value of the call, which has one, and returns a copy of it.
+    // Stores the value of the call, which is done, and returns a copy of it.
     pub(crate) fn keep_value(&mut self, alloc: Global) -> Result<Value, TxnError>
         requires done { (o : Outcome) × (self.old.call.need ≡ Some (Need.Value o)) }
         requires none { self.old.reading ≡ None }
@@ -80,7 +81,7 @@ impl RwCore {
         Ok(copy)
     }
 
-    // The call goes on, until a query of it is to be asked, or it is done.
+    // Continues the call until it needs a query or is done.
     pub(crate) fn go_on<A: App, C: Cacheable>(
         &mut self,
         alloc: Global,
@@ -115,7 +116,7 @@ impl RwCore {
         }
     }
 
-    // Asks the query that the call needs.
+    // Requests the query that the call needs.
     fn ask_of_call<A: App, C: Cacheable>(
         &mut self,
         alloc: Global,
@@ -143,8 +144,8 @@ impl RwCore {
         Turn::Ask(query)
     }
 
-    /// Starts a call. It asks its first query, or has its value, or is refused: before all else where there
-    /// is no such function.
+    /// Starts a call. It makes its first query, has its value, or fails: before all else if there is no such
+    /// function.
     pub fn start<A: App, C: Cacheable>(
         &mut self,
         alloc: Global,

@@ -39,7 +39,7 @@ impl RwCore {
     ghost use Rattle.txc_rw.specs.ByHand.{IsRwUnended, RwHandTransition, RwHearTransition, RwObjectsLeft};
     ghost use Rattle.txc_rw.specs.Transitions.{standing_of, RwStandingTransition};
 
-    // Asks the query that the call needs.
+    // Requests the query that the call needs.
     fn query_by_hand(&mut self, alloc: Global, query: Query) -> Turn<Query, Value>
         requires need { self.old.call.need ≡ Some (Need.Query query) }
         requires none { self.old.reading ≡ None }
@@ -62,7 +62,8 @@ impl RwCore {
         Turn::Ask(query)
     }
 
-    // Asks for what the call needs, or ends it with its value; none if it needs a function. No node is used.
+    // Requests the query that the call needs, or ends the call with its value. Returns `None` if it needs a
+    // function. It uses no node.
     fn asks_by_hand(&mut self, alloc: Global) -> Option<Turn<Query, Value>>
         requires some { IsSome self.old.call.need }
         requires none { self.old.reading ≡ None }
@@ -93,7 +94,8 @@ impl RwCore {
         }
     }
 
-    /// Starts a call, for a caller that runs functions itself and has each of them. The call's function is to begin.
+    /// Starts a call, for a caller that runs functions itself and has each of them. The call's function must
+    /// begin next.
     pub fn start_by_hand(&mut self, key: Key)
         requires fits { (next : Next) × (objects : Objects) × IsRwByHand next objects self.old }
         requires idle { IsRwIdle self.old }
@@ -108,8 +110,9 @@ impl RwCore {
         self.machine.take(Reply::Miss);
     }
 
-    /// Goes on with the database's answer to the query of its call, as [`RwCore::reply`] does, but runs no function.
-    /// Returns none if the innermost function is to continue with the rows: then [`RwCore::ran`] takes what that asks.
+    /// Continues with the database's answer to the query of its call, as [`RwCore::reply`] does, but runs no
+    /// function. Returns `None` if the innermost function must continue with the rows: then [`RwCore::ran`]
+    /// takes that function's step.
     pub fn hear(&mut self, reply: Result<Found, DbError>) -> Option<Turn<Query, Value>>
         requires fits { (next : Next) × (objects : Objects) × IsRwByHand next objects self.old }
         requires asks { (query : Query) × IsRwTurn self.old (Turn.Ask query) }
@@ -138,8 +141,8 @@ impl RwCore {
         None
     }
 
-    /// Takes the ask of the function that the call needs, within the limits of the function's application. Returns none
-    /// if a function is to begin or to continue first.
+    /// Takes the step of the function that the call needs, within the limits of the function's application.
+    /// Returns `None` if another function must begin or continue first.
     pub fn ran(&mut self, limits: Limits, alloc: Global, ask: Ask) -> Option<Turn<Query, Value>>
         requires most_value { limits.value ≤ MOST_VALUE_LEN }
         requires most_asks { limits.asks ≤ MOST_ASKS }
@@ -171,7 +174,8 @@ impl RwCore {
         }
     }
 
-    /// Gives the open call up, if one is. The transaction stays open, with its answers and changes. It does not allocate.
+    /// Cancels the open call, if there is one. The transaction stays open, with its results and changes. Does
+    /// not allocate.
     pub fn give_up_by_hand(&mut self)
         ensures fits { (next : Next) (objects after : Objects) → AllIdle after
             → IsRwByHand next objects self.old → IsRwByHand next after self.new }
@@ -183,15 +187,16 @@ impl RwCore {
         self.reading = None;
     }
 
-    /// Gives the transaction up, in the middle of a call too: its base is to be unpinned.
+    /// Cancels the transaction, also in the middle of a call. The returned request removes the hold of its
+    /// base.
     pub fn cancel_by_hand(self) -> PortRequest
         ensures { result ≡ PortRequest.Unpin self.base }
     {
         PortRequest::Unpin(self.base)
     }
 
-    /// Returns the answer with which the innermost function is to continue; none if no function is to. At the base it is
-    /// right for what that function asked.
+    /// Returns the answer with which the innermost function must continue, or `None` if no function must. At
+    /// the base it is the correct answer to that function's request.
     pub fn held_answer(&self) -> Option<&Answer>
         ensures answer { MatchOption result
             ((x : HeldAnswer) → self.now.call.need ≢ Some (Need.Resume x))

@@ -1,4 +1,4 @@
-//! What a core makes of the answer to its query.
+//! A core's steps after the answer to its query.
 ghost use Rattle.std.specs.Prelude.{◌≡◌, ◌≢◌, ◌<◌, [], ◌∷◌, Ok, Err, IfOk, None, Some};
 ghost use Rattle.txc_rows.specs.States.{State, answer};
 ghost use Rattle.txc_validity.specs.declared.answer.Found.{Found};
@@ -26,7 +26,7 @@ use txc_rows::{Query, Row};
 use txc_stamp::Reach;
 use txc_validity::Found;
 
-// Equal rows.
+// Returns equal rows.
 fn copy_rows(alloc: Global, rows: &[Row]) -> Result<Vec<Row>, AllocError>
     ensures { IfOk result (λ copy. copy.items ≡ rows.now) }
 {
@@ -37,7 +37,8 @@ fn copy_rows(alloc: Global, rows: &[Row]) -> Result<Vec<Row>, AllocError>
     Ok(copy)
 }
 
-// A call knows the one state that the transaction reads as that of the stamp 1.
+// Returns the answer with the stamp 1 as its reach: for a call, 1 stands for the single state that the
+// transaction reads.
 pub(crate) fn at_one(found: Found) -> Found
     ensures rows { result.rows ≡ found.rows }
     ensures tags { result.tags ≡ found.tags }
@@ -58,8 +59,8 @@ impl RwCore {
     ghost use Rattle.txc_ports.specs.Turns.{IsAsk};
     ghost use Rattle.txc_rw.specs.Transitions.{standing_of, RowsTransition, RwCallTransition};
 
-    /// Goes on with the database's answer to the query that its call asked. A refusal of the database ends the
-    /// call; whatever ends it, what was answered counts as read.
+    /// Continues with the database's answer to the query that its call requested. An error of the database ends
+    /// the call. However the call ends, an answered query counts as read.
     pub fn reply<A: App, C: Cacheable>(
         &mut self,
         alloc: Global,
@@ -112,8 +113,8 @@ impl RwCore {
         }
     }
 
-    /// Takes the database's answer to a query of its own, and returns the rows. What was answered counts as
-    /// read, out of memory too.
+    /// Takes the database's answer to a query of the transaction itself, and returns the rows. An answered
+    /// query counts as read, even if memory for the rows cannot be allocated.
     pub fn answer(
         &mut self,
         alloc: Global,

@@ -26,7 +26,8 @@ use txc_stamp::Stamp;
 use txc_tags::Key;
 
 impl<J: Naming> NodePass<J> {
-    /// The counts of all records of the node, stored or not, which it shows to the pass. It takes no memory.
+    /// Returns the counts of all records of the node, stored or not, and shows these to the pass. Does not
+    /// allocate.
     pub fn node_counts<A: App>(
         &mut self,
         rt: &impl Wait,
@@ -45,8 +46,8 @@ impl<J: Naming> NodePass<J> {
         counts
     }
 
-    /// Looks up the call of `key` at the stamps from `lo` to `hi`, both included. What it finds is true in
-    /// the history of the front beside it.
+    /// Looks up the call of `key` at the stamps from `lo` to `hi`, both included. A found value is true in the
+    /// history of the front next to it.
     pub fn lookup<A: App>(
         &mut self,
         rt: &impl Wait,
@@ -73,7 +74,7 @@ impl<J: Naming> NodePass<J> {
         found
     }
 
-    /// Inserts an entry, which is true in what the front shows. Where it is refused, the entry is dropped.
+    /// Inserts an entry that is true in the front's history. If this fails, the entry is dropped.
     pub fn insert<A: App>(
         &mut self,
         rt: &impl Wait,
@@ -97,8 +98,8 @@ impl<J: Naming> NodePass<J> {
         insertion
     }
 
-    /// Takes the next event of the database's history. Where it is idle, each event that the pass has seen was taken
-    /// or came before the node.
+    /// Takes the next event of the database's history. If it returns `Idle`, each event that the pass has seen
+    /// was taken or came before the node.
     pub fn advance<A: App>(
         &mut self,
         rt: &impl Wait,
@@ -117,9 +118,9 @@ impl<J: Naming> NodePass<J> {
         advanced
     }
 
-    /// Takes up to [`MAX_TOGETHER`] events of the database's history, in order, under one lock, each with a record of its
-    /// own. Returns their number and the reason for which it stopped. If it returns an error for one of them, those before
-    /// it are taken and counted.
+    /// Takes up to [`MAX_TOGETHER`] events of the database's history, in order, under one lock, each with a
+    /// record of its own. Returns their number and the reason for which it stopped. If it fails at an event,
+    /// those before it are taken and counted.
     pub fn advance_many<A: App>(
         &mut self,
         rt: &impl Wait,
@@ -136,7 +137,7 @@ impl<J: Naming> NodePass<J> {
         did
     }
 
-    /// Drops the entries whose span ends at the horizon or before it, and counts them.
+    /// Drops the entries whose span ends at the horizon or before it, and returns how many.
     pub fn sweep<A: App>(
         &mut self,
         rt: &impl Wait,
@@ -156,8 +157,8 @@ impl<J: Naming> NodePass<J> {
         count
     }
 
-    /// Keeps the longest prefix of the entries whose values have at most `most` bytes in all, and counts the entries that
-    /// it drops.
+    /// Keeps the longest prefix of the entries whose values have at most `most` bytes in all. Returns how many
+    /// it dropped.
     pub fn trim<A: App>(
         &mut self,
         rt: &impl Wait,

@@ -8,7 +8,7 @@ use crate::told::{Reads, Told};
 use txc_app::Ask;
 use txc_call::CallMachine;
 
-/// An ask of a function, with the machine that is to take it, and the objects before it.
+/// A step of a function, with the machine that will take it, and the objects before it.
 #[derive(Drop)]
 pub struct Ran<'a> {
     pub told: &'a Told,
@@ -16,21 +16,21 @@ pub struct Ran<'a> {
     pub ask: &'a Ask,
 }
 
-/// Reads off an ask the objects after it.
+/// Reads off a step the objects after it.
 pub struct AsRan;
 
 impl<'a> Reads<Ran<'a>> for AsRan {
     ghost objects = { λ x. objects_after_ask x.told.now.objects x.machine.now x.ask.now };
 }
 
-/// Reads off objects the same ones, of which none runs.
+/// Reads off objects the same ones, all idle.
 pub struct AsIdle;
 
 impl Reads<Told> for AsIdle {
     ghost objects = { λ t. idled t.objects };
 }
 
-/// Reads off nothing an object for each function, of which none runs.
+/// Reads off nothing an idle object for each function.
 pub struct AsNew;
 
 impl Reads<()> for AsNew {
@@ -38,7 +38,7 @@ impl Reads<()> for AsNew {
 }
 
 impl Told {
-    /// Returns an object for each function, of which none runs.
+    /// Returns an idle object for each function.
     pub fn new() -> Told
         ensures idle { AllIdle result.objects }
         ensures functions { (f : ℕ) → f ≤ LAST_FUNCTION → IsSome (activity_of result.objects f) }
@@ -46,7 +46,7 @@ impl Told {
         Told::of::<(), AsNew>(&())
     }
 
-    /// Returns the same objects, of which none runs.
+    /// Returns the same objects, all idle.
     pub fn idled(&self) -> Told
         ensures after { result.objects ≡ idled self.now.objects }
         ensures idle { AllIdle result.objects }
@@ -55,7 +55,7 @@ impl Told {
         Told::of::<Told, AsIdle>(self)
     }
 
-    /// Returns the objects after the function that the machine needs asked this.
+    /// Returns the objects after the function that the machine needs made this step.
     pub fn ran(&self, machine: &CallMachine, ask: &Ask) -> Told
         ensures after { result.objects ≡ objects_after_ask self.now.objects machine.now ask.now }
         ensures functions { numbers_of result.objects ≡ numbers_of self.now.objects }

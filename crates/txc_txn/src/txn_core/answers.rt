@@ -1,4 +1,4 @@
-//! What a core makes of each reply.
+//! A core's steps after each reply.
 ghost use Rattle.std.specs.Prelude.{◌≡◌};
 ghost use Rattle.std.specs.Option.{ForSome};
 ghost use mathlib.Core.List.{IsPrefix};
@@ -21,7 +21,7 @@ impl TxnCore {
     ghost use Rattle.txc_txn.specs.Core.{value_of, IsAnswered, IsCore, IsOneOf};
     ghost use Rattle.txc_txn.specs.Kept.{HasAnswered};
 
-    // Sees what the reply shows of the history.
+    // Takes over the history in the reply.
     pub(crate) fn see(&mut self, reply: &PortReply)
         requires { ForSome (front_of_reply reply.now) (λ front. front.events ≡ self.old.seen.events) }
         ensures events { self.new.seen.events ≡ self.old.seen.events }
@@ -35,7 +35,7 @@ impl TxnCore {
         }
     }
 
-    // The present was pinned, or was not.
+    // Continues after the present was pinned, or was not.
     pub(crate) fn answer_pin<A: App, C: Cacheable>(
         &mut self,
         registry: &mut Registry<A, C>,
@@ -60,7 +60,7 @@ impl TxnCore {
         Turn::Ask(PortRequest::AddPin(pinned))
     }
 
-    // The pin was added, or was not.
+    // Continues after the pin was added, or was not.
     pub(crate) fn answer_add<A: App, C: Cacheable>(
         &mut self,
         alloc: Global,
@@ -90,7 +90,8 @@ impl TxnCore {
         }
     }
 
-    // The hold of a pin that was not added is taken away, or was not there: the call is refused for the reason.
+    // Continues after the hold of a pin that was not added was removed, or did not exist: the call fails for
+    // that reason.
     pub(crate) fn answer_unpin<A: App, C: Cacheable>(
         &mut self,
         registry: &mut Registry<A, C>,
@@ -114,7 +115,7 @@ impl TxnCore {
         self.give_up(registry, error)
     }
 
-    // A node has the call, or has not. What it has counts only where a member lies in its reach.
+    // Continues after a lookup. A hit counts only if a member is in its reach.
     pub(crate) fn answer_lookup<A: App, C: Cacheable>(
         &mut self,
         alloc: Global,
@@ -136,7 +137,7 @@ impl TxnCore {
         }
     }
 
-    // The database found what was asked for at the newest member, or refused.
+    // Continues after the database answered a query at the newest member, or failed.
     pub(crate) fn answer_query<A: App, C: Cacheable>(
         &mut self,
         alloc: Global,
@@ -159,7 +160,7 @@ impl TxnCore {
         self.go_on(alloc, registry, Reply::Found(answer))
     }
 
-    // Goes on with a reply.
+    // Continues with a reply.
     pub(crate) fn answer<A: App, C: Cacheable>(
         &mut self,
         alloc: Global,

@@ -45,7 +45,7 @@ impl TxnCore {
     ghost use Rattle.txc_txn.specs.ByHand.{standing_of, recorded_by_hand, FirstExists, HandTransition, HasAskedByHand, HasGoneOnByHand};
     ghost use Rattle.txc_txn.specs.ByHand.{IsHandTurn, IsUnended, ObjectsLeft, TakeTransition};
 
-    // Gives the open call up.
+    // Cancels the open call.
     pub(crate) fn drop_call(&mut self, error: TxnError) -> Turn<PortRequest, Value>
         ensures fits { (next : Next) (objects after : Objects) → AllIdle after
             → IsCore next objects (value_of self.old) → IsCore next after (value_of self.new) }
@@ -164,7 +164,7 @@ impl TxnCore {
         }
     }
 
-    // Begins the call: it is looked up.
+    // Begins the call with its lookup.
     pub(crate) fn begin_by_hand(&mut self, key: Key) -> Turn<PortRequest, Value>
         requires fits { (next : Next) × (objects : Objects) × IsCore next objects (value_of self.old) }
         requires none { self.old.pinning ≡ None }
@@ -214,7 +214,7 @@ impl TxnCore {
         self.begin_by_hand(key)
     }
 
-    // Takes a reply, whose reach every member lies in. No function continues yet.
+    // Takes a reply in whose reach every member is. No function continues yet.
     pub(crate) fn take(&mut self, alloc: Global, reply: Reply) -> Option<Turn<PortRequest, Value>>
         requires none { self.old.pinning ≡ None }
         requires reply { (need : Need) × (self.old.machine.need ≡ Some need) × ReplyFits need reply }
@@ -246,8 +246,8 @@ impl TxnCore {
         self.asks(alloc)
     }
 
-    /// Goes on with the reply to what it asked, as [`TxnCore::next`] does, but runs no function. Returns none if a
-    /// function is to begin or to continue first: then [`TxnCore::ran`] takes what that asks.
+    /// Continues with the reply to its request, as [`TxnCore::next`] does, but runs no function. Returns `None`
+    /// if a function must begin or continue first: then [`TxnCore::ran`] takes that function's step.
     pub fn hear(&mut self, alloc: Global, reply: PortReply) -> Option<Turn<PortRequest, Value>>
         requires fits { (next : Next) × (objects : Objects) × IsCore next objects (value_of self.old) }
         requires reply { IsAnswered (value_of self.old) reply }
@@ -265,8 +265,8 @@ impl TxnCore {
         self.heard(alloc, reply)
     }
 
-    /// Takes the ask of the function that the call needs, within the limits of the function's application. Returns none
-    /// if a function is to begin or to continue first.
+    /// Takes the step of the function that the call needs, within the limits of the function's application.
+    /// Returns `None` if another function must begin or continue first.
     pub fn ran(
         &mut self,
         limits: Limits,
@@ -303,8 +303,8 @@ impl TxnCore {
         }
     }
 
-    /// Gives the open call up, if one is, and returns a stamp that was pinned and not added: its hold is to be taken
-    /// away. The transaction stays open, with its answers. It does not allocate.
+    /// Cancels the open call, if there is one, and returns a stamp that was pinned and not added: its hold must
+    /// be removed. The transaction stays open, with its results. Does not allocate.
     pub fn give_up_by_hand(&mut self) -> Option<Stamp>
         ensures fits { (next : Next) (objects after : Objects) → AllIdle after
             → IsCore next objects (value_of self.old) → IsCore next after (value_of self.new) }
@@ -323,7 +323,7 @@ impl TxnCore {
         unpin
     }
 
-    /// Gives the transaction up, in the middle of a call too, and returns what is left to be done. It does not
+    /// Cancels the transaction, also in the middle of a call, and returns the remaining work. Does not
     /// allocate.
     pub fn cancel_by_hand(self) -> Left
         ensures give_back { result.give_back.items ≡ (value_of self).taken }
@@ -339,8 +339,8 @@ impl TxnCore {
         }
     }
 
-    /// Returns the answer with which the innermost function is to continue; none if no function is to. At every member
-    /// it is right for what that function asked.
+    /// Returns the answer with which the innermost function must continue, or `None` if no function must. At
+    /// every member it is the correct answer to that function's request.
     pub fn held_answer(&self) -> Option<&Answer>
         ensures answer { MatchOption result
             ((x : HeldAnswer) → self.now.machine.need ≢ Some (Need.Resume x))

@@ -1,4 +1,4 @@
-//! What a core makes of each reply whose caller runs the functions of its calls.
+//! The steps after each reply of a core whose caller runs the functions of its calls.
 ghost use Rattle.std.specs.Prelude.{◌≡◌};
 
 use crate::pinning::{PinStep, Pinning};
@@ -18,7 +18,7 @@ impl TxnCore {
     ghost use Rattle.txc_txn.specs.Core.{value_of, IsAnswered, IsCore};
     ghost use Rattle.txc_txn.specs.ByHand.{HasHeard};
 
-    // The present was pinned, or was not.
+    // Continues after the present was pinned, or was not.
     fn hear_pin(&mut self, pinned: Result<Pinned, DbError>) -> Turn<PortRequest, Value>
         requires reply { IsAnswered (value_of self.old) (PortReply.Pin pinned) }
         ensures { HasHeard (value_of self.old) (PortReply.Pin pinned) (value_of self.new) (Some result) }
@@ -37,7 +37,7 @@ impl TxnCore {
         Turn::Ask(PortRequest::AddPin(pinned))
     }
 
-    // The pin was added, or was not.
+    // Continues after the pin was added, or was not.
     fn hear_add(
         &mut self,
         alloc: Global,
@@ -65,7 +65,8 @@ impl TxnCore {
         }
     }
 
-    // The hold of a pin that was not added is taken away, or did not exist: the call fails for the reason.
+    // Continues after the hold of a pin that was not added was removed, or did not exist: the call fails for
+    // that reason.
     fn hear_unpin(&mut self, _unpinned: Result<(), DbError>) -> Turn<PortRequest, Value>
         requires reply { IsAnswered (value_of self.old) (PortReply.Unpin _unpinned) }
         ensures { HasHeard (value_of self.old) (PortReply.Unpin _unpinned) (value_of self.new) (Some result) }
@@ -83,7 +84,7 @@ impl TxnCore {
         self.drop_call(error)
     }
 
-    // A node has the call, or has not. A result of it counts only if a member lies in its reach.
+    // Continues after a lookup. A hit counts only if a member is in its reach.
     fn hear_lookup(
         &mut self,
         alloc: Global,
@@ -103,7 +104,7 @@ impl TxnCore {
         }
     }
 
-    // The database found what was asked for at the newest member, or failed.
+    // Continues after the database answered a query at the newest member, or failed.
     fn hear_query(
         &mut self,
         alloc: Global,
@@ -124,7 +125,7 @@ impl TxnCore {
         self.take(alloc, Reply::Found(answer))
     }
 
-    // Goes on with a reply, once what it shows was seen.
+    // Continues with a reply, whose history was taken over.
     pub(crate) fn heard(
         &mut self,
         alloc: Global,

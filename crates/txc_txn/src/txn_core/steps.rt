@@ -38,7 +38,7 @@ impl TxnCore {
     ghost use Rattle.txc_txn.specs.Core.{WaitsForPin};
     ghost use Rattle.txc_txn.specs.Transitions.{AsksLookup, AsksPin, BeginTransition, CallTransition, IsBeyond, NeedTransition, StandsStill};
 
-    // The least stamp that a pin of the present may have; none beyond the last stamp.
+    // Returns the least stamp that a pin of the present may have, or `None` if that is beyond the last stamp.
     pub(crate) fn least_present(&self) -> Option<Stamp>
         ensures answer { MatchOption result (MOST_STAMP < least_present self.now.bounds self.now.pins.members)
             (λ stamp. stamp ≡ least_present self.now.bounds self.now.pins.members) }
@@ -53,7 +53,7 @@ impl TxnCore {
         }
     }
 
-    // Gives the open call up.
+    // Cancels the open call.
     pub(crate) fn give_up<A: App, C: Cacheable>(
         &mut self,
         registry: &mut Registry<A, C>,
@@ -74,7 +74,7 @@ impl TxnCore {
         Turn::Ended(Err(error))
     }
 
-    // Asks for a pin of the present, after which a call begins or the open one goes on.
+    // Requests a pin of the present, after which a call begins or the open one continues.
     pub(crate) fn ask_pin<A: App, C: Cacheable>(
         &mut self,
         registry: &mut Registry<A, C>,
@@ -115,7 +115,7 @@ impl TxnCore {
         })
     }
 
-    // Records the value of the call, which has one, and returns a copy of it.
+    // Records the value of the call, which is done, and returns a copy of it.
     pub(crate) fn record(&mut self, alloc: Global) -> Turn<PortRequest, Value>
         requires { (o : Outcome) × (self.old.machine.need ≡ Some (Need.Value o)) }
         ensures fits { (next : Next) (objects : Objects) → self.old.pinning ≡ None
@@ -154,7 +154,7 @@ impl TxnCore {
         Turn::Ended(Ok(copy))
     }
 
-    // Asks for what the call needs, or ends it with its value.
+    // Makes the request that the call needs, or ends the call with its value.
     pub(crate) fn request<A: App, C: Cacheable>(
         &mut self,
         alloc: Global,
@@ -244,7 +244,7 @@ impl TxnCore {
         }
     }
 
-    // The call goes on with a reply, whose reach every member lies in.
+    // Continues the call with a reply in whose reach every member is.
     pub(crate) fn go_on<A: App, C: Cacheable>(
         &mut self,
         alloc: Global,
@@ -279,7 +279,7 @@ impl TxnCore {
         }
     }
 
-    // Narrows the pin set by a reach, where it holds a member.
+    // Narrows the pin set by a reach, if that holds a member.
     pub(crate) fn narrow(&mut self, reach: Reach) -> Result<(), WouldEmpty>
         requires { self.old.pinning ≡ None }
         ensures fits { (next : Next) (objects : Objects) → IsCore next objects (value_of self.old)
@@ -297,7 +297,7 @@ impl TxnCore {
         Ok(())
     }
 
-    // The pin that was added takes the present's place.
+    // Replaces the present by the pin that was added.
     pub(crate) fn join_pin(&mut self, pinned: &Pinned)
         requires present { self.old.pins.has_present ≡ true }
         requires newer { All (λ m. m.stamp < pinned.now.stamp) self.old.pins.members }

@@ -1,4 +1,4 @@
-//! What a core does: it answers calls, and ends.
+//! The calls of a core, and its end.
 ghost use Rattle.std.specs.Prelude.{◌≡◌, ◌≢◌, [], ◌<◌};
 ghost use Rattle.std.specs.Option.{ForSome};
 ghost use mathlib.Core.List.{IsPrefix};
@@ -19,7 +19,7 @@ use txc_registry::{Cacheable, Registry};
 use txc_stamp::Stamp;
 use txc_tags::Key;
 
-// The newest member, where a call was answered.
+// Returns the newest member, if a call was completed.
 fn receipt_pin(recorded: &[Recorded], members: &[Pin]) -> Option<Pin>
     ensures { result ≡ receipt_pin recorded.now members.now }
 {
@@ -34,7 +34,7 @@ impl TxnCore {
     ghost use Rattle.txc_txn.specs.Core.{CoreHolds, Explains, IsAnswered, IsCore, IsIdle, IsRightPortReply};
     ghost use Rattle.txc_txn.specs.Kept.{txn_value, HasBegunCall, HasGoneOn};
 
-    /// Begins a call. Where there is no member, the present is pinned first.
+    /// Begins a call. If there is no member, it pins the present first.
     pub fn start<A: App, C: Cacheable>(
         &mut self,
         alloc: Global,
@@ -55,7 +55,7 @@ impl TxnCore {
         self.start_call(alloc, registry, key)
     }
 
-    /// Goes on with the reply to what it asked.
+    /// Continues with the reply to its request.
     pub fn next<A: App, C: Cacheable>(
         &mut self,
         alloc: Global,
@@ -76,8 +76,8 @@ impl TxnCore {
         self.answer(alloc, registry, reply)
     }
 
-    /// Ends the transaction, and returns what explains its answers, and the pins to be given back, by their
-    /// stamps. It takes no memory.
+    /// Ends the transaction, and returns its receipt, and the stamps of the pins that must be returned to the
+    /// pincushion. Does not allocate.
     pub fn finish(self) -> (Receipt, Vec<Stamp>)
         requires idle { IsIdle (value_of self) }
         requires answered { (value_of self).recorded ≢ [] → (value_of self).pins.members ≢ [] }
@@ -98,8 +98,8 @@ impl TxnCore {
         (receipt, self.taken)
     }
 
-    /// Gives the transaction up, in the middle of a call too, and returns what is left to be done. Every
-    /// object is idle then. It takes no memory.
+    /// Cancels the transaction, also in the middle of a call, and returns the remaining work. Every object is
+    /// idle then. Does not allocate.
     pub fn cancel<A: App, C: Cacheable>(self, registry: &mut Registry<A, C>) -> Left
         requires { IsCore A.next registry.old (value_of self) }
         ensures idle { AllIdle registry.new }
