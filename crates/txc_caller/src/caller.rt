@@ -1,4 +1,4 @@
-//! A caller that computes the functions of its calls itself.
+//! A caller that computes its own functions.
 ghost use Rattle.std.specs.Prelude.{◌≡◌, ◌≤◌, [], IfErr, IfOk, IfSome, OnErr, OnOk, map, true, false, ◌↔◌, Err, IsOk, Ok};
 ghost use Rattle.txc_app.specs.Eval.{Next};
 ghost use Rattle.txc_cushion.specs.Cushion.{after_fresh, after_give_back, handed_out};
@@ -32,14 +32,14 @@ use txc_shared::NodeSettings;
 use txc_stamp::Stamp;
 use txc_txn::TxnCore;
 
-/// A database, its pincushion and one node, of a caller that computes the functions of its calls itself. Any number of its
-/// transactions are open at once: each is a value of its own, and is lent the caller for each act.
+/// A database, its pincushion and one node, of a caller that computes its own functions. Any number of its
+/// transactions can be open at once: each is a value of its own, and is lent the caller for each act.
 pub struct Caller<A: App> {
     pub(crate) ports: Ports<A>,
     pub(crate) renew_after: u64,
 }
 
-// Not derived: a derived one is proved again in each crate above.
+// Not derived, since a derived one would be proved again in each crate above.
 impl<A: App> Drop for Caller<A> {
     fn drop(self) {
         let Caller {
@@ -57,7 +57,7 @@ impl<A: App> Model for Caller<A> {
     ghost view = { λ c. record { ports = c.ports; renew_after = c.renew_after } };
 }
 
-// Gives one user of each of the pins back. It takes no memory.
+// Removes one user of each of the pins. Does not allocate.
 fn give_back_each(cushion: &mut CushionCore, pins: &Pins)
     ensures given_back { HaveUsers cushion.old.entries (map (λ pin. pin.stamp) pins.now.pins.items)
         → cushion.new ≡ after_give_back cushion.old (map (λ pin. pin.stamp) pins.now.pins.items) }
@@ -68,7 +68,8 @@ fn give_back_each(cushion: &mut CushionCore, pins: &Pins)
     }
 }
 
-// A core with the pins that the pincushion hands out for its bounds. Out of memory, they are given back.
+// Makes a core with the pins that the pincushion issues for its bounds. If memory cannot be allocated, they are
+// returned.
 pub(crate) fn begun(
     alloc: Global,
     cushion: &mut CushionCore,
@@ -114,9 +115,10 @@ pub(crate) fn begun(
 impl<A: App> Caller<A> {
     ghost use Rattle.txc_caller.specs.Writing.{IsBegunWrite, IsWriteOf};
 
-    /// Returns a caller with an empty database that has room for so many events, or that stores none, for as many as there are
-    /// stamps; an empty pincushion; and an empty node. With a budget the values of its node have at most so many bytes in all,
-    /// after each of its methods: an insertion makes room first, and a value that alone is over the budget is not kept.
+    /// Returns a caller with an empty database, an empty pincushion and an empty node. The database has room
+    /// for `room` events, or, if that is `None`, stores none and has room for 4,294,967,294. `budget` limits
+    /// the bytes of the node's values in all after each method: an insertion makes room first, and a value over
+    /// the budget by itself is not stored. `renew_after` is in milliseconds.
     pub fn new(
         alloc: Global,
         room: Option<usize>,
@@ -144,8 +146,8 @@ impl<A: App> Caller<A> {
         })
     }
 
-    /// Begins a transaction that only reads, with the newest of the pins that its bounds allow, and the present. If an allocation
-    /// fails, the pins have no user more.
+    /// Begins a read-only transaction with the newest of the pins that its bounds allow, and the present. If an
+    /// allocation fails, nothing has changed.
     pub fn begin(&mut self, alloc: Global, bounds: Bounds) -> Result<CallerTxn<A>, AllocError>
         ensures begun { IfOk result (IsBegunReading A.next bounds self.old self.new) }
         ensures idle { IfOk result (λ txn. AllIdle txn.objects) }
@@ -159,8 +161,9 @@ impl<A: App> Caller<A> {
         })
     }
 
-    /// Begins a transaction that writes, and reads the newest state. The database holds that stamp until the transaction ends, so
-    /// that no vacuum between two of its acts has it refused.
+    /// Begins a read-write transaction at the newest state. The database holds that stamp until the transaction
+    /// ends, so that no vacuum in between makes it fail. Fails if there is no room for another hold, or memory
+    /// cannot be allocated.
     pub fn begin_write(&mut self, alloc: Global) -> Result<CallerWrite<A>, DbError>
         ensures begun { IfOk result (IsBegunWrite (newest self.old.ports.database) true) }
         ensures of_caller { IfOk result (IsWriteOf A.next self.new) }
@@ -177,8 +180,9 @@ impl<A: App> Caller<A> {
         Ok(CallerWrite::over(alloc, base, true))
     }
 
-    /// Begins a transaction that writes, and reads the state of that stamp, which a receipt named. The database does not hold it:
-    /// a commit is refused once a vacuum has passed it.
+    /// Begins a read-write transaction at the state of that stamp, which a receipt named. The database does not
+    /// hold it: a commit fails once a vacuum has passed it. Fails if the stamp is beyond the newest one, or
+    /// already below the horizon.
     pub fn begin_write_at(&mut self, alloc: Global, base: Stamp) -> Result<CallerWrite<A>, DbError>
         ensures begun { IfOk result (IsBegunWrite base false) }
         ensures of_caller { IfOk result (IsWriteOf A.next self.new) }
@@ -190,8 +194,8 @@ impl<A: App> Caller<A> {
         Ok(CallerWrite::over(alloc, base, false))
     }
 
-    /// Has the node take the events that it has not taken yet, and returns whether it took all: an allocation may fail. It has
-    /// nothing at stamps beyond those.
+    /// Lets the node take the events that it has not taken yet. Returns `false` if it did not take all, since
+    /// an allocation failed: the node then has nothing at later stamps.
     pub fn take_events(&mut self, alloc: Global) -> bool
         ensures node { GoesOnByEvents self.old.ports.node self.new.ports.node }
         ensures all { result ≡ true → HasNoEventFor self.new.ports.database self.new.ports.node }

@@ -1,8 +1,8 @@
-//! Transactions whose functions the caller computes: the caller asks for calls, learns which functions to compute,
-//! and says what each asks and what it gives.
+//! Transactions whose functions the caller computes: it requests calls, learns which functions it must compute,
+//! and reports each function's requests and its value.
 //!
-//! A [`Caller`] has a database, a pincushion and a node. Any number of its transactions are open at once: each is a value of its
-//! own, a [`CallerTxn`] or a [`CallerWrite`], which is lent the caller for each act.
+//! A [`Caller`] has a database, a pincushion and a node. Any number of its transactions can be open at once:
+//! each is a value of its own, a [`CallerTxn`] or a [`CallerWrite`], which is lent the caller for each act.
 #![tactic(auto)]
 
 mod call_ports;

@@ -1,16 +1,16 @@
-//! Why the newest state is not pinned.
+//! Errors of pinning the newest state.
 
 use thiserror::Error;
 use txc_cushion::AddError;
 use txc_db::DbError;
 
-/// Why the newest state was not pinned.
+/// Errors of pinning the newest state.
 #[derive(Clone, Copy, Debug, PartialEq, Eq, Error)]
 pub enum PinError {
-    /// The database refused the event of the pin, or the hold of its stamp.
+    /// The database cannot append the event of the pin, or hold its stamp.
     #[error("{0}")]
     Database(DbError),
-    /// The pincushion refused the pin.
+    /// The pincushion cannot add the pin.
     #[error("{0}")]
     Pincushion(AddError),
 }

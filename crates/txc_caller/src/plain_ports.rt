@@ -26,8 +26,8 @@ use txc_stamp::Stamp;
 use txc_stream::Pen;
 use txc_validity::Found;
 
-/// A database, its pincushion, and one node that takes its events. None has a lock. The node's values are within the budget, if
-/// there is one.
+/// A database, its pincushion, and one node that takes its events. None has a lock. The node's values are
+/// within the budget, if there is one.
 #[derive(Drop)]
 pub struct PlainPorts<A: App> {
     pub(crate) database: DbCore,
@@ -67,7 +67,7 @@ fn empty_database(alloc: Global, room: Option<usize>) -> Result<DbCore, DbError>
     Ok(database)
 }
 
-/// Gives the pins back, one user of each. It takes no memory.
+/// Removes one user of each of the pins. Does not allocate.
 pub(crate) fn give_back(cushion: &mut CushionCore, stamps: &[Stamp])
     ensures after { AreGivenBack stamps.now cushion.old cushion.new }
     ensures events { cushion.new.events ≡ cushion.old.events }
@@ -78,7 +78,7 @@ pub(crate) fn give_back(cushion: &mut CushionCore, stamps: &[Stamp])
     }
 }
 
-/// Takes the hold of a pin away that was not added, if there is one. It takes no memory.
+/// Removes the hold of a pin that was not added, if there is one. Does not allocate.
 pub(crate) fn let_go(database: &mut DbCore, unpin: Option<Stamp>)
     ensures unpinned { IsLetGo unpin database.old database.new }
     ensures history { database.new.history ≡ database.old.history }
@@ -93,7 +93,7 @@ pub(crate) fn let_go(database: &mut DbCore, unpin: Option<Stamp>)
     }
 }
 
-/// Takes a hold of each of the stamps away.
+/// Removes a hold of each of the stamps.
 pub(crate) fn let_each_go(database: &mut DbCore, stamps: &[Stamp])
     ensures unpinned { AreLetGo stamps.now database.old database.new }
     ensures events { database.new.events ≡ database.old.events }
@@ -103,7 +103,7 @@ pub(crate) fn let_each_go(database: &mut DbCore, stamps: &[Stamp])
     }
 }
 
-// What the database finds for the query at the stamp, with a front of the whole history.
+// Returns the database's answer to the query at the stamp, with a front of the whole history.
 fn find(
     alloc: Global,
     database: &mut DbCore,
@@ -142,7 +142,7 @@ fn around<A: App>(
 }
 
 impl<A: App> PlainPorts<A> {
-    // Has the node take the next event, and says whether it took one. The front shows them all.
+    // Lets the node take the next event, and returns `true` if it took one. The front shows all events.
     fn take_event(&mut self, alloc: Global, front: &HistoryFront) -> bool
         requires { front.now ≡ front_of self.old.database }
         ensures node { GoesOnByEvents self.old.node self.new.node }
@@ -154,7 +154,7 @@ impl<A: App> PlainPorts<A> {
         nodes::take_event(alloc, &mut self.node, front, tags)
     }
 
-    /// Has the node take the events that it has not taken yet, and says whether it took them all.
+    /// Lets the node take the events that it has not taken yet. Returns `true` if it took all.
     pub(crate) fn take_events(&mut self, alloc: Global) -> bool
         ensures node { GoesOnByEvents self.old.node self.new.node }
         ensures all { result ≡ true → HasNoEventFor self.new.database self.new.node }
@@ -175,7 +175,7 @@ impl<A: App> PlainPorts<A> {
         self.database.tags_after(self.node.processed()).is_none()
     }
 
-    /// Pins the newest state for no transaction. If the pincushion refuses the pin, its hold is taken away.
+    /// Pins the newest state for no transaction. If the pincushion cannot add the pin, its hold is removed.
     pub(crate) fn pin(&mut self, alloc: Global, moment: u64) -> Result<Stamp, PinError>
         ensures pinned { IfOk result (λ stamp. HasPinnedNewest moment self.old stamp self.new) }
         ensures refused { IfErr result (λ error. HasNotPinned moment self.old error self.new) }
@@ -197,8 +197,8 @@ impl<A: App> PlainPorts<A> {
         }
     }
 
-    /// An empty database with room for so many events, or that stores none where no number is given; an empty pincushion and
-    /// an empty node, whose values are to stay within the budget.
+    /// Makes an empty database, an empty pincushion and an empty node. The database has room for `room` events,
+    /// or, if that is `None`, stores none. The node's values stay within the budget.
     pub(crate) fn new(
         alloc: Global,
         room: Option<usize>,
@@ -248,7 +248,7 @@ impl<A: App> CallPorts<A> for PlainPorts<A> {
                 PortReply::AddPin(pinned, added)
             }
             PortRequest::Unpin(stamp) => PortReply::Unpin(self.database.unpin(stamp)),
-            // A node that refuses has nothing.
+            // A node that fails has no entry.
             PortRequest::Lookup { key, lo, hi, .. } => {
                 PortReply::Lookup(self.node.lookup(alloc, 0, &key, lo, hi).unwrap_or(None))
             }

@@ -1,4 +1,4 @@
-//! The ports of a caller, whose types nothing above sees.
+//! The ports of a caller, whose types no crate above sees.
 ghost use Rattle.std.specs.Prelude.{◌≡◌, ◌≤◌, ◌∷◌, ◌↔◌, [], IfErr, IfOk, IsOk, OnErr, OnOk, length, true, false};
 ghost use Rattle.txc_cushion.specs.Cushion.{retired, after_fresh};
 ghost use Rattle.txc_db.specs.Calls.{matching_of, IsAnswerable, IsBase, IsCommitRefused, IsCommittable, IsHoldable, IsHoldRefused, IsLeft, IsQueryRefused};
@@ -31,8 +31,8 @@ use txc_tags::TagSet;
 use txc_txn::TxnCore;
 use txc_validity::Found;
 
-/// A database, its pincushion, and one node that takes its events, behind a pointer. A method takes them out, calls one of
-/// theirs, and puts them back.
+/// A database, its pincushion, and one node that takes its events, behind a pointer. A method takes them out,
+/// calls one of their methods, and puts them back.
 pub(crate) struct Ports<A: App> {
     slot: PortsSlot<A>,
     alloc: Global,
@@ -56,7 +56,7 @@ impl<A: App> Model for Ports<A> {
 }
 
 impl<A: App> Ports<A> {
-    /// These ports, behind a pointer.
+    /// Puts these ports behind a pointer.
     pub(crate) fn of(alloc: Global, plain: Box<PlainPorts<A>, Global>) -> Ports<A>
         ensures { result ≡ plain.value }
     {
@@ -66,7 +66,7 @@ impl<A: App> Ports<A> {
         }
     }
 
-    /// The ports, in sight.
+    /// Returns the ports.
     pub(crate) fn into_plain(self) -> Box<PlainPorts<A>, Global>
         ensures { result.value ≡ self }
     {
@@ -74,7 +74,7 @@ impl<A: App> Ports<A> {
         slot.into_ports()
     }
 
-    /// Has the node take the events that it has not taken yet, and says whether it took them all.
+    /// Lets the node take the events that it has not taken yet. Returns `true` if it took all.
     pub(crate) fn take_events(&mut self, alloc: Global) -> bool
         ensures node { GoesOnByEvents self.old.node self.new.node }
         ensures all { result ≡ true → HasNoEventFor self.new.database self.new.node }
@@ -87,7 +87,7 @@ impl<A: App> Ports<A> {
         has_all
     }
 
-    /// Takes a hold of the newest stamp, and returns it.
+    /// Holds the newest stamp, and returns it.
     pub(crate) fn hold(&mut self, alloc: Global) -> Result<Stamp, DbError>
         ensures after { OnOk result (self.new ≡ record self.old { database = after_hold self.old.database }) }
         ensures answer { IfOk result (λ stamp. stamp ≡ newest self.old.database) }
@@ -102,7 +102,7 @@ impl<A: App> Ports<A> {
         held
     }
 
-    /// The newest stamp, where a commit may have that base.
+    /// Returns the newest stamp if a commit may have that base. Fails otherwise.
     pub(crate) fn check_base(&mut self, base: Stamp) -> Result<Stamp, DbError>
         ensures same { self.new ≡ self.old }
         ensures only_if { IsOk result ↔ IsBase self.old.database base }
@@ -115,7 +115,7 @@ impl<A: App> Ports<A> {
         checked
     }
 
-    /// The answer of the query at a stamp, with the query's tag.
+    /// Returns the answer of the query at a stamp, with the query's tag.
     pub(crate) fn query(
         &mut self,
         alloc: Global,
@@ -136,7 +136,8 @@ impl<A: App> Ports<A> {
         found
     }
 
-    /// Commits the changes, where no event after the base has tags that match those read. The node then takes the events.
+    /// Commits the changes if no event after the base has a tag that matches those read. The node then takes
+    /// the events.
     pub(crate) fn commit(
         &mut self,
         alloc: Global,
@@ -163,7 +164,8 @@ impl<A: App> Ports<A> {
         Ok(stamp)
     }
 
-    /// A core with the pins that the pincushion hands out for its bounds. Out of memory, they are given back.
+    /// Makes a core with the pins that the pincushion issues for its bounds. If memory cannot be allocated,
+    /// they are returned.
     pub(crate) fn begin(
         &mut self,
         alloc: Global,
@@ -183,7 +185,7 @@ impl<A: App> Ports<A> {
         core
     }
 
-    /// Gives the pins back, one user of each. It takes no memory.
+    /// Removes one user of each of the pins. Does not allocate.
     pub(crate) fn give_back(&mut self, stamps: &[Stamp])
         ensures after { AreGivenBack stamps.now self.old.cushion self.new.cushion }
         ensures same { self.new ≡ record self.old { cushion = self.new.cushion } }
@@ -205,8 +207,8 @@ impl<A: App> Ports<A> {
         pinned
     }
 
-    /// Retires the pins that no transaction uses and that are more than `age` before `now`: takes them out, and their
-    /// holds away. It answers how many they were.
+    /// Retires the pins that no transaction uses and that are more than `age` before `now`: removes them and
+    /// their holds. Returns how many.
     pub(crate) fn retire(&mut self, alloc: Global, now: u64, age: u64) -> Result<usize, AllocError>
         ensures retired { OnOk result (HasRetired now age self.old self.new) }
         ensures answer { IfOk result (λ count. count ≡ length (retired self.old.cushion now age)) }
@@ -227,8 +229,8 @@ impl<A: App> Ports<A> {
         }
     }
 
-    /// Has the node take the events. Then makes the horizon the least stamp that is held, or the newest where none is, and
-    /// drops what only stamps before it need.
+    /// Lets the node take the events. Then moves the horizon to the least held stamp, or to the newest if none
+    /// is held, and drops the versions and tags that only earlier stamps need.
     pub(crate) fn vacuum(&mut self, alloc: Global) -> Result<Stamp, DbError>
         ensures after { OnOk result (HasVacuumedPorts self.old self.new) }
         ensures node { GoesOnByEvents self.old.node self.new.node }
@@ -246,7 +248,7 @@ impl<A: App> Ports<A> {
         horizon
     }
 
-    /// Has the node drop the entries that end at the horizon or before it, and counts them.
+    /// Lets the node drop the entries whose span ends at the horizon or before it. Returns how many.
     pub(crate) fn sweep(&mut self, alloc: Global, horizon: Stamp) -> Result<usize, NodeError>
         ensures leads { CallerSweepTransition horizon self.old.node self.new.node result }
         ensures same { self.new ≡ record self.old { node = self.new.node } }
@@ -257,8 +259,8 @@ impl<A: App> Ports<A> {
         swept
     }
 
-    /// Has the node keep the longest prefix of its entries whose values have at most `most` bytes in all. Returns how many
-    /// entries it dropped.
+    /// Lets the node keep the longest prefix of its entries whose values have at most `most` bytes in all.
+    /// Returns how many entries it dropped.
     pub(crate) fn trim(&mut self, alloc: Global, most: usize) -> Result<usize, NodeError>
         ensures leads { CallerTrimTransition most self.old.node self.new.node result }
         ensures same { self.new ≡ record self.old { node = self.new.node } }
@@ -269,7 +271,7 @@ impl<A: App> Ports<A> {
         trimmed
     }
 
-    /// Returns what the node holds in all, and how many of its entries trims have dropped.
+    /// Returns the number and size of the node's entries, and how many of them trims have dropped.
     pub(crate) fn totals(&mut self) -> NodeTotals
         ensures answer { result ≡ totals_of self.old.node }
         ensures within { IsInBudget self.old.budget result.bytes }

@@ -1,4 +1,4 @@
-//! What a run is set to: its mode, and its settings, which are read from a TOML document.
+//! The mode of a run, and its settings, which are read from a TOML document.
 #![tactic(auto)]
 
 mod error;

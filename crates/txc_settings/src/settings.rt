@@ -7,19 +7,19 @@ use crate::error::SettingsError;
 use crate::keys::{first_fault, setting};
 use std::alloc::Global;
 
-/// What a run is set to. Each setting is in its range.
+/// Settings of a run. Each is in its range.
 #[derive(Clone, Copy, Debug, PartialEq, Eq)]
 pub struct Settings {
-    /// How many entries a node holds.
+    /// The number of entries that a node stores.
     pub capacity: usize,
     pub nodes: usize,
-    /// How many functions may be computed at one time.
+    /// The number of functions that may be computed at one time.
     pub permits: usize,
-    /// Of how many events a node keeps the tags.
+    /// The number of last events whose tags a node stores.
     pub recent: usize,
-    /// How old a pin may be before the present is pinned in its place, in milliseconds.
+    /// The age of a pin, in milliseconds, beyond which the present is pinned instead.
     pub renew_after: u64,
-    /// How many records a history holds.
+    /// The number of records that a history has room for.
     pub row_cap: usize,
     pub workers: usize,
     pub ghost capacity_in_range: { (1 ≤ capacity) × (capacity ≤ MAX_CAPACITY) },
@@ -34,8 +34,9 @@ pub struct Settings {
 impl Settings {
     ghost use Rattle.txc_settings.specs.Reads.{AreSettingsIn, IsSettingsRefusal};
 
-    /// The settings of a TOML document: `capacity`, `nodes`, `permits`, `recent`, `renew_after`, `row_cap`
-    /// and `workers`, each an integer in its range; one that the document leaves out has its default.
+    /// Reads the settings of a TOML document: `capacity`, `nodes`, `permits`, `recent`, `renew_after`,
+    /// `row_cap` and `workers`, each an integer in its range; one that the document omits has its default.
+    /// Fails if the text is not TOML, if a key or its value is not allowed, or if memory cannot be allocated.
     pub fn read(alloc: Global, text: &str) -> Result<Settings, SettingsError>
         ensures answer { IfOk result (AreSettingsIn text.now) }
         ensures refused { IfErr result (IsSettingsRefusal text.now) }

@@ -1,4 +1,4 @@
-//! What the ports did, as it is shown.
+//! Actions of the ports, as replies report them.
 ghost use Rattle.std.specs.Prelude.{◌≡◌, ◌<◌, ◌⊎◌, map, Err, IfErr, IfOk, IsOk, Ok, OnErr, Some};
 ghost use Rattle.txc_world.specs.Asks.{AnswersRows, DoesTell, DoesTellFound, IsTold, IsToldOf};
 
@@ -11,7 +11,7 @@ use txc_stamp::{Reach, Stamp};
 use txc_tags::TagSet;
 use txc_validity::Found;
 
-/// The rows of a query, by their ids, with its validity and its tags.
+/// Result of a query: the ids of the rows, with its validity and its tags.
 #[derive(Debug, Drop)]
 pub struct RowsFound {
     pub ids: Vec<u32>,
@@ -19,34 +19,34 @@ pub struct RowsFound {
     pub tags: TagSet,
 }
 
-/// What a port did at a request of a transaction.
+/// Action of a port at a request of a transaction.
 #[derive(Debug, Drop)]
 pub enum Did {
     /// The database pinned the present, at that stamp.
     Pinned(Stamp),
-    /// The pincushion took the pin.
+    /// The pincushion added the pin.
     Added,
-    /// The pincushion did not take the pin.
+    /// The pincushion did not add the pin.
     NotAdded(AddError),
-    /// The database took the hold of a pin that was not added away.
+    /// The database removed the hold of a pin that was not added.
     Unpinned,
-    /// The node has the call, over that reach.
+    /// The node has an entry of the call, over that reach.
     Hit(Reach),
-    /// The node has nothing of the call, or refused.
+    /// The node has no entry of the call, or failed.
     Miss,
     /// The database answered the query.
     Rows(RowsFound),
-    /// The node keeps the entry, over that reach.
+    /// The node stores the entry, over that reach.
     Stored(Reach),
     /// The node keeps the entry that it has of the same call and first stamp, which ends no earlier.
     Kept,
-    /// The node refused, and keeps nothing.
+    /// The node failed, and stores nothing.
     Dropped,
-    /// The database refused.
+    /// The database failed.
     Refused(DbError),
 }
 
-// The ids of the rows.
+// Returns the ids of the rows.
 fn ids_of(alloc: Global, rows: &[Row]) -> Result<Vec<u32>, AllocError>
     ensures { IfOk result (λ ids. ids.items ≡ map (λ r. r.id) rows.now) }
 {
@@ -57,7 +57,7 @@ fn ids_of(alloc: Global, rows: &[Row]) -> Result<Vec<u32>, AllocError>
     Ok(ids)
 }
 
-// What is shown of the rows found.
+// Returns the report of the found rows.
 fn rows_found(alloc: Global, found: &Found) -> Result<RowsFound, AllocError>
     ensures { IfOk result (IsToldOf found.now) }
 {
@@ -70,7 +70,7 @@ fn rows_found(alloc: Global, found: &Found) -> Result<RowsFound, AllocError>
     })
 }
 
-/// What was found, with what is shown of its rows.
+/// Returns the answer, with the report of its rows.
 pub(crate) fn with_rows(
     alloc: Global,
     found: Result<Found, DbError>,
@@ -83,7 +83,7 @@ pub(crate) fn with_rows(
     Ok((found, rows))
 }
 
-// A refusal, as it is shown and as it is handed over.
+// Returns an error, once for the report and once for the transaction.
 fn told_refusal(refusal: &DbError) -> (Did, Result<Found, DbError>)
     ensures { result ≡ (Did.Refused refusal.now, Err refusal.now) }
 {
@@ -91,7 +91,8 @@ fn told_refusal(refusal: &DbError) -> (Did, Result<Found, DbError>)
     (did, Err(*refusal))
 }
 
-/// What was found, and what is shown of it. Out of memory for what is shown, it is refused.
+/// Returns the report of the answer, and the answer. If memory for the report cannot be allocated, both are
+/// that error.
 pub(crate) fn answer_told(
     alloc: Global,
     found: Result<Found, DbError>,
@@ -105,7 +106,7 @@ pub(crate) fn answer_told(
     }
 }
 
-// What is shown of what was found, or of a refusal.
+// Returns the report of an answer, or of an error.
 fn found_told(alloc: Global, found: &Result<Answered<Found>, DbError>) -> Result<Did, AllocError>
     ensures tells { IfOk result (DoesTell (PortReply.Query found.now)) }
     ensures rows { OnErr result (AnswersRows (PortReply.Query found.now)) }
@@ -116,7 +117,7 @@ fn found_told(alloc: Global, found: &Result<Answered<Found>, DbError>) -> Result
     }
 }
 
-// What is shown of a reply. It takes memory for the rows of a query alone.
+// Returns the report of a reply. It allocates only for the rows of a query.
 fn did_of(alloc: Global, reply: &PortReply) -> Result<Did, AllocError>
     ensures tells { IfOk result (DoesTell reply.now) }
     ensures rows { OnErr result (AnswersRows reply.now) }
@@ -138,7 +139,8 @@ fn did_of(alloc: Global, reply: &PortReply) -> Result<Did, AllocError>
     Ok(did)
 }
 
-/// A reply, and what is shown of it. Out of memory for what is shown, a query is refused.
+/// Returns the report of a reply, and the reply. If memory for the report of a query cannot be allocated, both
+/// are that error.
 pub(crate) fn told(alloc: Global, reply: PortReply) -> (Did, PortReply)
     ensures tells { DoesTell result.1 result.0 }
     ensures same { IsTold reply result.1 }

@@ -1,4 +1,4 @@
-//! The keeper's steps, by what is asked of it.
+//! The keeper's steps, by kind.
 ghost use Rattle.txc_world.specs.Kept.{IsKeeperStep};
 
 use crate::did::with_rows;

@@ -16,11 +16,11 @@ use txc_shared::StoredNode;
 use txc_stamp::Stamp;
 use txc_validity::Found;
 
-/// The database, the pincushion and the nodes of a world, and the pins that its keeper has and did not add
+/// The database, the pincushion and the nodes of a world, and the pins that its keeper has made and not added
 /// yet.
 ///
-/// What each of them shows of the history is part of the database's. Each actor has a pass through each
-/// node, by the actor's number, and the keeper has the last one.
+/// The history that each of them shows is a prefix of the database's. Each actor has a pass at each node, by
+/// the actor's number, and the keeper has the last one.
 #[derive(Drop)]
 pub(crate) struct Ports<A: App> {
     database: DbCore,
@@ -63,7 +63,7 @@ impl<A: App> Ports<A> {
     ghost use Rattle.txc_world.specs.Ports.{whole_of, KeepsRow};
     ghost use Rattle.txc_world.specs.Worlds.{IsTrueNode};
 
-    /// The database and the pincushion; all else is dropped.
+    /// Returns the database and the pincushion, and drops the rest.
     pub(crate) fn into_parts(self) -> (DbCore, CushionCore)
         ensures database { result.0 ≡ self.database }
         ensures cushion { result.1 ≡ self.cushion }
@@ -80,14 +80,14 @@ impl<A: App> Ports<A> {
         (database, cushion)
     }
 
-    /// How many nodes there are.
+    /// Returns how many nodes there are.
     pub(crate) fn len(&self) -> usize
         ensures { result ≡ length self.now.nodes }
     {
         self.nodes.len()
     }
 
-    /// One of the nodes.
+    /// Returns one of the nodes.
     pub(crate) fn node(&self, at: usize) -> &StoredNode<A>
         requires { at < length self.now.nodes }
         ensures there { slice_get self.now.nodes at ≡ Some result.now }
@@ -100,7 +100,7 @@ impl<A: App> Ports<A> {
         &self.nodes[at]
     }
 
-    /// Pins the present, with this moment.
+    /// Pins the present, at this wall-clock time in milliseconds.
     pub(crate) fn pin(
         &mut self,
         alloc: Global,
@@ -124,7 +124,7 @@ impl<A: App> Ports<A> {
         self.cushion.add(pinned)
     }
 
-    /// Takes one hold of the stamp away.
+    /// Removes one hold of the stamp.
     pub(crate) fn unpin(&mut self, stamp: Stamp) -> Result<(), DbError>
         ensures leads { UnpinTransition stamp self.old self.new result }
         ensures same { self.new ≡ record self.old { database = self.new.database } }
@@ -144,7 +144,7 @@ impl<A: App> Ports<A> {
         self.database.hold(alloc)
     }
 
-    /// The answer of the query at the stamp, with a front of the whole history.
+    /// Returns the answer of the query at the stamp, with a front of the whole history.
     #[tactic(auto, using(txc_app::proofs::Claims::found_rows_hold))]
     pub(crate) fn find(
         &mut self,
@@ -160,7 +160,7 @@ impl<A: App> Ports<A> {
         Ok(Answered { answer, front })
     }
 
-    /// The newest of the pins that the bounds allow, each with one user more.
+    /// Issues the newest of the pins that the bounds allow, each with one more user.
     pub(crate) fn fresh(
         &mut self,
         alloc: Global,
@@ -178,7 +178,7 @@ impl<A: App> Ports<A> {
         Ok(pins)
     }
 
-    /// Gives one user of each of the pins back. It takes no memory.
+    /// Removes one user of each of the pins. Does not allocate.
     pub(crate) fn give_back_pins(&mut self, pins: &Pins)
         ensures same { self.new ≡ record self.old { cushion = self.new.cushion } }
         ensures users { GivesBack self.old self.new pins.now.pins.items }
@@ -189,8 +189,8 @@ impl<A: App> Ports<A> {
         }
     }
 
-    /// What the ports keep by themselves, and what their calls do, stamp by stamp. It does nothing when
-    /// it runs.
+    /// States the ports' own holdings, and the effects of their calls stamp by stamp. It does nothing when it
+    /// runs.
     pub(crate) fn count_right(&self)
         ensures { CountRight self.now }
     {
@@ -198,7 +198,7 @@ impl<A: App> Ports<A> {
         self.cushion.is_cushion();
     }
 
-    /// Each node is true. It goes over the nodes, and changes nothing.
+    /// Each node is true. It iterates over the nodes, and changes nothing.
     pub(crate) fn are_true(&self)
         ensures { All (IsTrueNode A.next (whole_of self.now)) self.now.nodes }
     {

@@ -1,4 +1,4 @@
-//! What keeps a caller small, whatever is open, and pins for transactions that begin later.
+//! Maintenance of a caller, whatever is open, and pins for later transactions.
 ghost use Rattle.std.specs.Prelude.{◌≡◌, IfErr, IfOk, OnErr, OnOk, length};
 ghost use Rattle.txc_cushion.specs.Cushion.{retired};
 ghost use Rattle.txc_db.specs.DatabaseValue.{next_horizon};
@@ -17,8 +17,9 @@ use txc_shared::NodeError;
 use txc_stamp::Stamp;
 
 impl<A: App> Caller<A> {
-    /// Retires the pins that no transaction uses and that are more than `age` before `now`, both in milliseconds: takes
-    /// them out, and their holds away. It answers how many they were.
+    /// Retires the pins that no transaction uses and that are more than `age` before `now`, both in
+    /// milliseconds: removes them and their holds. Returns how many. Fails, and changes nothing, only if memory
+    /// cannot be allocated.
     pub fn retire(&mut self, alloc: Global, now: u64, age: u64) -> Result<usize, AllocError>
         ensures retired { OnOk result (HasRetired now age self.old.ports self.new.ports) }
         ensures answer { IfOk result (λ count. count ≡ length (retired self.old.ports.cushion now age)) }
@@ -30,8 +31,8 @@ impl<A: App> Caller<A> {
         self.ports.retire(alloc, now, age)
     }
 
-    /// Has the node take the events. Then makes the horizon the least stamp that is held, or the newest where none is, and drops
-    /// what only stamps before it need.
+    /// Lets the node take the events. Then moves the horizon to the least held stamp, or to the newest if none
+    /// is held, returns it, and drops the versions and tags that only earlier stamps need.
     pub fn vacuum(&mut self, alloc: Global) -> Result<Stamp, DbError>
         ensures after { OnOk result (HasVacuumedPorts self.old.ports self.new.ports) }
         ensures node { GoesOnByEvents self.old.ports.node self.new.ports.node }
@@ -45,7 +46,7 @@ impl<A: App> Caller<A> {
         self.ports.vacuum(alloc)
     }
 
-    /// Has the node drop the entries that end at the horizon or before it, and counts them.
+    /// Lets the node drop the entries whose span ends at the horizon or before it. Returns how many.
     pub fn sweep(&mut self, alloc: Global, horizon: Stamp) -> Result<usize, NodeError>
         ensures leads { CallerSweepTransition horizon self.old.ports.node self.new.ports.node result }
         ensures same { self.new ≡ record self.old { ports = record self.old.ports { node = self.new.ports.node } } }
@@ -66,8 +67,8 @@ impl<A: App> Caller<A> {
         self.ports.trim(alloc, most)
     }
 
-    /// Returns how many entries the node holds, how many bytes their values have in all, and how many of its entries trims
-    /// have dropped. The bytes are within its budget. It changes nothing.
+    /// Returns how many entries the node has, how many bytes their values have in all, and how many of its
+    /// entries trims have dropped. The bytes are within the budget. It changes nothing.
     pub fn totals(&mut self) -> NodeTotals
         ensures answer { result ≡ totals_of self.old.ports.node }
         ensures within { IsInBudget self.old.ports.budget result.bytes }
@@ -76,8 +77,8 @@ impl<A: App> Caller<A> {
         self.ports.totals()
     }
 
-    /// Pins the newest state with this moment, for transactions that begin later, and returns its stamp. The pin is an event. No
-    /// transaction uses it yet.
+    /// Pins the newest state at the wall-clock time `moment`, in milliseconds, for later transactions, and
+    /// returns its stamp. The pin is an event. No transaction uses it yet.
     pub fn pin(&mut self, alloc: Global, moment: u64) -> Result<Stamp, PinError>
         ensures pinned { IfOk result (λ stamp. HasPinnedNewest moment self.old.ports stamp self.new.ports) }
         ensures refused { IfErr result (λ error. HasNotPinned moment self.old.ports error self.new.ports) }

@@ -61,7 +61,7 @@ impl TxnCore {
         Turn::Ended(Err(error))
     }
 
-    // Asks for a pin of the present, after which a call begins or the open one goes on.
+    // Requests a pin of the present, after which a call begins or the open one continues.
     fn pin_by_hand(&mut self, first: Option<Key>) -> Turn<PortRequest, Value>
         requires none { self.old.pinning ≡ None }
         requires due { choice_of self.old.bounds.now self.old.renew_after self.old.pins ≡ Choice.Present }
@@ -101,7 +101,8 @@ impl TxnCore {
         })
     }
 
-    // Asks for what the call needs, or ends it with its value; none if it needs a function.
+    // Makes the request that the call needs, or ends the call with its value. Returns `None` if it needs a
+    // function.
     pub(crate) fn asks(&mut self, alloc: Global) -> Option<Turn<PortRequest, Value>>
         requires fits { (next : Next) × (objects : Objects) × IsCore next objects (value_of self.old) }
         requires none { self.old.pinning ≡ None }

@@ -1,4 +1,4 @@
-//! What a transaction asks, put to the plain ports.
+//! Requests of a transaction at the plain ports.
 ghost use Rattle.std.specs.Prelude.{◌≡◌, ◌<◌, length, Some};
 ghost use Rattle.txc_world.specs.Asks.{kept_after};
 
@@ -10,7 +10,7 @@ use txc_db::HistoryFront;
 use txc_ports::{Kept, PortReply, PortRequest};
 use txc_shared::Insertion;
 
-// What a node keeps that made the insertion.
+// Returns the result of a node's insertion.
 fn kept_by(insertion: Insertion) -> Kept
     ensures { Some result ≡ kept_after (Some insertion) }
 {
@@ -20,7 +20,7 @@ fn kept_by(insertion: Insertion) -> Kept
     }
 }
 
-// The same; nothing where it refused.
+// Returns the result of a node's insertion, or `None` if the node failed.
 fn kept_after(made: Option<Insertion>) -> Option<Kept>
     ensures { result ≡ kept_after made }
 {
@@ -36,8 +36,8 @@ impl<A: App> Ports<A> {
     ghost use Rattle.txc_world.specs.Parts.{IsPartOf};
     ghost use Rattle.txc_world.specs.Ports.{whole_of};
 
-    /// Asks what a transaction asks, as a step of the pass. It has seen that much of the history. A node that
-    /// refuses has nothing, and keeps nothing.
+    /// Makes the transaction's request, as a step of the pass. `seen` is the history that the transaction has
+    /// seen. A node that fails has no entry, and stores none.
     pub(crate) fn ask(
         &mut self,
         alloc: Global,

@@ -1,4 +1,4 @@
-//! The steps of the keeper at the plain ports, each with its reply, and the commits of actors.
+//! The keeper's steps at the plain ports, each with its reply, and the commits of actors.
 ghost use Rattle.std.specs.Prelude.{◌≡◌, ◌<◌, false, true, length, slice_index, IfNone, IfSome};
 ghost use Rattle.std.specs.List.{remove};
 ghost use Rattle.txc_db.specs.DatabaseValue.{is_held, without};
@@ -18,7 +18,7 @@ use txc_stamp::Stamp;
 use txc_tags::TagSet;
 use txc_validity::Found;
 
-// The place of the first pin of the stamp.
+// Returns the place of the first pin of the stamp.
 fn place_of(spare: &[Pinned], stamp: Stamp) -> Option<usize>
     ensures within { IfSome result (λ at. at < length spare.now) }
     ensures held { IfSome result (λ at. is_held stamp (stamps_of_pins spare.now) ≡ true) }
@@ -41,7 +41,7 @@ impl<A: App> Ports<A> {
     ghost use Rattle.txc_world.specs.Kept.{IsKeeperStep};
     ghost use Rattle.txc_world.specs.Ports.{KeepsRow};
 
-    /// Commits the changes, where no event after the base matches what was read.
+    /// Commits the changes if no event after the base matches what was read.
     pub(crate) fn commit(
         &mut self,
         alloc: Global,
@@ -57,7 +57,7 @@ impl<A: App> Ports<A> {
         Ok(stamp)
     }
 
-    /// Commits the change at the newest stamp, with nothing read.
+    /// Commits the change at the newest stamp, without reads.
     pub(crate) fn write(&mut self, alloc: Global, change: &Change) -> Reply
         ensures { IsKeeperStep (Keep.Write change.now) self.old self.new result }
     {
@@ -70,7 +70,7 @@ impl<A: App> Ports<A> {
         }
     }
 
-    /// Pins the present, and has its pin to add.
+    /// Pins the present and queues the pin.
     pub(crate) fn pin_spare(&mut self, alloc: Global, now: u64) -> Result<Stamp, DbError>
         ensures leads { PinSpareTransition now self.old self.new result }
         ensures keeps { KeepsRow self.old self.new }
@@ -83,7 +83,7 @@ impl<A: App> Ports<A> {
         Ok(stamp)
     }
 
-    /// Adds the pin of the stamp that it has, and has it no more, if it has one.
+    /// Adds the queued pin of this stamp, if there is one, to the pincushion, and removes it from the queue.
     pub(crate) fn add_spare(&mut self, stamp: Stamp) -> Reply
         ensures { IsKeeperStep (Keep.Add stamp) self.old self.new result }
     {
@@ -97,7 +97,7 @@ impl<A: App> Ports<A> {
         }
     }
 
-    /// Gives one user of each stamp back to the pincushion.
+    /// Removes one user of each stamp at the pincushion.
     pub(crate) fn give_back(&mut self, stamps: &[Stamp]) -> Result<(), UnknownPin>
         ensures leads { GiveBackTransition stamps.now self.old self.new result }
         ensures keeps { KeepsRow self.old self.new }
@@ -106,7 +106,7 @@ impl<A: App> Ports<A> {
         self.cushion.give_back(stamps)
     }
 
-    /// Takes the pins out that no transaction may use and whose moment is more than `age` before `now`.
+    /// Removes the pins without users whose time is more than `age` before `now`.
     pub(crate) fn retire(&mut self, alloc: Global, now: u64, age: u64) -> Reply
         ensures { IsKeeperStep (Keep.Retire now age) self.old self.new result }
     {
@@ -116,7 +116,7 @@ impl<A: App> Ports<A> {
         }
     }
 
-    /// Drops the versions that no held stamp shows.
+    /// Drops the versions that no held stamp needs.
     pub(crate) fn vacuum(&mut self) -> Reply
         ensures { IsKeeperStep Keep.Vacuum self.old self.new result }
     {
@@ -126,7 +126,7 @@ impl<A: App> Ports<A> {
         }
     }
 
-    /// The answer of the query at the stamp.
+    /// Returns the answer of the query at the stamp.
     pub(crate) fn answer(
         &mut self,
         alloc: Global,
@@ -154,7 +154,7 @@ impl<A: App> Ports<A> {
         }
     }
 
-    /// Lets the node drop the entries that end at the horizon or before it, and counts them.
+    /// Lets the node drop the entries whose span ends at the horizon or before it.
     pub(crate) fn sweep(&mut self, alloc: Global, at: usize, horizon: Stamp) -> Reply
         ensures { IsKeeperStep (Keep.Sweep at horizon) self.old self.new result }
     {

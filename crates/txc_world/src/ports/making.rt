@@ -14,7 +14,7 @@ use txc_shared::{MAX_PASSES, NodeSettings, StoredNode};
 use txc_stamp::Stamp;
 use txc_stream::{EventRow, MAX_CAPACITY as ROW_MOST};
 
-// A node without entries, with so many passes.
+// Makes a node without entries, with `passes` passes.
 fn new_node<A: App>(
     alloc: Global,
     database: &DbCore,
@@ -40,7 +40,7 @@ fn new_node<A: App>(
     Ok(node)
 }
 
-// The nodes, by their numbers, with so many passes each.
+// Makes the nodes, by their numbers, each with `passes` passes.
 fn new_nodes<A: App>(
     alloc: Global,
     database: &DbCore,
@@ -71,7 +71,8 @@ impl<A: App> Ports<A> {
     ghost use Rattle.txc_db.specs.Refusals.{IsWant};
     ghost use Rattle.txc_world.specs.Making.{AreNewPorts};
 
-    /// The ports of a new world, with a pass through each node for each actor and for the keeper.
+    /// Makes the ports of a new world, with a pass at each node for each actor and for the keeper. Fails only
+    /// if memory cannot be allocated or SQLite fails.
     pub(crate) fn new(
         alloc: Global,
         settings: &WorldSettings,
