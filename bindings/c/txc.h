@@ -30,7 +30,7 @@ extern "C" {
 #endif
 
 /* The number of this header: it rises with each change of a call or a struct. txc_abi() gives that of the library. */
-#define TXC_ABI 3
+#define TXC_ABI 4
 
 #define TXC_LAST_FUNCTION 63       /* functions are 0 to 63 */
 #define TXC_MAX_ARGS 4             /* arguments of a call */
@@ -177,9 +177,14 @@ typedef struct {
                           * Before it keeps a value it drops the entries that were used longest ago, as txc_site_trim does, until
                           * there is room. A value of more bytes is answered and not kept. 0: there is no budget, and nothing is
                           * dropped for its bytes */
+    size_t store;        /* where the newest version of each row lies. TXC_STORE_SQL, the default: in a table of SQLite in memory, for
+                          * rows that are queried. TXC_STORE_PLAIN: in ordered maps, for small rows that are written a hundred times
+                          * as often as they are read, such as versions. Every call has the same answer over both */
 } txc_site_settings;
 
-#define TXC_SITE_SETTINGS {sizeof(txc_site_settings), 0, 0, 0, 0, 0}
+enum { TXC_STORE_SQL = 0, TXC_STORE_PLAIN = 1 };
+
+#define TXC_SITE_SETTINGS {sizeof(txc_site_settings), 0, 0, 0, 0, 0, TXC_STORE_SQL}
 
 /* What a keep did: how many pins it retired, the horizon that it left, below which nothing is read any more, and how many
  * results the node dropped. */
@@ -364,7 +369,8 @@ uint32_t txc_remove(txc_site *site, txc_txn txn, uint8_t table, uint32_t id);
 
 /* Commits the changes, and writes the newest stamp that they leave. What is not TXC_DONE has committed nothing, and the transaction
  * stays open with its changes; of TXC_CONFLICT it can only be aborted.
- * TXC_DONE, TXC_NOT_OPEN, TXC_MID_CALL, TXC_CONFLICT, TXC_NO_MEMORY, or TXC_REFUSED where there is no room for an event. */
+ * TXC_DONE, TXC_NOT_OPEN, TXC_MID_CALL, TXC_CONFLICT, TXC_NO_MEMORY, or TXC_REFUSED where there is no room for an event, or where
+ * the store of the rows has no memory for its own work: that commit may be made again. */
 uint32_t txc_commit_write(txc_site *site, txc_txn txn, uint32_t *stamp);
 
 /* Pins the newest state, with this moment, for transactions that begin later, and writes its stamp. Such a pin is an event. No

@@ -201,17 +201,60 @@ pub struct Site {
     handle: Arc<Mutex<Handle>>,
 }
 
+/// Where the newest version of each row lies. Every call has the same answer over both.
+#[derive(Clone, Copy, Debug, Default, PartialEq, Eq, Hash)]
+pub enum Store {
+    /// A table of SQLite in memory, for rows that are queried.
+    #[default]
+    Sql,
+    /// Ordered maps, for small rows that are written a hundred times as often as they are read, such as versions.
+    Plain,
+}
+
+impl Store {
+    fn number(self) -> usize {
+        match self {
+            Store::Sql => ffi::STORE_SQL,
+            Store::Plain => ffi::STORE_PLAIN,
+        }
+    }
+}
+
+/// How a site is made, for [`Site::open`]. By default no event is stored, there is no budget, and the rows lie in SQLite.
+///
+/// ```
+/// use txcache_node::site::{Settings, Site, Store};
+///
+/// let site = Site::open(Settings { store: Store::Plain, renew_after: 20_000, ..Settings::default() })?;
+/// # Ok::<(), txcache_node::site::Error>(())
+/// ```
+#[derive(Clone, Copy, Debug, Default, PartialEq, Eq)]
+pub struct Settings {
+    /// How many events, which are commits and pins, the site has room for. If `None`, they are not stored, and [`Site::keep`] lets go
+    /// what no transaction can read any more.
+    pub events: Option<usize>,
+    /// How many entries the node has at most; 0 is 65,536.
+    pub capacity: usize,
+    /// How many events the node keeps the tags of; 0 is 4,096.
+    pub recent: usize,
+    /// A pin that is older than so many milliseconds is renewed.
+    pub renew_after: u64,
+    /// How many bytes the values of the node's results have at most in all, after each call. Before the node keeps a value it drops
+    /// the results that were used longest ago, until there is room. A value of more bytes is answered and not kept.
+    pub budget: Option<usize>,
+    /// Where the rows lie.
+    pub store: Store,
+}
+
 impl Site {
     /// Makes a database, and a node of so many entries that keeps the tags of the last `recent` events; 0 is 65,536 entries, and 4,096
     /// events. With no bound on its events, which are its commits and pins, they are not stored, and [`Site::keep`] lets go what no
     /// transaction can read any more; else it has room for so many. A pin that is older than `renew_after` milliseconds is renewed.
     pub fn new(events: Option<usize>, capacity: usize, recent: usize, renew_after: u64) -> Result<Site, Error> {
-        Site::made(events, capacity, recent, renew_after, 0)
+        Site::open(Settings { events, capacity, recent, renew_after, ..Settings::default() })
     }
 
-    /// The same with a budget: the values of the node's results have at most `bytes` bytes in all, after each call. Before it keeps a
-    /// value it drops the results that were used longest ago, until there is room. A value of more bytes is answered and not kept.
-    /// Fails if the budget is 0.
+    /// The same with a budget, as [`Settings::budget`] has it. Fails if the budget is 0.
     pub fn with_budget(
         events: Option<usize>,
         capacity: usize,
@@ -219,25 +262,23 @@ impl Site {
         renew_after: u64,
         bytes: usize,
     ) -> Result<Site, Error> {
-        if bytes == 0 {
-            return Err(Error::BadArgument);
-        }
-        Site::made(events, capacity, recent, renew_after, bytes)
+        Site::open(Settings { events, capacity, recent, renew_after, budget: Some(bytes), ..Settings::default() })
     }
 
-    // With 0 bytes there is no budget.
-    fn made(events: Option<usize>, capacity: usize, recent: usize, renew_after: u64, bytes: usize) -> Result<Site, Error> {
+    /// Makes a site of these settings. Fails if there is room for no event, if the budget is 0, or if a setting is above its limit.
+    pub fn open(settings: Settings) -> Result<Site, Error> {
         assert_eq!(unsafe { ffi::txc_abi() }, ffi::ABI, "libtxc_c.a is of another header");
-        if events == Some(0) {
+        if settings.events == Some(0) || settings.budget == Some(0) {
             return Err(Error::BadArgument);
         }
         let settings = ffi::SiteSettings {
             size: size_of::<ffi::SiteSettings>(),
-            events: events.unwrap_or(0), // as the library has it
-            capacity,
-            recent,
-            renew_after,
-            bytes,
+            events: settings.events.unwrap_or(0), // as the library has it
+            capacity: settings.capacity,
+            recent: settings.recent,
+            renew_after: settings.renew_after,
+            bytes: settings.budget.unwrap_or(0),
+            store: settings.store.number(),
         };
         let mut handle = ffi::Handle {
             slot: std::ptr::null_mut(),
@@ -307,7 +348,7 @@ impl Site {
     }
 
     /// Keeps the longest prefix of the node's results, the most recently used first, whose values have at most `most` bytes in all,
-    /// whatever is open. Returns how many it dropped. A site that was made by [`Site::with_budget`] does so itself.
+    /// whatever is open. Returns how many it dropped. A site that has a budget does so itself.
     pub fn trim(&self, most: usize) -> Result<usize, Error> {
         let mut dropped = 0;
         done(unsafe { ffi::txc_site_trim(&mut self.lock().0, most, &mut dropped) })?;

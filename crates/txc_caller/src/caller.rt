@@ -26,7 +26,7 @@ use std::alloc::{AllocError, Global};
 use std::marker::Model;
 use txc_app::App;
 use txc_cushion::{CushionCore, Pins};
-use txc_db::DbError;
+use txc_db::{DbError, RowStore};
 use txc_ports::Bounds;
 use txc_shared::NodeSettings;
 use txc_stamp::Stamp;
@@ -115,12 +115,13 @@ pub(crate) fn begun(
 impl<A: App> Caller<A> {
     ghost use Rattle.txc_caller.specs.Writing.{IsBegunWrite, IsWriteOf};
 
-    /// Returns a caller with an empty database, an empty pincushion and an empty node. The database has room
-    /// for `room` events, or, if that is `None`, stores none and has room for 4,294,967,294. `budget` limits
-    /// the bytes of the node's values in all after each method: an insertion makes room first, and a value over
-    /// the budget by itself is not stored. `renew_after` is in milliseconds.
+    /// Returns a caller with an empty database over that store of rows, an empty pincushion and an empty node. The
+    /// database has room for `room` events, or, if that is `None`, stores none and has room for 4,294,967,294.
+    /// `budget` limits the bytes of the node's values in all after each method: an insertion makes room first, and
+    /// a value over the budget by itself is not stored. `renew_after` is in milliseconds.
     pub fn new(
         alloc: Global,
+        rows: RowStore,
         room: Option<usize>,
         node: NodeSettings,
         budget: Option<usize>,
@@ -137,7 +138,7 @@ impl<A: App> Caller<A> {
         ensures renew_after { IfOk result (λ caller. caller.renew_after ≡ renew_after) }
         ensures refused { IfErr result IsWant }
     {
-        let Ok(plain) = Box::new(alloc, PlainPorts::new(alloc, room, node, budget)?) else {
+        let Ok(plain) = Box::new(alloc, PlainPorts::new(alloc, rows, room, node, budget)?) else {
             return Err(DbError::Memory);
         };
         Ok(Caller {
