@@ -1,4 +1,4 @@
-//! What is written of the outcomes of jobs.
+//! Texts of the outcomes of jobs.
 ghost use Rattle.std.specs.Prelude.{◌≡◌, ◌≢◌, ◌++◌, Err, IfOk, OnOk, OnErr};
 ghost use Rattle.std.specs.List.{flat_map, list_any};
 ghost use Rattle.txc_batch.specs.OutcomeTexts.{batch_text, is_refused_batch, is_refused_outcome, result_text};
@@ -16,7 +16,7 @@ fn is_refused(outcome: &Outcome) -> bool
     }
 }
 
-/// Puts the lines of jobs after the text. Returns whether one of them holds a refusal.
+/// Appends the lines of jobs. Returns whether one of them has a refusal.
 fn push_results(alloc: Global, text: &mut Vec<u8>, ran: &Ran) -> Result<bool, AllocError>
     ensures text { OnOk result (text.new.items ≡ text.old.items ++ flat_map result_text ran.now.results) }
     ensures refusal { IfOk result (λ refused.
@@ -28,8 +28,8 @@ fn push_results(alloc: Global, text: &mut Vec<u8>, ran: &Ran) -> Result<bool, Al
     Ok(ran.results().iter().any(|told| is_refused(&told.outcome)))
 }
 
-/// Puts after the text what a batch gave. Returns whether that holds a refusal. Of a batch that was refused
-/// memory nothing is written.
+/// Appends the output of a batch. Returns whether it has a refusal. It writes nothing for a batch that failed
+/// for want of memory.
 pub fn push_batch(
     alloc: Global,
     text: &mut Vec<u8>,

@@ -1,4 +1,4 @@
-//! The handle of a node: a pointer to one that stands on the heap.
+//! The handle of a node: a pointer to one on the heap.
 ghost use Rattle.std.specs.Prelude.{◌≡◌, Bool, true, false, Some, None};
 ghost use Rattle.txc_c.specs.Counted.{Counted};
 ghost use Rattle.std.specs.Option.{option_map};
@@ -19,7 +19,7 @@ pub struct Slot {
 }
 
 impl Drop for Slot {
-    /// A slot that is full is not let go: its node would never be freed.
+    /// A full slot must not be dropped: its node would never be freed.
     fn drop(self)
         requires { self.is_full ≡ false }
     {
@@ -77,7 +77,7 @@ pub struct TxcNode {
 }
 
 impl Drop for TxcNode {
-    /// An open handle is not let go.
+    /// An open handle must not be dropped.
     fn drop(self)
         requires { self.is_open ≡ false }
     {
@@ -91,7 +91,7 @@ impl Drop for TxcNode {
 impl TxcNode {
     ghost use Rattle.txc_c.specs.Held.{held};
 
-    /// Its slot, and whether that has a node.
+    /// Returns its slot, and whether that has a node.
     pub(crate) fn into_slot(self) -> (Slot, bool)
         ensures slot { result.0 ≡ self.slot }
         ensures open { result.1 ≡ self.is_open }
@@ -101,7 +101,7 @@ impl TxcNode {
         (slot, is_open)
     }
 
-    /// Whether it has a node.
+    /// Returns `true` if it has a node.
     pub(crate) fn is_open(&self) -> bool
         ensures { result ≡ self.now.is_open }
     {
@@ -130,7 +130,7 @@ impl TxcNode {
         }
     }
 
-    /// Puts a node in where there is none.
+    /// Puts a node into an empty handle.
     pub(crate) fn put(&mut self, node: Box<CountedNode, Global>)
         requires { held self.old ≡ None }
         ensures { held self.new ≡ Some node.value }
@@ -142,12 +142,12 @@ impl TxcNode {
     }
 }
 
-// What the slot points to may go to another thread, and so may the slot.
+// A node may go to another thread, and so may the slot that points to it.
 unsafe impl Send for Slot {}
 
 pub(crate) fn crosses<T: Send>(_it: &T) {}
 
-/// A handle may go to another thread: this is compiled only where that is proved. It does nothing.
+/// Shows that a handle may go to another thread: this compiles only if that is proved. It does nothing.
 pub fn handle_crosses(handle: &TxcNode) {
     crosses(handle);
 }

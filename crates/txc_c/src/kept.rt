@@ -1,6 +1,6 @@
-//! What a keep did.
+//! Results of maintenance.
 
-/// What a keep did: pins that it retired, the horizon, and entries that the node dropped.
+/// Result of a maintenance run: retired pins, the horizon, and entries that the node dropped.
 #[repr(C)]
 #[derive(Clone, Copy)]
 pub struct TxcKept {

@@ -1,8 +1,9 @@
-//! The versioned cache of one node, and a database with its pins and a node, for callers in C: a static library.
+//! The versioned cache of one node, and a database with its pins and a node, for callers in C: a static
+//! library.
 //!
-//! Each export is a call of a node or of a site over what can cross: numbers, structs of numbers, and slices as a pointer
-//! and a length. Its contract says the same of what stands behind the handle, which number is returned, and what is written
-//! where. The header is `bindings/c/txc.h`.
+//! Each export is a call of a node or of a site with arguments that can cross: numbers, structs of numbers, and
+//! slices as a pointer and a length. Its contract specifies the effect on the node or site behind the handle,
+//! the returned number, and what is written where. The header is `bindings/c/txc.h`.
 #![tactic(auto)]
 
 mod counted;

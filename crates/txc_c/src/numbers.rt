@@ -1,4 +1,4 @@
-//! The numbers of refusals, which an export returns.
+//! The numbers of errors, which an export returns.
 ghost use Rattle.std.specs.Prelude.{◌≡◌};
 ghost use Rattle.txc_c.specs.Asking.{txn_number, change_number};
 ghost use Rattle.txc_c.specs.Keeping.{add_number, node_number, pin_number};
@@ -11,7 +11,7 @@ use txc_db::DbError;
 use txc_ports::TxnError;
 use txc_shared::NodeError;
 
-/// The number of what keeps a transaction from being answered, or from keeping a change.
+/// Returns the number of an error of a transaction.
 pub(crate) fn txn_number(error: TxnError) -> u32
     ensures { result ≡ txn_number error }
 {
@@ -21,7 +21,7 @@ pub(crate) fn txn_number(error: TxnError) -> u32
     }
 }
 
-/// The number of a change that is kept, or why it is not.
+/// Returns the number of a change: buffered, or the error.
 pub(crate) fn change_number(kept: Result<(), TxnError>) -> u32
     ensures { result ≡ change_number kept }
 {
@@ -31,7 +31,7 @@ pub(crate) fn change_number(kept: Result<(), TxnError>) -> u32
     }
 }
 
-/// The number of a refusal of the node.
+/// Returns the number of an error of the node.
 pub(crate) fn node_number(error: NodeError) -> u32
     ensures { result ≡ node_number error }
 {
@@ -41,7 +41,7 @@ pub(crate) fn node_number(error: NodeError) -> u32
     }
 }
 
-/// The number of a refusal of the pincushion.
+/// Returns the number of an error of the pincushion.
 pub(crate) fn add_number(error: AddError) -> u32
     ensures { result ≡ add_number error }
 {
@@ -51,7 +51,7 @@ pub(crate) fn add_number(error: AddError) -> u32
     }
 }
 
-/// The number of a pin that was not made.
+/// Returns the number of an error of pinning.
 pub(crate) fn pin_number(error: PinError) -> u32
     ensures { result ≡ pin_number error }
 {
@@ -61,7 +61,7 @@ pub(crate) fn pin_number(error: PinError) -> u32
     }
 }
 
-/// The number of a refusal of the database.
+/// Returns the number of an error of the database.
 pub(crate) fn database_number(error: DbError) -> u32
     ensures { result ≡ database_number error }
 {
@@ -72,7 +72,7 @@ pub(crate) fn database_number(error: DbError) -> u32
     }
 }
 
-/// The number of what keeps a transaction that writes from being committed.
+/// Returns the number of an error of committing a read-write transaction.
 pub(crate) fn write_number(error: WriteError) -> u32
     ensures { result ≡ write_number error }
 {

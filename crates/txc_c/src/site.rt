@@ -1,4 +1,5 @@
-//! A database, its pincushion and a node, and the transactions that are open over them, whose functions the caller computes.
+//! A database, its pincushion and a node, and the open transactions over them, whose functions the caller
+//! computes.
 ghost use Rattle.std.specs.Prelude.{◌≡◌, IfErr, IfOk, MatchOption, None, Some, true};
 ghost use Rattle.txc_db.specs.Refusals.{IsWant};
 ghost use Rattle.txc_c.specs.Settings.{are_settings};
@@ -20,13 +21,13 @@ use std::marker::Model;
 use txc_caller::Caller;
 use txc_db::DbError;
 
-/// A caller, and what is open at it.
+/// A caller, and its open transactions.
 #[derive(Drop)]
 pub(crate) struct Site {
     caller: Caller<Opaque>,
-    // The transactions that are open. Each stands at the place that its number names.
+    // The open transactions. Each is at the place that its number determines.
     opened: Slab<Opened>,
-    // How many transactions have begun.
+    // The number of transactions that have begun.
     begun: u64,
 }
 
@@ -41,7 +42,8 @@ impl Model for Site {
 }
 
 impl Site {
-    /// An empty database with the room that the settings name, an empty pincushion and an empty node. Nothing is open.
+    /// Makes an empty database with the room of the settings, an empty pincushion and an empty node, without
+    /// open transactions.
     pub(crate) fn new(alloc: Global, settings: &TxcSiteSettings) -> Result<Site, DbError>
         requires { are_settings settings.now ≡ true }
         ensures made { IfOk result (IsNewSite settings.now) }
@@ -62,7 +64,7 @@ impl Site {
         })
     }
 
-    /// Returns whether one more transaction may begin.
+    /// Returns `true` if one more transaction may begin.
     pub(crate) fn has_place(&self) -> bool
         ensures { result ≡ may_begin self.now }
     {

@@ -1,4 +1,4 @@
-//! The handle of a site: a pointer to one that stands on the heap.
+//! The handle of a site: a pointer to one on the heap.
 ghost use Rattle.std.specs.Prelude.{◌≡◌, Bool, true, false, Some, None};
 ghost use Rattle.txc_c.specs.Sites.{SiteValue};
 ghost use Rattle.std.specs.Option.{option_map};
@@ -20,7 +20,7 @@ pub struct SiteSlot {
 }
 
 impl Drop for SiteSlot {
-    /// A slot that is full is not let go: its site would never be freed.
+    /// A full slot must not be dropped: its site would never be freed.
     fn drop(self)
         requires { self.is_full ≡ false }
     {
@@ -78,7 +78,7 @@ pub struct TxcSite {
 }
 
 impl Drop for TxcSite {
-    /// An open handle is not let go.
+    /// An open handle must not be dropped.
     fn drop(self)
         requires { self.is_open ≡ false }
     {
@@ -92,7 +92,7 @@ impl Drop for TxcSite {
 impl TxcSite {
     ghost use Rattle.txc_c.specs.SiteHeld.{site_held};
 
-    /// Its slot, and whether that has a site.
+    /// Returns its slot, and whether that has a site.
     pub(crate) fn into_slot(self) -> (SiteSlot, bool)
         ensures slot { result.0 ≡ self.slot }
         ensures open { result.1 ≡ self.is_open }
@@ -102,7 +102,7 @@ impl TxcSite {
         (slot, is_open)
     }
 
-    /// Whether it has a site.
+    /// Returns `true` if it has a site.
     pub(crate) fn is_open(&self) -> bool
         ensures { result ≡ self.now.is_open }
     {
@@ -131,7 +131,7 @@ impl TxcSite {
         }
     }
 
-    /// Puts a site in where there is none.
+    /// Puts a site into an empty handle.
     pub(crate) fn put(&mut self, site: Box<Site, Global>)
         requires { site_held self.old ≡ None }
         ensures { site_held self.new ≡ Some site.value }
@@ -143,10 +143,11 @@ impl TxcSite {
     }
 }
 
-// What the slot points to may go to another thread, and so may the slot.
+// A site may go to another thread, and so may the slot that points to it.
 unsafe impl Send for SiteSlot {}
 
-/// The handle of a site may go to another thread: this is compiled only where that is proved. It does nothing.
+/// Shows that the handle of a site may go to another thread: this compiles only if that is proved. It does
+/// nothing.
 pub fn site_crosses(handle: &TxcSite) {
     crosses(handle);
 }

@@ -1,5 +1,5 @@
-//! Runs of a world's scripts: what their lines ask for, the steps that those stand for, and what is written
-//! of the replies.
+//! Runs of a world's scripts: the tasks of their lines, the steps of these tasks, and the output of the
+//! replies.
 #![tactic(auto)]
 
 mod laws;

@@ -1,4 +1,4 @@
-//! What takes the replies to steps.
+//! Takers of the replies to steps.
 ghost use Rattle.std.specs.Prelude.{◌≡◌, ◌≤◌, ℕ, List, IfSome, IfNone, None};
 ghost use Rattle.txc_node.specs.Steps.{is_refusal, seen_reply};
 ghost use Rattle.txc_node.specs.declared.hit.Shown.{Shown};
@@ -14,14 +14,14 @@ use txc_tags::LAST_FUNCTION;
 
 /// Takes the replies to steps: a text, to which they are written, or a report, which counts them.
 pub trait Taker {
-    // The reply to a step was taken.
+    // The relation of the taker after a reply to the one before.
     ghost takes: { Self → Op → Reply Shown → Self → Type 0 };
 
-    // What was written so far.
+    // The text written so far.
     ghost text: { Self → List ℕ };
 
-    /// Takes the reply to a step of that function, if it is of one. Returns whether it is a refusal; else it leaves that a
-    /// growth was refused.
+    /// Takes the reply to a step of that function, or of none. Returns whether it is a refusal. If memory
+    /// cannot be allocated, returns `None`, and sets `why`.
     fn take<F: Drop>(
         &mut self,
         alloc: Global,
@@ -37,7 +37,7 @@ pub trait Taker {
         ensures unchanged { IfNone result (text self.new ≡ text self.old) };
 }
 
-/// Leaves that a growth was refused.
+/// Sets `why` to a failed allocation.
 #[cold]
 #[inline(never)]
 pub(crate) fn out_of_memory<F: Drop>(why: &mut Unanswered<F>) -> Option<bool>

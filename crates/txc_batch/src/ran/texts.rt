@@ -1,4 +1,4 @@
-//! How the results of jobs are written.
+//! Texts of the results of jobs.
 ghost use Rattle.std.specs.Fmt.{WritesOnOk};
 ghost use Rattle.std.specs.List.{flat_map};
 ghost use Rattle.txc_batch.specs.OutcomeTexts.{outcome_text, result_text};
@@ -7,7 +7,7 @@ use crate::ran::Ran;
 use std::fmt;
 use txc_work::Outcome;
 
-/// Writes the values of a job's calls, or the refusal of one.
+/// Writes the values of a job's calls, or the error of one.
 fn write_outcome<W: fmt::Write>(f: &mut fmt::Formatter<W>, outcome: &Outcome) -> fmt::Result
     ensures { WritesOnOk W.write_str_gives f.old result (outcome_text outcome.now) f.new }
 {

@@ -1,4 +1,4 @@
-//! What is asked in an open transaction.
+//! Requests in an open transaction.
 ghost use Rattle.std.specs.Prelude.{◌≡◌, None};
 ghost use Rattle.txc_app.specs.declared.ask.Ask.TheVariants as asks;
 ghost use Rattle.txc_c.specs.Telling.{buffer};
@@ -20,7 +20,7 @@ use txc_caller::{Caller, CallerWrite};
 use txc_crossing::ANSWERED;
 use txc_rows::Query;
 
-// Reads the rows of a query in a transaction that writes, by no function, and writes how many they are.
+// Reads the rows of a query of a read-write transaction itself, and writes how many they are.
 fn read_rows(
     alloc: Global,
     caller: &mut Caller<Opaque>,
@@ -44,7 +44,7 @@ fn read_rows(
 }
 
 impl Open {
-    /// Makes an ask, and writes what has come of it.
+    /// Makes a step, and writes its result.
     pub(crate) fn ask(
         &mut self,
         alloc: Global,
@@ -65,7 +65,8 @@ impl Open {
         tell_step(self, step, value, len)
     }
 
-    /// Asks for the rows of a query: by the function that is computed; or itself, if none is and it writes.
+    /// Requests the rows of a query: for the function being computed, or for a read-write transaction itself if
+    /// there is none.
     pub(crate) fn query(
         &mut self,
         alloc: Global,

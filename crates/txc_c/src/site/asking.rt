@@ -1,4 +1,4 @@
-//! What is asked in a transaction of a site.
+//! Requests in a transaction of a site.
 ghost use Rattle.txc_app.specs.declared.ask.Ask.TheVariants as asks;
 ghost use Rattle.txc_crossing.specs.Crossing.{named_call};
 ghost use Rattle.txc_c.specs.Exports.{SiteAsksNext};
@@ -15,7 +15,7 @@ use txc_crossing::{BAD_ARGUMENT, DONE, MISS, NO_MEMORY, NOT_OPEN, TxcKey};
 use txc_rows::Query;
 
 impl Site {
-    // Makes an ask in the transaction of that number.
+    // Makes a step in the transaction of that number.
     fn step(&mut self, alloc: Global, txn: u64, ask: Ask, value: &mut [u8], len: &mut usize) -> u32
         requires { SiteAsksNext ask txn self.old }
         ensures { StepComesTo ask (buffer value.old len.old) (buffer value.new len.new) txn self.old result self.new }
@@ -30,7 +30,7 @@ impl Site {
         it.txn.ask(alloc, &mut self.caller, ask, value, len)
     }
 
-    /// Asks for the value of a call.
+    /// Requests the value of a call.
     pub(crate) fn call(
         &mut self,
         alloc: Global,
@@ -48,7 +48,7 @@ impl Site {
         self.step(alloc, txn, Ask::Call(key), value, len)
     }
 
-    /// Asks for the rows of a query: by the function that is computed, or by a transaction that writes.
+    /// Requests the rows of a query: for the function being computed, or for a read-write transaction itself.
     pub(crate) fn query(
         &mut self,
         alloc: Global,
@@ -72,7 +72,7 @@ impl Site {
         it.txn.query(alloc, &mut self.caller, query, count)
     }
 
-    /// The function that is computed gives a copy of these bytes.
+    /// Ends the function being computed with a copy of these bytes as its value.
     pub(crate) fn finish(
         &mut self,
         alloc: Global,
@@ -90,7 +90,7 @@ impl Site {
         self.step(alloc, txn, Ask::Done(Bytes::new(copy)), value, len)
     }
 
-    /// Gives the whole open call of the transaction up.
+    /// Cancels the whole open call of the transaction.
     pub(crate) fn give_up(&mut self, txn: u64) -> u32
         ensures { GiveUpComesTo txn self.old result self.new }
     {

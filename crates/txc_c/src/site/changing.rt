@@ -1,4 +1,4 @@
-//! What a transaction of a site changes that writes.
+//! Changes of a site's read-write transaction.
 ghost use Rattle.txc_c.specs.Asking.{ChangeComesTo, PutComesTo, RemoveComesTo};
 
 use crate::opened::{acts_leave_others, place_of};
@@ -9,7 +9,7 @@ use txc_rows::{Change, Row};
 use txc_tags::Table;
 
 impl Site {
-    // Makes a change in the transaction of that number.
+    // Buffers a change in the transaction of that number.
     fn change(&mut self, txn: u64, change: Change) -> u32
         ensures { ChangeComesTo change txn self.old result self.new }
     {
@@ -23,7 +23,7 @@ impl Site {
         it.txn.change(change)
     }
 
-    /// A row is to stand once the transaction is committed, with a copy of the body, which may be any bytes.
+    /// Buffers a put of a row with a copy of the body, which may be any bytes.
     pub(crate) fn put(
         &mut self,
         alloc: Global,
@@ -48,7 +48,7 @@ impl Site {
         self.change(txn, Change::Put(row))
     }
 
-    /// No row is to stand at the table and id once the transaction is committed.
+    /// Buffers the removal of the row at the table and id.
     pub(crate) fn remove(&mut self, txn: u64, table: u8, id: u32) -> u32
         ensures { RemoveComesTo table id txn self.old result self.new }
     {

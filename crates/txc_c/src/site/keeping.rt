@@ -1,4 +1,4 @@
-//! What keeps a site small, whatever is open, and pins for transactions that begin later.
+//! Maintenance of a site, whatever is open, and pins for later transactions.
 ghost use Rattle.txc_caller.specs.Ports.{HasGrownDatabase};
 ghost use Rattle.txc_caller.specs.Reading.{KeepsCaller};
 ghost use Rattle.txc_c.specs.Keeping.{HasKept, KeepComesTo, PinComesTo};
@@ -12,8 +12,8 @@ use std::alloc::Global;
 use txc_caller::Caller;
 use txc_crossing::{DONE, NO_MEMORY};
 
-// Retires pins; the node takes the events, and the database drops the versions that no stamp from the horizon on shows; then
-// the node drops what ends there.
+// Retires pins; lets the node take the events; lets the database drop the versions that no stamp from the
+// horizon on needs; then lets the node drop the entries that end there.
 fn keep(alloc: Global, caller: &mut Caller<Opaque>, now: u64, age: u64, kept: &mut TxcKept) -> u32
     ensures kept { HasKept now age caller.old result kept.old kept.new caller.new }
     ensures caller { KeepsCaller caller.old caller.new }
@@ -39,7 +39,7 @@ fn keep(alloc: Global, caller: &mut Caller<Opaque>, now: u64, age: u64, kept: &m
 }
 
 impl Site {
-    /// Tidies, whatever is open.
+    /// Runs the maintenance, whatever is open.
     pub(crate) fn keep(&mut self, alloc: Global, now: u64, age: u64, kept: &mut TxcKept) -> u32
         ensures { KeepComesTo now age kept.old kept.new self.old result self.new }
     {

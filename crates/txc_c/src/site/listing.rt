@@ -1,4 +1,4 @@
-//! Which transactions are open at a site, and what is shown of each.
+//! The open transactions of a site, and their results.
 ghost use Rattle.txc_c.specs.Asking.{LastOf, MemberOf, ReadStampOf, RowOf};
 ghost use Rattle.txc_c.specs.Listing.{CountTold, IsLeastOpen, OldestTold};
 ghost use Rattle.txc_c.specs.Sites.{open_at};
@@ -11,7 +11,7 @@ use crate::telling::{rows_found, tell_last};
 use txc_crossing::{DONE, MISS, NOT_OPEN, tell};
 
 impl Site {
-    /// Writes one of the rows that the transaction found last.
+    /// Writes one of the rows that the transaction read last.
     pub(crate) fn row_at(
         &self,
         txn: u64,
@@ -35,7 +35,7 @@ impl Site {
         }
     }
 
-    /// Writes what the transaction was answered last once more.
+    /// Writes the transaction's last result again.
     pub(crate) fn answer(&self, txn: u64, value: &mut [u8], len: &mut usize) -> u32
         ensures { LastOf (buffer value.old len.old) (buffer value.new len.new) (open_at self.now txn) result }
     {
@@ -61,7 +61,7 @@ impl Site {
         }
     }
 
-    /// Writes one of the pins at which all is right that a transaction was answered which only reads.
+    /// Writes one of the pins at which every result of a read-only transaction is correct.
     pub(crate) fn member_at(&self, txn: u64, at: usize, stamp: &mut u32, moment: &mut u64) -> u32
         ensures { MemberOf at (stamp.old, moment.old) (stamp.new, moment.new) (open_at self.now txn) result }
     {
@@ -86,7 +86,7 @@ impl Site {
         DONE
     }
 
-    // Returns the least number of the transactions that are open.
+    // Returns the least number of an open transaction.
     fn oldest(&self) -> Option<u64>
         ensures { IsLeastOpen self.now result }
     {
@@ -100,7 +100,7 @@ impl Site {
         least
     }
 
-    /// Writes the number of the transaction that began first of those that are open.
+    /// Writes the number of the open transaction that began first.
     pub(crate) fn oldest_open(&self, txn: &mut u64) -> u32
         ensures { OldestTold txn.old txn.new self.now result }
     {

@@ -1,4 +1,4 @@
-//! Trims of a site's node, whatever is open, and what the node holds in all.
+//! Trims of a site's node, whatever is open, and the number and size of its entries.
 ghost use Rattle.std.specs.Prelude.{◌≡◌};
 ghost use Rattle.txc_c.specs.Trimming.{TotalsTold, TrimComesTo};
 
@@ -10,8 +10,8 @@ use std::alloc::Global;
 use txc_crossing::DONE;
 
 impl Site {
-    /// Has the node keep the longest prefix of its entries, the most recently used first, whose values have at most `most`
-    /// bytes in all. Writes how many entries it dropped.
+    /// Lets the node keep the longest prefix of its entries, the most recently used first, whose values have at
+    /// most `most` bytes in all. Writes how many entries it dropped.
     pub(crate) fn trim(&mut self, alloc: Global, most: usize, dropped: &mut usize) -> u32
         ensures { TrimComesTo most dropped.old dropped.new self.old result self.new }
     {
@@ -25,8 +25,8 @@ impl Site {
         }
     }
 
-    /// Writes how many entries the node holds, how many bytes their values have in all, and how many entries trims have
-    /// dropped. It changes nothing.
+    /// Writes how many entries the node has, how many bytes their values have in all, and how many entries
+    /// trims have dropped. It changes nothing.
     pub(crate) fn totals(&mut self, totals: &mut TxcTotals) -> u32
         ensures { TotalsTold totals.new self.old result × (self.new ≡ self.old) }
     {

@@ -1,4 +1,4 @@
-//! Transactions of a site that begin and end.
+//! Beginning and ending transactions of a site.
 ghost use Rattle.std.specs.Prelude.{◌≡◌, is_some, IfErr, IfSome, OnOk};
 ghost use Rattle.slab.specs.Slab.{HasRoomFor};
 ghost use Rattle.txc_c.specs.Sites.{HasMadeRoom, IsNoRoom, IsPlaced, IsPutBack, IsTakenOut};
@@ -13,7 +13,7 @@ use txc_crossing::{BAD_ARGUMENT, DONE, MID_CALL, NO_MEMORY, NOT_OPEN, REFUSED};
 use txc_ports::Bounds;
 use txc_stamp::{MOST_STAMP, Stamp};
 
-// A stamp of a site; none if the number is above its limit.
+// Returns a stamp of a site, or `None` if the number is above its limit.
 fn site_stamp(number: u32) -> Option<Stamp>
     ensures there { is_some result ≡ is_site_stamp number }
     ensures stamp { IfSome result (λ stamp. stamp ≡ number) }
@@ -25,7 +25,7 @@ fn site_stamp(number: u32) -> Option<Stamp>
 }
 
 impl Site {
-    // Makes room for one transaction more, or returns the number of what keeps one from beginning.
+    // Makes room for one more transaction, or returns the number of the error.
     fn make_room(&mut self) -> Result<(), u32>
         ensures made { OnOk result (HasMadeRoom self.old self.new) }
         ensures refused { IfErr result (λ number. IsNoRoom self.old number self.new) }
@@ -33,7 +33,8 @@ impl Site {
         if !self.has_place() {
             return Err(REFUSED);
         }
-        // This never happens: a slab's next key is at most as many as were ever open at once. No clause of `slab` says so.
+        // This never happens: a slab's next key is at most the number of transactions that were ever open at
+        // once. No clause of `slab` states so.
         if self.opened.vacant_key() as u64 >= MAX_OPEN {
             return Err(NO_MEMORY);
         }
@@ -43,7 +44,7 @@ impl Site {
         Ok(())
     }
 
-    /// Begins a transaction that only reads, and writes its number.
+    /// Begins a read-only transaction, and writes its number.
     pub(crate) fn begin(
         &mut self,
         alloc: Global,
@@ -74,7 +75,7 @@ impl Site {
         DONE
     }
 
-    /// Begins a transaction that writes over the newest state, and writes its number.
+    /// Begins a read-write transaction at the newest state, and writes its number.
     pub(crate) fn begin_write(&mut self, alloc: Global, txn: &mut u64) -> u32
         ensures { BeginWriteComesTo txn.old txn.new self.old result self.new }
     {
@@ -91,7 +92,7 @@ impl Site {
         }
     }
 
-    /// Begins a transaction that writes over the state of that stamp, and writes its number.
+    /// Begins a read-write transaction at the state of that stamp, and writes its number.
     pub(crate) fn begin_write_at(&mut self, alloc: Global, stamp: u32, txn: &mut u64) -> u32
         ensures { BeginWriteAtComesTo stamp txn.old txn.new self.old result self.new }
     {
@@ -119,7 +120,7 @@ impl Site {
         self.opened.try_remove(place_of(txn))
     }
 
-    // Puts back what was taken out last.
+    // Puts the transaction back that was taken out last.
     fn put_back(&mut self, it: Opened)
         requires room { HasRoomFor self.old.opened 1 }
         requires placed { IsPlaced self.old.caller self.old.begun self.old.opened.vacant_key it }
@@ -128,7 +129,7 @@ impl Site {
         let _place = self.opened.insert_reserved(it);
     }
 
-    /// Ends the transaction that only reads, and writes its receipt.
+    /// Ends the read-only transaction, and writes its receipt.
     pub(crate) fn commit(&mut self, txn: u64, receipt: &mut TxcReceipt) -> u32
         ensures { CommitComesTo receipt.old receipt.new txn self.old result self.new }
     {
@@ -157,7 +158,7 @@ impl Site {
         DONE
     }
 
-    /// Commits the changes of the transaction that writes, and writes the newest stamp.
+    /// Commits the changes of the read-write transaction, and writes the newest stamp.
     pub(crate) fn commit_write(&mut self, alloc: Global, txn: u64, stamp: &mut u32) -> u32
         ensures { CommitWriteComesTo stamp.old stamp.new txn self.old result self.new }
     {
@@ -188,7 +189,7 @@ impl Site {
         }
     }
 
-    /// Gives the transaction up.
+    /// Aborts the transaction.
     pub(crate) fn abort(&mut self, txn: u64) -> u32
         ensures { AbortComesTo txn self.old result self.new }
     {

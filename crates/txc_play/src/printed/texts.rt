@@ -1,4 +1,4 @@
-//! What is written of what lines of a world's script are answered.
+//! Texts of the outputs of a world's script.
 ghost use Rattle.std.specs.Prelude.{map};
 ghost use Rattle.std.specs.Fmt.{WritesOnOk};
 ghost use Rattle.txc_play.specs.TaskTexts.{asked_text, did_text, end_text, found_text, ids_text, stamps_text, world_reply_text};
@@ -57,7 +57,7 @@ fn write_found<W: fmt::Write>(f: &mut fmt::Formatter<W>, found: &RowsFound) -> f
 
 // ---- replies
 
-/// Writes how a call ended.
+/// Writes the result of a call.
 fn write_end<W: fmt::Write>(f: &mut fmt::Formatter<W>, end: &Result<Value, TxnError>) -> fmt::Result
     ensures { WritesOnOk W.write_str_gives f.old result (end_text end.now) f.new }
 {
@@ -70,7 +70,7 @@ fn write_end<W: fmt::Write>(f: &mut fmt::Formatter<W>, end: &Result<Value, TxnEr
     }
 }
 
-/// Writes what a port did.
+/// Writes the action of a port.
 fn write_did<W: fmt::Write>(f: &mut fmt::Formatter<W>, did: &Did) -> fmt::Result
     ensures { WritesOnOk W.write_str_gives f.old result (did_text did.now) f.new }
 {
@@ -95,8 +95,8 @@ fn write_did<W: fmt::Write>(f: &mut fmt::Formatter<W>, did: &Did) -> fmt::Result
     }
 }
 
-/// Writes what a port did, and how the call ended with it, if it did. Of a request that was refused and ended
-/// its call that refusal stands alone.
+/// Writes the action of a port, and the call's result, if the call ended with it. If an error of the request
+/// ended the call, only that error is written.
 fn write_asked<W: fmt::Write>(
     f: &mut fmt::Formatter<W>,
     did: &Did,
