@@ -2,8 +2,8 @@
 ghost use Rattle.std.specs.Prelude.{◌≡◌};
 ghost use Rattle.txc_c.specs.Totals.{crossing_totals};
 
-/// How many entries a node has, how many bytes their values have in all, and how many entries trims have
-/// dropped.
+/// The number of a node's entries, the number of bytes of their values in all, and the number of entries that
+/// trims have dropped.
 #[repr(C)]
 #[derive(Clone, Copy)]
 pub struct TxcTotals {

@@ -39,7 +39,7 @@ pub const NOT_OPEN: u32 = 14;
 pub const MID_CALL: u32 = 15;
 /// The call or the operation failed, or no transaction can begin.
 pub const REFUSED: u32 = 16;
-/// What was read has changed.
+/// A commit conflicts: what the transaction has read was changed since.
 pub const CONFLICT: u32 = 18;
 
 /// Returns the number of an error.

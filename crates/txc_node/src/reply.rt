@@ -17,11 +17,11 @@ pub enum Reply<H> {
     Hit(H),
     /// A lookup found nothing.
     Miss,
-    /// How many entries an event closed.
+    /// The number of entries that an event closed.
     Closed(usize),
-    /// How many entries a sweep dropped.
+    /// The number of entries that a sweep dropped.
     Swept(usize),
-    /// How many entries a trim dropped.
+    /// The number of entries that a trim dropped.
     Trimmed(usize),
     /// The step failed with this error.
     Refused(Refusal),

@@ -13,7 +13,7 @@ pub enum PortReply {
     Pin(Result<Pinned, DbError>),
     /// The pin, and whether it was added.
     AddPin(Pinned, Result<(), AddError>),
-    /// Whether the hold was removed.
+    /// Success if the hold was removed, or the error.
     Unpin(Result<(), DbError>),
     /// The node's entry of the call, with the history in which it is true. A node that fails has none.
     Lookup(Option<Answered<Shown>>),

@@ -23,8 +23,8 @@ use std::alloc::{AllocError, Global};
 use txc_stamp::Stamp;
 use txc_tags::Table;
 
-/// How many versions died in the table, how many dead ones were replaced in it, and how many are the first of
-/// their table, id and group.
+/// Numbers of versions that died in the table, of dead ones that were replaced in it, and of those that are the
+/// first of their table, id and group.
 #[derive(Clone, Copy)]
 pub(crate) struct Written {
     pub ended: usize,

@@ -1,4 +1,4 @@
-//! What a publisher posts of a history for the walkers through it.
+//! Notes of a history that a publisher posts for the walkers through it.
 
 ghost use Rattle.std.specs.Prelude.{◌≡◌};
 

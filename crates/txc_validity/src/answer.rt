@@ -25,7 +25,7 @@ pub struct Found {
 #[derive(Drop)]
 pub struct Counted {
     pub found: Found,
-    /// How many times a version was tested for visibility at a stamp.
+    /// The number of versions tested for visibility at a stamp.
     pub tests: usize,
 }
 

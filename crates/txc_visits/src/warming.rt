@@ -26,7 +26,7 @@ pub struct Warmth<A: App> {
     ghost state: { EndInOneState whole front },
 }
 
-/// Whether a site is the only one, or one of several of which each continues the one before.
+/// The place of a site: the only one, or one of several of which each continues the one before.
 #[derive(Drop)]
 pub enum Succession<A: App> {
     /// Its nodes begin empty, and none of their entries is carried over.
