@@ -1,8 +1,11 @@
 ghost use Rattle.std.specs.Fmt.{WritesOnOk};
 ghost use Rattle.txc_call.specs.Codes.{call_code};
 
+use crate::frames::MAX_CALL_ASKS;
 use std::fmt;
 use thiserror::Error;
+use txc_app::MOST_ASKS;
+use txc_node::MOST_VALUE_LEN;
 
 /// Errors of a call. Every object that ran for it is idle afterwards.
 #[derive(Clone, Copy, Debug, PartialEq, Eq, Error)]
@@ -11,25 +14,25 @@ pub enum CallError {
     #[error("there is no function {0}")]
     NoFunction(u8),
     /// The first function called the second, which is not below it.
-    #[error("function {0} may not call function {1}")]
+    #[error("function {0} may only call functions with lower numbers, and called function {1}")]
     CallOrder(u8, u8),
     /// An activation made one step more than it may.
-    #[error("an activation asked too often")]
+    #[error("a function made more queries and calls than its application allows, at most {MOST_ASKS} with its return")]
     AskLimit,
     /// The activations of the call together made one step more than they may.
-    #[error("the call asked too often")]
+    #[error("the functions of a call made more than {MAX_CALL_ASKS} queries, calls and returns in all")]
     Budget,
     /// No permit is left.
-    #[error("no permit is left")]
+    #[error("no permit to run a function is left")]
     Busy,
     /// An object has no memory.
-    #[error("a function is out of memory")]
+    #[error("a function has no memory")]
     ObjectMemory,
     /// A value has more bytes than a node may store.
-    #[error("the value is too long")]
+    #[error("a function's value is longer than its application allows, at most {MOST_VALUE_LEN} bytes")]
     ValueTooLong,
     /// The function does not take these arguments.
-    #[error("function {0} takes no such arguments")]
+    #[error("function {0} does not take these arguments")]
     BadArguments(u8),
     /// Memory cannot be allocated.
     #[error("out of memory")]

@@ -28,7 +28,7 @@ pub enum CallerError {
     #[error("{0}")]
     Txn(TxnError),
     /// No function is being computed.
-    #[error("no function is computed")]
+    #[error("no function is being computed")]
     NoFunction,
 }
 
@@ -45,7 +45,7 @@ pub struct Written {
 #[derive(Clone, Copy, Debug, PartialEq, Eq, Error)]
 pub enum WriteError {
     /// A function is being computed.
-    #[error("a call is open")]
+    #[error("a call is open, which must be finished or cancelled first")]
     MidCall,
     /// The database failed.
     #[error("{0}")]

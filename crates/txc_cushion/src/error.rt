@@ -1,6 +1,7 @@
 ghost use Rattle.std.specs.Fmt.{WritesOnOk};
 ghost use Rattle.txc_cushion.specs.Codes.{add_code};
 
+use crate::limits::MAX_PINS;
 use std::alloc::AllocError;
 use std::fmt;
 use thiserror::Error;
@@ -10,7 +11,7 @@ use txc_stamp::Stamp;
 #[derive(Clone, Copy, Debug, PartialEq, Eq, Error)]
 pub enum AddError {
     /// The pincushion has [`crate::MAX_PINS`] pins.
-    #[error("the pincushion is full")]
+    #[error("the pincushion has {MAX_PINS} pins, and no more can be added")]
     Full,
     /// This stamp has a pin already.
     #[error("stamp {0} is pinned already")]
@@ -46,7 +47,7 @@ impl From<AllocError> for AddError {
 
 /// The first returned stamp without a pin, or whose pin has no user left. Nothing has changed.
 #[derive(Clone, Copy, Debug, PartialEq, Eq, Error)]
-#[error("stamp {stamp} has no user to give back")]
+#[error("the pin of stamp {stamp} has no user left")]
 pub struct UnknownPin {
     pub stamp: Stamp,
 }

@@ -18,7 +18,7 @@ pub struct Answered<T> {
 pub enum CommitError {
     /// The commit conflicts with an event after the base that matches the tags read: the first such event, with
     /// a front that shows it.
-    #[error("event {} conflicts with what was read", .0.answer)]
+    #[error("the commit conflicts with event {}, which changed what was read", .0.answer)]
     Conflict(Answered<Stamp>),
     /// Any other error of the database.
     #[error("{0}")]

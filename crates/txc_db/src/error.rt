@@ -1,6 +1,7 @@
 ghost use Rattle.std.specs.Fmt.{WritesOnOk};
 ghost use Rattle.txc_db.specs.Codes.{database_code};
 
+use crate::holds::MAX_HOLDS;
 use std::alloc::{AllocError, AllocFailed};
 use std::fmt;
 use thiserror::Error;
@@ -12,30 +13,30 @@ use txc_stamp::Stamp;
 #[derive(Clone, Copy, Debug, PartialEq, Eq, Error)]
 pub enum DbError {
     /// The stamp is below the horizon, which is given.
-    #[error("the snapshot is gone: the horizon is {0}")]
+    #[error("the snapshot is gone: the oldest that can be read has the stamp {0}")]
     SnapshotGone(Stamp),
     /// The commit conflicts with an event after the base that matches the tags read; the first such event is
     /// given.
-    #[error("event {0} conflicts with what was read")]
+    #[error("the commit conflicts with event {0}, which changed what was read")]
     Conflict(Stamp),
     /// The history has as many events as it has room for.
-    #[error("the history is full")]
+    #[error("the history has no room for another event")]
     Full,
     /// The store of the row versions failed: too many versions match, or it has no memory for its own work, or
     /// SQLite failed otherwise.
     #[error("{0}")]
     Store(StoreError),
     /// Another record is in the event log after the history. Every later call fails so.
-    #[error("the database is broken")]
+    #[error("the database is broken: its event log has another record")]
     Broken,
     /// No hold of the stamp exists.
     #[error("stamp {0} is not held")]
     NotPinned(Stamp),
     /// The stamp is beyond the newest one, which is given.
-    #[error("the newest stamp is {0}")]
+    #[error("the stamp is beyond the newest one, {0}")]
     FutureStamp(Stamp),
     /// There are [`crate::MAX_HOLDS`] holds.
-    #[error("too many stamps are held")]
+    #[error("{MAX_HOLDS} stamps are held, and no more can be")]
     HoldsFull,
     /// Memory cannot be allocated.
     #[error("out of memory")]

@@ -9,7 +9,7 @@ use txc_shared::NodeError;
 #[derive(Clone, Copy, Debug, PartialEq, Eq, Error)]
 pub enum SiteError {
     /// A number of the plan is 0 or beyond its limit.
-    #[error("a number of the plan is out of its limits")]
+    #[error("a number of the plan is 0 or above its limit")]
     Plan,
     /// Two functions have this number.
     #[error("two functions have the number {0}")]

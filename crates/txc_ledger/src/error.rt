@@ -10,7 +10,7 @@ use txc_stamp::Stamp;
 pub enum WriteError {
     /// Each of the tries ended with a conflict: for each the first event that matches what was read, with a
     /// front that shows it.
-    #[error("there was a conflict at each try")]
+    #[error("the change conflicted at every try (tries: {})", .0.len())]
     Conflicts(Vec<Answered<Stamp>>),
     /// A transaction cannot begin.
     #[error("{0}")]

@@ -18,7 +18,7 @@ pub enum RunError {
     #[error("{0}")]
     Key(KeyError),
     /// The page or change itself failed, with this number, whose meaning its author defines.
-    #[error("refused for the reason {0}")]
+    #[error("the page or change failed with the number {0}")]
     Own(u32),
 }
 

@@ -12,7 +12,7 @@ use txc_tags::{Key, TagSet};
 #[derive(Clone, Copy, Debug, PartialEq, Eq, Error)]
 pub enum EntryError {
     /// The last known stamp is below the first.
-    #[error("the last stamp known is below the first")]
+    #[error("the last known stamp of the entry is below its first")]
     BadReach,
     /// The value has more than [`MAX_VALUE_LEN`] bytes.
     #[error("the value is longer than {MAX_VALUE_LEN} bytes")]

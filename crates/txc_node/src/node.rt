@@ -39,12 +39,12 @@ pub const MAX_RECENT: usize = 4_096;
 
 /// The range of stamps of a lookup is empty: it ends before it begins.
 #[derive(Clone, Copy, Debug, PartialEq, Eq, Error)]
-#[error("the range of stamps is empty")]
+#[error("the range of stamps ends before it begins")]
 pub struct EmptyRange;
 
 /// The event is not the one after the processed stamp.
 #[derive(Clone, Copy, Debug, PartialEq, Eq, Error)]
-#[error("the event is out of order")]
+#[error("the event does not directly follow the last one, of stamp {processed}")]
 pub struct OutOfOrder {
     /// The stamp of the last event that the node took.
     pub processed: Stamp,

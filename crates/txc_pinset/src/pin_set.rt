@@ -13,7 +13,7 @@ use txc_stamp::{Reach, Stamp};
 
 /// Error: the reach holds no member, so the set would be empty.
 #[derive(Clone, Copy, Debug, PartialEq, Eq, Error)]
-#[error("no stamp would remain")]
+#[error("the reach holds no stamp of the pin set")]
 pub struct WouldEmpty;
 
 /// The stamps at which a transaction may still be serialised. As long as it has read nothing, the present is

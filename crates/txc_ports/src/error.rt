@@ -5,7 +5,7 @@ use std::alloc::AllocError;
 use std::fmt;
 use thiserror::Error;
 use txc_call::CallError;
-use txc_cushion::AddError;
+use txc_cushion::{AddError, MAX_PINS};
 use txc_db::DbError;
 use txc_stamp::Stamp;
 
@@ -19,14 +19,14 @@ pub enum TxnError {
     #[error("{0}")]
     Database(DbError),
     /// The database no longer has the snapshot; its horizon is given.
-    #[error("the snapshot is gone: the horizon is {0}")]
+    #[error("the snapshot is gone: the oldest that can be read has the stamp {0}")]
     SnapshotLost(Stamp),
     /// The pincushion did not take the pin of the present. The pin's event stays in the history, and its hold
     /// was released.
-    #[error("the pincushion takes no pin")]
+    #[error("the present cannot be pinned: the pincushion has {MAX_PINS} pins, or this stamp already")]
     PinsFull,
     /// The transaction has as many changes as it may buffer.
-    #[error("too many changes")]
+    #[error("the transaction has as many changes as it may buffer")]
     BufferFull,
     /// Memory cannot be allocated.
     #[error("out of memory")]

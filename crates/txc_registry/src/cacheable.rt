@@ -11,10 +11,10 @@ pub enum CallFault {
     #[error("out of memory")]
     Memory,
     /// No permit is left.
-    #[error("no permit is left")]
+    #[error("no permit to run a function is left")]
     Busy,
     /// The function does not take these arguments.
-    #[error("the function takes no such arguments")]
+    #[error("the function does not take these arguments")]
     Args,
 }
 

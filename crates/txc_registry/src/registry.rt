@@ -11,7 +11,7 @@ use txc_app::{Answer, App, Ask};
 
 /// Error: two objects have the function of this number.
 #[derive(Clone, Copy, Debug, PartialEq, Eq, Error)]
-#[error("two objects are of the function {0}")]
+#[error("two functions have the number {0}")]
 pub struct Twice(pub u8);
 
 /// The objects that a client runs, at most one for each function of the application `A`. A contract sees them

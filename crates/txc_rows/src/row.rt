@@ -22,10 +22,10 @@ pub const LAST_BODY_BYTE: u8 = 0x7e;
 pub enum RowError {
     /// The body is empty, longer than [`MAX_BODY_LEN`], or has a byte outside [`FIRST_BODY_BYTE`] to
     /// [`LAST_BODY_BYTE`].
-    #[error("a body is 1 to {MAX_BODY_LEN} bytes, each from 0x21 to 0x7E")]
+    #[error("the body is not 1 to {MAX_BODY_LEN} bytes, each from 0x21 to 0x7E")]
     BadBody,
     /// The body is longer than [`MAX_BYTES_LEN`].
-    #[error("a body is at most {MAX_BYTES_LEN} bytes")]
+    #[error("the body has more than {MAX_BYTES_LEN} bytes")]
     LongBody,
 }
 

@@ -15,13 +15,13 @@ pub const MOST_MATCHING: usize = 65_536;
 #[derive(Clone, Copy, Debug, PartialEq, Eq, Error)]
 pub enum StoreError {
     /// More versions match the query than are allowed: [`MAX_MATCHING`], or the greater number that was set.
-    #[error("too many versions match")]
+    #[error("too many versions match the query: at most {MAX_MATCHING} may, or up to {MOST_MATCHING} if so set")]
     TooManyRows,
     /// SQLite failed for another reason than memory. Its transaction was rolled back.
-    #[error("the store refused: {0}")]
+    #[error("the store of rows failed: {0}")]
     Store(sqlite::Error),
     /// SQLite had no memory for its own work. Its transaction was rolled back.
-    #[error("the store refused: out of memory")]
+    #[error("the store of rows failed: out of memory")]
     StoreMemory,
     /// Memory for the answer cannot be allocated.
     #[error("out of memory")]

@@ -1,6 +1,7 @@
 ghost use Rattle.std.specs.Fmt.{WritesOnOk};
 ghost use Rattle.txc_shared.specs.Codes.{node_code};
 
+use crate::log::MAX_PASSES;
 use std::alloc::{AllocError, AllocFailed};
 use std::fmt;
 use thiserror::Error;
@@ -10,16 +11,16 @@ use thiserror::Error;
 #[derive(Clone, Copy, Debug, PartialEq, Eq, Error)]
 pub enum NodeError {
     /// Another record is in the node's log after its own. Every later call fails so.
-    #[error("the node is broken")]
+    #[error("the node is broken: its log has another record")]
     Broken,
     /// The stamps of a lookup end before they begin.
-    #[error("the stamps end before they begin")]
+    #[error("the range of stamps ends before it begins")]
     EmptyRange,
     /// The history has as many records as its log has cells.
-    #[error("the history is full")]
+    #[error("the node's history has no room for another record")]
     HistoryFull,
     /// There are [`crate::MAX_PASSES`] passes.
-    #[error("there are too many passes")]
+    #[error("the node has {MAX_PASSES} passes, and no more can be made")]
     PassesFull,
     /// Memory cannot be allocated.
     #[error("out of memory")]

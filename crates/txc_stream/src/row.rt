@@ -66,10 +66,10 @@ impl<T> Model for Front<T> {
 #[derive(Drop, Error)]
 pub enum AppendError<T> {
     /// The front shows as many records as the row has cells.
-    #[error("the row is full")]
+    #[error("the log has no room for another record")]
     Full(Box<T>),
     /// The cell after the front already holds a record, which the front does not show yet.
-    #[error("another record stands in the cell")]
+    #[error("the next cell of the log has another record")]
     Taken(Refused<T>),
 }
 

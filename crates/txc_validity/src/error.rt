@@ -7,7 +7,7 @@ use txc_stamp::Stamp;
 pub enum ValidityError {
     /// The stamp is outside the kept stamps. The fields are the first of these, the horizon, and the last, the
     /// newest.
-    #[error("the stamp lies outside the kept stamps")]
+    #[error("the stamp is outside the kept stamps, {0} to {1}")]
     OutsideKept(Stamp, Stamp),
     /// Memory for the answer cannot be allocated.
     #[error("out of memory")]

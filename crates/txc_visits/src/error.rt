@@ -12,7 +12,7 @@ pub enum OpenError {
     #[error("{0}")]
     Site(SiteError),
     /// The opening was not written, and nothing of it was committed. No thread was started.
-    #[error("the opening was refused: {0}")]
+    #[error("the opening failed: {0}")]
     Opening(WriteError),
     /// Memory for the threads cannot be allocated. The opening was written. Some threads may have run, and
     /// their results are lost; others may not.

@@ -23,14 +23,14 @@ pub enum Refusal {
     #[error("there is no such node")]
     NoNode,
     /// The actor has a transaction open, or the hold of an ended one must still be removed.
-    #[error("a transaction is open already")]
+    #[error("the actor has a transaction open already")]
     AlreadyOpen,
-    #[error("no transaction is open")]
+    #[error("the actor has no such transaction open")]
     NotOpen,
-    #[error("the transaction is in the middle of a call")]
+    #[error("the actor's transaction is in the middle of a call")]
     MidCall,
     /// The actor has no call open, or the keeper has no such pin queued.
-    #[error("there is no request to make")]
+    #[error("the actor or the keeper has no request to make")]
     NoRequest,
     #[error("{0}")]
     Database(DbError),

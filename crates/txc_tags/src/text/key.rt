@@ -15,7 +15,7 @@ use std::fmt;
 
 /// The text is not a key's.
 #[derive(Debug, Clone, Copy, PartialEq, Eq, thiserror::Error)]
-#[error("no text of a key: it goes wrong after {at} bytes")]
+#[error("the text is not a key: it is wrong after {at} bytes")]
 pub struct BadKey {
     /// The length in bytes of the longest prefix of the text that is also a prefix of some key's text.
     pub at: usize,

@@ -15,7 +15,7 @@ use std::fmt;
 
 /// The text is not a tag's, or not a set's.
 #[derive(Debug, Clone, Copy, PartialEq, Eq, thiserror::Error)]
-#[error("no text of a tag: it goes wrong after {at} bytes")]
+#[error("the text is not a tag: it is wrong after {at} bytes")]
 pub struct BadTag {
     /// The length in bytes of the longest prefix of the text that is also a prefix of some text of the
     /// grammar read.
