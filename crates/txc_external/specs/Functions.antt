@@ -1,4 +1,4 @@
--- A service's functions: what their calls give without a cache, and how they are computed over versions.
+-- A service's functions: the uncached values of their calls, and their computation over versions.
 use Rattle.std.specs.Prelude.{ℕ, zero, suc, max, ◌==◌, if◌then◌else◌, List, [], ◌∷◌, ◌++◌, length, take, drop, Option, Some, None}
 use Rattle.std.specs.Option.{option_and_then}
 use Rattle.std.specs.Str.Parse.{digits_value}
@@ -69,9 +69,9 @@ abbrev pub tag_or : List Tag → Option Ask → Option Ask
 tag_or [] other = other
 tag_or (t ∷ ts) other = Some (asks.Query (ById t.table t.id))
 
--- The next ask of an act. A read asks for the version of each tag on which it depends, one after the other. Once as many
--- answers are there, its result is that of the first snapshot with these versions, which any other with them has too
--- (`FoundInEachSuchSnapshot`), and the function goes on with the other answers.
+-- The next request of an act. A read requests the version of each tag on which it depends, one after the other.
+-- Once it has as many answers, its result is that of the first snapshot with these versions, which any other
+-- with them has too (`FoundInEachSuchSnapshot`), and the function continues with the other answers.
 abbrev pub ask_for : Snapshots → Option OwnAct → List Answer → (List ℕ → List Answer → Option Ask) → Option Ask
 ask_for D None given go_on = None
 ask_for D (Some (done bytes)) given go_on = Some (asks.Done bytes)
@@ -82,7 +82,7 @@ ask_for D (Some (read r)) given go_on =
     let tags = D.tags_of r in let versions = take (length tags) given in
     tag_or (drop (length given) tags) (go_on (D.find (first_with versions) r) (drop (length tags) given))
 
--- the next ask of a function that may act so many times more, after these results and then these answers
+-- the next request of a function with a limit on its further acts, after these results and then these answers
 unfoldable pub ask_after : Snapshots → (List (List ℕ) → Option OwnAct) → ℕ → List (List ℕ) → List Answer → Option Ask
 ask_after D acts zero results given = None
 ask_after D acts (suc left) results given =

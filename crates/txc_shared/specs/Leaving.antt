@@ -1,4 +1,4 @@
--- What a node leaves that ends.
+-- The entries of a node that ends.
 use Rattle.std.specs.Prelude.{◌≡◌, ℕ, ◌≤◌, List, ◌++◌, ◌∷◌, [], length}
 use Rattle.std.specs.List.{AllByRecursion}
 use Rattle.txc_node.specs.declared.entry.Entry.{Entry}
@@ -14,7 +14,7 @@ pub record LeftValue : Type 0 where
   pub processed : ℕ
   pub seen : FrontValue
 
--- what its entries show is true in what it has seen
+-- its entries, as hits show them, are true in the history that it has seen
 pub record IsLeftNode (next : Next) (left : LeftValue) : Type 0 where
   pub entries : AllByRecursion (IsShownTrue next left.seen.history left.processed) left.entries
   pub within : left.processed ≤ length left.seen.history

@@ -1,4 +1,4 @@
--- A node worked by hand, over the worked history: which histories of the node are legal beside it.
+-- A node worked by hand, over the worked history: which histories of the node are legal over it.
 use Rattle.std.specs.Prelude.{ℕ, true, List, [], ◌∷◌, ◌++◌, None}
 use Rattle.txc_tags.specs.Keys.{Call}
 use Rattle.txc_tags.specs.Tags.{id_tag, group_tag}
@@ -18,7 +18,7 @@ use Rattle.txc_shared.specs.Histories.{IsLegal}
 abbrev pub call_of_absent : Call
 call_of_absent = record { function = 0; args = 9 ∷ [] }
 
--- what it asks for is not there, from the first stamp to the newest, and still
+-- the row that it requests does not exist, from the first stamp to the newest, and still
 abbrev pub absent_entry : Entry
 absent_entry = record {
   key = call_of_absent;
