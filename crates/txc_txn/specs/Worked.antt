@@ -29,7 +29,7 @@ newer_pin = record { stamp = 4; moment = 2000 }
 abbrev pub both_pins : PinSetValue
 both_pins = begun_pin_set (newer_pin ∷ older_pin ∷ [])
 
--- at 2500, no more than so long ago
+-- at 2500, at most this many milliseconds old
 abbrev pub within_ms : ℕ → Bounds
 within_ms staleness = record { now = 2500; staleness = staleness; at_least = 0 }
 
@@ -45,7 +45,7 @@ at_rest = record { top = bodies; asked = 0; frames = []; need = None }
 abbrev pub an_a : Recorded
 an_a = record { key = bodies; value = 97 ∷ [] }
 
--- where the bodies of the group are an a
+-- the stamps at which the bodies of the group are an a
 abbrev pub while_a : Interval
 while_a = record { lo = 1; known = 2; still = false }
 
@@ -70,8 +70,8 @@ open_over reach =
       need = Some (needs.Query (ById 1 9));
     }
 
--- Which pin sets mean what they say: beside the pins that are fresh enough; and beside a recorded answer, those
--- at which it is right. Beside an open frame, those in its reach, where its answers are right on all of it.
+-- Which pin sets are correct: with no recorded result, those of fresh enough pins; with a recorded value, those
+-- at which it is correct. With an open frame, those in its reach, if its answers are correct on all of it.
 pub record WorkedMeanings : Type 0 where
   pub fresh : IsMeant program worked (within_ms 1500) both_pins [] [] at_rest
   pub too_old : ¬ (IsMeant program worked (within_ms 1499) both_pins [] [] at_rest)
