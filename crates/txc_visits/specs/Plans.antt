@@ -25,7 +25,8 @@ IsPlan p =
 abbrev pub settings_of_node : Plan → ℕ → NodeSettings
 settings_of_node p number = record { number = number; capacity = p.capacity; recent = p.recent }
 
--- the most bytes of the values that a keep leaves in each node: an equal share of the plan's budget, if it has one
+-- the most bytes of the values that a keep leaves in each node: an equal share of the plan's budget, if it has
+-- one
 abbrev pub share_of : Plan → Option ℕ
 share_of p = option_map (λ bytes. bytes / max p.nodes 1) p.bytes
 

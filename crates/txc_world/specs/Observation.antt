@@ -222,14 +222,13 @@ abbrev pub IsCommitOf : Next → History → ℕ → ObservedActor → ℕ → T
 IsCommitOf next L count (writing w) stamp = CommitExplains next L count w stamp
 IsCommitOf next L count observed stamp = ⊥
 
--- what is replied explains what was shown of the actor, when the history had so many events
+-- the reply explains the answers shown of the actor, in a history of this many events
 abbrev pub ReplyExplains : Next → History → ℕ → ObservedActor → Reply → Type 0
 ReplyExplains next L count observed (Receipt pin) = IsReceiptOfActor next L observed pin
 ReplyExplains next L count observed (At stamp) = IsCommitOf next L count observed stamp
 ReplyExplains next L count observed reply = Unit {0}
 
--- a receipt, or the stamp of a commit, is given to nobody but an actor, and explains its answers in the
--- history
+-- only an actor receives a receipt or the stamp of a commit, and it explains the actor's answers in the history
 abbrev pub IsExplainedIn : Next → History → Observation → Step → Reply → Type 0
 IsExplainedIn next L told (Actor number act) reply =
     MatchOption (slice_get told.actors number) (IsNoCommit reply)
@@ -256,12 +255,12 @@ AreExplained next told (step ∷ steps) (reply ∷ replies) =
 
 -- ---- what is replied
 
--- with a call open the one refusal, without one the other
+-- one refusal while a call is open, the other while none is
 abbrev pub due_by_call : Option Call → Option Refusal → Option Refusal → Option Refusal
 due_by_call (Some key) with_call without_call = with_call
 due_by_call None with_call without_call = without_call
 
--- the refusal of the world's own that is due to an actor, if one is
+-- the refusal of the world itself that is due to an actor, if one is
 abbrev pub due_refusal : Act → ObservedActor → Option Refusal
 due_refusal (BeginRo bounds) idle = None
 due_refusal (BeginRo bounds) observed = Some AlreadyOpen
@@ -282,8 +281,8 @@ due_refusal Commit (reading r) = due_by_call r.call (Some MidCall) None
 due_refusal Commit (writing w) = due_by_call w.call (Some MidCall) None
 due_refusal Abort observed = None
 
--- What an actor's step is replied where no such refusal is due: what was asked for, or the refusal of what was
--- asked.
+-- The reply to an actor's step if no such refusal is due: the result of the request, or the error of the port
+-- that failed.
 abbrev pub IsActReply : Act → ObservedActor → Reply → Type 0
 IsActReply (BeginRo bounds) observed reply = (reply ≡ Begun) ⊎ (reply ≡ Refused refusals.Memory)
 IsActReply BeginRw observed (Based base) = Unit {0}
@@ -304,7 +303,7 @@ IsActReply Commit (writing w) (Refused (refusals.Database error)) = Unit {0}
 IsActReply Abort observed (Aborted left) = Unit {0}
 IsActReply act observed reply = ⊥
 
--- the refusal that is due, and no other reply; or one that suits
+-- exactly the refusal that is due; if none is, a reply that suits
 abbrev pub IsDueOr : Option Refusal → Type 0 → Reply → Type 0
 IsDueOr (Some refusal) Suits reply = reply ≡ Refused refusal
 IsDueOr None Suits reply = Suits
@@ -319,8 +318,8 @@ due_keep nodes spare (keeps.Sweep node horizon) = if nat_lt node nodes then None
 due_keep nodes spare (keeps.Add stamp) = if is_held stamp spare then None else Some NoRequest
 due_keep nodes spare keep = None
 
--- what a step of the keeper is replied where no refusal of the world's own is due: what was asked for, or the
--- refusal of what was asked
+-- the reply to a step of the keeper if no refusal of the world itself is due: the result of the request, or the
+-- error of the port that failed
 abbrev pub IsKeepReply : Keep → Reply → Type 0
 IsKeepReply (keeps.Write change) (At stamp) = Unit {0}
 IsKeepReply (keeps.Write change) (Refused (refusals.Database error)) = Unit {0}
@@ -347,7 +346,7 @@ IsKeepReply keep reply = ⊥
 abbrev pub IsKeepDue : ℕ → List ℕ → Keep → Reply → Type 0
 IsKeepDue nodes spare keep reply = IsDueOr (due_keep nodes spare keep) (IsKeepReply keep reply) reply
 
--- a step of nobody is refused; any other is replied what is due
+-- a step of an actor that does not exist is refused; the reply to any other is the one due
 abbrev pub IsDue : Observation → Step → Reply → Type 0
 IsDue told (Actor number act) reply =
     MatchOption (slice_get told.actors number) (reply ≡ Refused NoActor) (λ observed. IsActDue observed act reply)
