@@ -234,7 +234,7 @@ def settings():
         for name, value in re.findall(r"^pub const (MAX_\w+): \w+ = ([\d_]+);", path.read_text(), re.M):
             limits[name] = int(value)
     ranges = re.findall(r'"(\w+)" => Some\(\((\d), (MAX_\w+)', (crate / "keys.rt").read_text())
-    defaults = dict(re.findall(r'setting\(&table, "(\w+)", ([\d_]+)\)', (crate / "read.rt").read_text()))
+    defaults = dict(re.findall(r'setting\(&table, "(\w+)", ([\d_]+)\)', (crate / "settings.rt").read_text()))
     wanted = {key: (f"{least} to {limits[most]}", str(int(defaults[key]))) for key, least, most in ranges}
     rows = re.findall(r"^\| `(\w+)` \|[^|]*\| (\d+ to \d+) \| (\d+) \|$", document.read_text(), re.M)
     shown = {key: (reach, default) for key, reach, default in rows}

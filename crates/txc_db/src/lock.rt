@@ -1,4 +1,4 @@
-//! A lock that is tried for a while before the thread sleeps.
+//! How threads wait for a lock that others hold for less time than a sleep takes: they try it for a while before they sleep.
 use std::hint::spin_loop;
 use std::sync::{Mutex, MutexGuard, Wait};
 use std::thread::yield_now;
