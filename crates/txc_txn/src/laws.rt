@@ -3,7 +3,6 @@ ghost use Rattle.txc_txn.specs.Laws.{MeaningStays, MeaningBegins, FindingNarrows
 ghost use Rattle.txc_txn.specs.Laws.{PresentJoins, PresentIsFresh, FewerMembersMeanTheSame, CallBegins};
 ghost use Rattle.txc_txn.specs.Laws.{CallIsGivenUp, ValueIsRecorded, OpenAnswersAreRight};
 ghost use Rattle.txc_txn.specs.Laws.{UnreachedAnswersAreValues, NewestExplains};
-ghost use Rattle.txc_txn.specs.Worked.{WorkedMeanings};
 
 /// What a pin set means in a history, it means in a longer one.
 pub fn meaning_stays()
@@ -36,9 +35,4 @@ pub fn answers_are_explained()
     ensures frames { OpenAnswersAreRight }
     ensures values { UnreachedAnswersAreValues }
     ensures newest { NewestExplains }
-{}
-
-/// Which pin sets mean what they say, in a history that was worked by hand.
-pub fn worked_meanings()
-    ensures { WorkedMeanings }
 {}

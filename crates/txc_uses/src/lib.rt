@@ -5,9 +5,12 @@
 //! what a call requires can be met, each bound has a type that meets it, and what it makes can be let go. A function
 //! without type parameters that a library above calls has its caller there. Nothing runs these, and nothing stands on
 //! them.
+//!
+//! A law about pin sets is worked by hand here too, since its example is of the program's functions.
 #![tactic(auto)]
 
 pub mod functions;
+pub mod meanings;
 pub mod nodes;
 pub mod transactions;
 pub mod values;
