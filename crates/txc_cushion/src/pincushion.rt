@@ -11,8 +11,7 @@ use crate::locked::Locked;
 use crate::pins::Pins;
 use std::alloc::{AllocError, Global};
 use std::sync::{Mutex, Wait};
-use txc_db::{Database, Naming, Pinned};
-use txc_lock::lock_soon;
+use txc_db::{Database, Naming, Pinned, lock_soon};
 use txc_stamp::Stamp;
 
 /// A pincushion that threads share.

@@ -3,7 +3,6 @@ ghost use Rattle.txc_txn.specs.Laws.{MeaningStays, MeaningBegins, FindingNarrows
 ghost use Rattle.txc_txn.specs.Laws.{PresentJoins, PresentIsFresh, FewerMembersMeanTheSame, CallBegins};
 ghost use Rattle.txc_txn.specs.Laws.{CallIsGivenUp, ValueIsRecorded, OpenAnswersAreRight};
 ghost use Rattle.txc_txn.specs.Laws.{UnreachedAnswersAreValues, NewestExplains};
-ghost use Rattle.txc_txn.specs.Worked.{WorkedMeanings};
 
 /// A pin set that is correct in a history is correct in each longer one.
 pub fn meaning_stays()
@@ -36,9 +35,4 @@ pub fn answers_are_explained()
     ensures frames { OpenAnswersAreRight }
     ensures values { UnreachedAnswersAreValues }
     ensures newest { NewestExplains }
-{}
-
-/// Which pin sets are correct, in a history worked by hand.
-pub fn worked_meanings()
-    ensures { WorkedMeanings }
 {}

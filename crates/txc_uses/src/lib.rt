@@ -5,9 +5,12 @@
 //! that the preconditions can be met, that each bound has a type that meets it, and that each value can be
 //! consumed. A function without type parameters that a library above calls has its caller there. Nothing runs
 //! these functions, and no other code uses them.
+//!
+//! A law about pin sets has a worked example here too, because the example is of the program's functions.
 #![tactic(auto)]
 
 pub mod functions;
+pub mod meanings;
 pub mod nodes;
 pub mod transactions;
 pub mod values;

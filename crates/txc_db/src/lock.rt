@@ -1,4 +1,4 @@
-//! A lock that is tried for a while before the thread sleeps.
+//! Waiting for a lock that is held for less time than a sleep takes: a thread tries it for a while before it sleeps.
 use std::hint::spin_loop;
 use std::sync::{Mutex, MutexGuard, Wait};
 use std::thread::yield_now;

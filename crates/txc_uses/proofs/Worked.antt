@@ -15,7 +15,7 @@ use Rattle.txc_functions.specs.Program.{program}
 use Rattle.txc_call.specs.Calling.{InCall}
 use Rattle.txc_ports.specs.declared.recorded.Recorded.{Recorded}
 use Rattle.txc_ports.specs.Answers.{IsFresh, AreConsistent}
-use Rattle.txc_txn.specs.Worked.{WorkedMeanings, an_a, at_rest, bodies, newer_pin, older_pin, within_ms, bodies_and_9, open_over, while_a}
+use Rattle.txc_uses.specs.Worked.{WorkedMeanings, an_a, at_rest, bodies, newer_pin, older_pin, within_ms, bodies_and_9, open_over, while_a}
 
 older_fresh : IsFresh worked (within_ms 1500) older_pin
 older_fresh = record { shown = refl; allowed = record { moment = 1000; pinned = refl; fresh = omega arith; late = omega arith } }
