@@ -4,7 +4,7 @@ use Rattle.slab.specs.Slab.{slab_len}
 use Rattle.txc_crossing.specs.declared.numbers.TheConstants.{DONE, MISS}
 use Rattle.txc_c.specs.Sites.{open_at, SiteValue}
 
--- how many are open
+-- the number of open transactions
 abbrev pub CountTold : ℕ → SiteValue → ℕ → Type 0
 CountTold count s number = (number ≡ DONE) × (count ≡ slab_len s.opened)
 

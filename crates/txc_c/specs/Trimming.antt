@@ -1,4 +1,4 @@
--- What a trim of a site's node comes to, and what is told of the node.
+-- The effect of a trim of a site's node, and the output of the node's totals.
 use Rattle.std.specs.Prelude.{◌≡◌, ℕ, Result, Ok, Err}
 use Rattle.txc_shared.specs.declared.error.NodeError.{NodeError}
 use Rattle.txc_caller.specs.Budgets.{IsInBudget}
@@ -21,8 +21,8 @@ abbrev pub trim_told : Result ℕ NodeError → ℕ → ℕ
 trim_told (Ok count) was = count
 trim_told (Err error) was = was
 
--- the node keeps the longest prefix of its entries whose values have at most so many bytes in all, and it is told how many entries
--- it dropped; or it refuses, and nothing is told
+-- the node keeps the longest prefix of its entries whose values have at most `most` bytes in all, and the
+-- number of dropped entries is written; or the trim fails, and nothing is written
 pub record HasTrimmedNode (most was is : ℕ) (old : CallerValue) (number : ℕ) (new : CallerValue) : Type 0 where
   pub trimmed : Result ℕ NodeError
   pub leads : CallerTrimTransition most old.ports.node new.ports.node trimmed

@@ -6,7 +6,7 @@ use Rattle.txc_node.specs.declared.entry.Entry.{Entry}
 use Rattle.txc_app.specs.Claims.{IsTrueIn}
 use Rattle.txc_functions.specs.Program.{program, call_of}
 
--- the body at the id 9 is not there, from the first stamp to the newest, and still
+-- no row has the id 9, from the first stamp to the newest, and still
 abbrev pub absent : Entry
 absent = record {
   key = call_of 0 (9 ∷ []);

@@ -1,4 +1,4 @@
--- What a report says of what lines give: counts of the replies by function, and in all.
+-- The text of a report on the lines' replies: counts of the replies by function, and in all.
 use Rattle.std.specs.Prelude.{◌≡◌, ℕ, List, [], ◌∷◌, ◌++◌, Option, Some, None, nat_eq, not, filter, codes, if◌then◌else◌}
 use Rattle.std.specs.Fmt.{decimal}
 use Rattle.std.specs.List.{flat_map, list_any, sum_by}
@@ -18,7 +18,7 @@ use Rattle.txc_script.specs.Kinds.{Given, Nothing, Replied, Malformed}
 abbrev pub step_by : Op → Reply Shown → Record
 step_by op reply = record { pass = 0; turn = 0; op = op; reply = reply }
 
--- the steps that lines name which are not refused
+-- the steps of the lines that are not refused
 abbrev pub steps_in : Given Op (Reply Shown) → List Record
 steps_in Nothing = []
 steps_in (Replied op reply) = if is_refusal reply then [] else step_by op reply ∷ []
