@@ -12,7 +12,8 @@ use Rattle.txc_app.specs.declared.ask.Answer.{Answer}
 use Rattle.txc_app.specs.declared.ask.Answer.TheVariants as answers
 
 -- The meaning of an application: the next step of a function, by its number, its arguments and the answers so
--- far, and none if it does not take the arguments; and the most bytes of a value and steps of an activation.
+-- far; none if it does not take the arguments. Also the most bytes of a value, and the most steps of an
+-- activation.
 pub record Next : Type 0 where
   pub says : ℕ → List ℕ → List Answer → Option Ask
   pub limits : Limits

@@ -139,9 +139,8 @@ AfterNeed next (frame ∷ outer) asked objects (needs.Resume x) turn =
     AnswerTransition next outer asked frame x objects
     (outwards next outer asked (given frame x.reach x.tags) turn) turn
 
--- the invariant that a step of a call keeps, after which the objects are these: the frames wait for the new
--- need; all answers are still correct in each history in which they were; and no stamp leaves the call's
--- reaches
+-- The invariant that a step of a call keeps, with the objects after it. The frames wait for the new need; all
+-- answers are still correct in each history in which they were; and no stamp leaves the call's reaches.
 pub record StepKeeps (next : Next) (objects : Objects) (old : Calling) (after : Objects) (new : Calling) : Type 0 where
   pub fits : IsCalling next after new
   pub holds : (L : History) → CallHolds next L objects old → CallHolds next L after new

@@ -38,8 +38,9 @@ use Rattle.txc_txn.specs.declared.txn_core.TxnCore.{TxnCore}
 use Rattle.txc_txn.specs.Meaning.{IsMeant, LieWithin}
 
 -- The value of a core in contracts: its bounds, the age beyond which it renews its newest pin, and the number
--- of nodes. Then its pin set, and the stamps that were issued to it or added by it; the results that it
--- recorded; its call; the pin of the present that is being made, if one is; and the history that it has seen.
+-- of nodes. Then its pin set, the stamps that were issued to it or added by it, and the results that it
+-- recorded. Then its call, the pin of the present that is being made, if one is, and the history that it has
+-- seen.
 pub record CoreValue : Type 0 where
   pub bounds : Bounds
   pub renew_after : ℕ
