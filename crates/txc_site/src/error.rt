@@ -5,7 +5,7 @@ use txc_carry::CarryError;
 use txc_db::DbError;
 use txc_visits::OpenError;
 
-/// Errors that end a site though another generation was wanted.
+/// Errors that end a site although its visitors asked for another generation.
 #[derive(Drop, Debug, Error)]
 pub enum GenerationError {
     /// The site of a generation cannot be made, and no thread of it was started; or memory for the threads

@@ -44,7 +44,7 @@ pub struct Served<O, T> {
     pub opening: OpeningCommit<O>,
     /// Result of each thread of each generation, in the order of the generations and of the threads.
     pub generations: Vec<Vec<T>>,
-    /// `Ok` if the visitors wanted no other generation, or the error that ended them.
+    /// `Ok` if the visitors asked for no other generation, or the error that ended them.
     pub end: Result<(), GenerationError>,
 }
 
