@@ -6,7 +6,7 @@ use Rattle.txc_shared.specs.declared.settings.NodeSettings.{NodeSettings}
 use Rattle.txc_client.specs.Txn.{ClientValue}
 use Rattle.txc_work.specs.declared.job.Receipted.{Receipted}
 
--- how the node of a number is made
+-- the settings of the node of a number
 abbrev pub node_by : Settings → ℕ → NodeSettings
 node_by s number = record { number = number; capacity = s.capacity; recent = s.recent }
 

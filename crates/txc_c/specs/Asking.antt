@@ -188,7 +188,7 @@ abbrev pub RemoveComesTo : ℕ → ℕ → ℕ → SiteValue → ℕ → SiteVal
 RemoveComesTo table id n old number new =
     MatchBool (nat_le table LAST_TABLE) (ChangeComesTo (Remove table id) n old number new) (Stays BAD_ARGUMENT old number new)
 
--- ---- what is written, and changes nothing
+-- ---- outputs that change nothing
 
 -- of the transaction of that number, if it is open
 abbrev pub TellsOf : (Open → ℕ → Type 0) → Type 0 → Option Open → ℕ → Type 0

@@ -27,7 +27,7 @@ of_number n (Some o) = if o.number == n then Some o.txn else None
 abbrev pub open_at : SiteValue → ℕ → Option Open
 open_at s n = of_number n (get s.opened (n % MAX_OPEN))
 
--- ---- what is true of a site
+-- ---- the invariant of a site
 
 -- A number is a place and, above it, the count of those that had begun as it began, itself among them. So no two are equal, and a
 -- later one is greater.
@@ -66,7 +66,7 @@ pub record IsNewSite (settings : TxcSiteSettings) (s : SiteValue) : Type 0 where
 abbrev pub may_begin : SiteValue → Bool
 may_begin s = nat_lt (slab_len s.opened) MAX_OPEN && nat_lt s.begun MOST_BEGUN
 
--- ---- what a call leaves
+-- ---- the effect of a call
 
 -- the call was refused with this number, and the site is unchanged
 abbrev pub Stays : ℕ → SiteValue → ℕ → SiteValue → Type 0

@@ -35,7 +35,7 @@ abbrev pub TrimComesTo : ℕ → ℕ → ℕ → SiteValue → ℕ → SiteValue
 TrimComesTo most was is old number new =
     HasTrimmedNode most was is old.caller number new.caller × (new ≡ record old { caller = new.caller })
 
--- ---- what the node holds
+-- ---- the contents of the node
 
 abbrev pub crossing_node_totals : NodeTotals → TxcTotals
 crossing_node_totals totals = crossing_totals totals.entries totals.bytes totals.trimmed

@@ -28,8 +28,7 @@ use Rattle.txc_call.specs.declared.reply.Reply.{Reply}
 use Rattle.txc_call.specs.declared.reply.Reply.TheVariants as replies
 use Rattle.txc_call.specs.Frames.{answers_in, begun_frame, given}
 
--- a call: its open frames, innermost first, how often all its activations asked, what it needs, and
--- what its objects do
+-- a call: its open frames, innermost first; the number of asks of all its activations; its need; and its objects
 pub record Standing : Type 0 where
   pub frames : List Frame
   pub asked : ℕ
@@ -216,7 +215,7 @@ AfterReply next frames asked objects (needs.Insert e) replies.Inserted turn =
     AfterValue next frames asked (outcome_of e.key e.value e.reach e.tags) objects turn
 AfterReply next frames asked objects need reply turn = ⊥
 
--- ---- what a step of the machine returns, as a turn
+-- ---- the result of a step of the machine, as a turn
 
 abbrev pub turn_of : Result Need CallError → List Frame → ℕ → Objects → Turn
 turn_of (Ok need) frames asked objects = needing frames asked need objects

@@ -108,7 +108,7 @@ IsRefusedUnpinned limits p t ask error = (error ≡ Memory) ⊎ (IsAskNotRun lim
 abbrev pub IsRefusedPinned : CallerPorts → Pinned → Ask → TxnError → Type 0
 IsRefusedPinned p pinned ask error = (error ≡ Memory) ⊎ IsAskedQueryRefused p.database pinned.stamp ask error
 
--- ---- what an act leaves
+-- ---- the effect of an act
 
 -- No pin of the present was requested. Only the node may have been used, and the transaction has no more pins
 -- to return.

@@ -29,7 +29,7 @@ pub record CallerValue : Type 0 where
   pub ports : CallerPorts
   pub renew_after : ℕ
 
--- ---- what is true of a transaction
+-- ---- the invariant of a transaction
 
 -- In the history that it has seen, its pin set is correct. There is an object for each function, and one node.
 -- The open call is of an existing function.

@@ -132,7 +132,7 @@ pub record HasServed (old : TxnValue) (turn : HandTurn) (new : TxnValue) (step :
   pub step_is : (before : List Recorded) (k : Call) → IsTurnOf before k old.core turn
       → IsReadingStep (record old.core { recorded = before }) new.core k step
 
--- ---- what the requests of a turn leave of the ports
+-- ---- the effect of a turn's requests on the ports
 
 -- the error with which the call ended, if it failed
 abbrev pub turn_error : HandTurn → Option TxnError

@@ -65,7 +65,7 @@ told_answer call = told_in call.need
 abbrev pub HaveAllFunctions : Objects → Type 0
 HaveAllFunctions objects = (f : ℕ) → f ≤ LAST_FUNCTION → IsSome (activity_of objects f)
 
--- ---- what the caller owes
+-- ---- the caller's obligations
 
 -- the innermost function, if one is being computed, makes this step once it has begun or got its answer
 abbrev pub AsksNext : Next → Objects → Calling → Ask → Type 0

@@ -27,7 +27,7 @@ abbrev pub users_of : ℕ → List PinEntry → ℕ
 users_of stamp [] = 0
 users_of stamp (e ∷ es) = if e.pin.stamp == stamp then e.users else users_of stamp es
 
--- how many times the stamp is in the list
+-- the number of times that the stamp is in the list
 abbrev pub times : ℕ → List ℕ → ℕ
 times stamp stamps = count_by (λ s. s == stamp) stamps
 

@@ -1,4 +1,4 @@
--- How net changes and their tags grow by one change.
+-- Net changes and their tags after one change more.
 use Rattle.std.specs.Prelude.{◌≡◌, List, [], ◌∷◌, ◌++◌, filter}
 use Rattle.std.specs.List.{flat_map}
 use Rattle.txc_tags.specs.declared.tag.Tag.{Tag}

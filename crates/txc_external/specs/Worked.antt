@@ -113,7 +113,7 @@ pub record WorkedFollowing : Type 0 where
   pub second : state_at worked_history 3 ≡ table_1
   pub third : state_at worked_history 6 ≡ table_2
 
--- ---- what goes wrong
+-- ---- examples that fail
 
 -- the second step did not note the item
 abbrev pub missing : Snapshots

@@ -5,7 +5,7 @@ use Rattle.txc_tags.specs.Keys.{Call}
 use Rattle.txc_node.specs.declared.entry.Entry.{Entry}
 use Rattle.txc_node.specs.Entries.{meets_range, outlasts}
 
--- ---- what the walk of a lookup knows of the entries that it has passed
+-- ---- the invariant of a lookup's walk, about the entries that it has passed
 
 -- of the first n entries that meet the range, the one at b is the first that no other outlasts
 pub record IsBestAt (p : ℕ) (key : Call) (lo hi : ℕ) (es : List Entry) (n b : ℕ) : Type 0 where

@@ -101,7 +101,7 @@ printed_text (Tidied count horizon) =
     codes "retired " ++ (decimal count ++ (codes " horizon " ++ decimal horizon))
 printed_text (Counted line) = function_line line.function line.counts
 
--- ---- whether the text is a refusal
+-- ---- texts that are refusals
 
 abbrev pub is_refused_end : Result (List ℕ) TxnError → Bool
 is_refused_end result = is_err result

@@ -1,4 +1,4 @@
--- How replaced versions are found: words that only this crate's private functions promise.
+-- The index of replaced versions: definitions for this crate's private functions only.
 use Rattle.std.specs.Prelude.{ℕ, Bool, ◌<◌, ◌≤◌, ◌+◌, ◌-◌, ◌^◌, ◌&&◌, ◌==◌, nat_le, true, false, List, [], ◌∷◌, length, map, filter, option_to_list, Option, Some, None}
 use Rattle.std.specs.List.{flat_map, slice_get, AllByRecursion, Contains}
 use Rattle.std.specs.List.Sorted.{IsPermutation}

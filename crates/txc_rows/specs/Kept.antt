@@ -73,7 +73,7 @@ pub record IsSame (old new : Held MemStore) : Type 0 where
   pub kept : IsKept new
   pub trees : (state over_memory new).now.trees ≡ (state over_memory old).now.trees
 
--- ---- what is read
+-- ---- reads
 
 -- the row shows a version of the table
 pub record IsShown (table : ℕ) (r : Row) : Type 0 where

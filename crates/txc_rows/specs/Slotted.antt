@@ -1,4 +1,4 @@
--- How current versions lie in slots: words that only this crate's private functions promise.
+-- The slots of current versions: definitions for this crate's private functions only.
 use Rattle.std.specs.Prelude.{◌≡◌, ◌==◌, ◌&&◌, nat_le, ℕ, Bool, true, false, List, ◌++◌, map, option_to_list, Option, None}
 use Rattle.std.specs.List.{AllByRecursion}
 use Rattle.std.specs.List.Sorted.{IsPermutation}

@@ -52,7 +52,7 @@ AreUsesInOrder s horizon newest (write net stamp ∷ uses) = (newest < stamp)
 AreUsesInOrder s horizon newest (purge next ∷ uses) = (horizon ≤ next) × AreUsesInOrder s next (max newest next) uses
 
 -- from an empty store, after any writes of net changes at rising stamps and purges at rising horizons,
--- what is found for a query shows its answer at every kept stamp
+-- the versions found for a query show its answer at every kept stamp
 abbrev pub UsesAnswer : Type 0
 UsesAnswer = (uses : List Use) (q : Query) (found : List Versioned) (t : ℕ)
     → AreUsesInOrder [] 0 0 uses → Finds q (versions_after uses) found → horizon_after uses ≤ t

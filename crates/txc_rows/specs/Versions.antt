@@ -40,7 +40,7 @@ shown_at q t vs = map row_of (filter (λ v. is_visible t v && suits q v) vs)
 abbrev pub version_cmp : Versioned → Versioned → Ordering
 version_cmp v w = ordering_then (nat_cmp v.row.id w.row.id) (nat_cmp v.born w.born)
 
--- ---- what writes and purges make of them
+-- ---- the versions after writes and purges
 
 -- no later write changed its row
 abbrev pub is_current : Versioned → Bool
@@ -119,7 +119,7 @@ pub record AreVersions (vs : List Versioned) : Type 0 where
   pub each : AllByRecursion IsVersion vs
   pub apart : Pairwise Follows vs
 
--- ---- what may be written over them
+-- ---- the writes that they allow
 
 -- a put is later than this version, and differs from its row if it is current
 pub record IsPutOver (stamp : ℕ) (row : RowValue) (v : Versioned) : Type 0 where

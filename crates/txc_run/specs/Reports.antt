@@ -12,7 +12,7 @@ use Rattle.txc_node.specs.Steps.{is_refusal, function_of}
 use Rattle.txc_script.specs.FunctionLines.{counts_in, function_line}
 use Rattle.txc_script.specs.Kinds.{Given, Nothing, Replied, Malformed}
 
--- ---- what is counted
+-- ---- counts
 
 -- a step that a line names, with its reply, as the only one of a pass
 abbrev pub step_by : Op → Reply Shown → Record
@@ -37,7 +37,7 @@ abbrev pub functions_named : List Record → List ℕ
 functions_named [] = []
 functions_named (step ∷ steps) = before_others (function_of step.op) (functions_named steps)
 
--- ---- what is written
+-- ---- texts
 
 -- the line of what is counted in all
 abbrev pub total_line : ℕ → ℕ → ℕ → List ℕ

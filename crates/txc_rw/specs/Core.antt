@@ -46,7 +46,7 @@ tags_of queries = set_of (map query_tag queries)
 abbrev pub tags_read : RwValue → List Tag
 tags_read c = tags_of c.queried
 
--- ---- what is kept
+-- ---- the state of a core
 
 abbrev pub query_of_reading : Option Reading → Option Query
 query_of_reading None = None
@@ -64,7 +64,7 @@ pub record IsRwState (tags : List Tag) (queried : Vec Query Global) (changes : L
   pub few : length changes ≤ MAX_CHANGES
   pub ready : IsReady reading tags (vec_len queried) (vec_capacity queried)
 
--- ---- what is true of a core
+-- ---- the invariant of a core
 
 -- nothing was requested, answered or changed
 pub record IsBegun (base : ℕ) (c : RwValue) : Type 0 where

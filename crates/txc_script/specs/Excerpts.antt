@@ -2,7 +2,7 @@
 use Rattle.std.specs.Prelude.{ℕ, List, length, take}
 use Rattle.txc_script.specs.declared.excerpt.TheConstants.{MAX_SHOWN}
 
--- how a text begins, and how many bytes it has
+-- the beginning of a text, and the number of its bytes
 pub record ExcerptValue : Type 0 where
   pub start : List ℕ
   pub len : ℕ

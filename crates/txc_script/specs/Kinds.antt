@@ -122,7 +122,7 @@ ClosesScript kind s given closing end =
     MatchBool (list_any is_malformed given) ((closing ≡ no_closing) × (end ≡ s))
     (kind.closes s given closing end)
 
--- ---- how a run of them ends
+-- ---- the end of a run
 
 -- the lines of the whole script; or those up to a malformed one, after which no line was answered
 abbrev pub IsWholeScript : {A R : Type 0} → List ℕ → Type 0 → List (List ℕ) → List (Given A R) → Type 0

@@ -58,7 +58,7 @@ abbrev pub HasRecordRoom : Name → List Record → Type 0
 HasRecordRoom (stored cells) records = length records < length cells
 HasRecordRoom (unstored number) records = Unit {0}
 
--- ---- what calls leave
+-- ---- the effect of calls
 
 -- the node after a step of a pass: its cache made the step, and its history has the record of it
 abbrev pub after_call : NodeValue → ℕ → Op → NodeValue

@@ -65,7 +65,7 @@ pub record DoAgree (n : NodeValue) (p : PassValue) : Type 0 where
   pub turn : records_of p.pass n.records ≡ records_of p.pass p.own
   pub seen : length p.records ≤ length n.records
 
--- ---- what a call leaves
+-- ---- the effect of a call
 
 -- the observed records are followed by records of other passes only
 pub record GrowsByOthers (pass : ℕ) (old new : List Record) : Type 0 where

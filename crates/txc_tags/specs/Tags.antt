@@ -126,7 +126,7 @@ with_tags (tag ∷ tags) set = with_tags tags (with_tag tag set)
 abbrev pub set_of : List Tag → List Tag
 set_of tags = with_tags tags []
 
--- ---- what a set means
+-- ---- the meaning of a set
 
 -- each tag once: the last of those that are equal
 abbrev pub different : List Tag → List Tag

@@ -117,7 +117,7 @@ abbrev pub IsFreshPinning : History → Bounds → Option Pinning → Type 0
 IsFreshPinning L bounds None = Unit {0}
 IsFreshPinning L bounds (Some p) = IsFreshStep L bounds p.step
 
--- ---- what is true of a core
+-- ---- the invariant of a core
 
 -- In any history: its pin set is valid, and its call waits for its need. All its members are in each reach of
 -- the call, which has none while the set has the present, and were issued to it or added by it. It has a member
@@ -199,7 +199,7 @@ IsRightPortReply next L need (ports.Query (Ok found)) = (n : Need) → need ≡ 
     → ReplyHolds next L n (replies.Found found.answer)
 IsRightPortReply next L need reply = Unit {0}
 
--- ---- what a reply leaves
+-- ---- the effect of a reply
 
 -- the history seen is the old one, or that of the reply
 abbrev pub IsOneOf : FrontValue → Option FrontValue → FrontValue → Type 0

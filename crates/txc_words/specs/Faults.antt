@@ -117,7 +117,7 @@ usage_by name (first ∷ second ∷ others) =
     ++ (32 ∷ first ++ (codes " (or " ++ (second ++ (flat_map (λ form. codes ", or " ++ form) others ++ codes ")"))))
 usage_by name forms = []
 
--- how a line is written that ends in a query or a change
+-- the form of a line that ends in a query or a change
 abbrev pub usage_text : LineName → List ℕ
 usage_text names.Query = usage_by names.Query query_forms
 usage_text names.Ask = usage_by names.Ask query_forms
@@ -129,7 +129,7 @@ abbrev pub second_of : List (List ℕ) → List ℕ
 second_of (first ∷ second ∷ words) = second
 second_of words = []
 
--- ---- what is wrong
+-- ---- faults
 
 -- the faults of the words of a line
 abbrev pub WordsFault : Type 0

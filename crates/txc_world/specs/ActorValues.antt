@@ -42,7 +42,7 @@ pub data ActorValue : Type 0 where
 abbrev pub call_at_turn : {R : Type 0} → Call → Turn R (List ℕ) → CallValue R
 call_at_turn key turn = record { key = key; turn = turn }
 
--- ---- what they are made from
+-- ---- the state that they are made from
 
 -- the same as it is kept
 abbrev pub opened : {R : Type 0} → Call → Turn R (List ℕ) → OpenCall R

@@ -215,7 +215,7 @@ IsGivenUp held objects actor = ⊥
 abbrev pub HasGivenBack : List ℕ → PortsValue → PortsValue → Type 0
 HasGivenBack stamps old new = (given : Result (Unit {0}) UnknownPin) × GiveBackTransition stamps old new given
 
--- ---- how it is shown
+-- ---- the observation of an actor
 
 abbrev pub observed_of : {A C : Type 0} → Actor A C → ObservedActor
 observed_of (Idle objects) = idle

@@ -52,7 +52,7 @@ account_at None = nothing
 account_at (Some actor) = account_of actor
 
 -- the stamps that the database holds, one for each hold; the pins of the pincushion, with their users; and
--- what each actor has
+-- the account of each actor
 pub record Holdings : Type 0 where
   pub holds : List ℕ
   pub entries : List PinEntry
@@ -65,7 +65,7 @@ holdings_of ports accounts = record {
   accounts = accounts;
 }
 
--- how many times the actors took the stamp
+-- the number of times that the actors took the stamp
 abbrev pub times_taken : ℕ → List Account → ℕ
 times_taken stamp accounts = sum_by (λ a. times stamp a.taken) accounts
 
@@ -84,7 +84,7 @@ GivesBack old new pins = HaveUsers old.cushion.entries (map (λ p. p.stamp) pins
     → (stamp : ℕ) → users_of stamp new.cushion.entries + times stamp (map (λ p. p.stamp) pins)
     ≡ users_of stamp old.cushion.entries
 
--- ---- what a step of an actor does to them
+-- ---- the effect of an actor's step on them
 
 -- No other actor has less after it: each stamp got at least as many holds as the actor and the pincushion have
 -- more, and at least as many users as the actor took more.
@@ -128,7 +128,7 @@ pub record ActCounts (old new : PortsValue) (before after : Account) (reply : Re
   pub fair : IsFair old new before after
   pub loss : IfReplyLost reply (HasLost old before)
 
--- ---- why
+-- ---- reasons
 
 -- The ports' own holdings, and the effects of their calls, stamp by stamp.
 pub record CountRight (p : PortsValue) : Type 0 where

@@ -23,7 +23,7 @@ pub record IsNewNode (settings : NodeSettings) (row_cap passes : ℕ) (seen : Fr
   pub seen_is : n.seen ≡ seen
   pub whole : n.broken ≡ false
 
--- how the node of a number is made
+-- the settings of the node of a number
 abbrev pub node_settings : WorldSettings → ℕ → NodeSettings
 node_settings settings number =
     record { number = number; capacity = settings.capacity; recent = settings.recent }

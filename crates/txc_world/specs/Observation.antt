@@ -33,7 +33,7 @@ use Rattle.txc_world.specs.declared.reply.Refusal.{Refusal}
 use Rattle.txc_world.specs.declared.reply.Refusal.TheVariants as refusals
 use Rattle.txc_world.specs.declared.reply.Refusal.TheVariants.{NoActor, NoNode, AlreadyOpen, NotOpen, MidCall, NoRequest}
 
--- ---- what is shown
+-- ---- the observation
 
 -- an open read-only transaction: its bounds, its open call, and its completed calls
 pub record Reading : Type 0 where
@@ -253,7 +253,7 @@ AreExplained next told (step ∷ steps) (reply ∷ replies) =
     IsExplainedIn next (after told step reply).history told step reply
     × AreExplained next (after told step reply) steps replies
 
--- ---- what is replied
+-- ---- replies
 
 -- one refusal while a call is open, the other while none is
 abbrev pub due_by_call : Option Call → Option Refusal → Option Refusal → Option Refusal

@@ -41,7 +41,7 @@ pub record ArePorts (p : PortsValue) : Type 0 where
   pub nodes : All (IsNodeOf (whole_of p) p.actors) p.nodes
   pub spare : All (λ pinned. IsPartOf (whole_of p) pinned.front) p.spare
 
--- ---- what steps leave
+-- ---- the effect of steps
 
 -- each step keeps the row, the nodes and their settings, and the actors; the history only grows
 pub record KeepsRow (old new : PortsValue) : Type 0 where
