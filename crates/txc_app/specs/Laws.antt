@@ -82,8 +82,8 @@ DoneAfterIsTrue = (next : Next) (L : History) (q : Query) (rows : List RowValue)
 abbrev pub begun_at : ℕ → Entry → Entry
 begun_at t e = record e { reach = record { lo = t; known = t; still = true } }
 
--- two histories have the same state, each at a stamp of its own: an entry that is true in the first, holds at its
--- stamp and is still valid is true in the other, as it begins there
+-- two histories have the same state, each at a stamp of its own: an entry that is true in the first, holds at
+-- its stamp and is still valid is true in the other, as it begins there
 abbrev pub CarriedIsTrue : Type 0
 CarriedIsTrue = (next : Next) (L M : History) (e : Entry) (t u : ℕ)
     → state_at L t ≡ state_at M u → u ≤ length M → Holds e.reach t → e.reach.still ≡ true

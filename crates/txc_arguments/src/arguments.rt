@@ -76,8 +76,8 @@ fn mode_named(name: &str) -> Option<Script>
 }
 
 /// Reads the words of a command line, the first of which is the program's name: `node`, `report`, `world` or
-/// `batch`, and at most once `--settings` with a text. A request for help is an error too, of its own kind and with
-/// status 0.
+/// `batch`, and at most once `--settings` with a text. A request for help is an error too, of its own kind and
+/// with status 0.
 pub fn read_arguments<'a>(alloc: Global, words: &'a [String]) -> Result<Arguments<'a>, Error>
     ensures mode { IfOk result (λ a. HasMode (map string_bytes words.entry.now) a.script) }
     ensures settings { IfOk result (λ a. HasSettings (map string_bytes words.entry.now)

@@ -56,7 +56,8 @@ abbrev pub HasNotBegun : Option (List ℕ) → Option (List ℕ) → Option (Lis
 HasNotBegun remaining_old remaining_new contents_old contents_new result =
     (remaining_new ≡ remaining_old) × Keeps contents_old contents_new × (result ≡ Err Memory)
 
--- a run that begins with this batch: its lines were run as those of any script, and then came what comes after them
+-- a run that begins with this batch: its lines were run as those of any script, and then came what comes after
+-- them
 abbrev pub HasRunFrom : Next → BatchState → Option (List ℕ) → Option (List ℕ) → Option (List ℕ) → Option (List ℕ)
     → Result WordsStatus RunFault → Type 0
 HasRunFrom next s remaining_old remaining_new contents_old contents_new result =

@@ -39,7 +39,8 @@ use Rattle.txc_c.specs.declared.opened.Open.TheVariants.{Reading, Writing}
 use Rattle.txc_c.specs.declared.receipts.TxcQuery.{TxcQuery}
 use Rattle.txc_c.specs.declared.receipts.TxcRow.{TxcRow}
 
--- the transaction of that number made this act, and every other is as it was; or none of that number is open, and nothing is written
+-- the transaction of that number made this act, and every other is as it was; or none of that number is open,
+-- and nothing is written
 abbrev pub ActsAs : (CallerValue → Open → ℕ → CallerValue → Open → Type 0) → Type 0 → ℕ → SiteValue → ℕ → SiteValue → Type 0
 ActsAs act unwritten n old number new = OfNumber (OneHasActed act n) unwritten n old number new
 

@@ -49,7 +49,8 @@ OpenAsksNext ask x = AsksNext opaque_next (objects_of x) (calling_of x) ask
 
 -- ---- a step
 
--- the call of which the ask is a step: the open one; or, of a call that is asked for by no function, this very call
+-- the call of which the ask is a step: the open one; or, of a call that is asked for by no function, this very
+-- call
 abbrev pub stepped_call : Ask → Calling → Option Call
 stepped_call (asks.Call k) call = Some (top_or call k)
 stepped_call ask call = top_call call

@@ -9,8 +9,8 @@ use Rattle.txc_c.specs.declared.receipts.TxcQuery.{TxcQuery}
 use Rattle.txc_c.specs.declared.receipts.TxcReceipt.{TxcReceipt}
 use Rattle.txc_c.specs.declared.receipts.TxcRow.{TxcRow}
 
--- the query of a kind: 0 asks for all rows, 1 for the one with the id, 2 for the group, 3 for the ids from the first to
--- the last
+-- the query of a kind: 0 asks for all rows, 1 for the one with the id, 2 for the group, 3 for the ids from the
+-- first to the last
 abbrev pub query_of : TxcQuery → Query
 query_of q =
     if q.kind == 0 then All q.table

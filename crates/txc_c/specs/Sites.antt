@@ -29,8 +29,8 @@ open_at s n = of_number n (get s.opened (n % MAX_OPEN))
 
 -- ---- the invariant of a site
 
--- A number is a place and, above it, the count of those that had begun as it began, itself among them. So no two are equal, and a
--- later one is greater.
+-- A number is a place and, above it, the count of those that had begun as it began, itself among them. So no
+-- two are equal, and a later one is greater.
 pub record IsNumberOf (place count n : ℕ) : Type 0 where
   pub number : n ≡ place + MAX_OPEN * count
   pub place_fits : place < MAX_OPEN

@@ -40,8 +40,8 @@ TrimComesTo most was is old number new =
 abbrev pub crossing_node_totals : NodeTotals → TxcTotals
 crossing_node_totals totals = crossing_totals totals.entries totals.bytes totals.trimmed
 
--- the entries of the node, the bytes of their values in all, which are within its budget, and the entries that its trims have
--- dropped
+-- the entries of the node, the bytes of their values in all, which are within its budget, and the entries that
+-- its trims have dropped
 pub record TotalsTold (totals : TxcTotals) (s : SiteValue) (number : ℕ) : Type 0 where
   pub number_is : number ≡ DONE
   pub told : totals ≡ crossing_node_totals (totals_of s.caller.ports.node)

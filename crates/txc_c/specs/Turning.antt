@@ -153,8 +153,8 @@ CommitsAt was is n (Writing w) old number new = Stays NOT_OPEN old number new ×
 abbrev pub CommitComesTo : TxcReceipt → TxcReceipt → ℕ → SiteValue → ℕ → SiteValue → Type 0
 CommitComesTo was is n old number new = OfNumber (CommitsAt was is n) (is ≡ was) n old number new
 
--- Its changes are committed, at this stamp. Each answer is right just before the commit's event, or, if it changes nothing, at the
--- newest stamp; and so it is at the base.
+-- Its changes are committed, at this stamp. Each answer is right just before the commit's event, or, if it
+-- changes nothing, at the newest stamp; and so it is at the base.
 pub record HasCommittedWrites (w : CallerWriting) (stamp : ℕ) (c c' : CallerValue) : Type 0 where
   pub committed : HasCommittedWrite c w stamp c'
   pub answer : IsCommitted opaque_next c'.ports.database.history w.core stamp

@@ -15,8 +15,8 @@ pub struct TxcRow {
     pub group: u32,
 }
 
-/// A query. Kind 0 is all rows of the table, 1 the row with the id `first`, 2 those of the group `first`, 3 those with ids from
-/// `first` to `last`.
+/// A query. Kind 0 is all rows of the table, 1 the row with the id `first`, 2 the rows of the group `first`, 3
+/// the rows with ids from `first` to `last`.
 #[repr(C)]
 #[derive(Clone, Copy)]
 pub struct TxcQuery {

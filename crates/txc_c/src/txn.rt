@@ -451,8 +451,8 @@ pub extern "C" fn txc_oldest_open(alloc: Global, handle: &mut TxcSite, txn: &mut
     number
 }
 
-/// Keeps the longest prefix of the node's entries, the most recently used first, whose values have at most `most` bytes
-/// in all, whatever is open. Writes how many entries it dropped.
+/// Trims the node to the longest prefix of its entries, the most recently used first, whose values have at most
+/// `most` bytes in all. Transactions may be open. Writes the number of entries dropped.
 #[unsafe(no_mangle)]
 pub extern "C" fn txc_site_trim(
     alloc: Global,
@@ -471,7 +471,8 @@ pub extern "C" fn txc_site_trim(
     number
 }
 
-/// Writes how many entries the node holds, how many bytes their values have in all, and how many entries trims have dropped.
+/// Writes the number of the node's entries, the bytes of their values in all, and the number of entries that
+/// trims have dropped.
 #[unsafe(no_mangle)]
 pub extern "C" fn txc_site_totals(
     alloc: Global,

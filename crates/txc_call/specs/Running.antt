@@ -1,5 +1,5 @@
--- A call that is run in single steps: a reply is taken, or the function that the call needs asks something. A registry
--- runs the needed functions at once; a caller that has none runs each itself.
+-- A call that is run in single steps: a reply is taken, or the function that the call needs asks something. A
+-- registry runs the needed functions at once; a caller that has none runs each itself.
 use Rattle.std.specs.Prelude.{◌≡◌, ℕ, ◌+◌, nat_le, Bool, true, false, if◌then◌else◌, List, [], ◌∷◌, Option, Some, None, IsSome}
 use Rattle.txc_tags.specs.Keys.{Call}
 use Rattle.txc_db.specs.History.{History}
@@ -23,7 +23,8 @@ use Rattle.txc_call.specs.Turns.{Onward, Turn, UnlessMemory, UnlessRefused, Afte
 
 -- ---- replies
 
--- the need for which a value is held: the next answer of the innermost frame, or, without a frame, the call's value
+-- the need for which a value is held: the next answer of the innermost frame, or, without a frame, the call's
+-- value
 abbrev pub value_need : List Frame → Outcome → Need
 value_need [] o = needs.Value o
 value_need (frame ∷ frames) o = needs.Resume (value_held o)

@@ -28,7 +28,8 @@ use Rattle.txc_call.specs.declared.reply.Reply.{Reply}
 use Rattle.txc_call.specs.declared.reply.Reply.TheVariants as replies
 use Rattle.txc_call.specs.Frames.{answers_in, begun_frame, given}
 
--- a call: its open frames, innermost first; the number of asks of all its activations; its need; and its objects
+-- a call: its open frames, innermost first; the number of asks of all its activations; its need; and its
+-- objects
 pub record Standing : Type 0 where
   pub frames : List Frame
   pub asked : ℕ

@@ -35,9 +35,9 @@ use txc_tags::Key;
 /// Runs calls, one after another. Its caller replies to each need of the call, until the call has its value.
 ///
 /// A need can be a function, which is to begin, or to continue after an answer. If each step is lent a registry
-/// ([`CallMachine::start`], [`CallMachine::reply`], [`CallMachine::cancel`]), that runs the functions at once. A
-/// caller that runs functions itself takes each reply by [`CallMachine::take`], and hands in the function's next ask
-/// by [`CallMachine::ran`].
+/// ([`CallMachine::start`], [`CallMachine::reply`], [`CallMachine::cancel`]), that runs the functions at once.
+/// A caller that runs functions itself takes each reply by [`CallMachine::take`], and hands in the function's
+/// next ask by [`CallMachine::ran`].
 #[derive(Drop)]
 pub struct CallMachine {
     frames: Frames,
@@ -169,7 +169,7 @@ impl CallMachine {
         Ok(())
     }
 
-    /// Starts a call as [`CallMachine::start`] does, for a caller that runs functions itself and has each of them.
+    /// Starts a call as [`CallMachine::start`] does, for a caller that runs all functions itself.
     pub fn start_by_hand(&mut self, key: Key)
         requires { self.old.frames ≡ [] }
         ensures after { self.new ≡ started key }
@@ -246,8 +246,8 @@ impl CallMachine {
         }
     }
 
-    /// Takes the reply to what the call needs, and runs no function. If one is to begin or to continue, the call
-    /// needs that next, and [`CallMachine::ran`] takes what it asks.
+    /// Takes the reply to the call's need, and runs no function. If a function must begin or continue, that is
+    /// the call's next need, and [`CallMachine::ran`] takes its ask.
     pub fn take(&mut self, reply: Reply)
         requires reply { (need : Need) × (self.old.need ≡ Some need) × ReplyFits need reply }
         ensures after { (need : Need) → self.old.need ≡ Some need

@@ -10,8 +10,8 @@ use Rattle.txc_caller.specs.Ports.{CallerPorts}
 use Rattle.txc_caller.specs.declared.pin_error.PinError.{PinError}
 use Rattle.txc_caller.specs.declared.pin_error.PinError.TheVariants.{Database, Pincushion}
 
--- A pin of that moment is one event more, and the database holds its stamp, which is the newest. The pincushion has it, and no
--- transaction uses it. The node is as it was.
+-- A pin of that moment is one event more, and the database holds its stamp, which is the newest. The pincushion
+-- has it, and no transaction uses it. The node is as it was.
 pub record HasPinnedNewest (moment : ℕ) (old : CallerPorts) (stamp : ℕ) (new : CallerPorts) : Type 0 where
   pub could : IsPinnable old.database 0
   pub stamp_is : stamp ≡ newest new.database

@@ -50,7 +50,8 @@ pub record HasGrownDatabase (old new : DatabaseValue) : Type 0 where
   pub events : new.events ≡ old.events
   pub longer : IsPrefix old.history new.history
 
--- the database, the pincushion and the node; and how many bytes the node's values may have in all, if that has a budget
+-- the database, the pincushion and the node; and how many bytes the node's values may have in all, if that has
+-- a budget
 pub record CallerPorts : Type 0 where
   pub database : DatabaseValue
   pub cushion : CushionValue

@@ -106,7 +106,8 @@ pub record HasPassed (row : Name) (old : TxnValue) (turn : HandTurn) (new : TxnV
   pub frames : IsUnended after → new.core.call.frames ≡ old.core.call.frames
   pub held : IsUnended after → (x : HeldAnswer) → IsHeldFor new.core.call.need x → IsHeldFor old.core.call.need x
 
--- The function that a call needs once its last request was made: that of the call that was looked up, or the innermost one.
+-- The function that a call needs once its last request was made: that of the call that was looked up, or the
+-- innermost one.
 abbrev pub NeedsAfter : CoreValue → Option Need → Type 0
 NeedsAfter old (Some (needs.Begin k)) = WaitsForCall old k
 NeedsAfter old (Some (needs.Resume x)) = IsHeldFor old.call.need x

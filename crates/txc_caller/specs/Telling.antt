@@ -36,8 +36,8 @@ computed_in frames (Some (needs.Begin k)) = k ∷ calls_of frames
 computed_in frames (Some (needs.Resume x)) = calls_of frames
 computed_in frames need = []
 
--- The calls whose functions are computed, the innermost first. That one is to begin or to continue; each of the others waits
--- for the value of the one before it.
+-- The calls whose functions are computed, the innermost first. That one is to begin or to continue; each of the
+-- others waits for the value of the one before it.
 abbrev pub computed_calls : Calling → List Call
 computed_calls call = computed_in call.frames call.need
 
@@ -86,8 +86,9 @@ abbrev pub HasBegunFunction : Calling → Ask → Calling → Type 0
 HasBegunFunction old (asks.Call k) new = (computed_calls new ≡ k ∷ computed_calls old) × (told_answer new ≡ None)
 HasBegunFunction old ask new = ⊥
 
--- After this ask a function continues with this answer. It is the one that asked, and the answer is right for that. Or it is
--- the function around one that is done, and the answer is the value that this gave, and right for the call that it computed.
+-- After this ask a function continues with this answer. It is the one that asked, and the answer is right for
+-- that. Or it is the function around one that is done, and the answer is the value that this gave, and right
+-- for the call that it computed.
 abbrev pub ContinuesWith : Next → List State → Calling → Ask → Calling → Answer → Type 0
 ContinuesWith next states old (asks.Done bytes) new x = (done : Call) × (computed_calls old ≡ done ∷ computed_calls new)
     × (x ≡ answers.Value bytes) × IsToldRight next states new (asks.Call done) x

@@ -74,7 +74,8 @@ abbrev pub IsReplyAt : DatabaseValue → ℕ → Query → Result Found DbError 
 IsReplyAt d base query (Ok found) = IsFoundAt d.history base query found
 IsReplyAt d base query (Err error) = IsQueryRefused d query base error
 
--- The query that the turn asks was asked, at the base, and the core has gone on with the reply. If it asks none, all stays.
+-- The query that the turn asks was asked, at the base, and the core has gone on with the reply. If it asks
+-- none, all stays.
 abbrev pub HasLed : DatabaseValue → RwValue → RwHandTurn → RwValue → RwHandTurn → Type 0
 HasLed d old None new last = (new ≡ old) × (last ≡ None)
 HasLed d old (Some (Ended outcome)) new last = (new ≡ old) × (last ≡ Some (Ended outcome))

@@ -115,10 +115,10 @@ pub(crate) fn begun(
 impl<A: App> Caller<A> {
     ghost use Rattle.txc_caller.specs.Writing.{IsBegunWrite, IsWriteOf};
 
-    /// Returns a caller with an empty database over that store of rows, an empty pincushion and an empty node. The
-    /// database has room for `room` events, or, if that is `None`, stores none and has room for 4,294,967,294.
-    /// `budget` limits the bytes of the node's values in all after each method: an insertion makes room first, and
-    /// a value over the budget by itself is not stored. `renew_after` is in milliseconds.
+    /// Returns a caller with an empty database over this kind of store, an empty pincushion and an empty node.
+    /// The database has room for `room` events; for `None` it stores none, and has room for 4,294,967,294.
+    /// `budget` limits the bytes of all the node's values after each method: an insertion makes room first, and
+    /// a value that is over the budget by itself is not stored. `renew_after` is in milliseconds.
     pub fn new(
         alloc: Global,
         rows: RowStore,

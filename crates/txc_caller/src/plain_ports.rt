@@ -52,8 +52,8 @@ impl<A: App> Model for PlainPorts<A> {
     }) };
 }
 
-// An empty database over that store of rows, with room for so many events, or that stores none. As many versions may match as can
-// be allowed.
+// Makes an empty database over this kind of store, with room for `room` events, or, for `None`, without stored
+// events. As many versions may match a query as a store can allow.
 fn empty_database(alloc: Global, rows: RowStore, room: Option<usize>) -> Result<DbCore, DbError>
     requires { IfSome room (λ events. (1 ≤ events) × (events ≤ MAX_ROW)) }
     ensures room { IfOk result (λ d. HasEventRoom room d.events) }

@@ -21,7 +21,8 @@ pub record KeptValue : Type 0 where
   pub most : ℕ
   pub handed : Option HandedValue
 
--- it is fresh: its moment is no more than the staleness before now, and its stamp is not below the one asked for
+-- it is fresh: its moment is no more than the staleness before now, and its stamp is not below the one asked
+-- for
 abbrev pub is_fresh : Bounds → Pin → Bool
 is_fresh asked pin = not (is_older asked.staleness asked.now pin) && nat_le asked.at_least pin.stamp
 
@@ -29,7 +30,8 @@ is_fresh asked pin = not (is_older asked.staleness asked.now pin) && nat_le aske
 abbrev pub fresh_of : Bounds → HandedValue → List Pin
 fresh_of asked handed = filter (is_fresh asked) handed.pins
 
--- A transaction may begin with them: their time is not over, none is below the stamp asked for, and one is fresh.
+-- A transaction may begin with them: their time is not over, none is below the stamp asked for, and one is
+-- fresh.
 abbrev pub may_be_used : ℕ → Bounds → HandedValue → Bool
 may_be_used most asked handed =
     (nat_le handed.since asked.now && nat_lt asked.now (handed.since + most))

@@ -1,4 +1,5 @@
-//! Waiting for a lock that is held for less time than a sleep takes: a thread tries it for a while before it sleeps.
+//! Waiting for a lock that is mostly held for less time than a sleep takes: a thread tries it for a while
+//! before it sleeps.
 use std::hint::spin_loop;
 use std::sync::{Mutex, MutexGuard, Wait};
 use std::thread::yield_now;

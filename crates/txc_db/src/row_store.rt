@@ -12,7 +12,8 @@ use txc_rows::{StoreError, VersionRows};
 pub enum RowStore {
     /// A table of SQLite, the default.
     Sql,
-    /// Ordered maps, by table and id and by table and group: for small rows that are written more often than they are read.
+    /// Ordered maps in memory, by table and id and by table and group: for small rows that are written more
+    /// often than they are read.
     Plain,
 }
 

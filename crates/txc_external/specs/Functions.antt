@@ -19,8 +19,8 @@ pub data OwnAct : Type 0 where
   call : Call → OwnAct
   done : List ℕ → OwnAct
 
--- a service's functions: the next act of a function, by its number, its arguments and the results of its reads and
--- calls so far, and none if it rejects them; and their limits
+-- a service's functions: the next act of a function, by its number, its arguments and the results of its reads
+-- and calls so far, and none if it rejects them; and their limits
 pub record Functions : Type 0 where
   pub acts : ℕ → List ℕ → List (List ℕ) → Option OwnAct
   pub limits : Limits
@@ -49,7 +49,8 @@ uncached_below own find (suc f) k = if k.function == f
     then computed (own.acts k.function k.args) find (uncached_below own find f) own.limits.asks []
     else uncached_below own find f k
 
--- the result of a call if reads find this, with no cache and no versions; a function may call those of a lower number
+-- the result of a call if reads find this, with no cache and no versions; a function may call those of a lower
+-- number
 abbrev pub uncached : Functions → (Read → List ℕ) → Results
 uncached own find k = uncached_below own find (suc k.function) k
 

@@ -69,7 +69,8 @@ pub struct Keeper<'a, A: App, J: Naming> {
     stations: Vec<Station<'a, A, J>>,
 }
 
-/// Lets the node take up to [`MAX_TAKEN`] events, in several locked calls, so that other threads get the lock in between.
+/// Lets the node take up to [`MAX_TAKEN`] events, in several locked calls, between which other threads can
+/// acquire the lock.
 #[tactic(auto, using(crate::proofs::NodesKept::same_then))]
 fn advance<A: App, J: Naming>(
     rt: &impl Wait,

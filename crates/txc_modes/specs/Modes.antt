@@ -20,8 +20,8 @@ use Rattle.txc_batch.specs.Crews.{numbers_in}
 use Rattle.txc_modes.specs.Staffs.{IsStaff, StaffValue}
 use Rattle.txc_modes.specs.declared.running.TheConstants.{ACTORS}
 
--- a new world of these settings: nothing happened, its nodes are new, and there is an actor with nothing open for
--- each registry
+-- a new world of these settings: nothing happened, its nodes are new, and there is an actor with nothing open
+-- for each registry
 pub record IsNewWorldOf (settings : Settings) (staff : StaffValue) (w : WorldValue) : Type 0 where
   pub settings_are : w.told.settings ≡ world_settings settings
   pub history : w.told.history ≡ []

@@ -259,8 +259,8 @@ impl IndexedEntries {
         unlist_evicted(&mut self.tags, &last);
     }
 
-    /// Keeps the longest prefix of the entries whose values have at most `most` bytes in all. Returns how many it
-    /// dropped.
+    /// Keeps the longest prefix of the entries whose values have at most `most` bytes in all. Returns the
+    /// number of entries dropped.
     pub(crate) fn trim(&mut self, most: usize) -> usize
         ensures entries { self.new.entries ≡ longest_within most self.old.entries }
         ensures capacity { self.new.capacity ≡ self.old.capacity }

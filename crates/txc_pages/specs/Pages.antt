@@ -34,8 +34,8 @@ abbrev pub answers_of : List MadeCall → List Recorded
 answers_of [] = []
 answers_of (call ∷ earlier) = answers_of earlier ++ answer_of call
 
--- These calls of the transaction were made, one after the other, the latest first. Each ran from what the one before it
--- left, and no pass has seen less of its node since.
+-- These calls of the transaction were made, one after the other, the latest first. Each ran from what the one
+-- before it left, and no pass has seen less of its node since.
 abbrev pub HaveCalled : Next → Name → (ℕ → Name) → RoTxnValue → List MadeCall → RoTxnValue → Type 0
 HaveCalled next row histories old [] new = new ≡ old
 HaveCalled next row histories old (call ∷ earlier) new = (before : RoTxnValue) × HaveCalled next row histories old earlier before

@@ -13,8 +13,8 @@ pub record Finds (q : Query) (vs found : List Versioned) : Type 0 where
 
 -- ---- at one stamp
 
--- w died nearer to the stamp than v, or at the same one. That is so if v died by the stamp, and w did so no earlier. It is so too
--- if they are of one table and id, v died after the stamp, and w did so no later.
+-- w died nearer to the stamp than v, or at the same one. That is so if v died by the stamp, and w did so no
+-- earlier. It is so too if they are of one table and id, v died after the stamp, and w did so no later.
 abbrev pub IsNearer : ℕ → Versioned → Versioned → Type 0
 IsNearer t w v = (d : ℕ) × (e : ℕ) × (v.died ≡ Some d) × (w.died ≡ Some e)
     × (((d ≤ e) × (e ≤ t)) ⊎ ((v.row.table ≡ w.row.table) × (v.row.id ≡ w.row.id) × (t < e) × (e ≤ d)))

@@ -43,8 +43,8 @@ pub record AreCurrent {V : Type 0} (rows : List (SlotKey × Option Placed)) (gro
   pub alive : AllByRecursion (λ x. x.version.died ≡ None) (in_slots rows)
   pub grouped : IsPermutation (map group_slot (in_slots rows)) (map (λ p. p.0) (held groups))
 
--- the current version of a table and id, if there is one, died at the stamp and was replaced, and the new one, if there is
--- one, came
+-- the current version of a table and id, if there is one, died at the stamp and was replaced, and the new one,
+-- if there is one, came
 pub record Moves (table id stamp : ℕ) (came : Option Placed) (old new replaced_old replaced_new : List Placed) : Type 0 where
   pub was : Option Placed
   pub rest : List Placed

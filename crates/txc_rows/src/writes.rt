@@ -377,8 +377,8 @@ fn write_change(
     }
 }
 
-/// Writes the changes of one commit to the table, all or none. Those that they replace are added to the others, also
-/// where the commit is refused.
+/// Writes the changes of one commit to the table, all or none. The versions that they replace are added to
+/// `replaced`, even if the commit fails.
 fn write_table(
     conn: &mut Connection<MemStore>,
     replaced: &mut Replaced,

@@ -28,7 +28,8 @@ use Rattle.txc_rw.specs.Transitions.{RwStandingTransition}
 abbrev pub RwHandTurn : Type 0
 RwHandTurn = Option QueryTurn
 
--- as of a core over a registry; but a call that needs a function may be open, and then the database is asked nothing
+-- as of a core over a registry; but a call that needs a function may be open, and then the database is asked
+-- nothing
 pub record IsRwByHand (next : Next) (objects : Objects) (c : RwValue) : Type 0 where
   pub call : IsCalling next objects c.call
   pub at_one : InCall 1 c.call

@@ -6,8 +6,8 @@ use Rattle.txc_db.specs.Seen.{FrontValue}
 use Rattle.txc_app.specs.Eval.{Next}
 use Rattle.txc_shared.specs.Runs.{IsShownTrue, shown_entry}
 
--- its number; its entries, the most recently used first; the stamp of the last event that it took; and what it has
--- seen of the database's history
+-- its number; its entries, the most recently used first; the stamp of the last event that it took; and what it
+-- has seen of the database's history
 pub record LeftValue : Type 0 where
   pub number : ℕ
   pub entries : List Entry

@@ -95,7 +95,8 @@ HasTaken row old new (Taken stamp closed) =
     (tags : List Tag) × HasMade old new (Event stamp tags) (replies.Closed closed)
 HasTaken row old new Idle = GrowsByOthers old.pass old.records new.records × HasNoneLeft row new
 
--- the same pass took one event after the other, of these stamps, the latest first, each with a record of its own
+-- the same pass took one event after the other, of these stamps, the latest first, each with a record of its
+-- own
 abbrev pub HasTakenEach : Name → PassValue → List ℕ → PassValue → Type 0
 HasTakenEach row old [] new = new ≡ old
 HasTakenEach row old (stamp ∷ earlier) new = (before : PassValue) × (closed : ℕ) × HasTakenEach row old earlier before

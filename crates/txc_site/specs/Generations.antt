@@ -42,8 +42,8 @@ pub record IsGeneration {T : Type 0} (plan : Plan) (tells : ℕ → Type 0) (cou
   pub came : HaveCome (gives plan g.begun.events) g.outputs.items
   pub tended : IsTendedAsPlanned plan tells g.begun.events g.tended
 
--- The next generation has the next number. It begins with the state that the one before ended with, in a history as short as one
--- that has just begun.
+-- The next generation has the next number. It begins with the state that the one before ended with, in a
+-- history as short as one that has just begun.
 pub record ComesAfter {T : Type 0} (g next : Generation T) : Type 0 where
   pub number : next.number ≡ g.number + 1
   pub state : last_state next.begun ≡ last_state g.ended
@@ -54,7 +54,8 @@ abbrev pub ComeAfter : {T : Type 0} → Generation T → List (Generation T) →
 ComeAfter g [] = Unit {0}
 ComeAfter g (next ∷ rest) = ComesAfter g next × ComeAfter next rest
 
--- the first has the number 0 and begins with what the opening left, and each other comes after the one before it
+-- the first has the number 0 and begins with what the opening left, and each other comes after the one before
+-- it
 abbrev pub AreInTurn : {T : Type 0} → FrontValue → List (Generation T) → Type 0
 AreInTurn opened [] = Unit {0}
 AreInTurn opened (first ∷ rest) = (first.number ≡ 0) × (first.begun ≡ opened) × ComeAfter first rest
@@ -85,7 +86,8 @@ IsEndRefused {T} room numbers all (generations.Carry error) =
 IsEndRefused room numbers all generations.Memory = Unit {0}
 IsEndRefused room numbers all error = IsGenerationRefused numbers error
 
--- The visitors wanted another generation after each but the last, and none after that; or one after each, and there was none.
+-- The visitors wanted another generation after each but the last, and none after that; or one after each, and
+-- there was none.
 abbrev pub GenerationsHaveEnded : {T U : Type 0} → (Generation T → Bool → Type 0) → Option ℕ → List ℕ → List (Generation T) → Result U GenerationError → Type 0
 GenerationsHaveEnded {T} goes room numbers all (Ok u) = (before : List (Generation T)) × (last : Generation T) × IsLast before last all
     × All (λ g. goes g true) before × goes last false

@@ -248,7 +248,8 @@ impl<T> Front<T> {
         }
     }
 
-    /// Of two fronts of one history, one is a prefix of the other. This is a lemma: it does nothing when it runs.
+    /// Of two fronts of one history, one is a prefix of the other. This is a lemma: it does nothing when it
+    /// runs.
     pub fn agree(&self, other: &Front<T>)
         requires { self.now.name ≡ other.now.name }
         ensures { IsPrefix self.now.list other.now.list ⊎ IsPrefix other.now.list self.now.list }

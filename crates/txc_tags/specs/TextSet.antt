@@ -1,4 +1,5 @@
--- The text of a set of tags: `-` for none, or tags joined by commas, in any order, in either spelling and with repeats.
+-- The text of a set of tags: `-` for none, or tags joined by commas, in any order, in either spelling and with
+-- repeats.
 use Rattle.std.specs.Prelude.{◌≡◌, ℕ, List, [], ◌∷◌, map, codes, All}
 use Rattle.std.specs.List.{join_with_byte}
 use Rattle.txc_tags.specs.declared.tag.Tag.{Tag}

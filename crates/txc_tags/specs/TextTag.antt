@@ -1,5 +1,5 @@
--- The text of a tag: `t`, the table's number, `:`, and then `?`, or `id=` or `grp=` and a number. Or the table's
--- number, `/`, and then `?`, or `id/` or `grp/` and a number, which is read and never written.
+-- The text of a tag: `t`, the table's number, `:`, and then `?`, or `id=` or `grp=` and a number. Or the
+-- table's number, `/`, and then `?`, or `id/` or `grp/` and a number, which is read and never written.
 use Rattle.std.specs.Prelude.{ℕ, ◌≤◌, ⊤, List, [], ◌++◌, codes}
 use Rattle.std.specs.Fmt.{decimal}
 use Rattle.txc_tags.specs.declared.tag.Rows.{Rows}

@@ -140,8 +140,8 @@ HearTransition old (ports.Insert kept) new turn = (entry : Entry) → old.call.n
 
 -- ---- invariants of a step, and its results
 
--- The core fits any objects still that it fitted, as the step left them, if they have the function of a call that is to
--- begin.
+-- The core fits any objects still that it fitted, as the step left them, if they have the function of a call
+-- that is to begin.
 abbrev pub FitsByHand : CoreValue → CoreValue → HandTurn → Type 0
 FitsByHand old new turn = (next : Next) (objects after : Objects) → FirstExists objects (first_call old.pinning)
     → ObjectsLeft objects turn after → IsCore next objects old → IsCore next after new

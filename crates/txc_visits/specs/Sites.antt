@@ -18,8 +18,8 @@ use Rattle.txc_pages.specs.Pages.{IsPageRefused}
 use Rattle.txc_visits.specs.Histories.{HaveHistoriesBy}
 use Rattle.txc_visits.specs.Plans.{nodes_of, IsPlan}
 
--- a client of a site: the site's plan, the client that reads, what the objects do that a change calls, how often a change
--- was run, and how often one was committed
+-- a client of a site: the site's plan, the client that reads, what the objects do that a change calls, how
+-- often a change was run, and how often one was committed
 pub record SiteClientValue : Type 0 where
   pub plan : Plan
   pub reader : ClientValue

@@ -152,8 +152,8 @@ pub record CoreHasBegun (renew_after : ℕ) (bounds : Bounds) (old new : PortsVa
   pub fresh : FreshTransition {A = Unit {0}} bounds.now bounds.staleness bounds.at_least old new (Ok pins)
   pub core : c ≡ begun_core (length old.nodes) renew_after bounds pins c.call
 
--- a transaction began, with no call and with the functions as they are; or the actor has nothing open, and all is
--- as it was
+-- a transaction began, with no call and with the functions as they are; or the actor has nothing open, and all
+-- is as it was
 abbrev pub TxnBeginTransition : ℕ → Bounds → PortsValue → PortsValue → Objects → ActorValue → Reply → Type 0
 TxnBeginTransition renew_after bounds old new objects (reads r) reply =
     CoreHasBegun renew_after bounds old new r.txn.core × (r.txn.objects ≡ objects) × (r.call ≡ None)

@@ -136,7 +136,8 @@ pub record IsWholeStep (next : Next) (old : WorldValue) (step : Step) (reply : R
   pub balanced : (in_hand : InHand) → IsBalanced old in_hand → IsTidy step reply in_hand
       → IsBalanced new (in_hand_after step reply in_hand) × LosesNoSnapshot step reply
 
--- the steps lead from the one world to the other: each to a world that is true, from which the next one leads on
+-- the steps lead from the one world to the other: each to a world that is true, from which the next one leads
+-- on
 abbrev pub AreLed : Next → WorldValue → List Step → List Reply → WorldValue → Type 0
 AreLed next old [] replies new = new ≡ old
 AreLed next old (step ∷ steps) [] new = ⊥

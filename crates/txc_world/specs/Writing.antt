@@ -84,8 +84,8 @@ pub record HasRequestedRw (next : Next) (key : Call) (query : Query) (p : PortsV
   pub asks : HasAskedRw next query p before.core core before.objects objects did turn
   pub noted : IsNoted (call_at_turn key) turn call end
 
--- a request at a turn of the open call: its query is asked; or the call had ended, which is shown, and nothing else
--- has changed
+-- a request at a turn of the open call: its query is asked; or the call had ended, which is shown, and nothing
+-- else has changed
 abbrev pub RequestTransitionRw : Next → Call → QueryTurn → PortsValue → WritingValue → ActorValue → Reply → Type 0
 RequestTransitionRw next key (turns.Ask query) p before actor reply = HasRequestedRw next key query p before actor reply
 RequestTransitionRw next key (turns.Ended result) p before actor reply = (actor ≡ writes (record before { call = None }))

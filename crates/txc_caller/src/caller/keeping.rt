@@ -56,8 +56,8 @@ impl<A: App> Caller<A> {
         self.ports.sweep(alloc, horizon)
     }
 
-    /// Has the node keep the longest prefix of its entries, the most recently used first, whose values have at most `most`
-    /// bytes in all. Returns how many entries it dropped.
+    /// Trims the node to the longest prefix of its entries, the most recently used first, whose values have at
+    /// most `most` bytes in all. Returns the number of entries dropped.
     pub fn trim(&mut self, alloc: Global, most: usize) -> Result<usize, NodeError>
         ensures leads { CallerTrimTransition most self.old.ports.node self.new.ports.node result }
         ensures same { self.new ≡ record self.old { ports = record self.old.ports { node = self.new.ports.node } } }
