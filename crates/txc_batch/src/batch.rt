@@ -113,7 +113,8 @@ impl<A: App, C: Cacheable> Batch<A, C> {
         Ok(())
     }
 
-    /// Executes an order, and appends its output to the text. Returns whether that has a refusal.
+    /// Executes an order, appends its output to the text, and returns whether that has a refusal. Fails only if
+    /// memory cannot be allocated.
     pub fn obey(
         &mut self,
         alloc: Global,

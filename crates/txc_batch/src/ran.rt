@@ -46,7 +46,8 @@ impl Model for Ran {
 impl Ran {
     ghost use Rattle.txc_batch.specs.Staffing.{AreClientsBy};
 
-    /// Runs the jobs, each once, by one of the clients, which are made by the settings.
+    /// Runs the jobs, each once, by one of the clients, which are made by the settings. Fails if a job has no
+    /// result or two, or memory cannot be allocated.
     pub fn by_clients<A, C, J, H>(
         rt: &H,
         alloc: Global,

@@ -36,7 +36,8 @@ impl Model for Source {
 impl Source {
     ghost use Rattle.txc_batch.specs.Sources.{MakesPin, MakesChange, HasAddedPin, IsNewSource};
 
-    /// Makes an empty database, with room for `row_cap` events, and a pincushion without pins.
+    /// Makes an empty database, with room for `row_cap` events, and a pincushion without pins. Fails only if
+    /// memory cannot be allocated.
     pub fn new(alloc: Global, row_cap: usize) -> Result<Source, DbError>
         requires { (1 ≤ row_cap) × (row_cap ≤ MAX_ROW) }
         ensures { IfOk result (IsNewSource row_cap) }
@@ -65,7 +66,8 @@ impl Source {
         (database, cushion)
     }
 
-    /// Commits the change at the newest stamp, without reads, and returns the newest stamp after it.
+    /// Commits the change at the newest stamp, without reads, and returns the newest stamp after it. Fails as
+    /// the database's commit does.
     pub fn write(&mut self, alloc: Global, change: &Change) -> Result<Stamp, PrepareError>
         ensures { MakesChange change.now self.old result self.new }
     {
@@ -81,7 +83,8 @@ impl Source {
         }
     }
 
-    /// Pins the present, and adds the pin, which no transaction uses. If it is not added, its hold is removed.
+    /// Pins the present, adds the pin, which no transaction uses, and returns its stamp. Fails if the database
+    /// cannot pin, or the pincushion cannot add the pin; then its hold is removed.
     pub fn pin(&mut self, alloc: Global, now: u64) -> Result<Stamp, PrepareError>
         ensures { MakesPin now self.old result self.new }
     {

@@ -118,7 +118,8 @@ impl<A: App> Caller<A> {
     /// Returns a caller with an empty database over this kind of store, an empty pincushion and an empty node.
     /// The database has room for `room` events; for `None` it stores none, and has room for 4,294,967,294.
     /// `budget` limits the bytes of all the node's values after each method: an insertion makes room first, and
-    /// a value that is over the budget by itself is not stored. `renew_after` is in milliseconds.
+    /// a value that is over the budget by itself is not stored. `renew_after` is in milliseconds. Fails only if
+    /// memory cannot be allocated.
     pub fn new(
         alloc: Global,
         rows: RowStore,

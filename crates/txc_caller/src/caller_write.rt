@@ -221,7 +221,8 @@ impl<A: App> CallerWrite<A> {
     }
 
     /// Reads the rows of a query of the transaction itself, at its base. They do not include its own changes,
-    /// and the query counts as read. No call may be open.
+    /// and the query counts as read. No call may be open. Fails if the database cannot answer the query, or
+    /// memory cannot be allocated.
     pub fn read(
         &mut self,
         alloc: Global,

@@ -110,7 +110,8 @@ impl<'a, J: Naming> KeptPins<'a, J> {
         }
     }
 
-    /// Returns the pins to the pincushion. The client begins no more transactions with them. Does not allocate.
+    /// Returns the pins to the pincushion. The client begins no more transactions with them. Fails if one of
+    /// them has no user left. Does not allocate.
     pub fn give_back(self, rt: &impl Wait) -> Result<(), UnknownPin>
         ensures refused { IfErr result (λ unknown. MatchOption self.entry.handed ⊥ (λ handed.
             CushionMayAnswer J.database_history (λ c stamp.

@@ -30,7 +30,7 @@ impl<J: Naming> Drop for Pincushion<J> {
 }
 
 impl<J: Naming> Pincushion<J> {
-    /// Makes a pincushion without pins, for those of the database.
+    /// Makes a pincushion without pins, for those of the database. Fails only if memory cannot be allocated.
     pub fn new(alloc: Global, database: &Database<J>) -> Result<Pincushion<J>, AllocError> {
         Ok(Pincushion::of_core(CushionCore::new(alloc, database.reader()?)))
     }

@@ -61,7 +61,9 @@ impl<J: Naming> Database<J> {
     }
 
     /// Returns the answer of the query at a stamp, with its validity up to the newest stamp, and the query's
-    /// tag. The front shows the whole history.
+    /// tag. The front shows the whole history. Fails if the stamp is below the horizon or beyond the newest,
+    /// the store fails (more versions match than it allows, for one), the database is broken, or memory cannot
+    /// be allocated.
     pub fn query(
         &self,
         rt: &impl Wait,
@@ -99,6 +101,10 @@ impl<J: Naming> Database<J> {
     /// Commits the changes if no event after the base has a tag that matches those read. Returns the newest
     /// stamp after the commit; the front shows the history up to it. Changes that leave the state as it is add
     /// no event.
+    ///
+    /// Fails with the first such event as a conflict; with `FutureStamp` if the base is beyond the newest
+    /// stamp; and with `SnapshotGone` if the tags of the events after it are no longer stored. It also fails if
+    /// the history is full, the store fails, the database is broken, or memory cannot be allocated.
     pub fn commit(
         &self,
         rt: &impl Wait,
@@ -118,7 +124,8 @@ impl<J: Naming> Database<J> {
     }
 
     /// Appends a pin of the wall-clock time `now`, in milliseconds, and holds its stamp, which is at least
-    /// `at_least`.
+    /// `at_least`. Fails if `at_least` is beyond the next stamp, the history is full, [`MAX_HOLDS`] stamps are
+    /// held, the database is broken, or memory cannot be allocated.
     pub fn pin(
         &self,
         rt: &impl Wait,
@@ -145,7 +152,8 @@ impl<J: Naming> Database<J> {
         lock_soon(rt, &self.lock).unpin(stamp)
     }
 
-    /// Moves the horizon to the least held stamp, or to the newest if none is held, and returns it.
+    /// Moves the horizon to the least held stamp, or to the newest if none is held, and returns it. Fails, and
+    /// changes nothing, if the store fails or the database is broken.
     pub fn vacuum(&self, rt: &impl Wait) -> Result<Stamp, DbError>
         ensures answer { IfOk result (MayAnswer J.database_history (λ d horizon. horizon ≡ next_horizon d)) }
         ensures refused { IfErr result (MayRefuse J.database_history IsVacuumRefused) }
@@ -171,7 +179,8 @@ impl<J: Naming> Database<J> {
         self.start.events()
     }
 
-    /// Returns a front of the history that shows nothing yet. It takes no lock.
+    /// Returns a front of the history that shows nothing yet. It takes no lock. Fails only if memory cannot be
+    /// allocated.
     pub fn reader(&self) -> Result<HistoryFront, AllocError>
         ensures { IfOk result (λ front. front ≡ record { events = J.database_history; history = [] }) }
     {
@@ -179,7 +188,7 @@ impl<J: Naming> Database<J> {
     }
 
     /// Returns a feed of the events. For a stored history it begins before the first event, otherwise after the
-    /// present ones.
+    /// present ones. Fails only if memory cannot be allocated.
     pub fn feed(&self, rt: &impl Wait) -> Result<Feed<J>, AllocError>
         ensures { IfOk result (λ feed.
             feed.taken ≡ taken_at_start J.database_history (length feed.history)) }

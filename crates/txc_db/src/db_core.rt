@@ -124,7 +124,7 @@ impl DbCore {
     }
 
     /// Makes an empty database over SQLite, whose ghost history the pen writes. It has room for 4,294,967,294
-    /// events.
+    /// events. Fails only if memory cannot be allocated, or with an error of SQLite.
     pub fn unstored(alloc: Global, pen: Pen<Event>) -> Result<DbCore, DbError>
         requires { pen.list ≡ [] }
         ensures history { IfOk result (λ d. (d.history ≡ []) × (d.events ≡ unstored pen.number)) }
@@ -136,8 +136,8 @@ impl DbCore {
         DbCore::unstored_over(alloc, RowStore::Sql, pen)
     }
 
-    /// Makes an empty database over that store of rows, whose ghost history the pen writes. It has room for
-    /// 4,294,967,294 events.
+    /// Makes an empty database over this kind of store, whose ghost history the pen writes. It has room for
+    /// 4,294,967,294 events. Fails only if memory cannot be allocated, or the store fails.
     pub fn unstored_over(alloc: Global, rows: RowStore, pen: Pen<Event>) -> Result<DbCore, DbError>
         requires { pen.list ≡ [] }
         ensures history { IfOk result (λ d. (d.history ≡ []) × (d.events ≡ unstored pen.number)) }
@@ -369,7 +369,8 @@ impl DbCore {
     }
 
     /// Moves the horizon to the least held stamp, or to the newest if none is held, returns it, and drops the
-    /// versions that are in no state from there on. It uses the store only if the horizon moves.
+    /// versions that are in no state from there on. It uses the store only if the horizon moves. Fails, and
+    /// changes nothing, if the store fails or the database is broken.
     pub fn vacuum(&mut self) -> Result<Stamp, DbError>
         ensures after { OnOk result (self.new ≡ after_vacuum self.old) }
         ensures answer { IfOk result (λ horizon. horizon ≡ next_horizon self.old) }

@@ -111,7 +111,8 @@ impl<'a, A: App, J: Naming> OwnKeeper<'a, A, J> {
 }
 
 /// Maintains the ledger and these nodes at this clock until `ended` is set. With a `budget`, each run trims the
-/// values of every node to that many bytes. `moment` gets the last time that the clock showed.
+/// values of every node to that many bytes. `moment` gets the last time that the clock showed. Fails only
+/// before it begins: if a node gives no pass, or memory cannot be allocated.
 #[tactic(auto, using(crate::proofs::Tending::since_begun, crate::proofs::Tending::looked_on, crate::proofs::Tending::told_so))]
 pub fn keep_until_ended<A: App, J: Naming, C: Clock, R: Wait>(
     rt: &R,

@@ -97,7 +97,8 @@ impl<J: Naming> Ledger<J> {
         database.into_core()
     }
 
-    /// Returns a front of the whole history, by a hold that is released at once.
+    /// Returns a front of the whole history, by a hold that is released at once. Fails if the database cannot
+    /// hold its newest stamp, or memory cannot be allocated.
     pub fn seen(&self, rt: &impl Wait, alloc: Global) -> Result<HistoryFront, DbError>
         ensures row { IfOk result (λ front. front.events ≡ J.database_history) }
         ensures refused { IfErr result (λ error. (error ≡ DbError.Memory)

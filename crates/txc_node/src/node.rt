@@ -156,7 +156,8 @@ fn check_range(lo: Stamp, hi: Stamp) -> Result<(), EmptyRange>
 
 impl NodeCore {
     /// Makes an empty node for at most `capacity` entries, which stores the tags of the last `recent` events.
-    /// It allocates the space for these tags now, so that no event allocates.
+    /// It allocates the space for these tags now, so that no event allocates. Fails only if memory cannot be
+    /// allocated.
     pub fn new(alloc: Global, capacity: usize, recent: usize) -> Result<NodeCore, AllocError>
         requires capacity { (1 ≤ capacity) × (capacity ≤ MOST_CAPACITY) }
         requires recent { (1 ≤ recent) × (recent ≤ MAX_RECENT) }
@@ -167,6 +168,7 @@ impl NodeCore {
 
     /// Makes an empty node as if it had taken the events up to stamp `from`. An inserted entry that is known
     /// only below `from` is closed at its last known stamp, since the node does not have the events in between.
+    /// Fails only if memory cannot be allocated.
     pub fn beginning_at(
         alloc: Global,
         capacity: usize,

@@ -219,7 +219,8 @@ impl VersionRows {
     }
 
     /// Writes the net changes of the commit with this stamp, all or none. A change ends the current version of
-    /// its table and id at the stamp; a put adds one that is born there.
+    /// its table and id at the stamp; a put adds one that is born there. Fails, and writes none, if memory
+    /// cannot be allocated, or with an error of SQLite.
     pub fn write(&mut self, net: &[Change], stamp: Stamp) -> Result<(), StoreError>
         ensures after { OnOk result (self.new ≡ after_net stamp net.now self.old) }
         ensures keeps { OnOk result (KeepsWritten net.now stamp self.old self.new) }
@@ -235,6 +236,7 @@ impl VersionRows {
     }
 
     /// Deletes the versions that died at the horizon or before: they are in no state from the horizon on.
+    /// Fails, and deletes none, if memory cannot be allocated, or with an error of SQLite.
     pub fn purge(&mut self, horizon: Stamp) -> Result<(), StoreError>
         ensures after { OnOk result (self.new ≡ purged horizon self.old) }
         ensures keeps { OnOk result (KeepsPurged horizon self.old self.new) }

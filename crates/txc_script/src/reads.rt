@@ -29,7 +29,8 @@ impl Reads {
         }
     }
 
-    /// Reads a piece. An interrupted read is repeated, and counts as one more.
+    /// Reads a piece. An interrupted read is repeated, and counts as one more. Fails with `Read` if the reader
+    /// fails.
     pub fn read<R: Read>(&mut self, reader: &mut R, piece: &mut [u8]) -> Result<usize, RunFault>
         ensures bound { IfOk result (λ n. n ≤ length piece.new) }
         ensures bytes { ReadConsumes (R.remaining reader.old) (R.remaining reader.new) result piece.new }

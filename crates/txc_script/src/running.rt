@@ -392,7 +392,8 @@ impl<F: Drop> Running<F> {
         }
     }
 
-    /// Writes the replies that are not written yet.
+    /// Writes the replies that are not written yet. Fails with `Write` if the writer fails, after a prefix of
+    /// them.
     pub fn write_out<W: Write>(&mut self, writer: &mut W) -> Result<(), RunFault>
         ensures after { OnOk result (Appends (W.contents writer.old) (W.contents writer.new)
             self.old.replies.text.items) }

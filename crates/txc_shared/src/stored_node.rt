@@ -365,7 +365,8 @@ impl<A: App> StoredNode<A> {
     }
 
     /// Looks up the call of `key` at the stamps from `lo` to `hi`, both included. A found value is true in the
-    /// front next to it, which is the database history that the node has seen.
+    /// front next to it, which is the database history that the node has seen. Fails if `hi` is below `lo`, the
+    /// node is broken, its history is full, or memory cannot be allocated.
     pub fn lookup(
         &mut self,
         alloc: Global,
@@ -480,7 +481,8 @@ impl<A: App> StoredNode<A> {
     }
 
     /// Takes the next event of the database's history that the node or the front has seen, and returns how many
-    /// entries it closed. The node keeps the longer of that front and its own.
+    /// entries it closed. The node keeps the longer of that front and its own. Fails if the node is broken, its
+    /// history is full, or memory cannot be allocated.
     pub fn advance(
         &mut self,
         alloc: Global,
@@ -552,7 +554,8 @@ impl<A: App> StoredNode<A> {
         Ok(Advanced::Taken { stamp, closed })
     }
 
-    /// Drops the entries whose span ends at the horizon or before it, and returns how many.
+    /// Drops the entries whose span ends at the horizon or before it, and returns how many. Fails if the node
+    /// is broken, its history is full, or memory for the record cannot be allocated.
     pub fn sweep(&mut self, alloc: Global, pass: usize, horizon: Stamp) -> Result<usize, NodeError>
         requires { pass < self.old.passes }
         ensures after { OnOk result (self.new ≡ after_call self.old pass (Sweep horizon)) }
@@ -579,7 +582,7 @@ impl<A: App> StoredNode<A> {
     }
 
     /// Keeps the longest prefix of the entries whose values have at most `most` bytes in all. Returns how many
-    /// it dropped.
+    /// it dropped. Fails as [`StoredNode::sweep`] does.
     pub fn trim(&mut self, alloc: Global, pass: usize, most: usize) -> Result<usize, NodeError>
         requires { pass < self.old.passes }
         ensures after { OnOk result (self.new ≡ after_call self.old pass (Trim most)) }

@@ -241,7 +241,7 @@ impl<'a, A: App, D: Definition, J: Naming> SiteClient<'a, A, D, J> {
     }
 
     /// Makes a keeper of the site, with a new pass at each node, and with each node's share of the plan's
-    /// budget.
+    /// budget. Fails if a node gives no pass, or memory cannot be allocated.
     #[tactic(auto, using(crate::proofs::Tended::budgets_of))]
     pub fn keeper(&self, rt: &impl Wait, alloc: Global) -> Result<Keeper<'a, A, J>, SiteError>
         ensures nodes { IfOk result (λ keeper.

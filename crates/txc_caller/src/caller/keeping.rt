@@ -32,7 +32,9 @@ impl<A: App> Caller<A> {
     }
 
     /// Lets the node take the events. Then moves the horizon to the least held stamp, or to the newest if none
-    /// is held, returns it, and drops the versions and tags that only earlier stamps need.
+    /// is held, returns it, and drops the versions and tags that only earlier stamps need. Fails if the
+    /// database is broken, its store fails, or the node cannot take an event; then only the node may have
+    /// changed.
     pub fn vacuum(&mut self, alloc: Global) -> Result<Stamp, DbError>
         ensures after { OnOk result (HasVacuumedPorts self.old.ports self.new.ports) }
         ensures node { GoesOnByEvents self.old.ports.node self.new.ports.node }
@@ -46,7 +48,8 @@ impl<A: App> Caller<A> {
         self.ports.vacuum(alloc)
     }
 
-    /// Lets the node drop the entries whose span ends at the horizon or before it. Returns how many.
+    /// Drops the node's entries whose span ends at the horizon or before it, and returns how many. Fails if the
+    /// node is broken, its history is full, or memory cannot be allocated.
     pub fn sweep(&mut self, alloc: Global, horizon: Stamp) -> Result<usize, NodeError>
         ensures leads { CallerSweepTransition horizon self.old.ports.node self.new.ports.node result }
         ensures same { self.new ≡ record self.old { ports = record self.old.ports { node = self.new.ports.node } } }
@@ -57,7 +60,7 @@ impl<A: App> Caller<A> {
     }
 
     /// Trims the node to the longest prefix of its entries, the most recently used first, whose values have at
-    /// most `most` bytes in all. Returns the number of entries dropped.
+    /// most `most` bytes in all. Returns the number of entries dropped. Fails as [`Caller::sweep`] does.
     pub fn trim(&mut self, alloc: Global, most: usize) -> Result<usize, NodeError>
         ensures leads { CallerTrimTransition most self.old.ports.node self.new.ports.node result }
         ensures same { self.new ≡ record self.old { ports = record self.old.ports { node = self.new.ports.node } } }
@@ -78,7 +81,8 @@ impl<A: App> Caller<A> {
     }
 
     /// Pins the newest state at the wall-clock time `moment`, in milliseconds, for later transactions, and
-    /// returns its stamp. The pin is an event. No transaction uses it yet.
+    /// returns its stamp. The pin is an event. No transaction uses it yet. Fails if the database cannot pin, or
+    /// the pincushion cannot add the pin.
     pub fn pin(&mut self, alloc: Global, moment: u64) -> Result<Stamp, PinError>
         ensures pinned { IfOk result (λ stamp. HasPinnedNewest moment self.old.ports stamp self.new.ports) }
         ensures refused { IfErr result (λ error. HasNotPinned moment self.old.ports error self.new.ports) }

@@ -155,6 +155,10 @@ impl DbCore {
 
     /// Commits the changes if no event after the base has a tag that matches those read. Returns the newest
     /// stamp after the commit. Changes that leave the state as it is add no event.
+    ///
+    /// Fails with the first such event as a conflict; with `FutureStamp` if the base is beyond the newest
+    /// stamp; and with `SnapshotGone` if the tags of the events after it are no longer stored. It also fails if
+    /// the history is full, the store fails, the database is broken, or memory cannot be allocated.
     pub fn commit(
         &mut self,
         alloc: Global,

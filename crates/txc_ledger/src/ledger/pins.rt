@@ -148,7 +148,8 @@ impl<J: Naming> RetiredPins<J> {
 }
 
 impl<J: Naming> Ledger<J> {
-    /// Appends a pin of the wall-clock time `now`, in milliseconds, and holds its stamp.
+    /// Appends a pin of the wall-clock time `now`, in milliseconds, and holds its stamp. Fails as
+    /// [`Database::pin`](txc_db::Database::pin) does.
     pub fn pin(&self, rt: &impl Wait, alloc: Global, now: u64) -> Result<PresentPin<J>, DbError>
         ensures row { IfOk result (λ pin. pin.front.events ≡ J.database_history) }
         ensures event { IfOk result (λ pin. event_at pin.front.history pin.stamp ≡ Some (pin_event now)) }
@@ -200,7 +201,7 @@ impl<J: Naming> Ledger<J> {
     }
 
     /// Retires the pins that no transaction uses and that are more than `age` before `now`, both in
-    /// milliseconds.
+    /// milliseconds. Fails only if memory cannot be allocated.
     pub fn retire(
         &self,
         rt: &impl Wait,
@@ -226,7 +227,8 @@ impl<J: Naming> Ledger<J> {
         let _ = self.database.unpin(rt, stamp);
     }
 
-    /// Moves the horizon to the least held stamp, or to the newest if none is held.
+    /// Moves the horizon to the least held stamp, or to the newest if none is held. Fails, and changes nothing,
+    /// if the store fails or the database is broken.
     pub fn vacuum(&self, rt: &impl Wait) -> Result<Horizon<J>, DbError>
         ensures answer { IfOk result (MayAnswer J.database_history (λ d horizon. horizon ≡ next_horizon d)) }
         ensures refused { IfErr result (MayRefuse J.database_history IsVacuumRefused) }

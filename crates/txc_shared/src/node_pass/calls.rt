@@ -26,7 +26,7 @@ use txc_tags::Key;
 
 impl<J: Naming> NodePass<J> {
     /// Returns the counts of all records of the node, stored or not, and shows these to the pass. Does not
-    /// allocate.
+    /// allocate. Fails only if the node is broken, or the pass is another node's.
     pub fn node_counts<A: App>(
         &mut self,
         rt: &impl Wait,
@@ -46,7 +46,8 @@ impl<J: Naming> NodePass<J> {
     }
 
     /// Looks up the call of `key` at the stamps from `lo` to `hi`, both included. A found value is true in the
-    /// history of the front next to it.
+    /// history of the front next to it. Fails if `hi` is below `lo`, the node is broken or the pass is another
+    /// node's, its history is full, or memory cannot be allocated.
     pub fn lookup<A: App>(
         &mut self,
         rt: &impl Wait,
@@ -98,7 +99,8 @@ impl<J: Naming> NodePass<J> {
     }
 
     /// Takes the next event of the database's history. If it returns `Idle`, each event that the pass has seen
-    /// was taken or came before the node.
+    /// was taken or came before the node. Fails if the node is broken or the pass is another node's, its
+    /// history is full, or memory cannot be allocated.
     pub fn advance<A: App>(
         &mut self,
         rt: &impl Wait,
@@ -136,7 +138,9 @@ impl<J: Naming> NodePass<J> {
         did
     }
 
-    /// Drops the entries whose span ends at the horizon or before it, and returns how many.
+    /// Drops the entries whose span ends at the horizon or before it, and returns how many. Fails if the node
+    /// is broken or the pass is another node's, its history is full, or memory for the record cannot be
+    /// allocated.
     pub fn sweep<A: App>(
         &mut self,
         rt: &impl Wait,
@@ -157,7 +161,7 @@ impl<J: Naming> NodePass<J> {
     }
 
     /// Keeps the longest prefix of the entries whose values have at most `most` bytes in all. Returns how many
-    /// it dropped.
+    /// it dropped. Fails as [`NodePass::sweep`] does.
     pub fn trim<A: App>(
         &mut self,
         rt: &impl Wait,
