@@ -1,4 +1,4 @@
--- Which transactions are open.
+-- The list of open transactions.
 use Rattle.std.specs.Prelude.{◌≡◌, ◌⊎◌, ◌≤◌, ℕ, IsSome, Option, Some, None}
 use Rattle.slab.specs.Slab.{slab_len}
 use Rattle.txc_crossing.specs.declared.numbers.TheConstants.{DONE, MISS}

@@ -34,10 +34,10 @@ use txc_tags::Key;
 
 /// Runs calls, one after another. Its caller replies to each need of the call, until the call has its value.
 ///
-/// A need can be a function, which is to begin, or to continue after an answer. If each step is lent a registry
+/// A need can be a function that must begin, or continue after an answer. If each step is lent a registry
 /// ([`CallMachine::start`], [`CallMachine::reply`], [`CallMachine::cancel`]), that runs the functions at once.
-/// A caller that runs functions itself takes each reply by [`CallMachine::take`], and hands in the function's
-/// next ask by [`CallMachine::ran`].
+/// A caller that runs functions itself takes each reply by [`CallMachine::take`], and passes the function's
+/// next ask to [`CallMachine::ran`].
 #[derive(Drop)]
 pub struct CallMachine {
     frames: Frames,

@@ -39,7 +39,7 @@ pub enum Need {
     Insert(Entry),
     /// Nothing: the call is done.
     Value(Outcome),
-    /// The first step of the call's function, which is to begin.
+    /// The first step of the call's function.
     Begin(Key),
     /// The next step of the innermost function, which is to continue with this answer.
     Resume(HeldAnswer),

@@ -39,7 +39,7 @@ pub record IsLent (next : Next) (t : TxnValue) : Type 0 where
   pub top : ForSome (open_call t.core) (λ (k : Call). k.function ≤ LAST_FUNCTION)
   pub nodes : t.core.nodes ≡ 1
 
--- no call is open; or a function of it is to begin or to continue, and no pin is under way
+-- no call is open; or one of its functions must begin or continue, and no pin is being made
 abbrev pub IsRestingCore : CoreValue → Type 0
 IsRestingCore c = IsIdle c ⊎ ((c.pinning ≡ None) × NeedsFunction c.call.need)
 
@@ -95,7 +95,7 @@ with_cushion cushion c = record c { ports = record c.ports { cushion = cushion }
 
 -- ---- beginnings and ends
 
--- a core for those bounds, of the row, with the pins that the pincushion hands out
+-- a core for those bounds, of the row, with the pins that the pincushion issues
 pub record IsBegunCore (renewed : ℕ) (asked : Bounds) (row : Name) (cushion : CushionValue) (c : CoreValue) : Type 0 where
   pub fits : (next : Next) (objects : Objects) → AllIdle objects → IsCore next objects c
   pub holds : (next : Next) (objects : Objects) → CoreHolds next c.seen.history objects c

@@ -36,8 +36,8 @@ computed_in frames (Some (needs.Begin k)) = k ∷ calls_of frames
 computed_in frames (Some (needs.Resume x)) = calls_of frames
 computed_in frames need = []
 
--- The calls whose functions are computed, the innermost first. That one is to begin or to continue; each of the
--- others waits for the value of the one before it.
+-- The calls whose functions are being computed, the innermost first. That one must begin or continue; each of
+-- the others waits for the value of the one before it.
 abbrev pub computed_calls : Calling → List Call
 computed_calls call = computed_in call.frames call.need
 
@@ -57,7 +57,8 @@ abbrev pub told_in : Option Need → Option Answer
 told_in (Some (needs.Resume x)) = Some x.answer
 told_in need = None
 
--- the answer with which the innermost function is to continue; none if it is to begin, or if none is computed
+-- the answer with which the innermost function must continue; none if it must begin, or if none is being
+-- computed
 abbrev pub told_answer : Calling → Option Answer
 told_answer call = told_in call.need
 
@@ -108,7 +109,7 @@ ObjectsFollow old call ask new (Err error) = AllIdle new
 
 -- ---- the state of a call
 
--- a function is to begin
+-- a function must begin
 abbrev pub is_begin : Need → Bool
 is_begin (needs.Begin k) = true
 is_begin need = false

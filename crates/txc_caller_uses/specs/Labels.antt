@@ -58,7 +58,7 @@ label_of s rows = if first_group rows == 0 then first_body rows else first_body 
 abbrev pub label_in : State → ℕ → List ℕ
 label_in s id = if id == 0 then [] else label_of s (answer (ById 1 id) s)
 
--- the call of the label is open, and its function is to begin
+-- the call of the label is open, and its function must begin
 pub record BeginsLabel (id : ℕ) (call : Calling) : Type 0 where
   pub top : top_call call ≡ Some (label_call id)
   pub only : computed_calls call ≡ label_call id ∷ []

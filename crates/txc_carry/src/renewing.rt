@@ -11,8 +11,8 @@ use std::alloc::Global;
 use txc_db::{DbCore, DbError};
 use txc_stream::{MAX_CAPACITY, Pen};
 
-/// Begins a new history in place, if it is to be a ghost one. Returns `false`, and changes nothing, if that
-/// fails.
+/// Begins a new history in place, if it is a ghost one. Returns `false`, and changes nothing, if it is not, or
+/// that fails.
 fn begins_in_place(alloc: Global, core: &mut DbCore, room: Option<usize>) -> bool
     ensures begun { result ≡ true → IsRenewed room core.old core.new }
     ensures unchanged { result ≡ false → core.new ≡ core.old }

@@ -31,7 +31,7 @@ pub record IsResting (row : Name) (t : RoTxnValue) : Type 0 where
   pub nodes : t.txn.core.nodes ≡ length t.passes
 
 -- A core has begun within these bounds, over a database of the row, with the pins that some pincushion of the
--- row hands out for them. It uses each of them, has the present, and has no answer.
+-- row issues for them. It uses each of them, has the present, and has no answer.
 pub record HasBegunCore (events : Name) (asked : Bounds) (c : CoreValue) : Type 0 where
   pub bounds : c.bounds ≡ asked
   pub recorded : c.recorded ≡ []

@@ -36,7 +36,7 @@ after_act find calls (Some (done bytes)) rest = Some bytes
 after_act find calls (Some (read r)) rest = rest (find r)
 after_act find calls (Some (call k)) rest = option_and_then rest (calls k)
 
--- a computation that may act so many times more, being done counted, after these results
+-- a computation after these results that may make this many more acts, the last of which returns its value
 unfoldable pub computed : (List (List ℕ) → Option OwnAct) → (Read → List ℕ) → Results → ℕ → List (List ℕ) → Option (List ℕ)
 computed acts find calls zero results = None
 computed acts find calls (suc left) results =

@@ -28,7 +28,7 @@ too_soon = record {
 abbrev pub in_time : Entry
 in_time = record too_soon { reach = record { lo = 1; known = 4; still = false } }
 
--- which entries are true
+-- the true ones among the entries
 pub record WorkedEntries : Type 0 where
   pub absent : IsTrueIn program worked absent
   pub too_soon : ¬ (IsTrueIn program worked too_soon)

@@ -9,7 +9,7 @@ pub fn worked_calls()
     ensures refusals { WorkedRefusals }
 {}
 
-/// Which entries of these functions are true in that history.
+/// The true entries of these functions in that history, and some false ones.
 pub fn worked_entries()
     ensures { WorkedEntries }
 {}

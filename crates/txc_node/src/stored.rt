@@ -1,4 +1,4 @@
-//! Entries as a cache stores them: the key is only in the place.
+//! Entries as a cache stores them: without their keys, which only the places have.
 ghost use Rattle.std.specs.Prelude.{◌≡◌};
 ghost use Rattle.std.specs.Option.{option_map};
 ghost use Rattle.txc_node.specs.Places.{place_of};

@@ -27,7 +27,7 @@ takes_one step before found after = (found ≡ step.first → after.0 ≡ true)
 abbrev pub gives_one : Step (Unit {0}) → Me (Unit {0}) Bool → ℕ → Me (Unit {0}) Bool → Type 0
 gives_one step before found after = (0 < found) × (after.0 ≡ false)
 
--- which pool a handle is of, and how many permits that has
+-- the pool of a handle, and the number of its permits
 pub record Pool : Type 0 where
   pub name : TableId
   pub most : ℕ

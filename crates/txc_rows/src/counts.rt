@@ -2,10 +2,10 @@
 
 use crate::writes::Written;
 
-/// The table is rebuilt once at least so many of its versions have died.
+/// The least number of dead versions in the table after which it is rebuilt.
 const LEAST_ENDED: usize = 1024;
 
-/// Number of rows of the table, how many of them have died, and how many of those are hidden.
+/// Number of rows of the table, and how many of them have died.
 #[derive(Clone, Copy)]
 pub(crate) struct Counts {
     rows: usize,
@@ -26,7 +26,8 @@ impl Counts {
         newest: 0,
     };
 
-    /// Returns `true` if as many versions died before the stamp as are left.
+    /// Returns `true` if at least half of the table's versions, and at least [`LEAST_ENDED`], are known to have
+    /// died before the stamp.
     pub(crate) fn is_mostly_ended(&self, from: u32) -> bool {
         let gone = self.ended.min(self.ended_before);
         self.noted_at < from && gone >= LEAST_ENDED.max(self.rows / 2)

@@ -47,7 +47,7 @@ pub fn legal_histories()
     states_stay();
 }
 
-/// Which of the worked histories of a node are legal over the worked history of the database.
+/// The legal ones among the worked histories of a node, over the worked history of the database.
 pub fn worked_histories()
     ensures { WorkedHistories }
 {}

@@ -27,7 +27,7 @@ spelt_tags_text (tag ∷ tags) = join_with_byte 44 (map spelt_text (tag ∷ tags
 abbrev pub AreSpeltInRange : List SpeltTag → Type 0
 AreSpeltInRange tags = All IsSpeltInRange tags
 
--- which tags they are
+-- the tags, without their spelling
 abbrev pub tags_spelt : List SpeltTag → List Tag
 tags_spelt = map (λ s. s.tag)
 

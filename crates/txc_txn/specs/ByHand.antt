@@ -61,7 +61,7 @@ abbrev pub recorded_by_hand : List Recorded → HandTurn → Option Call → Lis
 recorded_by_hand recorded None k = recorded
 recorded_by_hand recorded (Some turn) k = recorded_after recorded turn k
 
--- there is an object for the function of the call that is to begin after the pin, if one is
+-- there is an object for the function of the call that begins after the pin, if one does
 abbrev pub FirstExists : Objects → Option Call → Type 0
 FirstExists objects first = ForSome first (λ k. FunctionExists objects (asks.Call k))
 
@@ -112,7 +112,7 @@ abbrev pub PresentByHand : CoreValue → CoreValue → HandTurn → Type 0
 PresentByHand old new turn = (objects : Objects) → FirstExists objects (first_call old.pinning)
     → (t : PortTurn) × (turn ≡ Some t) × PresentPinTransition (first_call old.pinning) old objects new objects t
 
--- the call is as it was, and so is the one that is to begin after the pin
+-- the call is as it was, and so is the one that begins after the pin
 pub record HasSameCall (old new : CoreValue) : Type 0 where
   pub call : new.call ≡ old.call
   pub first : first_call new.pinning ≡ first_call old.pinning
@@ -140,8 +140,8 @@ HearTransition old (ports.Insert kept) new turn = (entry : Entry) → old.call.n
 
 -- ---- invariants of a step, and its results
 
--- The core fits any objects still that it fitted, as the step left them, if they have the function of a call
--- that is to begin.
+-- The core still fits any objects that it fitted, as the step left them, if they have the function of the call
+-- that begins after the pin.
 abbrev pub FitsByHand : CoreValue → CoreValue → HandTurn → Type 0
 FitsByHand old new turn = (next : Next) (objects after : Objects) → FirstExists objects (first_call old.pinning)
     → ObjectsLeft objects turn after → IsCore next objects old → IsCore next after new

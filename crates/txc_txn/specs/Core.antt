@@ -222,7 +222,7 @@ abbrev pub taken_after : List ℕ → PortReply → List ℕ
 taken_after taken (ports.AddPin pinned (Ok added)) = taken ++ pinned.stamp ∷ []
 taken_after taken reply = taken
 
--- the call that is to begin after the pin, if there is one
+-- the call that begins after the pin, if there is one
 abbrev pub first_call : Option Pinning → Option Call
 first_call None = None
 first_call (Some p) = p.first
@@ -249,7 +249,7 @@ recorded_after recorded turn k = recorded
 abbrev pub IsNoAdding : PortTurn → Type 0
 IsNoAdding turn = TurnAddsSuch (λ front. ⊥) turn
 
--- a pin is to be added only right after the database has made it
+-- a pin is added only right after the database has made it
 abbrev pub AddsOnly : PortReply → PortTurn → Type 0
 AddsOnly (ports.Pin (Ok pinned)) turn = Unit {0}
 AddsOnly reply turn = IsNoAdding turn

@@ -32,7 +32,7 @@ abbrev pub IsShownRight : Next → TxnValue → PortReply → Type 0
 IsShownRight next t reply =
     ForSome (front_of_reply reply) (λ front. IsRightPortReply next front.history t.core.call.need reply)
 
--- The effect of beginning a call: a turn that makes a request for it, or an error. No pin is to be added, and
+-- The effect of beginning a call: a turn that makes a request for it, or an error. No pin must be added, and
 -- none was left over; the functions stay, and so does everything except the call and its pin of the present.
 pub record HasBegunCall (old : TxnValue) (key : Call) (new : TxnValue) (turn : PortTurn) : Type 0 where
   pub turn_fits : IsTurn new.core turn
@@ -64,7 +64,7 @@ pub record HasGoneOn (next : Next) (old : TxnValue) (reply : PortReply) (new : T
   pub one : IsOneOf old.core.seen (front_of_reply reply) new.core.seen
 
 -- The result of a step of a core between two requests: it fits its functions, which stay, and the turn is one
--- of its own. No pin is to be added, and none was left over.
+-- of its own. No pin must be added, and none was left over.
 pub record HasTurned (next : Next) (was : Objects) (new : CoreValue) (is : Objects) (turn : PortTurn) : Type 0 where
   pub fits : IsCore next is new
   pub turn_fits : IsTurn new turn

@@ -148,7 +148,7 @@ pub record WaitsForPresent (old : CoreValue) (objects : Objects) (k : Call) (new
   pub same_call : new.call ≡ old.call
   pub same_objects : objects' ≡ objects
 
--- the effect of a call that is to begin: if there is no member, a pin of the present is requested first
+-- the effect of the beginning of a call: if there is no member, a pin of the present is requested first
 pub record StartTransition (old : CoreValue) (objects : Objects) (k : Call) (new : CoreValue) (objects' : Objects)
     (turn : PortTurn) : Type 0 where
   pub pins : old.pins.members ≡ [] → WaitsForPresent old objects k new objects' turn

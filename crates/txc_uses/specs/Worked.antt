@@ -70,8 +70,8 @@ open_over reach =
       need = Some (needs.Query (ById 1 9));
     }
 
--- Which pin sets are correct: with no recorded result, those of fresh enough pins; with a recorded value, those
--- at which it is correct. With an open frame, those in its reach, if its answers are correct on all of it.
+-- The correct pin sets: with no recorded result, those of fresh enough pins; with a recorded value, those at
+-- which it is correct. With an open frame, those in its reach, if its answers are correct on all of it.
 pub record WorkedMeanings : Type 0 where
   pub fresh : IsMeant program worked (within_ms 1500) both_pins [] [] at_rest
   pub too_old : ¬ (IsMeant program worked (within_ms 1499) both_pins [] [] at_rest)
