@@ -26,7 +26,7 @@ pub enum CallError {
     #[error("no permit to run a function is left")]
     Busy,
     /// An object has no memory.
-    #[error("a function has no memory")]
+    #[error("a function failed: out of memory")]
     ObjectMemory,
     /// A value has more bytes than a node may store.
     #[error("a function's value is longer than its application allows, at most {MOST_VALUE_LEN} bytes")]
